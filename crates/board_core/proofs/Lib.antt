@@ -1,0 +1,4 @@
+pub mod Boards
+pub mod Bytes
+pub mod Order
+pub mod Turns

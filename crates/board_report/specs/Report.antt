@@ -1,0 +1,82 @@
+-- The text of the report.
+use Rattle.std.specs.Prelude.{ℕ, ◌+◌, ◌/◌, ◌%◌, ◌^◌, ◌==◌, if◌then◌else◌, List, [], ◌∷◌, ◌++◌, map, codes, decimal, Option, None, Some}
+use Rattle.std.specs.List.{flat_map, range_with_len}
+use Rattle.tk_base.specs.declared.access.Denial.{Denial}
+use Rattle.tk_outside.specs.Text.{hex_digits}
+use Rattle.process_record.specs.declared.process.State.{State}
+use Rattle.process_record.specs.declared.process.State.TheVariants.{Running, Yielded, Faulted, Terminated}
+use Rattle.process_record.specs.declared.summary.SlotLine.{SlotLine}
+use Rattle.process_record.specs.declared.summary.Summary.{Summary}
+use Rattle.process_record.specs.declared.summary.Unplaced.{Unplaced}
+use Rattle.board_report.specs.Words.{access_text, rule_text, fault_text, name_text}
+use Rattle.board_report.specs.declared.report.End.{End}
+use Rattle.board_report.specs.declared.report.End.TheVariants.{Done, Turns}
+
+-- a denial: the access, the address in eight digits of base 16, and the rule
+abbrev pub denial_text : Option Denial → List ℕ
+denial_text None = []
+denial_text (Some d) = codes " " ++ (access_text d.access ++ (codes " " ++ (hex_digits 8 d.address ++ (codes " " ++ rule_text d.rule))))
+
+abbrev pub state_text : State → Option Denial → List ℕ
+state_text Running denial = codes "running"
+state_text Yielded denial = codes "yielded"
+state_text Faulted denial = codes "faulted" ++ denial_text denial
+state_text (Terminated code) denial = codes "terminated " ++ decimal code
+
+-- how many upcalls were dropped, where any was
+abbrev pub dropped_text : ℕ → List ℕ
+dropped_text dropped = if dropped == 0 then [] else codes " dropped " ++ decimal dropped
+
+abbrev pub newline : List ℕ
+newline = 10 ∷ []
+
+-- what comes before the state in a slot's line, and what comes after it
+abbrev pub slot_head : ℕ → SlotLine → List ℕ
+slot_head slot line = codes "slot " ++ (decimal slot ++ (codes " " ++ (name_text line.name.items ++ codes " ")))
+
+abbrev pub slot_turns : SlotLine → List ℕ
+slot_turns line = codes " turns " ++ (decimal line.turns ++ (codes " restarts " ++ decimal line.restarts))
+
+-- the line of a slot
+unfoldable pub slot_text : ℕ → SlotLine → List ℕ
+slot_text slot line = slot_head slot line ++ (state_text line.state line.denial ++ (slot_turns line ++ (dropped_text line.dropped ++ newline)))
+
+-- the lines of the slots from one on
+abbrev pub slot_texts : ℕ → List SlotLine → List ℕ
+slot_texts slot [] = []
+slot_texts slot (line ∷ lines) = slot_text slot line ++ slot_texts (slot + 1) lines
+
+-- the line of an application that was not placed
+unfoldable pub unplaced_text : Unplaced → List ℕ
+unplaced_text u = codes "unplaced " ++ (decimal u.offset ++ (codes " " ++ (fault_text u.fault ++ newline)))
+
+abbrev pub unplaced_texts : List Unplaced → List ℕ
+unplaced_texts us = flat_map unplaced_text us
+
+-- LED n is on where bit n is 1
+abbrev pub led_text : ℕ → ℕ → ℕ
+led_text leds n = if leds / 2 ^ n % 2 == 1 then 49 else 48
+
+-- the LEDs, LED 0 first
+abbrev pub led_texts : ℕ → ℕ → List ℕ
+led_texts leds count = map (led_text leds) (range_with_len 0 count)
+
+-- the LEDs; `-` where there is none
+unfoldable pub led_list : ℕ → ℕ → List ℕ
+led_list leds count = if count == 0 then codes "-" else led_texts leds count
+
+-- the line of the LEDs
+unfoldable pub leds_text : ℕ → ℕ → List ℕ
+leds_text leds count = codes "leds " ++ (led_list leds count ++ newline)
+
+abbrev pub end_text : End → List ℕ
+end_text Done = codes "done"
+end_text Turns = codes "turns"
+
+-- the line of the end
+unfoldable pub end_line : End → ℕ → ℕ → List ℕ
+end_line end steps time = codes "end " ++ (end_text end ++ (codes " steps " ++ (decimal steps ++ (codes " time " ++ (decimal time ++ newline)))))
+
+-- the whole report
+unfoldable pub report_text : Summary → End → List ℕ
+report_text s end = slot_texts 0 s.slots.items ++ (unplaced_texts s.unplaced.items ++ (leds_text s.leds s.led_count ++ end_line end s.steps s.time))

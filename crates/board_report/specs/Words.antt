@@ -1,0 +1,37 @@
+-- The words of the report.
+use Rattle.std.specs.Prelude.{ℕ, ◌&&◌, nat_le, if◌then◌else◌, List, [], ◌∷◌, map, codes}
+use Rattle.tk_base.specs.declared.access.Access.{Access}
+use Rattle.tk_base.specs.declared.access.Access.TheVariants.{Fetch, Load, Store}
+use Rattle.tk_base.specs.declared.access.Rule.{Rule}
+use Rattle.tk_base.specs.declared.access.Rule.TheVariants.{NoRegion, NoExecute, NoWrite, NoRead, Misaligned, Illegal, Breakpoint, UnknownClass}
+use Rattle.tk_base.specs.declared.process.PlaceFault.{PlaceFault}
+use Rattle.tk_base.specs.declared.process.PlaceFault.TheVariants.{NoSlot, FixedTaken, NoRoom}
+
+abbrev pub access_text : Access → List ℕ
+access_text Fetch = codes "fetch"
+access_text Load = codes "load"
+access_text Store = codes "store"
+
+abbrev pub rule_text : Rule → List ℕ
+rule_text NoRegion = codes "no-region"
+rule_text NoExecute = codes "no-execute"
+rule_text NoWrite = codes "no-write"
+rule_text NoRead = codes "no-read"
+rule_text Misaligned = codes "misaligned"
+rule_text Illegal = codes "illegal"
+rule_text Breakpoint = codes "breakpoint"
+rule_text UnknownClass = codes "unknown-class"
+
+abbrev pub fault_text : PlaceFault → List ℕ
+fault_text NoSlot = codes "no-slot"
+fault_text FixedTaken = codes "fixed-taken"
+fault_text NoRoom = codes "no-room"
+
+-- a byte of a name: what is no visible character of ASCII is shown as `?`
+abbrev pub glyph : ℕ → ℕ
+glyph b = if nat_le 0x21 b && nat_le b 0x7e then b else 63
+
+-- a name; `-` where there is none
+abbrev pub name_text : List ℕ → List ℕ
+name_text [] = codes "-"
+name_text (b ∷ bs) = map glyph (b ∷ bs)

@@ -1,0 +1,71 @@
+//! The words of the report.
+ghost use Rattle.std.specs.Prelude.{◌≡◌, ◌≤◌, length, map};
+ghost use Rattle.board_report.specs.Words.{access_text, rule_text, fault_text, glyph, name_text};
+
+use arrayvec::ArrayVec;
+use tk_base::{Access, PlaceFault, Rule};
+
+/// The word of an access.
+pub fn access_word(access: Access) -> &'static [u8]
+    ensures { result.now ≡ access_text access }
+{
+    match access {
+        Access::Fetch => b"fetch",
+        Access::Load => b"load",
+        Access::Store => b"store",
+    }
+}
+
+/// The word of a rule.
+pub fn rule_word(rule: Rule) -> &'static [u8]
+    ensures { result.now ≡ rule_text rule }
+{
+    match rule {
+        Rule::NoRegion => b"no-region",
+        Rule::NoExecute => b"no-execute",
+        Rule::NoWrite => b"no-write",
+        Rule::NoRead => b"no-read",
+        Rule::Misaligned => b"misaligned",
+        Rule::Illegal => b"illegal",
+        Rule::Breakpoint => b"breakpoint",
+        Rule::UnknownClass => b"unknown-class",
+    }
+}
+
+/// The word of why an application was not placed.
+pub fn fault_word(fault: PlaceFault) -> &'static [u8]
+    ensures { result.now ≡ fault_text fault }
+{
+    match fault {
+        PlaceFault::NoSlot => b"no-slot",
+        PlaceFault::FixedTaken => b"fixed-taken",
+        PlaceFault::NoRoom => b"no-room",
+    }
+}
+
+/// A byte of a name, or `?` where it cannot be shown.
+fn shown(byte: u8) -> u8
+    ensures { result ≡ glyph byte }
+{
+    if (0x21..=0x7e).contains(&byte) {
+        byte
+    } else {
+        b'?'
+    }
+}
+
+/// The name of a process, or `-` where it has none.
+pub fn shown_name(name: &[u8]) -> ArrayVec<u8, 32>
+    requires { length name.now ≤ 32 }
+    ensures { result.items ≡ name_text name.now }
+{
+    let mut text = ArrayVec::new();
+    if name.is_empty() {
+        text.push(b'-');
+        return text;
+    }
+    for byte in name {
+        text.push(shown(*byte));
+    }
+    text
+}

@@ -1,0 +1,39 @@
+-- What a step and a world show: the facts of the report, and of one step.
+use Rattle.std.specs.Prelude.{List, [], ◌∷◌, ◌++◌, map, Some}
+use Rattle.process_record.specs.declared.emit.Emit.{Emit}
+use Rattle.process_record.specs.declared.summary.SlotLine.{SlotLine}
+use Rattle.process_record.specs.declared.summary.Summary.{Summary}
+use Rattle.process_record.specs.Emit.{nothing}
+use Rattle.kernel_model.specs.Record.{Record}
+use Rattle.kernel_model.specs.World.{World, Label, TurnOf, Printed}
+
+-- The one object that can be placed has no name.
+abbrev pub line_of : Record → SlotLine
+line_of r = record {
+  name = record { items = [] };
+  state = r.process.state;
+  denial = r.process.denial;
+  turns = r.process.turns;
+  restarts = r.process.restarts;
+  dropped = r.dropped;
+}
+
+-- what the report says of a world
+unfoldable pub summary_of : World → Summary
+summary_of w = record {
+  slots = record { items = map line_of w.records };
+  unplaced = record { items = w.unplaced };
+  leds = w.leds;
+  led_count = w.settings.leds;
+  steps = w.steps;
+  time = w.time;
+}
+
+abbrev pub with_label : Label → Emit → Emit
+with_label (TurnOf slot time accesses call denial) e = record e { slot = Some slot; made = call; denial = denial }
+with_label (Printed slot bytes) e = record e { printed = record { items = bytes ++ e.printed.items } }
+
+-- what a step shows that told these labels
+unfoldable pub shown_by : List Label → Emit
+shown_by [] = nothing
+shown_by (label ∷ labels) = with_label label (shown_by labels)

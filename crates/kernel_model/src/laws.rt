@@ -1,0 +1,12 @@
+//! Laws of the definitions, each the contract of a function that does nothing.
+ghost use Rattle.kernel_model.specs.Laws.{OnlyItsOwnTurn, NextIsReady};
+
+/// A step changes the record of no process but the one whose turn it is, and that one by its turn.
+pub fn only_its_own_turn()
+    ensures { OnlyItsOwnTurn }
+{}
+
+/// Below the limit of steps the next choice of the round robin may be made.
+pub fn next_is_ready()
+    ensures { NextIsReady }
+{}

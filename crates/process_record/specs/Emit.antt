@@ -1,0 +1,6 @@
+use Rattle.std.specs.Prelude.{[], None}
+use Rattle.process_record.specs.declared.emit.Emit.{Emit}
+
+-- what a step shows that printed nothing and was nobody's turn
+abbrev pub nothing : Emit
+nothing = record { printed = record { items = [] }; slot = None; made = None; denial = None }

@@ -1,0 +1,2 @@
+pub mod Emit
+pub mod Process

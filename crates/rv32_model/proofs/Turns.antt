@@ -1,0 +1,271 @@
+-- The laws of a turn, by cases on what was fetched, the row and the instruction.
+use Rattle.std.proofs.Common.{ap, List, ◌≡◌, ◌≢◌, ℕ, ◌+◌, ◌%◌, ◌==◌, ◌||◌, Bool, true, false, [], ◌∷◌, Option, None, Some, Result, Ok, Err, if◌then◌else◌, refl, sym, ◌∙◌, arith}
+use Rattle.std.specs.Prelude.{All, IfSome}
+use Rattle.std.specs.List.{list_any}
+use Rattle.std.proofs.lemmas.Bool.Decides.{nat_tests}
+use Rattle.std.proofs.lemmas.List.Elements.{All-append, All-nil, All-cons}
+use Rattle.std.proofs.lemmas.List.Folds.{list_any-append}
+use Rattle.tk_base.specs.declared.access.Access.{Access}
+use Rattle.tk_base.specs.declared.access.Access.TheVariants.{Fetch, Load, Store}
+use Rattle.tk_base.specs.declared.access.Width.{Width}
+use Rattle.tk_base.specs.declared.access.Width.TheVariants.{Half}
+use Rattle.tk_base.specs.declared.access.Rule.{Rule}
+use Rattle.tk_base.specs.declared.access.Denial.{Denial}
+use Rattle.tk_base.specs.declared.regs.Regs.{Regs}
+use Rattle.tk_base.specs.Access.{width_bytes}
+use Rattle.tk_base.specs.Bus.{number_at}
+use Rattle.tk_base.specs.Regs.{register}
+use Rattle.rv32_model.specs.declared.instr.LoadKind.{LoadKind}
+use Rattle.rv32_model.specs.declared.instr.Instr.{Instr}
+use Rattle.rv32_model.specs.declared.instr.Instr.TheVariants as instrs
+use Rattle.rv32_model.specs.declared.turn_end.TurnEnd.TheVariants.{Trap}
+use Rattle.rv32_model.specs.Laws.{Denies, stores_at, AccessesArePermitted, DataIsAligned, DeniedTurnsChangeNothing, OnlyStoresWrite, WritesArePermitted}
+use Rattle.rv32_model.specs.UserTurn.{Touch, UserTurn, user_turn, on_word, executed, fetched, after_write, after_load, after_store, data_denies, effect, fetches, load_width, touch_of, w32_of, judged_parcel, with_first, with_second, parcel_at, length_of, instr_of}
+
+-- a denied turn changes nothing
+Kept : (ℕ → ℕ) → Regs → UserTurn → Type 0
+Kept bytes regs t = (denial : Denial) → t.end ≡ Trap denial → (t.regs ≡ regs) × (after_write t.write bytes ≡ bytes) × (t.accesses ≡ [])
+
+load_kept : (bytes : ℕ → ℕ) (length : ℕ) (regs : Regs) (kind : LoadKind) (rd at number : ℕ) (o : Option Rule) → Kept bytes regs (after_load length regs kind rd at number o)
+unfolding Kept
+load_kept bytes length regs kind rd at number None d e = cc
+load_kept bytes length regs kind rd at number (Some rule) d e = (refl, refl, refl)
+
+store_kept : (bytes : ℕ → ℕ) (length : ℕ) (regs : Regs) (width : Width) (at value : ℕ) (o : Option Rule) → Kept bytes regs (after_store length regs width at value o)
+unfolding Kept
+store_kept bytes length regs width at value None d e = cc
+store_kept bytes length regs width at value (Some rule) d e = (refl, refl, refl)
+
+effect_kept : (denies : Denies) (bytes : ℕ → ℕ) (length : ℕ) (i : Instr) (regs : Regs) → Kept bytes regs (effect denies bytes length i regs)
+unfolding Kept
+effect_kept denies bytes length (instrs.Lui rd imm) regs d e = cc
+effect_kept denies bytes length (instrs.Auipc rd imm) regs d e = cc
+effect_kept denies bytes length (instrs.Jal rd offset) regs d e = cc
+effect_kept denies bytes length (instrs.Jalr rd rs1 offset) regs d e = cc
+effect_kept denies bytes length (instrs.Branch test rs1 rs2 offset) regs d e = cc
+effect_kept denies bytes length (instrs.Load kind rd rs1 offset) regs d e =
+    let at = w32_of (register regs rs1 + offset) in
+    load_kept bytes length regs kind rd at (number_at bytes at (load_width kind)) (data_denies denies Load at (load_width kind)) d e
+effect_kept denies bytes length (instrs.Store width rs1 rs2 offset) regs d e =
+    let at = w32_of (register regs rs1 + offset) in
+    store_kept bytes length regs width at (register regs rs2) (data_denies denies Store at width) d e
+effect_kept denies bytes length (instrs.OpImm op rd rs1 imm) regs d e = cc
+effect_kept denies bytes length (instrs.Op op rd rs1 rs2) regs d e = cc
+effect_kept denies bytes length instrs.Fence regs d e = cc
+effect_kept denies bytes length instrs.Ecall regs d e = cc
+effect_kept denies bytes length instrs.Ebreak regs d e = (refl, refl, refl)
+
+executed_kept : (denies : Denies) (bytes : ℕ → ℕ) (length : ℕ) (o : Option Instr) (regs : Regs) → Kept bytes regs (executed denies bytes length o regs)
+unfolding Kept executed
+executed_kept denies bytes length (Some i) regs d e = effect_kept denies bytes length i regs d e
+executed_kept denies bytes length None regs d e = (refl, refl, refl)
+
+word_kept : (denies : Denies) (bytes : ℕ → ℕ) (r : Result ℕ Denial) (regs : Regs) → Kept bytes regs (on_word denies bytes r regs)
+unfolding Kept on_word
+word_kept denies bytes (Ok word) regs d e = executed_kept denies bytes (length_of word) (instr_of word) regs d e
+word_kept denies bytes (Err denial) regs d e = (refl, refl, refl)
+
+pub denied_turns_change_nothing : DeniedTurnsChangeNothing
+unfolding Kept user_turn
+denied_turns_change_nothing denies bytes regs d e = word_kept denies bytes (fetched denies bytes regs.pc) regs d e
+
+-- what holds of each fetch, and of each load and store that is not denied, holds of each access
+load_touches : (P : Touch → Type 0) (length : ℕ) (regs : Regs) (kind : LoadKind) (rd at number : ℕ) (o : Option Rule) → All P (fetches length regs) → (o ≡ None → P (touch_of Load at (load_width kind))) → All P (after_load length regs kind rd at number o).accesses
+load_touches P length regs kind rd at number None f p = All-append P (fetches length regs) (touch_of Load at (load_width kind) ∷ []) f (All-cons P (touch_of Load at (load_width kind)) [] (p refl) (All-nil P))
+load_touches P length regs kind rd at number (Some rule) f p = All-nil P
+
+store_touches : (P : Touch → Type 0) (length : ℕ) (regs : Regs) (width : Width) (at value : ℕ) (o : Option Rule) → All P (fetches length regs) → (o ≡ None → P (touch_of Store at width)) → All P (after_store length regs width at value o).accesses
+store_touches P length regs width at value None f p = All-append P (fetches length regs) (touch_of Store at width ∷ []) f (All-cons P (touch_of Store at width) [] (p refl) (All-nil P))
+store_touches P length regs width at value (Some rule) f p = All-nil P
+
+effect_touches : (P : Touch → Type 0) (denies : Denies) (bytes : ℕ → ℕ) (length : ℕ) (i : Instr) (regs : Regs) → All P (fetches length regs) → ((access : Access) (at : ℕ) (width : Width) → data_denies denies access at width ≡ None → P (touch_of access at width)) → All P (effect denies bytes length i regs).accesses
+effect_touches P denies bytes length (instrs.Lui rd imm) regs f p = f
+effect_touches P denies bytes length (instrs.Auipc rd imm) regs f p = f
+effect_touches P denies bytes length (instrs.Jal rd offset) regs f p = f
+effect_touches P denies bytes length (instrs.Jalr rd rs1 offset) regs f p = f
+effect_touches P denies bytes length (instrs.Branch test rs1 rs2 offset) regs f p = f
+effect_touches P denies bytes length (instrs.Load kind rd rs1 offset) regs f p =
+    let at = w32_of (register regs rs1 + offset) in
+    load_touches P length regs kind rd at (number_at bytes at (load_width kind)) (data_denies denies Load at (load_width kind)) f (p Load at (load_width kind))
+effect_touches P denies bytes length (instrs.Store width rs1 rs2 offset) regs f p =
+    let at = w32_of (register regs rs1 + offset) in
+    store_touches P length regs width at (register regs rs2) (data_denies denies Store at width) f (p Store at width)
+effect_touches P denies bytes length (instrs.OpImm op rd rs1 imm) regs f p = f
+effect_touches P denies bytes length (instrs.Op op rd rs1 rs2) regs f p = f
+effect_touches P denies bytes length instrs.Fence regs f p = f
+effect_touches P denies bytes length instrs.Ecall regs f p = f
+effect_touches P denies bytes length instrs.Ebreak regs f p = All-nil P
+
+executed_touches : (P : Touch → Type 0) (denies : Denies) (bytes : ℕ → ℕ) (length : ℕ) (o : Option Instr) (regs : Regs) → All P (fetches length regs) → ((access : Access) (at : ℕ) (width : Width) → data_denies denies access at width ≡ None → P (touch_of access at width)) → All P (executed denies bytes length o regs).accesses
+unfolding executed
+executed_touches P denies bytes length (Some i) regs f p = effect_touches P denies bytes length i regs f p
+executed_touches P denies bytes length None regs f p = All-nil P
+
+-- an instruction was fetched only where each of its parcels is permitted
+second_word : (first second : ℕ) (at : ℕ) (o : Option Rule) (word : ℕ) → with_second first (judged_parcel at o second) ≡ Ok word → o ≡ None
+second_word first second at None word e = refl
+second_word first second at (Some rule) word e = cc
+
+-- what is known of the second parcel where the instruction has one
+SecondPermitted : Denies → ℕ → ℕ → Type 0
+SecondPermitted denies pc length = (length == 2) ≡ false → denies Fetch (w32_of (pc + 2)) Half ≡ None
+
+one_parcel : (denies : Denies) (pc word : ℕ) → (word % 4 == 3) ≡ false → SecondPermitted denies pc (length_of word)
+unfolding SecondPermitted
+one_parcel denies pc word t n = absurd (grind (arith, nat_tests))
+
+with_first_permitted : (denies : Denies) (bytes : ℕ → ℕ) (pc first word : ℕ) (b : Bool) → (first % 4 == 3) ≡ b → (if b then with_second first (parcel_at denies bytes (w32_of (pc + 2))) else Ok first) ≡ Ok word → SecondPermitted denies pc (length_of word)
+unfolding SecondPermitted
+with_first_permitted denies bytes pc first word true t e n = second_word first (number_at bytes (w32_of (pc + 2)) Half) (w32_of (pc + 2)) (denies Fetch (w32_of (pc + 2)) Half) word e
+with_first_permitted denies bytes pc first word false t e n =
+    let same : first ≡ word = cc in
+    one_parcel denies pc word (ap (λ x. x % 4 == 3) (sym same) ∙ t) n
+
+first_permitted : (denies : Denies) (bytes : ℕ → ℕ) (pc first : ℕ) (o : Option Rule) (word : ℕ) → with_first denies bytes pc (judged_parcel pc o first) ≡ Ok word → (o ≡ None) × SecondPermitted denies pc (length_of word)
+first_permitted denies bytes pc first None word e = (refl, with_first_permitted denies bytes pc first word (first % 4 == 3) refl e)
+first_permitted denies bytes pc first (Some rule) word e = cc
+
+word_permitted : (denies : Denies) (bytes : ℕ → ℕ) (pc word : ℕ) → fetched denies bytes pc ≡ Ok word → (denies Fetch pc Half ≡ None) × SecondPermitted denies pc (length_of word)
+unfolding fetched
+word_permitted denies bytes pc word e = first_permitted denies bytes pc (number_at bytes pc Half) (denies Fetch pc Half) word e
+
+second_fetch : Regs → Bool → List Touch
+second_fetch regs b = if b then [] else touch_of Fetch (w32_of (regs.pc + 2)) Half ∷ []
+
+second_each : (P : Touch → Type 0) (regs : Regs) (b : Bool) → (b ≡ false → P (touch_of Fetch (w32_of (regs.pc + 2)) Half)) → All P (second_fetch regs b)
+unfolding second_fetch
+second_each P regs true q = All-nil P
+second_each P regs false q = All-cons P (touch_of Fetch (w32_of (regs.pc + 2)) Half) [] (q refl) (All-nil P)
+
+fetches_each : (P : Touch → Type 0) (length : ℕ) (regs : Regs) → P (touch_of Fetch regs.pc Half) → ((length == 2) ≡ false → P (touch_of Fetch (w32_of (regs.pc + 2)) Half)) → All P (fetches length regs)
+unfolding second_fetch
+fetches_each P length regs p q =
+    All-cons P (touch_of Fetch regs.pc Half) (second_fetch regs (length == 2)) p (second_each P regs (length == 2) q)
+
+-- what holds of each permitted fetch, and of each load and store that is not denied
+Holds : Denies → (Touch → Type 0) → Type 0
+Holds denies P = ((at : ℕ) → denies Fetch at Half ≡ None → P (touch_of Fetch at Half)) × ((access : Access) (at : ℕ) (width : Width) → data_denies denies access at width ≡ None → P (touch_of access at width))
+
+word_touches : (P : Touch → Type 0) (denies : Denies) (bytes : ℕ → ℕ) (regs : Regs) (r : Result ℕ Denial) → fetched denies bytes regs.pc ≡ r → Holds denies P → All P (on_word denies bytes r regs).accesses
+unfolding on_word Holds SecondPermitted
+word_touches P denies bytes regs (Ok word) e h =
+    let both = word_permitted denies bytes regs.pc word e in
+    executed_touches P denies bytes (length_of word) (instr_of word) regs (fetches_each P (length_of word) regs (h.0 regs.pc both.0) (λ n. h.0 (w32_of (regs.pc + 2)) (both.1 n))) h.1
+word_touches P denies bytes regs (Err denial) e h = All-nil P
+
+turn_touches : (P : Touch → Type 0) (denies : Denies) (bytes : ℕ → ℕ) (regs : Regs) → Holds denies P → All P (user_turn denies bytes regs).accesses
+unfolding user_turn
+turn_touches P denies bytes regs h = word_touches P denies bytes regs (fetched denies bytes regs.pc) refl h
+
+data_permitted : (denies : Denies) (access : Access) (at : ℕ) (width : Width) → data_denies denies access at width ≡ None → (denies access at width ≡ None) × (at % width_bytes width ≡ 0)
+data_permitted denies access at width e = grind (arith, nat_tests)
+
+pub accesses_are_permitted : AccessesArePermitted
+unfolding Holds
+accesses_are_permitted denies bytes regs = turn_touches (λ t. denies t.access t.address t.width ≡ None) denies bytes regs ((λ at h. h), (λ access at width h. (data_permitted denies access at width h).0))
+
+pub data_is_aligned : DataIsAligned
+unfolding Holds
+data_is_aligned denies bytes regs = turn_touches (λ t. t.access ≢ Fetch → t.address % width_bytes t.width ≡ 0) denies bytes regs ((λ at h n. absurd (n refl)), (λ access at width h n. (data_permitted denies access at width h).1))
+
+-- a byte that no store covers stays
+Stays : ℕ → (ℕ → ℕ) → UserTurn → Type 0
+Stays at bytes t = list_any (stores_at at) t.accesses ≡ false → after_write t.write bytes at ≡ bytes at
+
+none_of : (x y : Bool) → (x || (y || false)) ≡ false → y ≡ false
+none_of true y e = cc
+none_of false true e = cc
+none_of false false e = refl
+
+store_stays : (a : ℕ) (bytes : ℕ → ℕ) (length : ℕ) (regs : Regs) (width : Width) (at value : ℕ) (o : Option Rule) → Stays a bytes (after_store length regs width at value o)
+unfolding Stays
+store_stays a bytes length regs width at value None e =
+    let both : (list_any (stores_at a) (fetches length regs) || (stores_at a (touch_of Store at width) || false)) ≡ false = sym (list_any-append (stores_at a) (fetches length regs) (touch_of Store at width ∷ [])) ∙ e in
+    let last : stores_at a (touch_of Store at width) ≡ false = none_of (list_any (stores_at a) (fetches length regs)) (stores_at a (touch_of Store at width)) both in
+    simp last
+store_stays a bytes length regs width at value (Some rule) e = refl
+
+load_stays : (a : ℕ) (bytes : ℕ → ℕ) (length : ℕ) (regs : Regs) (kind : LoadKind) (rd at number : ℕ) (o : Option Rule) → Stays a bytes (after_load length regs kind rd at number o)
+unfolding Stays
+load_stays a bytes length regs kind rd at number None e = refl
+load_stays a bytes length regs kind rd at number (Some rule) e = refl
+
+effect_stays : (a : ℕ) (denies : Denies) (bytes : ℕ → ℕ) (length : ℕ) (i : Instr) (regs : Regs) → Stays a bytes (effect denies bytes length i regs)
+unfolding Stays
+effect_stays a denies bytes length (instrs.Lui rd imm) regs e = refl
+effect_stays a denies bytes length (instrs.Auipc rd imm) regs e = refl
+effect_stays a denies bytes length (instrs.Jal rd offset) regs e = refl
+effect_stays a denies bytes length (instrs.Jalr rd rs1 offset) regs e = refl
+effect_stays a denies bytes length (instrs.Branch test rs1 rs2 offset) regs e = refl
+effect_stays a denies bytes length (instrs.Load kind rd rs1 offset) regs e =
+    let at = w32_of (register regs rs1 + offset) in
+    load_stays a bytes length regs kind rd at (number_at bytes at (load_width kind)) (data_denies denies Load at (load_width kind)) e
+effect_stays a denies bytes length (instrs.Store width rs1 rs2 offset) regs e =
+    let at = w32_of (register regs rs1 + offset) in
+    store_stays a bytes length regs width at (register regs rs2) (data_denies denies Store at width) e
+effect_stays a denies bytes length (instrs.OpImm op rd rs1 imm) regs e = refl
+effect_stays a denies bytes length (instrs.Op op rd rs1 rs2) regs e = refl
+effect_stays a denies bytes length instrs.Fence regs e = refl
+effect_stays a denies bytes length instrs.Ecall regs e = refl
+effect_stays a denies bytes length instrs.Ebreak regs e = refl
+
+executed_stays : (a : ℕ) (denies : Denies) (bytes : ℕ → ℕ) (length : ℕ) (o : Option Instr) (regs : Regs) → Stays a bytes (executed denies bytes length o regs)
+unfolding Stays executed
+executed_stays a denies bytes length (Some i) regs e = effect_stays a denies bytes length i regs e
+executed_stays a denies bytes length None regs e = refl
+
+word_stays : (a : ℕ) (denies : Denies) (bytes : ℕ → ℕ) (r : Result ℕ Denial) (regs : Regs) → Stays a bytes (on_word denies bytes r regs)
+unfolding Stays on_word
+word_stays a denies bytes (Ok word) regs e = executed_stays a denies bytes (length_of word) (instr_of word) regs e
+word_stays a denies bytes (Err denial) regs e = refl
+
+pub only_stores_write : OnlyStoresWrite
+unfolding Stays user_turn
+only_stores_write denies bytes regs a e = word_stays a denies bytes (fetched denies bytes regs.pc) regs e
+
+-- what a turn writes it may store
+Permitted : Denies → UserTurn → Type 0
+Permitted denies t = IfSome t.write (λ w. denies Store w.address w.width ≡ None)
+
+store_permitted : (denies : Denies) (length : ℕ) (regs : Regs) (width : Width) (at value : ℕ) (o : Option Rule) → o ≡ data_denies denies Store at width → Permitted denies (after_store length regs width at value o)
+unfolding Permitted
+store_permitted denies length regs width at value None e = (data_permitted denies Store at width (sym e)).0
+store_permitted denies length regs width at value (Some rule) e = tt
+
+load_permitted : (denies : Denies) (length : ℕ) (regs : Regs) (kind : LoadKind) (rd at number : ℕ) (o : Option Rule) → Permitted denies (after_load length regs kind rd at number o)
+unfolding Permitted
+load_permitted denies length regs kind rd at number None = tt
+load_permitted denies length regs kind rd at number (Some rule) = tt
+
+effect_permitted : (denies : Denies) (bytes : ℕ → ℕ) (length : ℕ) (i : Instr) (regs : Regs) → Permitted denies (effect denies bytes length i regs)
+unfolding Permitted
+effect_permitted denies bytes length (instrs.Lui rd imm) regs = tt
+effect_permitted denies bytes length (instrs.Auipc rd imm) regs = tt
+effect_permitted denies bytes length (instrs.Jal rd offset) regs = tt
+effect_permitted denies bytes length (instrs.Jalr rd rs1 offset) regs = tt
+effect_permitted denies bytes length (instrs.Branch test rs1 rs2 offset) regs = tt
+effect_permitted denies bytes length (instrs.Load kind rd rs1 offset) regs =
+    let at = w32_of (register regs rs1 + offset) in
+    load_permitted denies length regs kind rd at (number_at bytes at (load_width kind)) (data_denies denies Load at (load_width kind))
+effect_permitted denies bytes length (instrs.Store width rs1 rs2 offset) regs =
+    let at = w32_of (register regs rs1 + offset) in
+    store_permitted denies length regs width at (register regs rs2) (data_denies denies Store at width) refl
+effect_permitted denies bytes length (instrs.OpImm op rd rs1 imm) regs = tt
+effect_permitted denies bytes length (instrs.Op op rd rs1 rs2) regs = tt
+effect_permitted denies bytes length instrs.Fence regs = tt
+effect_permitted denies bytes length instrs.Ecall regs = tt
+effect_permitted denies bytes length instrs.Ebreak regs = tt
+
+executed_permitted : (denies : Denies) (bytes : ℕ → ℕ) (length : ℕ) (o : Option Instr) (regs : Regs) → Permitted denies (executed denies bytes length o regs)
+unfolding Permitted executed
+executed_permitted denies bytes length (Some i) regs = effect_permitted denies bytes length i regs
+executed_permitted denies bytes length None regs = tt
+
+run_permitted : (denies : Denies) (bytes : ℕ → ℕ) (r : Result ℕ Denial) (regs : Regs) → Permitted denies (on_word denies bytes r regs)
+unfolding Permitted on_word
+run_permitted denies bytes (Ok word) regs = executed_permitted denies bytes (length_of word) (instr_of word) regs
+run_permitted denies bytes (Err denial) regs = tt
+
+pub writes_are_permitted : WritesArePermitted
+unfolding Permitted user_turn
+writes_are_permitted denies bytes regs = run_permitted denies bytes (fetched denies bytes regs.pc) regs

@@ -1,0 +1,58 @@
+-- What holds of the instruction table and of every turn.
+use Rattle.std.specs.Prelude.{◌≡◌, ◌≢◌, ℕ, ◌+◌, ◌%◌, ◌≤◌, Bool, true, false, ◌&&◌, nat_le, nat_lt, [], length, Option, None, IfSome, filter, All}
+use Rattle.std.specs.List.{list_any}
+use Rattle.tk_base.specs.declared.access.Access.{Access}
+use Rattle.tk_base.specs.declared.access.Access.TheVariants.{Fetch, Load, Store}
+use Rattle.tk_base.specs.declared.access.Width.{Width}
+use Rattle.tk_base.specs.declared.access.Rule.{Rule}
+use Rattle.tk_base.specs.declared.access.Denial.{Denial}
+use Rattle.tk_base.specs.declared.regs.Regs.{Regs}
+use Rattle.tk_base.specs.Access.{width_bytes}
+use Rattle.rv32_model.specs.declared.turn_end.TurnEnd.TheVariants.{Trap}
+use Rattle.rv32_model.specs.Instructions.{fits, table}
+use Rattle.rv32_model.specs.UserTurn.{Touch, user_turn, after_write}
+
+-- no word fits two rows of the table
+abbrev pub NoWordFitsTwoRows : Type 0
+NoWordFitsTwoRows = (word : ℕ) → length (filter (fits word) table) ≤ 1
+
+-- what denies the accesses of a process, and the bytes that it sees
+abbrev pub Denies : Type 0
+Denies = Access → ℕ → Width → Option Rule
+
+-- each access that a turn lists is permitted
+abbrev pub AccessesArePermitted : Type 0
+AccessesArePermitted = (denies : Denies) (bytes : ℕ → ℕ) (regs : Regs) → All (λ t. denies t.access t.address t.width ≡ None) (user_turn denies bytes regs).accesses
+
+-- each load and store that a turn lists is at a multiple of its width
+abbrev pub DataIsAligned : Type 0
+DataIsAligned = (denies : Denies) (bytes : ℕ → ℕ) (regs : Regs) → All (λ t. t.access ≢ Fetch → t.address % width_bytes t.width ≡ 0) (user_turn denies bytes regs).accesses
+
+-- a denied turn changes neither registers nor bytes, and lists no access
+abbrev pub DeniedTurnsChangeNothing : Type 0
+DeniedTurnsChangeNothing =
+    (denies : Denies) (bytes : ℕ → ℕ) (regs : Regs) (denial : Denial)
+    → (user_turn denies bytes regs).end ≡ Trap denial
+    → ((user_turn denies bytes regs).regs ≡ regs)
+    × (after_write (user_turn denies bytes regs).write bytes ≡ bytes)
+    × ((user_turn denies bytes regs).accesses ≡ [])
+
+abbrev pub is_store : Access → Bool
+is_store Fetch = false
+is_store Load = false
+is_store Store = true
+
+-- whether an access is a store that covers the byte at an address
+abbrev pub stores_at : ℕ → Touch → Bool
+stores_at at t = is_store t.access && (nat_le t.address at && nat_lt at (t.address + width_bytes t.width))
+
+-- a byte that no store of the turn covers is as it was
+abbrev pub OnlyStoresWrite : Type 0
+OnlyStoresWrite =
+    (denies : Denies) (bytes : ℕ → ℕ) (regs : Regs) (at : ℕ)
+    → list_any (stores_at at) (user_turn denies bytes regs).accesses ≡ false
+    → after_write (user_turn denies bytes regs).write bytes at ≡ bytes at
+
+-- what a turn writes it may store
+abbrev pub WritesArePermitted : Type 0
+WritesArePermitted = (denies : Denies) (bytes : ℕ → ℕ) (regs : Regs) → IfSome (user_turn denies bytes regs).write (λ w. denies Store w.address w.width ≡ None)

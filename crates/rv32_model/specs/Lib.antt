@@ -1,0 +1,4 @@
+pub mod Compressed
+pub mod Instructions
+pub mod Laws
+pub mod UserTurn

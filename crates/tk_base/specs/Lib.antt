@@ -1,0 +1,4 @@
+pub mod Access
+pub mod Bus
+pub mod Call
+pub mod Regs

@@ -1,0 +1,3 @@
+pub mod WritesLemmas
+mod PutLemmas
+mod ScheduleLemmas

@@ -1,0 +1,69 @@
+-- Writes that follow one another make one write of the joined text. A function that makes several writes, each with
+-- `?`, meets its `Writes` clause by these: `all_then_part` where a later one fails, `part_of_more` where more was to
+-- follow, and `all_then_all` where all succeeded.
+use Rattle.std.proofs.Common.{ℕ, ◌≤◌, List, [], ◌++◌, Result, Ok, Err, IsOk, append_assoc, arith, length-append}
+use Rattle.std.specs.Prelude.{Option, IsErr}
+use Rattle.std.proofs.lemmas.Result.{MatchResult-from_err}
+use Rattle.std.proofs.lemmas.Bool.{false≢true}
+use Rattle.std.proofs.KnownBytes.{Appends-nil, Appends-trans}
+use Rattle.tk_outside.specs.Count.{Rose}
+use Rattle.tk_outside.specs.Writes.{WroteAll, WrotePart, Writes}
+
+-- a count that rose after it did not fall rose over both
+pub rose_later : (a b c : ℕ) → a ≤ b → Rose b c → Rose a c
+rose_later a b c kept rose = omega arith
+
+-- nothing written is all of the empty text
+pub wrote_nothing : {K : Type 0} (told : K → Option (List ℕ)) (faults : K → ℕ) (a : K) → WroteAll told faults a a []
+wrote_nothing told faults a = record { appended = Appends-nil (told a); count = omega arith }
+
+-- written, then written
+pub all_then_all : {K : Type 0} {told : K → Option (List ℕ)} {faults : K → ℕ} {a b c : K} {front back : List ℕ}
+    → WroteAll told faults a b front → WroteAll told faults b c back → WroteAll told faults a c (front ++ back)
+all_then_all {K} {told} {faults} {a} {b} {c} {front} {back} p q = record {
+  appended = Appends-trans (told a) (told b) (told c) front back p.appended q.appended;
+  count = omega (arith, p.count, q.count);
+}
+
+-- written, then part
+pub all_then_part : {K : Type 0} {told : K → Option (List ℕ)} {faults : K → ℕ} {a b c : K} {front back : List ℕ}
+    → WroteAll told faults a b front → WrotePart told faults b c back → WrotePart told faults a c (front ++ back)
+all_then_part {K} {told} {faults} {a} {b} {c} {front} {back} p q = record {
+  front = front ++ q.front;
+  missing = q.missing;
+  parts = rw (q.parts, append_assoc);
+  lacks = q.lacks;
+  appended = Appends-trans (told a) (told b) (told c) front q.front p.appended q.appended;
+  count = omega (arith, p.count, q.count);
+  rose = rose_later _ (faults b) _ p.count q.rose;
+}
+
+-- part, where more text was to follow
+pub part_of_more : {K : Type 0} {told : K → Option (List ℕ)} {faults : K → ℕ} {a b : K} {front : List ℕ} (back : List ℕ)
+    → WrotePart told faults a b front → WrotePart told faults a b (front ++ back)
+part_of_more {front = front} back p = record {
+  front = p.front;
+  missing = p.missing ++ back;
+  parts = rw (p.parts, append_assoc);
+  lacks = omega (arith, p.lacks, length-append p.missing back);
+  appended = p.appended;
+  count = p.count;
+  rose = p.rose;
+}
+
+-- the exit of a `?`: the result is an error, and a part was written
+pub writes_part : {K A E : Type 0} {told : K → Option (List ℕ)} {faults : K → ℕ} {a b : K} {text : List ℕ} (r : Result A E)
+    → IsErr r → WrotePart told faults a b text → Writes told faults a b text r
+writes_part r h p = MatchResult-from_err r _ _ h (λ _. p)
+
+-- a call after all of the front was written
+pub all_then_writes : {K A E : Type 0} {told : K → Option (List ℕ)} {faults : K → ℕ} {a b : K} {front : List ℕ} (c : K) (back : List ℕ) (r : Result A E)
+    → WroteAll told faults a b front → Writes told faults b c back r → Writes told faults a c (front ++ back) r
+all_then_writes c back (Ok x) p q = all_then_all p q
+all_then_writes c back (Err e) p q = all_then_part p q
+
+-- a write that succeeded and one after it are a write of the joined text
+pub writes_then_writes : {K A B E F : Type 0} (told : K → Option (List ℕ)) (faults : K → ℕ) (a b c : K) (front back : List ℕ) (r : Result A E) (s : Result B F)
+    → IsOk r → Writes told faults a b front r → Writes told faults b c back s → Writes told faults a c (front ++ back) s
+writes_then_writes told faults a b c front back (Ok x) s ok p q = all_then_writes c back s p q
+writes_then_writes told faults a b c front back (Err e) s ok p q = absurd (false≢true ok)

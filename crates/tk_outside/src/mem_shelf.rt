@@ -1,0 +1,191 @@
+//! A shelf in memory.
+ghost use Rattle.std.specs.Prelude.{◌≡◌, ◌≤◌, ◌<◌, ◌+◌, ◌^◌, ◌++◌, length, drop, List, ℕ, [], false, is_some, IsSome, IsTrue, IfOk, IsOk, Some, None, vec_len};
+ghost use Rattle.tk_outside.specs.Names.{are_distinct, has_name, rest_at, place_of};
+
+use crate::failed::{Failed, NoMemory};
+use crate::schedule::Schedule;
+use crate::shelf::Shelf;
+use std::alloc::Global;
+
+/// Holds files under names. It can be told to give few bytes at a time, and to fail at certain
+/// calls. A name that it does not hold is a fault.
+#[derive(Drop)]
+pub struct MemShelf {
+    names: Vec<String>,
+    files: Vec<Vec<u8>>,
+    most: usize,
+    place: usize,
+    at: usize,
+    schedule: Schedule,
+    ghost gives_some: { 1 ≤ most },
+    ghost as_many: { vec_len names ≡ vec_len files },
+}
+
+/// Whether no two of the names are equal.
+pub fn are_distinct(names: &[String]) -> bool
+    ensures { result ≡ are_distinct names.now }
+{
+    match names {
+        [] => true,
+        [first, rest @ ..] => !has_name(rest, first.as_str()) && are_distinct(rest),
+    }
+}
+
+/// Whether a name is among names.
+fn has_name(names: &[String], name: &str) -> bool
+    ensures { result ≡ has_name names.now name.now }
+{
+    names.iter().any(|n| n.as_str() == name)
+}
+
+/// The place of a name among names.
+fn place_of(names: &[String], name: &str) -> Option<usize>
+    ensures { result ≡ place_of names.now name.now }
+{
+    names.iter().position(|n| n.as_str() == name)
+}
+
+/// What follows the first `at` bytes of the file at a place; nothing where there is no such file.
+fn rest_at(files: &[Vec<u8>], place: usize, at: usize) -> &[u8]
+    ensures rest { result.now ≡ rest_at files.now place at }
+    ensures fits { length result.now + at < 2 ^ 64 }
+{
+    if place >= files.len() {
+        return &[];
+    }
+    let file = files[place].as_slice();
+    if at >= file.len() {
+        return &[];
+    }
+    file.split_at(at).1
+}
+
+/// Writes the bytes over the front of the slice.
+pub(crate) fn copy_front(into: &mut [u8], bytes: &[u8])
+    requires { length bytes.now ≤ length into.old }
+    ensures { into.new ≡ bytes.now ++ drop (length bytes.now) into.old }
+{
+    for i in 0..bytes.len() {
+        into[i] = bytes[i];
+    }
+}
+
+impl MemShelf {
+    ghost use Rattle.tk_outside.specs.MemShelf.{bytes_of, rest_of, most_of, calls_of, failing_of, faults_of, holds, IsSoundName};
+    ghost use Rattle.tk_outside.specs.Names.{file_of};
+    ghost use Rattle.tk_outside.specs.Schedule.{fails_after};
+
+    /// A shelf that holds each file under the name at the same place. No name stands twice. One
+    /// read gives at most `most` bytes. The calls whose numbers, from 1, are in `failing` fail;
+    /// `begin` and `read` are counted together. No file is begun at first. The vectors are kept as
+    /// they are, so no memory is taken.
+    pub fn new(
+        _alloc: Global,
+        names: Vec<String>,
+        files: Vec<Vec<u8>>,
+        most: usize,
+        failing: Vec<u64>,
+    ) -> Result<MemShelf, NoMemory>
+        requires distinct { IsTrue (are_distinct names.items) }
+        requires as_many { vec_len names ≡ vec_len files }
+        requires some { 1 ≤ most }
+        ensures made { IsOk result }
+        ensures bytes { IfOk result (λ s. (name : List ℕ) → bytes_of s name ≡ file_of names.items files.items name) }
+        ensures names { IfOk result (λ s. (name : List ℕ) → holds s name ≡ is_some (place_of names.items name)) }
+        ensures sound { IfOk result (λ s. (name : List ℕ) → IsSome (place_of names.items name)
+            → fails_after 0 failing.items ≡ false → IsSoundName s name) }
+        ensures rest { IfOk result (λ s. rest_of s ≡ []) }
+        ensures most { IfOk result (λ s. most_of s ≡ most) }
+        ensures calls { IfOk result (λ s. calls_of s ≡ 0) }
+        ensures failing { IfOk result (λ s. failing_of s ≡ failing.items) }
+        ensures faults { IfOk result (λ s. faults_of s ≡ 0) }
+    {
+        let place = files.len();
+        Ok(MemShelf {
+            names,
+            files,
+            most,
+            place,
+            at: 0,
+            schedule: Schedule::new(failing),
+        })
+    }
+}
+
+impl Shelf for MemShelf {
+    ghost use Rattle.std.specs.Prelude.{◌≡◌, ◌≤◌, ◌<◌, ◌+◌, ◌-◌, ◌^◌, ◌&&◌, not, length, min, ℕ, List, is_ok, IfOk, IsOk, OnOk, OnErr, IsTrue, Some};
+    ghost use Rattle.std.specs.Option.{ok_or};
+    ghost use Rattle.std.specs.Io.KnownBytes.{Keeps, IsAtEnd};
+    ghost use Rattle.tk_outside.specs.Count.{Rose};
+    ghost use Rattle.tk_outside.specs.Shelf.{Moves};
+    ghost use Rattle.tk_outside.specs.MemShelf.{bytes_of, rest_of, most_of, calls_of, failing_of, faults_of, IsSoundName, HasNoFaultToCome, holds, fails_at_once, given_of};
+
+    ghost bytes = { bytes_of };
+
+    ghost rest = { λ s. Some (rest_of s) };
+
+    ghost faults = { faults_of };
+
+    ghost is_sound = { IsSoundName };
+
+    ghost in_sound = { HasNoFaultToCome };
+
+    /// Fails where the call is one of those that are to fail, and at a name that is not held.
+    fn begin(&mut self, name: &str) -> Result<(), Failed>
+        ensures ok { OnOk result (Keeps (bytes_of self.old name.now) (Some (rest_of self.new))) }
+        ensures err { OnErr result (IsAtEnd (Some (rest_of self.new))) }
+        ensures failed { OnErr result (Rose (faults_of self.old) (faults_of self.new)) }
+        ensures count { faults_of self.old ≤ faults_of self.new }
+        ensures bytes { bytes_of self.new ≡ bytes_of self.old }
+        ensures succeeds { IsSoundName self.old name.now → IsOk result }
+        ensures sound { IsSoundName self.old name.now → HasNoFaultToCome self.new }
+        ensures sound_names { (n : List ℕ) → IsSoundName self.old n → IsSoundName self.new n }
+
+        // What no trait says: when it fails, and that calls are counted.
+        ensures answer { is_ok result ≡ (not (fails_at_once self.old) && holds self.old name.now) }
+        ensures most { most_of self.new ≡ most_of self.old }
+        ensures calls { calls_of self.new ≡ min (calls_of self.old + 1) (2 ^ 64 - 1) }
+        ensures failing { failing_of self.new ≡ failing_of self.old }
+    {
+        self.place = self.files.len();
+        self.at = 0;
+        if self.schedule.next_fails() {
+            return Err(self.schedule.fault());
+        }
+        match place_of(&self.names, name) {
+            Some(place) => {
+                self.place = place;
+                Ok(())
+            }
+            None => Err(self.schedule.fault()),
+        }
+    }
+
+    /// Gives as many bytes as `most`, the rest and the slice allow. Fails where the call is one of
+    /// those that are to fail.
+    fn read(&mut self, into: &mut [u8]) -> Result<usize, Failed>
+        ensures ok { IfOk result (λ n. Moves (Some (rest_of self.old)) (Some (rest_of self.new)) into.old into.new n) }
+        ensures err { OnErr result (Keeps (Some (rest_of self.old)) (Some (rest_of self.new))) }
+        ensures failed { OnErr result (Rose (faults_of self.old) (faults_of self.new)) }
+        ensures count { faults_of self.old ≤ faults_of self.new }
+        ensures bytes { bytes_of self.new ≡ bytes_of self.old }
+        ensures succeeds { HasNoFaultToCome self.old → IsOk result }
+        ensures sound { HasNoFaultToCome self.old → HasNoFaultToCome self.new }
+        ensures sound_names { (n : List ℕ) → IsSoundName self.old n → IsSoundName self.new n }
+
+        // What no trait says: how many bytes are given, and that calls are counted.
+        ensures given { result ≡ ok_or (given_of self.old (length into.old)) record {} }
+        ensures most { most_of self.new ≡ most_of self.old }
+        ensures calls { calls_of self.new ≡ min (calls_of self.old + 1) (2 ^ 64 - 1) }
+        ensures failing { failing_of self.new ≡ failing_of self.old }
+    {
+        if self.schedule.next_fails() {
+            return Err(self.schedule.fault());
+        }
+        let rest = rest_at(&self.files, self.place, self.at);
+        let given = into.len().min(self.most).min(rest.len());
+        copy_front(into, rest.split_at(given).0);
+        self.at += given;
+        Ok(given)
+    }
+}

@@ -1,0 +1,49 @@
+//! Which calls of an object in memory are to fail.
+ghost use Rattle.std.specs.Prelude.{◌≡◌, ◌+◌, ◌-◌, ◌^◌, ◌≤◌, false, min};
+
+use crate::failed::Failed;
+
+/// Counts the calls of an object, from 1, and its faults, and knows the numbers of the calls that
+/// are to fail. Both counts stand still at `2^64 - 1`, and no call after that many fails.
+#[derive(Drop)]
+pub(crate) struct Schedule {
+    calls: u64,
+    failing: Vec<u64>,
+    faults: u64,
+}
+
+impl Schedule {
+    ghost use Rattle.tk_outside.specs.Schedule.{fails_next, IsDone};
+
+    pub(crate) fn new(failing: Vec<u64>) -> Schedule
+        ensures { result ≡ record { calls = 0; failing = failing; faults = 0 } }
+    {
+        Schedule {
+            calls: 0,
+            failing,
+            faults: 0,
+        }
+    }
+
+    /// Counts one more call, and answers whether it is to fail.
+    pub(crate) fn next_fails(&mut self) -> bool
+        ensures answer { result ≡ fails_next self.old }
+        ensures done { IsDone self.old → IsDone self.new × (result ≡ false) }
+        ensures counted { self.new ≡ record self.old { calls = min (self.old.calls + 1) (2 ^ 64 - 1) } }
+    {
+        if self.calls == u64::MAX {
+            return false;
+        }
+        self.calls += 1;
+        self.failing.contains(&self.calls)
+    }
+
+    /// Counts one more fault.
+    pub(crate) fn fault(&mut self) -> Failed
+        ensures counted { self.new ≡ record self.old { faults = min (self.old.faults + 1) (2 ^ 64 - 1) } }
+        ensures kept { self.old.faults ≤ self.new.faults }
+    {
+        self.faults = self.faults.saturating_add(1);
+        Failed
+    }
+}

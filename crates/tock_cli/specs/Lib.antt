@@ -1,0 +1,5 @@
+pub mod Ready
+pub mod Refusals
+pub mod RunText
+pub mod Served
+pub mod Words

@@ -1,0 +1,80 @@
+//! A run of a board, and its text.
+ghost use Rattle.std.specs.Prelude.{◌≡◌, ◌+◌, ◌≤◌, ℕ, OnOk, OnErr};
+ghost use Rattle.tk_outside.specs.Writes.{Writes};
+ghost use Rattle.kernel_model.specs.Run.{round, printed};
+ghost use Rattle.tock_cli.specs.RunText.{mode_text, end_of, end_text, IsWorldOf};
+
+use board_core::Board;
+use board_report::{End, write_report};
+use process_record::Emit;
+use tk_outside::{Failed, Sink, put_all};
+
+/// What is written of a run.
+#[derive(Clone, Copy, Debug, PartialEq, Eq)]
+pub enum Mode {
+    /// What it prints, and then the report.
+    Boot,
+}
+
+/// Makes the run, and writes what it prints.
+fn run_steps<K: Sink>(board: &mut Board, turns: u32, out: &mut K) -> Result<(), Failed>
+    requires { board.old.steps + turns ≤ 4000000000 }
+    ensures prints { Writes K.told K.faults out.old out.new (printed (round turns board.old).labels) result }
+    ensures last { OnOk result (board.new ≡ (round turns board.old).world) }
+    ensures some { OnErr result (IsWorldOf turns board.old board.new) }
+{
+    let mut emit = Emit::new();
+    for _ in 0..turns {
+        let Some(choice) = board.next_choice() else {
+            return Ok(());
+        };
+        let Ok(()) = board.step(choice, &mut emit) else {
+            unreachable!()
+        };
+        put_all(out, &emit.printed)?;
+    }
+    Ok(())
+}
+
+/// How a run that led to this board ended.
+#[tactic(auto, unfolding(crate::specs::RunText::end_of))]
+fn end_of_run(board: &Board) -> End
+    ensures { result ≡ end_of board.now }
+{
+    match board.next_choice() {
+        None => End::Done,
+        Some(_) => End::Turns,
+    }
+}
+
+/// Writes the line between what a run printed and its report, and the report.
+fn write_end_of_run<K: Sink>(board: &Board, out: &mut K) -> Result<(), Failed>
+    ensures { Writes K.told K.faults out.old out.new (end_text board.now) result }
+{
+    put_all(out, b"==\n")?;
+    write_report(&board.summary(), end_of_run(board), out)
+}
+
+/// Runs the board by the round robin for at most `turns` steps, and writes the text of the run. It ends
+/// before where no process can go on. Afterwards the board shows the run's last world.
+///
+/// [`Failed`] comes only where the sink's count of faults rose; a part of the text was written then that
+/// lacks at least one byte, and the board shows a world of the run. No memory is taken.
+pub fn run_out<K: Sink>(
+    board: &mut Board,
+    mode: Mode,
+    turns: u32,
+    out: &mut K,
+) -> Result<(), Failed>
+    requires { board.old.steps + turns ≤ 4000000000 }
+    ensures text { Writes K.told K.faults out.old out.new (mode_text mode turns board.old) result }
+    ensures last { OnOk result (board.new ≡ (round turns board.old).world) }
+    ensures some { OnErr result (IsWorldOf turns board.old board.new) }
+{
+    match mode {
+        Mode::Boot => {
+            run_steps(board, turns, out)?;
+            write_end_of_run(board, out)
+        }
+    }
+}
