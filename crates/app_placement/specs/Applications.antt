@@ -1,0 +1,53 @@
+-- What the applications of a flash image ask for, by their headers (Tock Binary Format, "Main", "Program" and
+-- "Fixed Addresses").
+use Rattle.std.specs.Prelude.{ℕ, ◌+◌, ◌==◌, Bool, true, false, if◌then◌else◌, List, slice_range, filter_map, Option, Some, None, option_map, Result, Ok, Err}
+use Rattle.tbf_headers.specs.declared.fault.HeaderFault.{HeaderFault}
+use Rattle.tbf_headers.specs.declared.program.Main.{Main}
+use Rattle.tbf_headers.specs.Numbers.{rounded}
+use Rattle.tbf_headers.specs.Meaning.{Meaning, reading}
+use Rattle.flash_walk.specs.declared.found.Found.{Found}
+use Rattle.flash_walk.specs.declared.found.Verdict.{Verdict}
+use Rattle.flash_walk.specs.declared.found.Verdict.TheVariants.{Bad, Padding, Disabled, BadEntry, WrongFlash, App}
+use Rattle.flash_walk.specs.Image.{flash_start, after_protected, accessible_end, size_at, objects}
+use Rattle.app_placement.specs.declared.application.Application.{Application}
+
+-- the RAM start that an application is linked for; 0xFFFFFFFF for none
+abbrev pub fixed_start : Option (ℕ × ℕ) → Option ℕ
+fixed_start None = None
+fixed_start (Some fixed) = if fixed.0 == 4294967295 then None else Some fixed.0
+
+-- what the application asks for whose object stands at an offset. Its accessible flash begins after the header
+-- and the protected bytes, rounded up to 4.
+abbrev pub application : ℕ → Meaning → Main → Application
+application offset h m = record {
+  offset = offset;
+  flash_from = rounded (after_protected (flash_start + offset) h m);
+  flash_to = accessible_end (flash_start + offset) h.total_size m.binary_end;
+  minimum_ram = m.minimum_ram;
+  fixed_start = fixed_start h.fixed;
+}
+
+-- the same by what the object's bytes mean
+abbrev pub application_in : ℕ → Result Meaning HeaderFault → Option Application
+application_in offset (Err fault) = None
+application_in offset (Ok h) = option_map (application offset h) h.main
+
+abbrev pub is_app : Verdict → Bool
+is_app (Bad fault) = false
+is_app Padding = false
+is_app Disabled = false
+is_app BadEntry = false
+is_app WrongFlash = false
+is_app App = true
+
+-- what an object that was found asks for, if it is an application
+abbrev pub application_of : List ℕ → Found → Option Application
+application_of flash f = if is_app f.verdict then application_in f.offset (reading (slice_range flash f.offset (f.offset + f.size))) else None
+
+-- the applications of a flash image, in the order in which they stand there
+abbrev pub applications : List ℕ → List Application
+applications flash = filter_map (application_of flash) (objects flash)
+
+-- the bytes of the object at an offset
+abbrev pub object_bytes : List ℕ → ℕ → List ℕ
+object_bytes flash offset = slice_range flash offset (offset + size_at flash offset)

@@ -1,0 +1,138 @@
+//! Where each application is placed.
+ghost use Rattle.std.specs.Prelude.{◌≡◌, ◌+◌, ◌%◌, ◌≤◌, ◌<◌, length, All, AllPairs};
+ghost use Rattle.flash_walk.specs.Image.{objects};
+ghost use Rattle.app_placement.specs.Applications.{applications};
+ghost use Rattle.app_placement.specs.Placement.{block_length, block_start, is_taken, place_of, filled_after, placements, extents, LiesInRam, LiesBefore, LiesInFlash, IsLaidOut, AreNumbered};
+
+use crate::application::{Application, application_at};
+use crate::placed::{Filled, Place, Placed, RAM_START};
+use arrayvec::ArrayVec;
+use flash_walk::Found;
+use process_layout::Layout;
+use tk_base::{Addr, PlaceFault, Slot};
+
+/// The length of a block of RAM, in bytes: the minimum RAM and 768 bytes, rounded up to a multiple
+/// of 1024.
+fn block_length_of(minimum_ram: u32) -> u64
+    ensures { result ≡ block_length minimum_ram }
+{
+    (u64::from(minimum_ram) + 768).next_multiple_of(1024)
+}
+
+/// Whether a fixed RAM start is no multiple of 8, or lies below the last end.
+fn is_taken_by(last_end: Addr, fixed_start: Option<Addr>) -> bool
+    ensures { result ≡ is_taken last_end fixed_start }
+{
+    match fixed_start {
+        None => false,
+        Some(start) => start % 8 != 0 || start < last_end,
+    }
+}
+
+/// Where a block starts: at the fixed RAM start, or at the last end.
+fn block_start_of(last_end: Addr, fixed_start: Option<Addr>) -> Addr
+    ensures { result ≡ block_start last_end fixed_start }
+{
+    match fixed_start {
+        None => last_end,
+        Some(start) => start,
+    }
+}
+
+/// The memory of an application whose block has this start and end.
+fn layout_of(app: &Application, start: Addr, end: Addr) -> Layout
+    requires flash { app.now.flash_from ≤ app.now.flash_to }
+    requires start { start % 4 ≡ 0 }
+    requires end { end ≡ start + block_length app.now.minimum_ram }
+    ensures { result ≡ extents app.now start }
+{
+    let brk = (u64::from(start) + u64::from(app.minimum_ram)).next_multiple_of(4);
+    Layout {
+        flash_start: app.flash_from,
+        flash_end: app.flash_to,
+        start,
+        end,
+        brk: brk as u32,
+        kernel_break: end,
+        mark: start,
+    }
+}
+
+/// The place of the next application, or the first cause for which it has none.
+#[tactic(auto, unfolding(crate::specs::Placement::place_of))]
+fn next_place(ram: u32, filled: &Filled, app: &Application) -> Result<Place, PlaceFault>
+    requires ram { ram ≤ 262144 }
+    requires aligned { filled.now.last_end % 4 ≡ 0 }
+    requires flash { app.now.flash_from ≤ app.now.flash_to }
+    ensures { result ≡ place_of ram filled.now app.now }
+{
+    let start = block_start_of(filled.last_end, app.fixed_start);
+    let end = u64::from(start) + block_length_of(app.minimum_ram);
+    if filled.count >= Slot::COUNT {
+        return Err(PlaceFault::NoSlot);
+    }
+    if is_taken_by(filled.last_end, app.fixed_start) {
+        return Err(PlaceFault::FixedTaken);
+    }
+    if end > u64::from(RAM_START) + u64::from(ram) {
+        return Err(PlaceFault::NoRoom);
+    }
+    Ok(Place {
+        slot: Slot::new(filled.count),
+        layout: layout_of(app, start, end as u32),
+    })
+}
+
+/// How far RAM and the slots are filled after an application was placed or was not.
+fn next_filled(filled: &Filled, place: &Result<Place, PlaceFault>) -> Filled
+    requires { filled.now.count ≤ 8 }
+    ensures { result ≡ filled_after filled.now place.now }
+{
+    match place {
+        Err(_) => *filled,
+        Ok(place) => Filled {
+            last_end: place.layout.end,
+            count: filled.count + 1,
+        },
+    }
+}
+
+/// Places the applications of a flash image in RAM of this size, in bytes, in the order in which
+/// they stand in flash. `found` is what the walk over the flash image finds.
+///
+/// An application is not placed where eight are placed already; where it is linked for a RAM
+/// start that is no multiple of 8 or lies below the end of the last block; or where its block
+/// would pass the end of RAM. The first of these causes is told. It then takes no slot and no RAM.
+pub fn place(found: &[Found], flash: &[u8], ram: u32) -> ArrayVec<Placed, 64>
+    requires found { found.now ≡ objects flash.now }
+    requires flash { length flash.now ≤ 1048576 }
+    requires least { 4096 ≤ ram }
+    requires most { ram ≤ 262144 }
+    requires multiple { ram % 1024 ≡ 0 }
+    ensures places { result.items ≡ placements ram (applications flash.now) }
+    // Each block lies in RAM, apart from the others, and the accessible flash in its object.
+    ensures ram { All (LiesInRam ram) result.items }
+    ensures apart { AllPairs LiesBefore result.items }
+    ensures flash { All (LiesInFlash flash.now) result.items }
+    // Each layout is the one for its object, and the slots are taken in order.
+    ensures layouts { All (IsLaidOut flash.now) result.items }
+    ensures slots { AreNumbered result.items }
+{
+    let mut placed = ArrayVec::new();
+    let mut filled = Filled {
+        last_end: RAM_START,
+        count: 0,
+    };
+    for object in found {
+        let Some(app) = application_at(flash, object) else {
+            continue;
+        };
+        let place = next_place(ram, &filled, &app);
+        filled = next_filled(&filled, &place);
+        placed.push(Placed {
+            offset: app.offset,
+            place,
+        });
+    }
+    placed
+}

@@ -1,0 +1,99 @@
+-- The objects of a flash image. Each begins with a header of the Tock Binary Format, and the next one stands
+-- where its total size ends. Places are counted from the start of flash.
+use Rattle.std.specs.Prelude.{◌≡◌, ◌≤◌, ℕ, zero, suc, ◌+◌, ◌-◌, ◌%◌, ◌==◌, Bool, false, not, ◌||◌, ◌&&◌, nat_lt, nat_le, if◌then◌else◌, List, [], ◌∷◌, length, slice_range, Option, Some, None, Result, Ok, Err}
+use Rattle.tbf_headers.specs.declared.fault.HeaderFault.{HeaderFault}
+use Rattle.tbf_headers.specs.declared.program.Main.{Main}
+use Rattle.tbf_headers.specs.Numbers.{half, word, rounded}
+use Rattle.tbf_headers.specs.Meaning.{Meaning, reading}
+use Rattle.flash_walk.specs.declared.found.Found.{Found}
+use Rattle.flash_walk.specs.declared.found.Verdict.{Verdict}
+use Rattle.flash_walk.specs.declared.found.Verdict.TheVariants.{Bad, Padding, Disabled, BadEntry, WrongFlash, App}
+
+-- the address of the first byte of flash
+abbrev pub flash_start : ℕ
+flash_start = 536870912
+
+-- the first address after the header and the protected bytes of an object at an address
+abbrev pub after_protected : ℕ → Meaning → Main → ℕ
+after_protected start h m = start + h.header_size + m.protected
+
+-- the address of the application's first instruction
+abbrev pub entry_of : ℕ → Meaning → Main → ℕ
+entry_of start h m = start + h.header_size + m.init
+
+-- the end of accessible flash: the object's, or with a Program header the binary's rounded up to 4
+abbrev pub accessible_end : ℕ → ℕ → Option ℕ → ℕ
+accessible_end start total None = start + total
+accessible_end start total (Some binary_end) = rounded (start + binary_end)
+
+-- the entry is outside accessible flash, which begins after the protected bytes, rounded up to 4
+abbrev pub is_outside : ℕ → Meaning → Main → Bool
+is_outside start h m =
+    nat_lt (entry_of start h m) (rounded (after_protected start h m)) || nat_le (accessible_end start h.total_size m.binary_end) (entry_of start h m)
+
+-- the binary's end passes the object, or stands before the end of the protected bytes
+abbrev pub is_bad_binary_end : ℕ → ℕ → Option ℕ → Bool
+is_bad_binary_end protected_end total None = false
+is_bad_binary_end protected_end total (Some binary_end) = nat_lt total binary_end || nat_lt binary_end protected_end
+
+-- the header and the protected bytes pass the object, the binary's end is bad, or the entry is odd or outside
+abbrev pub has_bad_entry : ℕ → Meaning → Main → Bool
+has_bad_entry start h m =
+    nat_lt h.total_size (h.header_size + m.protected) || is_bad_binary_end (h.header_size + m.protected) h.total_size m.binary_end || entry_of start h m % 2 == 1 || is_outside start h m
+
+-- the flash start that the application is linked for, where there is one, is not where it stands
+abbrev pub is_wrong_flash : ℕ → Option (ℕ × ℕ) → Bool
+is_wrong_flash linked None = false
+is_wrong_flash linked (Some fixed) = not (fixed.1 == 4294967295) && not (fixed.1 == linked)
+
+-- the first verdict that fits an object with a Program or a Main TLV
+abbrev pub app_verdict : ℕ → Meaning → Main → Verdict
+app_verdict start h m =
+    if h.flags % 2 == 0 then Disabled
+    else (if has_bad_entry start h m then BadEntry
+    else (if is_wrong_flash (after_protected start h m) h.fixed then WrongFlash
+    else App))
+
+-- an object with neither is padding
+abbrev pub object_verdict : ℕ → Meaning → Option Main → Verdict
+object_verdict start h None = Padding
+object_verdict start h (Some m) = app_verdict start h m
+
+-- the verdict on an object at an address, by what its bytes mean
+abbrev pub verdict_of : ℕ → Result Meaning HeaderFault → Verdict
+verdict_of start (Err fault) = Bad fault
+verdict_of start (Ok h) = object_verdict start h h.main
+
+-- the total size in the header at a place
+abbrev pub size_at : List ℕ → ℕ → ℕ
+size_at flash at = word flash (at + 4)
+
+-- no object stands at a place: fewer than 16 bytes are left, the version is not 2, or the total size is below
+-- 16, no multiple of 4 or beyond what is left
+abbrev pub ends_at : List ℕ → ℕ → Bool
+ends_at flash at =
+    nat_lt (length flash - at) 16 || not (half flash at == 2) || nat_lt (size_at flash at) 16 || not (size_at flash at % 4 == 0) || nat_lt (length flash - at) (size_at flash at)
+
+-- the object at a place
+unfoldable pub found_at : List ℕ → ℕ → Found
+found_at flash at = record {
+  offset = at;
+  size = size_at flash at;
+  verdict = verdict_of (flash_start + at) (reading (slice_range flash at (at + size_at flash at)));
+}
+
+-- at most n objects from a place on
+unfoldable pub objects_from : ℕ → List ℕ → ℕ → List Found
+objects_from zero flash at = []
+objects_from (suc n) flash at = if ends_at flash at then [] else found_at flash at ∷ objects_from n flash (at + size_at flash at)
+
+-- the objects of a flash image, of which at most 64 are found
+abbrev pub objects : List ℕ → List Found
+objects flash = objects_from 64 flash 0
+
+-- what is known of each object that is found
+pub record IsObject (flash : List ℕ) (f : Found) : Type 0 where
+  pub large : 16 ≤ f.size
+  pub within : f.offset + f.size ≤ length flash
+  pub aligned : f.offset % 4 ≡ 0
+  pub judged : f.verdict ≡ verdict_of (flash_start + f.offset) (reading (slice_range flash f.offset (f.offset + f.size)))

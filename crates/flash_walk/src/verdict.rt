@@ -1,0 +1,109 @@
+//! What is said of one object.
+ghost use Rattle.std.specs.Prelude.{◌≡◌, ◌+◌, Some};
+ghost use Rattle.tbf_headers.specs.Numbers.{rounded};
+ghost use Rattle.tbf_headers.specs.Meaning.{reading};
+ghost use Rattle.tbf_headers.specs.Shown.{shown};
+ghost use Rattle.flash_walk.specs.Image.{accessible_end, is_bad_binary_end, entry_of, is_outside, has_bad_entry, is_wrong_flash, app_verdict, verdict_of};
+
+use crate::found::Verdict;
+use tbf_headers::{Header, Main, read_header};
+use tk_base::Addr;
+
+/// The sum of three numbers, which does not wrap.
+fn sum(a: u32, b: u32, c: u32) -> u64
+    ensures { result ≡ a + b + c }
+{
+    u64::from(a) + u64::from(b) + u64::from(c)
+}
+
+/// The sum of three numbers, which does not wrap, rounded up to a multiple of 4.
+fn rounded_sum(a: u32, b: u32, c: u32) -> u64
+    ensures { result ≡ rounded (a + b + c) }
+{
+    sum(a, b, c).next_multiple_of(4)
+}
+
+/// The end of accessible flash: the object's, or with a Program header the binary's rounded up
+/// to 4.
+fn accessible_end_of(object: Addr, total_size: u32, binary_end: Option<u32>) -> u64
+    ensures { result ≡ accessible_end object total_size binary_end }
+{
+    match binary_end {
+        None => sum(object, total_size, 0),
+        Some(end) => rounded_sum(object, end, 0),
+    }
+}
+
+/// Whether the binary's end passes the object, or stands before the end of the protected bytes.
+fn is_bad_end(protected_end: u64, total_size: u32, binary_end: Option<u32>) -> bool
+    ensures { result ≡ is_bad_binary_end protected_end total_size binary_end }
+{
+    match binary_end {
+        None => false,
+        Some(end) => end > total_size || u64::from(end) < protected_end,
+    }
+}
+
+/// Whether an entry is outside of accessible flash.
+fn is_entry_outside(object: Addr, header: &Header<'_>, main: &Main, entry: u64) -> bool
+    requires { entry ≡ entry_of object (shown header.now) main.now }
+    ensures { result ≡ is_outside object (shown header.now) main.now }
+{
+    entry < rounded_sum(object, header.header_size, main.protected)
+        || entry >= accessible_end_of(object, header.total_size, main.binary_end)
+}
+
+/// Whether the header with the protected bytes passes the object, the binary's end is bad, or the
+/// entry is odd or outside of accessible flash.
+fn is_bad_entry(object: Addr, header: &Header<'_>, main: &Main) -> bool
+    ensures { result ≡ has_bad_entry object (shown header.now) main.now }
+{
+    let protected_end = sum(header.header_size, main.protected, 0);
+    let entry = sum(object, header.header_size, main.init);
+    protected_end > u64::from(header.total_size)
+        || is_bad_end(protected_end, header.total_size, main.binary_end)
+        || entry % 2 == 1
+        || is_entry_outside(object, header, main, entry)
+}
+
+/// Whether there is a fixed flash start other than the address that the application stands at.
+fn is_elsewhere(linked: u64, fixed: Option<(u32, u32)>) -> bool
+    ensures { result ≡ is_wrong_flash linked fixed }
+{
+    match fixed {
+        None => false,
+        Some((_, flash_start)) => flash_start != 0xffff_ffff && u64::from(flash_start) != linked,
+    }
+}
+
+/// The first verdict that fits an object with a Program or a Main TLV.
+fn verdict_on_app(object: Addr, header: &Header<'_>, main: &Main) -> Verdict
+    ensures { result ≡ app_verdict object (shown header.now) main.now }
+{
+    if header.flags % 2 == 0 {
+        return Verdict::Disabled;
+    }
+    if is_bad_entry(object, header, main) {
+        return Verdict::BadEntry;
+    }
+    if is_elsewhere(
+        sum(object, header.header_size, main.protected),
+        header.fixed,
+    ) {
+        return Verdict::WrongFlash;
+    }
+    Verdict::App
+}
+
+/// The first verdict that fits the bytes of an object at an address.
+pub fn verdict_on(bytes: &[u8], object: Addr) -> Verdict
+    ensures { result ≡ verdict_of object (reading bytes.now) }
+{
+    match read_header(bytes) {
+        Err(fault) => Verdict::Bad(fault),
+        Ok(header) => match header.main {
+            None => Verdict::Padding,
+            Some(main) => verdict_on_app(object, &header, &main),
+        },
+    }
+}

@@ -1,0 +1,4 @@
+pub mod Interval
+pub mod Extents
+pub mod Ordered
+pub mod Permission

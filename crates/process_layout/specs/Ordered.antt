@@ -1,0 +1,13 @@
+use Rattle.std.specs.Prelude.{◌≡◌, ◌%◌, ◌≤◌}
+use Rattle.process_layout.specs.Extents.{Extents}
+
+-- the places stand in their order, and block, break and kernel break at multiples of 4
+pub record IsOrdered (e : Extents) : Type 0 where
+  pub flash : e.flash_start ≤ e.flash_end
+  pub block : e.start ≤ e.brk
+  pub grants : e.brk ≤ e.kernel_break
+  pub end : e.kernel_break ≤ e.end
+  pub buffers : e.mark ≤ e.brk
+  pub start_aligned : e.start % 4 ≡ 0
+  pub brk_aligned : e.brk % 4 ≡ 0
+  pub kernel_break_aligned : e.kernel_break % 4 ≡ 0

@@ -1,0 +1,5 @@
+pub mod Numbers
+pub mod Tlv
+pub mod Permissions
+pub mod Meaning
+pub mod Shown

@@ -1,0 +1,27 @@
+-- Numbers in bytes. All numbers of the Tock Binary Format are little endian.
+use Rattle.std.specs.Prelude.{ℕ, zero, suc, ◌+◌, ◌*◌, ◌/◌, ◌==◌, if◌then◌else◌, List, length, slice_index, bit_xor}
+
+-- the number of two bytes at a place
+abbrev pub half : List ℕ → ℕ → ℕ
+half bytes at = slice_index bytes at + 256 * slice_index bytes (at + 1)
+
+-- the number of four bytes at a place
+abbrev pub word : List ℕ → ℕ → ℕ
+word bytes at = slice_index bytes at + 256 * slice_index bytes (at + 1) + 65536 * slice_index bytes (at + 2) + 16777216 * slice_index bytes (at + 3)
+
+-- the number of eight bytes at a place
+abbrev pub double : List ℕ → ℕ → ℕ
+double bytes at = word bytes at + 4294967296 * word bytes (at + 4)
+
+-- a length rounded up to a multiple of 4, as the content of a TLV is padded
+abbrev pub rounded : ℕ → ℕ
+rounded size = (size + 3) / 4 * 4
+
+-- the exclusive or of the first words of a header, but for word 3, which is the checksum itself
+abbrev pub xor_of_words : ℕ → List ℕ → ℕ
+xor_of_words zero header = 0
+xor_of_words (suc k) header = bit_xor (xor_of_words k header) (if k == 3 then 0 else word header (4 * k))
+
+-- the checksum (Tock Binary Format, "TBF Header Base"): the exclusive or of all words of the header but its own
+abbrev pub checksum : List ℕ → ℕ
+checksum header = xor_of_words (length header / 4) header

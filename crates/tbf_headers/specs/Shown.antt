@@ -1,0 +1,50 @@
+-- What a header that was read shows.
+use Rattle.std.specs.Prelude.{◌≡◌, ℕ, ◌%◌, ◌<◌, ◌≤◌, List, length, option_map, Result, Ok, Err}
+use Rattle.std.specs.Option.{option_copied}
+use Rattle.tbf_headers.specs.declared.fault.HeaderFault.{HeaderFault}
+use Rattle.tbf_headers.specs.declared.header.Header.{Header}
+use Rattle.tbf_headers.specs.declared.perms.Perms.{Perms}
+use Rattle.tbf_headers.specs.Numbers.{half, word}
+use Rattle.tbf_headers.specs.Tlv.{first_bad}
+use Rattle.tbf_headers.specs.Meaning.{Meaning, reading, header_of, unless_bad, meaning_of}
+
+-- the content of the Permissions TLV
+abbrev pub permissions_of : Perms → List ℕ
+permissions_of p = p.content.now
+
+-- the meaning that a header shows
+abbrev pub shown : Header → Meaning
+shown h = record {
+  header_size = h.header_size;
+  total_size = h.total_size;
+  flags = h.flags;
+  main = h.main;
+  fixed = h.fixed;
+  name = option_copied h.name;
+  regions = option_copied h.regions;
+  permissions = option_map permissions_of h.perms;
+}
+
+-- the meaning that was read, or the fault
+abbrev pub shown_result : Result Header HeaderFault → Result Meaning HeaderFault
+shown_result (Ok h) = Ok (shown h)
+shown_result (Err fault) = Err fault
+
+-- these are the header's bytes, and only a bad TLV may be wrong with them
+pub record IsChecked (bytes header : List ℕ) : Type 0 where
+  pub long : 16 ≤ half bytes 2
+  pub within : half bytes 2 ≤ word bytes 4
+  pub total : word bytes 4 ≤ length bytes
+  pub total_aligned : word bytes 4 % 4 ≡ 0
+  pub whole : header ≡ header_of bytes
+  pub aligned : length header % 4 ≡ 0
+  pub short : length header < 65536
+  pub read : reading bytes ≡ unless_bad (first_bad header) (meaning_of bytes)
+
+-- the sizes of a header that was read from these bytes
+pub record IsSized (bytes : List ℕ) (h : Header) : Type 0 where
+  pub long : 16 ≤ h.header_size
+  pub within : h.header_size ≤ h.total_size
+  pub whole : h.total_size ≤ length bytes
+  pub header_aligned : h.header_size % 4 ≡ 0
+  pub total_aligned : h.total_size % 4 ≡ 0

@@ -1,0 +1,18 @@
+//! Reads the header of an application's object in flash, in the Tock Binary Format, version 2.
+#![tactic(auto)]
+
+mod fault;
+mod header;
+mod numbers;
+mod perms;
+mod program;
+mod tlv;
+
+pub use fault::HeaderFault;
+pub use header::{Header, read_header};
+pub use numbers::{half_at, word_at};
+pub use perms::Perms;
+pub use program::Main;
+
+#[cfg(test)]
+mod tests;
