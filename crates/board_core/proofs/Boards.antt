@@ -1,5 +1,5 @@
 -- What a board shows.
-use Rattle.std.proofs.Common.{◌≡◌, ℕ, ◌+◌, ◌-◌, ◌<◌, ◌≤◌, Bool, true, false, List, [], ◌∷◌, length, map, take, drop, replicate, slice_get, slice_set, All, nat_lt, ◌&&◌, Option, None, Some, IfSome, IsTrue, refl, sym, ap, subst, ◌∙◌, arith}
+use Rattle.std.proofs.Common.{◌≡◌, ℕ, ◌+◌, ◌-◌, ◌<◌, ◌≤◌, Bool, true, false, List, [], ◌∷◌, length, map, take, drop, replicate, slice_get, slice_set, All, find, nat_lt, ◌&&◌, if◌then◌else◌, Option, None, Some, IfSome, IsTrue, refl, sym, ap, subst, ◌∙◌, arith}
 use Rattle.std.specs.Option.{option_map}
 use Rattle.std.proofs.Math.Seq.{take-length}
 use Rattle.std.proofs.lemmas.Bool.Decides.{nat_tests}
@@ -22,8 +22,8 @@ use Rattle.kernel_model.specs.World.{World, is_ready, can_run, step_limit, appli
 use Rattle.board_core.specs.declared.seat.Shown.{Shown}
 use Rattle.tk_base.specs.declared.process.Choice.{Choice}
 use Rattle.kernel_model.specs.Laws.{NextIsReady}
-use Rattle.kernel_model.specs.RoundRobin.{next_slot}
-use Rattle.kernel_model.specs.Run.{next}
+use Rattle.kernel_model.specs.RoundRobin.{next_slot, is_ready_at, cyclic_order}
+use Rattle.kernel_model.specs.Run.{next, ready_slots}
 use Rattle.kernel_model.specs.Shown.{summary_of, line_of, shown_by}
 use Rattle.board_core.specs.declared.board.Board.TheInside.{Inside}
 use Rattle.board_core.specs.declared.schedule.Status.{Status}
@@ -172,6 +172,24 @@ world_after b slot seats shown used t u =
 pub next_by_status : (w : World) (s : Status) (o : Option Choice) → s ≡ status_of w → o ≡ option_map Run (next_slot s.ready.items s.present s.used s.slice) → o ≡ next w
 unfolding next
 next_by_status w s o e f = f ∙ ap (λ (t : Status). option_map Run (next_slot t.ready.items t.present t.used t.slice)) e
+
+-- a present slot that goes on is the next choice
+pub goes_on_next : (b : Inside) (slot : ℕ) → b.present ≡ Some slot → b.used < 100 → can_turn (slice_get b.seats.items slot) ≡ true → Some (Run slot) ≡ next (world_of b)
+unfolding next next_slot
+goes_on_next b slot p u c = sym (ap (option_map Run) (subst (λ (o : Option ℕ). next_slot (ready_slots (world_of b)) o b.used 100 ≡ Some slot) (sym p) stays))
+  where
+    of_seat : (o : Option Seat) → slice_get b.seats.items slot ≡ o → can_turn o ≡ true → is_ready_at (map seat_runs b.seats.items) slot ≡ true
+    of_seat None f h = cc
+    of_seat (Some s) f h = get_or_from_slice_get (map seat_runs b.seats.items) slot true false (slice_get-map seat_runs b.seats.items slot ∙ ap (option_map seat_runs) f ∙ ap Some h)
+
+    ready : is_ready_at (ready_slots (world_of b)) slot ≡ true
+    ready = ap (λ (xs : List Bool). is_ready_at xs slot) (map-map (λ (r : Record). runs r.process.state) (shown_in b.flash.items) b.seats.items) ∙ of_seat (slice_get b.seats.items slot) refl c
+
+    left : (true && nat_lt b.used 100) ≡ true
+    left = grind (arith, nat_tests)
+
+    stays : next_slot (ready_slots (world_of b)) (Some slot) b.used 100 ≡ Some slot
+    stays = ap (λ (g : Bool). if g then Some slot else find (is_ready_at (ready_slots (world_of b))) (cyclic_order (length (ready_slots (world_of b))) (Some slot))) (ap (λ (r : Bool). r && nat_lt b.used 100) ready ∙ left)
 
 -- and that choice may be made
 pub next_may : (w : World) (o : Option Choice) → NextIsReady → o ≡ next w → IfSome o (λ choice. w.steps < step_limit → IsTrue (is_ready w choice))

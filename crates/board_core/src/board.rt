@@ -1,5 +1,5 @@
 //! The board.
-ghost use Rattle.std.specs.Prelude.{◌≡◌, ℕ, [], ◌≤◌, ◌<◌, ◌↔◌, List, All, map, length, replicate, slice_get, IsOk, IsTrue, IfOk, IfSome, OnOk, OnErr, vec_len};
+ghost use Rattle.std.specs.Prelude.{◌≡◌, ℕ, [], ◌≤◌, ◌<◌, ◌↔◌, List, All, map, length, replicate, slice_get, IsOk, IsTrue, IfOk, IfSome, Some, OnOk, OnErr, vec_len};
 ghost use Rattle.tk_base.specs.declared.process.Choice.TheVariants.{Run};
 ghost use Rattle.kernel_model.specs.World.{is_ready, after, labels, step_limit, used_after};
 ghost use Rattle.kernel_model.specs.Run.{next};
@@ -280,6 +280,16 @@ impl Board {
         status
     }
 
+    /// The present slot, where it keeps its turn: it can have one, and has turns left in its slice.
+    fn keeps_turn(&self) -> Option<Slot>
+        ensures { IfSome result (λ slot. Some (Run slot) ≡ next self.now) }
+    {
+        match self.present {
+            Some(present) if self.used < SLICE && can_run(&self.seats, present) => Some(present),
+            _ => None,
+        }
+    }
+
     /// The next choice of the round robin; None exactly where no process can have a turn. It may be made
     /// while fewer than 4,000,000,000 steps were made.
     pub fn next_choice(&self) -> Option<Choice>
@@ -287,6 +297,10 @@ impl Board {
         ensures ready { IfSome result (λ choice. self.now.steps < step_limit → IsTrue (is_ready self.now choice)) }
     {
         next_is_ready();
+        // What comes most often needs no table of the slots.
+        if let Some(slot) = self.keeps_turn() {
+            return Some(Choice::Run(slot));
+        }
         let mut ready = ArrayVec::new();
         add_ready(&self.seats, &mut ready);
         choose(&ready, self.present, self.used, SLICE)
