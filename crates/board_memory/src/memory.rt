@@ -93,7 +93,7 @@ impl Memory {
 
     /// The accessible flash of a slot's process, and the slot's block with the place of the kernel
     /// break in it. What is written to the block's bytes stands in memory afterwards.
-    pub fn split_block(&mut self, slot: Slot, layout: &Layout) -> Parts<'_>
+    pub fn lend_block(&mut self, slot: Slot, layout: &Layout) -> Parts<'_>
         requires slot { slot < length self.old.blocks }
         requires placed { IsPlaced layout.now self.old.flash (block_of self.old slot) }
         ensures* writes_back { sem 𝓛 (LendsParts self.entry slot result) }
@@ -110,10 +110,11 @@ impl Memory {
         let flash = self.flash.as_slice();
         Parts::new(&flash[from..to], block.bytes.as_mut_slice(), cut)
     }
+
     /// Has the accessible flash of a slot's process and the two parts of its block used, cut at the
     /// kernel break, without copying. What was written to the parts stands at their places
     /// afterwards, and nothing else of memory changes.
-    pub fn with_parts<U: UseParts>(&mut self, slot: Slot, layout: &Layout, user: &mut U)
+    pub fn split_block<U: UseParts>(&mut self, slot: Slot, layout: &Layout, user: &mut U)
         requires slot { slot < length self.old.blocks }
         requires placed { IsPlaced layout.now self.old.flash (block_of self.old slot) }
         requires asks { U.asks user.old
@@ -127,7 +128,7 @@ impl Memory {
         ensures rest { self.new ≡ with_block self.old slot (block_of self.new slot).bytes }
         ensures length { length (block_of self.new slot).bytes ≡ length (block_of self.old slot).bytes }
     {
-        let Parts { flash, block, cut } = self.split_block(slot, layout);
+        let Parts { flash, block, cut } = self.lend_block(slot, layout);
         use_cut(user, flash, block, cut);
     }
 }

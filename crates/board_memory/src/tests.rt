@@ -90,7 +90,7 @@ fn mark_block(memory: &mut Memory, slot: Slot, layout: &Layout)
         flash: _,
         block,
         cut,
-    } = memory.split_block(slot, layout);
+    } = memory.lend_block(slot, layout);
     mark_parts(block, cut);
 }
 
@@ -161,7 +161,7 @@ fn a_new_block_is_zero_and_flash_is_lent_where_it_is_accessible(
     let mut memory = Memory::new(alloc, vec![in alloc; 7u8; 64]?);
     memory.add_block(alloc, RAM_START, 1024)?;
     let slot = Slot::new(0);
-    let parts = memory.split_block(slot, &layout);
+    let parts = memory.lend_block(slot, &layout);
     assert_eq!(rt; parts.flash, [7u8; 32].as_slice());
     assert_eq!(rt; &*parts.block, [0u8; 1024].as_slice());
     assert_eq!(rt; parts.cut, 1024);
@@ -179,8 +179,8 @@ fn each_part_is_written_at_its_own_place(rt: HostRuntime) -> Result<(), Fail> {
     let mut memory = Memory::new(alloc, vec![in alloc; 7u8; 64]?);
     memory.add_block(alloc, RAM_START, 1024)?;
     let slot = Slot::new(0);
-    memory.with_parts(slot, &layout, &mut Marks);
-    let parts = memory.split_block(slot, &layout);
+    memory.split_block(slot, &layout, &mut Marks);
+    let parts = memory.lend_block(slot, &layout);
     let mut block = [0u8; 1024];
     block[0] = 7;
     block[0x300] = 2;
