@@ -5,6 +5,7 @@ use Rattle.std.proofs.lemmas.Bool.Decides.{nat_tests}
 use Rattle.std.proofs.lemmas.List.Elements.{All-nil, All-cons, All-weaker}
 use Rattle.std.proofs.lemmas.List.Sums.{sum_by-cons}
 use Rattle.std.proofs.lemmas.List.Kept.{AllPairs-cons}
+use Rattle.tk_base.specs.declared.access.TheConstants.{RAM_START}
 use Rattle.tk_base.specs.declared.process.PlaceFault.{PlaceFault}
 use Rattle.tk_base.specs.declared.process.PlaceFault.TheVariants.{NoSlot, FixedTaken, NoRoom}
 use Rattle.flash_walk.specs.declared.found.Found.{Found}
@@ -16,12 +17,12 @@ use Rattle.app_placement.specs.declared.placed.Placed.{Placed}
 use Rattle.app_placement.proofs.Objects.{IsFound, asked_of_found}
 use Rattle.app_placement.specs.Applications.{application_of, application_in, object_bytes}
 use Rattle.tbf_headers.specs.Meaning.{reading}
-use Rattle.app_placement.specs.Placement.{ram_start, block_length, block_start, is_taken, extents, place_of, filled_after, places_from, placements, LiesInRam, LiesBefore, LiesInFlash, IsAccessible, IsLaidOut, is_placed, AreNumbered}
+use Rattle.app_placement.specs.Placement.{block_length, block_start, is_taken, extents, place_of, filled_after, places_from, placements, LiesInRam, LiesBefore, LiesInFlash, IsAccessible, IsLaidOut, is_placed, AreNumbered}
 
 -- how far RAM and the slots can be filled
 pub record IsFilled (ram : ℕ) (filled : Filled) : Type 0 where
-  pub from : ram_start ≤ filled.last_end
-  pub to : filled.last_end ≤ ram_start + ram
+  pub from : RAM_START ≤ filled.last_end
+  pub to : filled.last_end ≤ RAM_START + ram
   pub aligned : filled.last_end % 8 ≡ 0
   pub few : filled.count ≤ 8
 
@@ -31,7 +32,7 @@ record Follows (ram last_end count : ℕ) (q : Place) : Type 0 where
   free : count < 8
   start : last_end ≤ q.layout.start
   block : q.layout.start ≤ q.layout.end
-  end : q.layout.end ≤ ram_start + ram
+  end : q.layout.end ≤ RAM_START + ram
   aligned : q.layout.end % 8 ≡ 0
 
 start_not_taken : (last_end : ℕ) (fixed : Option ℕ) → last_end % 8 ≡ 0 → is_taken last_end fixed ≡ false → (last_end ≤ block_start last_end fixed) × (block_start last_end fixed % 8 ≡ 0)
@@ -53,7 +54,7 @@ place_of-follows ram filled app f =
     let P : Place → Type 0 = Follows ram filled.last_end filled.count in
     ok_of_cond P (nat_le 8 filled.count) NoSlot _ (λ free.
     ok_of_cond P (is_taken filled.last_end app.fixed_start) FixedTaken _ (λ taken.
-    ok_of_cond P (nat_lt (ram_start + ram) end) NoRoom _ (λ room.
+    ok_of_cond P (nat_lt (RAM_START + ram) end) NoRoom _ (λ room.
     let s = start_not_taken filled.last_end app.fixed_start f.aligned taken in
     record {
       slot = refl;
@@ -83,7 +84,7 @@ filled_after-filled ram filled app f = filled_after-more ram filled (place_of ra
 
 -- a place lies in RAM above an end, in a slot not below a number
 abbrev LiesAbove : ℕ → ℕ → ℕ → Placed → Type 0
-LiesAbove ram last_end count p = IfOk p.place (λ q. (last_end ≤ q.layout.start) × (q.layout.end ≤ ram_start + ram) × (count ≤ q.slot))
+LiesAbove ram last_end count p = IfOk p.place (λ q. (last_end ≤ q.layout.start) × (q.layout.end ≤ RAM_START + ram) × (count ≤ q.slot))
 
 LiesAbove-first : (ram last_end count offset : ℕ) (r : Result Place PlaceFault) → IfOk r (Follows ram last_end count) → LiesAbove ram last_end count (record { offset = offset; place = r })
 LiesAbove-first ram last_end count offset (Err fault) h = tt
@@ -91,7 +92,7 @@ LiesAbove-first ram last_end count offset (Ok q) h = (h.start, h.end, omega arit
 
 LiesAbove-less : (ram end end' count count' : ℕ) (p : Placed) → end ≤ end' → count ≤ count' → LiesAbove ram end' count' p → LiesAbove ram end count p
 LiesAbove-less ram end end' count count' p e k h = above p.place h where
-  above : (r : Result Place PlaceFault) → IfOk r (λ q. (end' ≤ q.layout.start) × (q.layout.end ≤ ram_start + ram) × (count' ≤ q.slot)) → IfOk r (λ q. (end ≤ q.layout.start) × (q.layout.end ≤ ram_start + ram) × (count ≤ q.slot))
+  above : (r : Result Place PlaceFault) → IfOk r (λ q. (end' ≤ q.layout.start) × (q.layout.end ≤ RAM_START + ram) × (count' ≤ q.slot)) → IfOk r (λ q. (end ≤ q.layout.start) × (q.layout.end ≤ RAM_START + ram) × (count ≤ q.slot))
   above (Err fault) h = tt
   above (Ok q) h = (omega (arith, h.0), h.1, omega (arith, h.2))
 
@@ -112,7 +113,7 @@ places_from-above ram filled (app ∷ apps) f =
 LiesBefore-above : (ram : ℕ) (filled : Filled) (offset : ℕ) (r : Result Place PlaceFault) → IfOk r (Follows ram filled.last_end filled.count) → (p : Placed) → LiesAbove ram (filled_after filled r).last_end (filled_after filled r).count p → LiesBefore (record { offset = offset; place = r }) p
 LiesBefore-above ram filled offset (Err fault) h p above = tt
 LiesBefore-above ram filled offset (Ok a) h p above = before p.place above where
-  before : (s : Result Place PlaceFault) → IfOk s (λ q. (a.layout.end ≤ q.layout.start) × (q.layout.end ≤ ram_start + ram) × (filled.count + 1 ≤ q.slot)) → IfOk s (λ b. (a.slot < b.slot) × (a.layout.end ≤ b.layout.start))
+  before : (s : Result Place PlaceFault) → IfOk s (λ q. (a.layout.end ≤ q.layout.start) × (q.layout.end ≤ RAM_START + ram) × (filled.count + 1 ≤ q.slot)) → IfOk s (λ b. (a.slot < b.slot) × (a.layout.end ≤ b.layout.start))
   before (Err fault) h' = tt
   before (Ok b) h' = (omega (arith, h.slot, h'.2), h'.0)
 
@@ -131,25 +132,25 @@ places_from-apart ram filled (app ∷ apps) f =
     (places_from-apart ram (filled_after filled r) apps more.filled)
 
 -- nothing is filled at first
-pub none_filled : (ram : ℕ) → IsFilled ram (record { last_end = ram_start; count = 0 })
+pub none_filled : (ram : ℕ) → IsFilled ram (record { last_end = RAM_START; count = 0 })
 none_filled ram = record { from = omega arith; to = omega arith; aligned = refl; few = omega arith }
 
-in_ram : (ram : ℕ) (p : Placed) → LiesAbove ram ram_start 0 p → LiesInRam ram p
+in_ram : (ram : ℕ) (p : Placed) → LiesAbove ram RAM_START 0 p → LiesInRam ram p
 in_ram ram p h = above p.place h where
-  above : (r : Result Place PlaceFault) → IfOk r (λ q. (ram_start ≤ q.layout.start) × (q.layout.end ≤ ram_start + ram) × (0 ≤ q.slot)) → IfOk r (λ q. (ram_start ≤ q.layout.start) × (q.layout.end ≤ ram_start + ram))
+  above : (r : Result Place PlaceFault) → IfOk r (λ q. (RAM_START ≤ q.layout.start) × (q.layout.end ≤ RAM_START + ram) × (0 ≤ q.slot)) → IfOk r (λ q. (RAM_START ≤ q.layout.start) × (q.layout.end ≤ RAM_START + ram))
   above (Err fault) h = tt
   above (Ok q) h = (h.0, h.1)
 
 -- each block lies in RAM
 pub placements-in_ram : (ram : ℕ) (apps : List Application) → All (LiesInRam ram) (placements ram apps)
-placements-in_ram ram apps = All-weaker (LiesAbove ram ram_start 0) (LiesInRam ram) (λ p h. in_ram ram p h) (placements ram apps) (places_from-above ram _ apps (none_filled ram))
+placements-in_ram ram apps = All-weaker (LiesAbove ram RAM_START 0) (LiesInRam ram) (λ p h. in_ram ram p h) (placements ram apps) (places_from-above ram _ apps (none_filled ram))
 
 -- each block lies apart from the others
 pub placements-apart : (ram : ℕ) (apps : List Application) → AllPairs LiesBefore (placements ram apps)
 placements-apart ram apps = places_from-apart ram _ apps (none_filled ram)
 
 -- what an application asks for in its object lies in flash
-accessible_in_flash : (flash : List ℕ) (f : Found) (offset from to : ℕ) → length flash ≤ 1048576 → IsFound flash f → offset ≡ f.offset → IsAccessible f.offset f.size from to → IsAccessible offset (size_at flash offset) from to × (offset + size_at flash offset ≤ length flash) × (to ≤ ram_start)
+accessible_in_flash : (flash : List ℕ) (f : Found) (offset from to : ℕ) → length flash ≤ 1048576 → IsFound flash f → offset ≡ f.offset → IsAccessible f.offset f.size from to → IsAccessible offset (size_at flash offset) from to × (offset + size_at flash offset ≤ length flash) × (to ≤ RAM_START)
 accessible_in_flash flash f offset from to short found e a =
     let size : size_at flash offset ≡ f.size = ap (size_at flash) e ∙ sym found.size in
     let within : f.offset + f.size ≤ length flash = found.object.within in
@@ -159,10 +160,10 @@ pub place_of-in_flash : (flash : List ℕ) (f : Found) (ram : ℕ) (filled : Fil
 unfolding place_of
 place_of-in_flash flash f ram filled app short found e a =
     let lies = accessible_in_flash flash f app.offset app.flash_from app.flash_to short found e a in
-    let P : Place → Type 0 = λ q. IsAccessible app.offset (size_at flash app.offset) q.layout.flash_start q.layout.flash_end × (app.offset + size_at flash app.offset ≤ length flash) × (q.layout.flash_end ≤ ram_start) in
+    let P : Place → Type 0 = λ q. IsAccessible app.offset (size_at flash app.offset) q.layout.flash_start q.layout.flash_end × (app.offset + size_at flash app.offset ≤ length flash) × (q.layout.flash_end ≤ RAM_START) in
     ok_of_cond P (nat_le 8 filled.count) NoSlot _ (λ free.
     ok_of_cond P (is_taken filled.last_end app.fixed_start) FixedTaken _ (λ taken.
-    ok_of_cond P (nat_lt (ram_start + ram) (block_start filled.last_end app.fixed_start + block_length app.minimum_ram)) NoRoom (Ok (record { slot = filled.count; layout = extents app (block_start filled.last_end app.fixed_start) })) (λ room. lies)))
+    ok_of_cond P (nat_lt (RAM_START + ram) (block_start filled.last_end app.fixed_start + block_length app.minimum_ram)) NoRoom (Ok (record { slot = filled.count; layout = extents app (block_start filled.last_end app.fixed_start) })) (λ room. lies)))
 
 -- an application's memory is what its header asks for
 pub place_of-laid_out : (flash : List ℕ) (f : Found) (ram : ℕ) (filled : Filled) (app : Application) → IsFound flash f → app.offset ≡ f.offset → application_of flash f ≡ Some app → IsLaidOut flash (record { offset = app.offset; place = place_of ram filled app })
@@ -174,7 +175,7 @@ place_of-laid_out flash f ram filled app found e h =
       asked.0,
       ok_of_cond P (nat_le 8 filled.count) NoSlot _ (λ free.
           ok_of_cond P (is_taken filled.last_end app.fixed_start) FixedTaken _ (λ taken.
-          ok_of_cond P (nat_lt (ram_start + ram) (start + block_length app.minimum_ram)) NoRoom (Ok (record { slot = filled.count; layout = extents app start })) (λ room.
+          ok_of_cond P (nat_lt (RAM_START + ram) (start + block_length app.minimum_ram)) NoRoom (Ok (record { slot = filled.count; layout = extents app start })) (λ room.
           ap (option_map (λ (a : Application). extents a start)) asked.1))),
     )
 
@@ -215,3 +216,18 @@ places_from-numbered ram filled (app ∷ apps) f =
 pub placements-numbered : (ram : ℕ) (apps : List Application) → AreNumbered (placements ram apps)
 placements-numbered ram apps k d lt =
     slot_is (get_or (placements ram apps) k d).place (0 + count_by is_placed (take k (placements ram apps))) (count_by is_placed (take k (placements ram apps))) (omega arith) (places_from-numbered ram _ apps (none_filled ram) k d lt)
+
+places_from-few : (ram : ℕ) (filled : Filled) (apps : List Application) → IsFilled ram filled → filled.count + count_by is_placed (places_from ram filled apps) ≤ 8
+unfolding places_from
+places_from-few ram filled [] f = omega (arith, f.few)
+places_from-few ram filled (app ∷ apps) f =
+    let r = place_of ram filled app in
+    let more : FilledMore ram filled (filled_after filled r) = filled_after-filled ram filled app f in
+    let later = places_from-few ram (filled_after filled r) apps more.filled in
+    let sum = sum_of_count filled.count (record { offset = app.offset; place = r }) (places_from ram (filled_after filled r) apps) in
+    let count = count-filled_after filled r in
+    omega (arith, later, sum, count)
+
+-- at most eight are placed
+pub placements-few : (ram : ℕ) (apps : List Application) → count_by is_placed (placements ram apps) ≤ 8
+placements-few ram apps = let few = places_from-few ram _ apps (none_filled ram) in omega (arith, few)

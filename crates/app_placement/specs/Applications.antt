@@ -1,14 +1,15 @@
 -- What the applications of a flash image ask for, by their headers (Tock Binary Format, "Main", "Program" and
 -- "Fixed Addresses").
 use Rattle.std.specs.Prelude.{ℕ, ◌+◌, ◌==◌, Bool, true, false, if◌then◌else◌, List, slice_range, filter_map, Option, Some, None, option_map, Result, Ok, Err}
+use Rattle.tk_base.specs.declared.access.TheConstants.{FLASH_START}
 use Rattle.tbf_headers.specs.declared.fault.HeaderFault.{HeaderFault}
 use Rattle.tbf_headers.specs.declared.program.Main.{Main}
-use Rattle.tbf_headers.specs.Numbers.{rounded}
 use Rattle.tbf_headers.specs.Meaning.{Meaning, reading}
+use Rattle.tbf_headers.specs.Addresses.{accessible_start, accessible_end}
 use Rattle.flash_walk.specs.declared.found.Found.{Found}
 use Rattle.flash_walk.specs.declared.found.Verdict.{Verdict}
 use Rattle.flash_walk.specs.declared.found.Verdict.TheVariants.{Bad, Padding, Disabled, BadEntry, WrongFlash, App}
-use Rattle.flash_walk.specs.Image.{flash_start, after_protected, accessible_end, size_at, objects}
+use Rattle.flash_walk.specs.Image.{size_at, objects}
 use Rattle.app_placement.specs.declared.application.Application.{Application}
 
 -- the RAM start that an application is linked for; 0xFFFFFFFF for none
@@ -16,13 +17,12 @@ abbrev pub fixed_start : Option (ℕ × ℕ) → Option ℕ
 fixed_start None = None
 fixed_start (Some fixed) = if fixed.0 == 4294967295 then None else Some fixed.0
 
--- what the application asks for whose object stands at an offset. Its accessible flash begins after the header
--- and the protected bytes, rounded up to 4.
+-- what the application asks for whose object stands at an offset
 abbrev pub application : ℕ → Meaning → Main → Application
 application offset h m = record {
   offset = offset;
-  flash_from = rounded (after_protected (flash_start + offset) h m);
-  flash_to = accessible_end (flash_start + offset) h.total_size m.binary_end;
+  flash_from = accessible_start (FLASH_START + offset) h m;
+  flash_to = accessible_end (FLASH_START + offset) h.total_size m.binary_end;
   minimum_ram = m.minimum_ram;
   fixed_start = fixed_start h.fixed;
 }

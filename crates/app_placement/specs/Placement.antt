@@ -1,11 +1,12 @@
 -- Where applications are placed in RAM (Levy et al., SOSP 2017: the memory of a process is one block, with its
 -- grants at the end).
 use Rattle.std.specs.Prelude.{◌≡◌, ◌≤◌, ◌<◌, ℕ, ◌+◌, ◌*◌, ◌/◌, ◌%◌, ◌==◌, Bool, false, not, ◌||◌, nat_lt, nat_le, if◌then◌else◌, List, [], ◌∷◌, length, take, count_by, slice_index_or, Option, Some, None, option_map, Result, Ok, Err, is_ok, IfOk}
+use Rattle.tk_base.specs.declared.access.TheConstants.{FLASH_START, RAM_START}
 use Rattle.tk_base.specs.declared.process.PlaceFault.{PlaceFault}
 use Rattle.tk_base.specs.declared.process.PlaceFault.TheVariants.{NoSlot, FixedTaken, NoRoom}
 use Rattle.process_layout.specs.Extents.{Extents}
 use Rattle.process_layout.specs.Interval.{rounded_up}
-use Rattle.flash_walk.specs.Image.{flash_start, size_at, verdict_of}
+use Rattle.flash_walk.specs.Image.{size_at, verdict_of}
 use Rattle.flash_walk.specs.declared.found.Verdict.TheVariants.{App}
 use Rattle.tbf_headers.specs.Meaning.{reading}
 use Rattle.app_placement.specs.Applications.{application_in, object_bytes}
@@ -13,10 +14,6 @@ use Rattle.app_placement.specs.declared.application.Application.{Application}
 use Rattle.app_placement.specs.declared.placed.Filled.{Filled}
 use Rattle.app_placement.specs.declared.placed.Place.{Place}
 use Rattle.app_placement.specs.declared.placed.Placed.{Placed}
-
--- the address of the first byte of RAM
-abbrev pub ram_start : ℕ
-ram_start = 2147483648
 
 -- the length of a block: minimum RAM and 768 bytes, rounded up to a multiple of 1024
 abbrev pub block_length : ℕ → ℕ
@@ -50,7 +47,7 @@ place_of ram filled app =
     let start = block_start filled.last_end app.fixed_start in
     if nat_le 8 filled.count then Err NoSlot
     else (if is_taken filled.last_end app.fixed_start then Err FixedTaken
-    else (if nat_lt (ram_start + ram) (start + block_length app.minimum_ram) then Err NoRoom
+    else (if nat_lt (RAM_START + ram) (start + block_length app.minimum_ram) then Err NoRoom
     else Ok (record { slot = filled.count; layout = extents app start })))
 
 -- an application that is placed takes a slot and its block; one that is not leaves all as it was
@@ -66,11 +63,11 @@ places_from ram filled (app ∷ apps) =
 
 -- the places of all applications, of which none is placed at first
 abbrev pub placements : ℕ → List Application → List Placed
-placements ram apps = places_from ram (record { last_end = ram_start; count = 0 }) apps
+placements ram apps = places_from ram (record { last_end = RAM_START; count = 0 }) apps
 
 -- the block of an application that is placed lies in RAM
 abbrev pub LiesInRam : ℕ → Placed → Type 0
-LiesInRam ram p = IfOk p.place (λ q. (ram_start ≤ q.layout.start) × (q.layout.end ≤ ram_start + ram))
+LiesInRam ram p = IfOk p.place (λ q. (RAM_START ≤ q.layout.start) × (q.layout.end ≤ RAM_START + ram))
 
 -- of two that are placed the first has the lower slot, and its block ends before the other's starts
 abbrev pub LiesBefore : Placed → Placed → Type 0
@@ -78,8 +75,8 @@ LiesBefore p q = IfOk p.place (λ a. IfOk q.place (λ b. (a.slot < b.slot) × (a
 
 -- accessible flash lies in the object of a size at an offset, and is made of whole words
 pub record IsAccessible (offset size from to : ℕ) : Type 0 where
-  pub from_object : flash_start + offset ≤ from
-  pub within_object : to ≤ flash_start + offset + size
+  pub from_object : FLASH_START + offset ≤ from
+  pub within_object : to ≤ FLASH_START + offset + size
   pub not_empty : from < to
   pub from_aligned : from % 4 ≡ 0
   pub to_aligned : to % 4 ≡ 0
@@ -87,13 +84,13 @@ pub record IsAccessible (offset size from to : ℕ) : Type 0 where
 -- the accessible flash of an application that is placed lies in its object, which lies in flash, below RAM
 abbrev pub LiesInFlash : List ℕ → Placed → Type 0
 LiesInFlash flash p =
-    IfOk p.place (λ q. IsAccessible p.offset (size_at flash p.offset) q.layout.flash_start q.layout.flash_end × (p.offset + size_at flash p.offset ≤ length flash) × (q.layout.flash_end ≤ ram_start))
+    IfOk p.place (λ q. IsAccessible p.offset (size_at flash p.offset) q.layout.flash_start q.layout.flash_end × (p.offset + size_at flash p.offset ≤ length flash) × (q.layout.flash_end ≤ RAM_START))
 
 -- the object of each is an application, and the memory of one that is placed is what its header asks for, from
 -- its block's start on
 abbrev pub IsLaidOut : List ℕ → Placed → Type 0
 IsLaidOut flash p =
-    (verdict_of (flash_start + p.offset) (reading (object_bytes flash p.offset)) ≡ App) × IfOk p.place (λ q. option_map (λ app. extents app q.layout.start) (application_in p.offset (reading (object_bytes flash p.offset))) ≡ Some q.layout)
+    (verdict_of (FLASH_START + p.offset) (reading (object_bytes flash p.offset)) ≡ App) × IfOk p.place (λ q. option_map (λ app. extents app q.layout.start) (application_in p.offset (reading (object_bytes flash p.offset))) ≡ Some q.layout)
 
 abbrev pub is_placed : Placed → Bool
 is_placed p = is_ok p.place

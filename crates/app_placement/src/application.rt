@@ -1,15 +1,14 @@
 //! What an application asks for.
-ghost use Rattle.std.specs.Prelude.{◌≡◌, ◌+◌, ◌%◌, ◌≤◌, length, IfSome};
-ghost use Rattle.tbf_headers.specs.Numbers.{rounded};
+ghost use Rattle.std.specs.Prelude.{◌≡◌, ◌+◌, ◌%◌, ◌≤◌, length, Some, IfSome};
 ghost use Rattle.tbf_headers.specs.Shown.{shown};
-ghost use Rattle.flash_walk.specs.Image.{after_protected, accessible_end, app_verdict, verdict_of, IsObject};
+ghost use Rattle.flash_walk.specs.Image.{app_verdict, verdict_of, IsObject};
 ghost use Rattle.flash_walk.specs.declared.found.Verdict.TheVariants.{App};
 ghost use Rattle.app_placement.specs.Applications.{application_of, application, fixed_start};
 ghost use Rattle.app_placement.specs.Placement.{IsAccessible};
 
-use flash_walk::{FLASH_START, Found, Verdict};
+use flash_walk::{Found, Verdict};
 use tbf_headers::{Header, Main, read_header};
-use tk_base::Addr;
+use tk_base::{Addr, FLASH_START};
 
 /// What an application asks for, by its header.
 #[derive(Clone, Copy, Debug, PartialEq, Eq)]
@@ -24,24 +23,6 @@ pub struct Application {
     pub minimum_ram: u32,
     /// The RAM start that it is linked for.
     pub fixed_start: Option<Addr>,
-}
-
-/// The first address after the header and the protected bytes, rounded up to a multiple of 4.
-fn accessible_start_of(object: Addr, header_size: u32, protected: u32) -> u64
-    ensures { result ≡ rounded (object + header_size + protected) }
-{
-    (u64::from(object) + u64::from(header_size) + u64::from(protected)).next_multiple_of(4)
-}
-
-/// The end of accessible flash: the object's, or with a Program header the binary's rounded up
-/// to 4.
-fn accessible_end_of(object: Addr, total_size: u32, binary_end: Option<u32>) -> u64
-    ensures { result ≡ accessible_end object total_size binary_end }
-{
-    match binary_end {
-        None => u64::from(object) + u64::from(total_size),
-        Some(end) => (u64::from(object) + u64::from(end)).next_multiple_of(4),
-    }
 }
 
 /// The fixed RAM start, where there is one.
@@ -65,13 +46,14 @@ fn application_from(offset: u32, header: &Header<'_>, main: &Main) -> Applicatio
     requires place { offset + header.now.total_size ≤ 1048576 }
     requires aligned { offset % 4 ≡ 0 }
     requires whole { header.now.total_size % 4 ≡ 0 }
+    requires main { header.now.main ≡ Some main.now }
     requires app { app_verdict (FLASH_START + offset) (shown header.now) main.now ≡ App }
     ensures application { result ≡ application offset (shown header.now) main.now }
     ensures accessible { IsAccessible offset header.now.total_size result.flash_from result.flash_to }
 {
     let object = FLASH_START + offset;
-    let from = accessible_start_of(object, header.header_size, main.protected);
-    let to = accessible_end_of(object, header.total_size, main.binary_end);
+    let from = header.accessible_start(object);
+    let to = header.accessible_end(object);
     Application {
         offset,
         flash_from: from as u32,

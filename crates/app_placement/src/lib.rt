@@ -7,7 +7,7 @@ mod placed;
 mod placing;
 
 pub use application::Application;
-pub use placed::{Filled, Place, Placed, RAM_START};
+pub use placed::{Filled, Place, Placed};
 pub use placing::place;
 
 #[cfg(test)]

@@ -2,9 +2,6 @@
 use process_layout::Layout;
 use tk_base::{Addr, PlaceFault, Slot};
 
-/// The address of the first byte of RAM.
-pub const RAM_START: Addr = 0x8000_0000;
-
 /// The slot of an application, and where its memory lies.
 #[derive(Clone, Copy, Debug, PartialEq, Eq)]
 pub struct Place {

@@ -1,15 +1,15 @@
 //! Where each application is placed.
-ghost use Rattle.std.specs.Prelude.{◌≡◌, ◌+◌, ◌%◌, ◌≤◌, ◌<◌, length, All, AllPairs};
+ghost use Rattle.std.specs.Prelude.{◌≡◌, ◌+◌, ◌%◌, ◌≤◌, ◌<◌, length, count_by, All, AllPairs};
 ghost use Rattle.flash_walk.specs.Image.{objects};
 ghost use Rattle.app_placement.specs.Applications.{applications};
-ghost use Rattle.app_placement.specs.Placement.{block_length, block_start, is_taken, place_of, filled_after, placements, extents, LiesInRam, LiesBefore, LiesInFlash, IsLaidOut, AreNumbered};
+ghost use Rattle.app_placement.specs.Placement.{block_length, block_start, is_taken, place_of, filled_after, placements, extents, LiesInRam, LiesBefore, LiesInFlash, IsLaidOut, AreNumbered, is_placed};
 
 use crate::application::{Application, application_at};
-use crate::placed::{Filled, Place, Placed, RAM_START};
+use crate::placed::{Filled, Place, Placed};
 use arrayvec::ArrayVec;
-use flash_walk::Found;
+use flash_walk::{Found, objects_are_found};
 use process_layout::Layout;
-use tk_base::{Addr, PlaceFault, Slot};
+use tk_base::{Addr, PlaceFault, RAM_START, Slot};
 
 /// The length of a block of RAM, in bytes: the minimum RAM and 768 bytes, rounded up to a multiple
 /// of 1024.
@@ -117,7 +117,9 @@ pub fn place(found: &[Found], flash: &[u8], ram: u32) -> ArrayVec<Placed, 64>
     // Each layout is the one for its object, and the slots are taken in order.
     ensures layouts { All (IsLaidOut flash.now) result.items }
     ensures slots { AreNumbered result.items }
+    ensures few { count_by is_placed result.items ≤ 8 }
 {
+    objects_are_found();
     let mut placed = ArrayVec::new();
     let mut filled = Filled {
         last_end: RAM_START,

@@ -1,4 +1,7 @@
+pub mod Blocks
 pub mod Boards
-pub mod Bytes
+pub mod Homes
+pub mod Opening
 pub mod Order
+pub mod Sight
 pub mod Turns

@@ -1,6 +1,6 @@
-pub mod FirstObject
 pub mod Opening
 pub mod Reach
 pub mod Seated
+pub mod Shown
 pub mod Shows
 pub mod Status

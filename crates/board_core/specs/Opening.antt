@@ -1,40 +1,70 @@
--- The opening world of a flash.
-use Rattle.std.specs.Prelude.{ℕ, ◌+◌, if◌then◌else◌, List, [], ◌∷◌, length, replicate, None}
+-- The opening world of a flash image under a script: its applications in their places, before the first step.
+use Rattle.std.specs.Prelude.{ℕ, ◌≤◌, IfOk, ◌+◌, ◌-◌, List, replicate, filter_map, Option, None, Some, option_map, Result, Ok, Err}
+use Rattle.tk_base.specs.declared.access.TheConstants.{FLASH_START, RAM_START}
+use Rattle.tk_base.specs.declared.process.PlaceFault.{PlaceFault}
+use Rattle.tbf_headers.specs.declared.fault.HeaderFault.{HeaderFault}
+use Rattle.tbf_headers.specs.declared.program.Main.{Main}
+use Rattle.tbf_headers.specs.Meaning.{Meaning, reading}
+use Rattle.process_layout.specs.Extents.{Extents}
+use Rattle.board_memory.specs.Memory.{BlockBytes}
+use Rattle.app_placement.specs.Applications.{applications, object_bytes}
+use Rattle.app_placement.specs.Placement.{placements}
+use Rattle.app_placement.specs.declared.placed.Place.{Place}
+use Rattle.app_placement.specs.declared.placed.Placed.{Placed}
 use Rattle.process_record.specs.Process.{started}
+use Rattle.process_record.specs.declared.summary.Unplaced.{Unplaced}
+use Rattle.script_text.specs.declared.rule.Script.{Script}
 use Rattle.kernel_model.specs.Record.{Record}
 use Rattle.kernel_model.specs.World.{World}
-use Rattle.board_core.specs.FirstObject.{is_object}
-use Rattle.board_core.specs.Seated.{flash_base}
 use Rattle.board_core.specs.Shows.{settings}
 
--- where RAM begins
-abbrev pub ram_base : ℕ
-ram_base = 0x80000000
+-- the block of a layout, zeroed
+abbrev pub first_block : Extents → BlockBytes
+first_block e = record { start = e.start; bytes = replicate (e.end - e.start) 0 }
 
--- a block has the 256 bytes that the header asks for and 768 more, rounded up to a multiple of 1,024
-abbrev pub block_size : ℕ
-block_size = 1024
-
--- the process whose object is the whole flash: its code begins after the header of 32 bytes, its block at
--- the start of RAM, and its first break is 256 bytes on
-unfoldable pub first_record : List ℕ → Record
-first_record flash = record {
-  process = started (flash_base + 32) (record { address = flash_base; size = length flash }) ram_base block_size (ram_base + 256);
-  object = flash;
-  places = record { flash_start = flash_base + 32; flash_end = flash_base + length flash; start = ram_base; end = ram_base + block_size; brk = ram_base + 256 };
-  ram = replicate block_size 0;
+-- the record of an application whose object stands at an offset: at its start, its block zeroed
+unfoldable pub opened : List ℕ → ℕ → Extents → Meaning → Main → Record
+opened flash offset e h m = record {
+  process = started (FLASH_START + offset) h m e.start (e.end - e.start) e.brk;
+  object = object_bytes flash offset;
+  layout = e;
+  ram = replicate (e.end - e.start) 0;
   dropped = 0;
 }
 
--- the records that are placed at first
-abbrev pub placed : List ℕ → List Record
-placed flash = if is_object flash then first_record flash ∷ [] else []
+abbrev pub opened_by : List ℕ → ℕ → Extents → Result Meaning HeaderFault → Option Record
+opened_by flash offset e (Ok h) = option_map (opened flash offset e h) h.main
+opened_by flash offset e (Err fault) = None
+
+-- the record of one that has a place
+abbrev pub record_in : List ℕ → ℕ → Result Place PlaceFault → Option Record
+record_in flash offset (Ok place) = opened_by flash offset place.layout (reading (object_bytes flash offset))
+record_in flash offset (Err fault) = None
+
+abbrev pub record_at : List ℕ → Placed → Option Record
+record_at flash p = record_in flash p.offset p.place
+
+-- and one that has none
+abbrev pub unplaced_in : ℕ → Result Place PlaceFault → Option Unplaced
+unplaced_in offset (Ok place) = None
+unplaced_in offset (Err fault) = Some (record { offset = offset; fault = fault })
+
+abbrev pub unplaced_at : Placed → Option Unplaced
+unplaced_at p = unplaced_in p.offset p.place
+
+-- a block that is placed starts in RAM
+abbrev pub StartsInRam : Placed → Type 0
+StartsInRam p = IfOk p.place (λ place. RAM_START ≤ place.layout.start)
+
+-- the places of the applications of a flash image, in so many bytes of RAM
+abbrev pub places : ℕ → List ℕ → List Placed
+places ram flash = placements ram (applications flash)
 
 -- the world before the first step: time and all counts are 0, all LEDs are off, and no slot is present
-unfoldable pub opening : List ℕ → World
-opening flash = record {
-  records = placed flash;
-  unplaced = [];
+unfoldable pub opening : Script → List ℕ → World
+opening script flash = record {
+  records = filter_map (record_at flash) (places script.ram flash);
+  unplaced = filter_map unplaced_at (places script.ram flash);
   settings = settings;
   leds = 0;
   time = 0;

@@ -1,37 +1,28 @@
 //! The board.
-ghost use Rattle.std.specs.Prelude.{◌≡◌, ℕ, [], ◌≤◌, ◌<◌, ◌↔◌, List, All, map, length, replicate, slice_get, IsOk, IsTrue, IfOk, IfSome, Some, OnOk, OnErr, vec_len};
+ghost use Rattle.std.specs.Prelude.{◌≡◌, ◌+◌, ◌%◌, [], ◌≤◌, ◌<◌, ◌↔◌, All, map, length, slice_get, IsOk, IsTrue, IfOk, IfSome, Some, OnOk, OnErr, vec_len};
+ghost use Rattle.std.specs.List.{zip};
 ghost use Rattle.tk_base.specs.declared.process.Choice.TheVariants.{Run};
 ghost use Rattle.kernel_model.specs.World.{is_ready, after, labels, step_limit, used_after};
 ghost use Rattle.kernel_model.specs.Run.{next};
+ghost use Rattle.process_record.specs.Name.{name_of};
 ghost use Rattle.kernel_model.specs.Shown.{shown_by, summary_of};
-ghost use Rattle.board_core.specs.Opening.{first_record, placed, opening};
+ghost use Rattle.board_core.specs.Opening.{opening};
 ghost use Rattle.board_core.specs.Status.{status_of};
-ghost use Rattle.board_core.specs.Seated.{IsSeated, TurnsAt, record_of, shown_in, can_turn, seat_runs, seat_line};
+ghost use Rattle.kernel_calls.specs.Own.{object_in};
+ghost use Rattle.board_core.specs.Seated.{IsSeated, HasObject, TurnsAt, can_turn, seat_runs, seat_line};
 
-use crate::first_object::holds_object;
+use crate::boot::{first_seats, placed_in, unplaced};
 use crate::schedule::{Status, choose};
 use crate::seat::{Seat, Shown, has_turns, take_turn};
 use arrayvec::ArrayVec;
+use board_memory::Memory;
 use kernel_model::next_is_ready;
-use process_record::{Emit, Object, Places, Process, SlotLine, Summary};
+use process_record::{Emit, Object, SlotLine, Summary, Unplaced, object_name};
+use script_text::Script;
 use std::alloc::Global;
 use std::marker::Model;
-use tk_base::{Addr, Choice, Slot};
+use tk_base::{Choice, FLASH_START, Slot};
 use tk_outside::NoMemory;
-
-/// The address of the first byte of flash.
-const FLASH_START: Addr = 0x2000_0000;
-
-/// The address of the first byte of RAM.
-const RAM_START: Addr = 0x8000_0000;
-
-/// The bytes of the one header that is accepted, and of RAM that it asks for.
-const HEADER_SIZE: u32 = 32;
-
-const MINIMUM_RAM: u32 = 256;
-
-/// The bytes of a block: what the header asks for and 768 more, rounded up to a multiple of 1,024.
-const BLOCK_SIZE: u32 = 1024;
 
 /// How many steps a board makes at most.
 const STEP_LIMIT: u64 = 4_000_000_000;
@@ -49,9 +40,12 @@ pub struct NotReady;
 /// A board with its processes. Contracts see the world that it shows.
 #[derive(Drop)]
 pub struct Board {
-    flash: Vec<u8>,
+    /// Flash, and the block of each slot.
+    memory: Memory,
     /// The processes, slot 0 first.
     seats: Vec<Seat>,
+    /// The applications that have no place.
+    unplaced: ArrayVec<Unplaced, 64>,
     /// In ticks.
     time: u64,
     steps: u64,
@@ -95,18 +89,15 @@ fn used_after_turn(present: Option<Slot>, used: u32, slot: Slot) -> u32
     }
 }
 
-/// One turn of the process at a place of the table.
-fn turn_at(seats: &mut Vec<Seat>, flash: &[u8], index: usize, steps: u64) -> Shown
-    requires within { index < vec_len seats.old }
-    requires seated { All (IsSeated (length flash.now) steps) seats.old.items }
+/// One turn of the process in a slot.
+fn turn_at(memory: &mut Memory, seats: &mut Vec<Seat>, slot: Slot, steps: u64) -> Shown
+    requires within { slot < length seats.old.items }
+    requires blocks { length memory.old.blocks ≡ length seats.old.items }
+    requires seated { All (IsSeated memory.old.flash steps) (zip seats.old.items memory.old.blocks) }
     requires limit { steps < step_limit }
-    ensures { TurnsAt flash.now index seats.old.items seats.new.items result }
+    ensures { TurnsAt slot steps memory.old memory.new seats.old.items seats.new.items result }
 {
-    let seat = &mut seats[index];
-    let at = (seat.process.object.address - FLASH_START) as usize;
-    let (_, rest) = flash.split_at(at);
-    let (object, _) = rest.split_at(seat.process.object.size as usize);
-    take_turn(seat, object)
+    take_turn(&mut seats[slot.index()], memory, slot, steps)
 }
 
 /// Adds for each slot whether it is ready. The table is filled where it lies: moving it would cost more
@@ -121,15 +112,38 @@ fn add_ready(seats: &[Seat], ready: &mut ArrayVec<bool, 8>)
     }
 }
 
+/// The name of the application whose object this is, as its line shows it.
+fn name_in(flash: &[u8], object: &Object) -> ArrayVec<u8, 32>
+    requires from { FLASH_START ≤ object.now.address }
+    requires to { object.now.address + object.now.size ≤ FLASH_START + length flash.now }
+    ensures { result.items ≡ name_of (object_in flash.now object.now) }
+{
+    let from = (object.address - FLASH_START) as usize;
+    object_name(&flash[from..from + object.size as usize])
+}
+
+/// The same applications again.
+fn copied(unplaced: &[Unplaced]) -> ArrayVec<Unplaced, 64>
+    requires { length unplaced.now ≤ 64 }
+    ensures { result.items ≡ unplaced.now }
+{
+    let mut copy = ArrayVec::new();
+    let Ok(()) = copy.try_extend_from_slice(unplaced) else {
+        unreachable!()
+    };
+    copy
+}
+
 /// The line of each slot.
-fn slot_lines(seats: &[Seat]) -> ArrayVec<SlotLine, 8>
-    requires { length seats.now ≤ 8 }
-    ensures { result.items ≡ map seat_line seats.now }
+fn slot_lines(seats: &[Seat], flash: &[u8]) -> ArrayVec<SlotLine, 8>
+    requires few { length seats.now ≤ 8 }
+    requires objects { All (HasObject flash.now) seats.now }
+    ensures { result.items ≡ map (seat_line flash.now) seats.now }
 {
     let mut lines = ArrayVec::new();
     for seat in seats {
         lines.push(SlotLine {
-            name: ArrayVec::new(),
+            name: name_in(flash, &seat.process.object),
             state: seat.process.state,
             denial: seat.process.denial,
             turns: seat.process.turns,
@@ -140,79 +154,24 @@ fn slot_lines(seats: &[Seat]) -> ArrayVec<SlotLine, 8>
     lines
 }
 
-/// The memory of a block, all zero.
-fn zeroed(alloc: Global, size: usize) -> Result<Vec<u8>, NoMemory>
-    ensures { IfOk result (λ block. block.items ≡ replicate size 0) }
-{
-    match vec![in alloc; 0u8; size] {
-        Ok(block) => Ok(block),
-        Err(_) => Err(NoMemory),
-    }
-}
-
-/// The process whose object is the whole flash, of this many bytes, in its block of RAM.
-fn first_seat(alloc: Global, size: u32) -> Result<Seat, NoMemory>
-    requires { size ≤ 1048576 }
-    ensures shown { IfOk result (λ seat. (flash : List ℕ) → length flash ≡ size → record_of flash seat ≡ first_record flash) }
-    ensures seated { IfOk result (IsSeated size 0) }
-    ensures whole { IfOk result (λ seat. seat.process.object ≡ record { address = FLASH_START; size = size }) }
-{
-    let block = zeroed(alloc, BLOCK_SIZE as usize)?;
-    let object = Object {
-        address: FLASH_START,
-        size,
-    };
-    let places = Places {
-        flash_start: FLASH_START + HEADER_SIZE,
-        flash_end: FLASH_START + size,
-        start: RAM_START,
-        end: RAM_START + BLOCK_SIZE,
-        brk: RAM_START + MINIMUM_RAM,
-    };
-    let process = Process::start(
-        places.flash_start,
-        object,
-        places.start,
-        BLOCK_SIZE,
-        places.brk,
-    );
-    Ok(Seat {
-        process,
-        places,
-        block,
-        dropped: 0,
-    })
-}
-
-/// The processes that are placed at first.
-fn first_seats(alloc: Global, flash: &[u8]) -> Result<Vec<Seat>, NoMemory>
-    requires { length flash.now ≤ 1048576 }
-    ensures placed { IfOk result (λ seats. map (shown_in flash.now) seats.items ≡ placed flash.now) }
-    ensures seated { IfOk result (λ seats. All (IsSeated (length flash.now) 0) seats.items) }
-    ensures few { IfOk result (λ seats. vec_len seats ≤ 8) }
-{
-    let mut seats = Vec::new(alloc);
-    if !holds_object(flash) {
-        return Ok(seats);
-    }
-    let seat = first_seat(alloc, flash.len() as u32)?;
-    match seats.push(seat) {
-        Ok(()) => Ok(seats),
-        Err(_) => Err(NoMemory),
-    }
-}
-
 impl Board {
-    /// The board of a flash image of at most 1,048,576 bytes, before its first step. Each block of RAM
-    /// is zeroed. The one error is want of memory; the image is dropped then.
-    pub fn boot(alloc: Global, flash: Vec<u8>) -> Result<Board, NoMemory>
-        requires { vec_len flash ≤ 1048576 }
-        ensures { IfOk result (λ board. board ≡ opening flash.items) }
+    /// The board of a flash image of at most 1,048,576 bytes under a script, whose RAM is 4 to 256 whole KiB,
+    /// before its first step. The applications of the image are in their places, each block of RAM is
+    /// zeroed. The one error is want of memory; image and script are dropped then.
+    pub fn boot(alloc: Global, flash: Vec<u8>, script: Script) -> Result<Board, NoMemory>
+        requires flash { vec_len flash ≤ 1048576 }
+        requires least { 4096 ≤ script.ram }
+        requires most { script.ram ≤ 262144 }
+        requires multiple { script.ram % 1024 ≡ 0 }
+        ensures { IfOk result (λ board. board ≡ opening script flash.items) }
     {
-        let seats = first_seats(alloc, &flash)?;
+        let placed = placed_in(&flash, script.ram);
+        let mut memory = Memory::new(alloc, flash);
+        let seats = first_seats(alloc, &placed, &mut memory)?;
         Ok(Board {
-            flash,
+            memory,
             seats,
+            unplaced: unplaced(&placed),
             time: 0,
             steps: 0,
             present: None,
@@ -240,7 +199,7 @@ impl Board {
         if !self.may_run(slot) {
             return Err(NotReady);
         }
-        let shown = turn_at(&mut self.seats, &self.flash, slot.index(), self.steps);
+        let shown = turn_at(&mut self.memory, &mut self.seats, slot, self.steps);
         self.used = used_after_turn(self.present, self.used, slot);
         self.present = Some(slot);
         self.time += 1;
@@ -311,8 +270,8 @@ impl Board {
         ensures { result ≡ summary_of self.now }
     {
         Summary {
-            slots: slot_lines(&self.seats),
-            unplaced: ArrayVec::new(),
+            slots: slot_lines(&self.seats, self.memory.flash()),
+            unplaced: copied(&self.unplaced),
             leds: 0,
             led_count: LEDS,
             steps: self.steps,

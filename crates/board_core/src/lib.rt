@@ -2,10 +2,10 @@
 #![tactic(auto)]
 
 mod board;
-mod first_object;
+mod boot;
+mod reach;
 mod schedule;
 mod seat;
-mod view;
 
 pub use board::{Board, NotReady};
 pub use schedule::{Status, next_choice};

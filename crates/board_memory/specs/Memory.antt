@@ -1,7 +1,7 @@
 use Rattle.std.specs.Prelude.{◌≡◌, ℕ, ◌+◌, ◌-◌, ◌≤◌, List, [], length, take, drop, slice_index_or, slice_set}
 use Rattle.std.specs.List.{refill}
 use Rattle.process_layout.specs.Extents.{Extents}
-use Rattle.board_memory.specs.declared.TheConstants.{FLASH_START}
+use Rattle.tk_base.specs.declared.access.TheConstants.{FLASH_START}
 
 -- a slot's block of RAM: the address of its first byte, and its bytes
 pub record BlockBytes : Type 0 where

@@ -4,14 +4,13 @@ ghost use Rattle.std.specs.Borrow.{sem};
 ghost use Rattle.board_memory.specs.Bytes.{StoresLieIn};
 ghost use Rattle.board_memory.specs.Memory.{block_of};
 
-use crate::FLASH_START;
 use crate::parts::{Parts, UseParts, use_cut};
 use crate::view::View;
 use pmp_regions::Pmp;
 use process_layout::Layout;
 use std::alloc::{AllocError, Global};
 use std::marker::Model;
-use tk_base::{Addr, Slot};
+use tk_base::{Addr, FLASH_START, Slot};
 
 /// The block of RAM of one slot.
 #[derive(Drop)]
@@ -57,6 +56,13 @@ impl Memory {
         }
     }
 
+    /// The bytes of flash.
+    pub fn flash(&self) -> &[u8]
+        ensures { result.now ≡ self.now.flash }
+    {
+        &self.flash
+    }
+
     /// Adds the block of the next slot, whose bytes are 0. It fails where there is no memory for
     /// them.
     pub fn add_block(&mut self, alloc: Global, start: Addr, size: u32) -> Result<(), AllocError>
@@ -69,6 +75,16 @@ impl Memory {
         let bytes = vec![in alloc; 0u8; size as usize]?;
         self.blocks.push(Block { start, bytes })?;
         Ok(())
+    }
+
+    /// Makes every byte of a slot's block 0, as they are when the block is added. Nothing else of
+    /// memory changes.
+    pub fn clear_block(&mut self, slot: Slot)
+        requires { slot < length self.old.blocks }
+        ensures { self.new ≡ with_block self.old slot
+            (replicate (length (block_of self.old slot).bytes) 0) }
+    {
+        self.blocks[slot.index()].bytes.fill(0);
     }
 
     /// What the process of a slot reaches, in user mode, under these registers.

@@ -1,5 +1,6 @@
 //! The protection registers of one process.
 ghost use Rattle.std.specs.Prelude.{◌≡◌, ℕ, ◌+◌, ◌%◌, ◌≤◌};
+ghost use Rattle.process_layout.specs.Ordered.{IsOrdered};
 ghost use Rattle.board_memory.specs.Bytes.{StoresLieIn};
 ghost use Rattle.board_memory.specs.Registers.{process_registers, DenyAsIntervals};
 
@@ -20,6 +21,8 @@ pub fn set_process(pmp: &mut Pmp, layout: &Layout)
     ensures permission { DenyAsIntervals pmp.new layout.now }
     ensures stores { (size : ℕ) → layout.now.brk ≤ layout.now.start + size →
         StoresLieIn layout.now.start size pmp.new }
+    // as always
+    ensures ordered { IsOrdered layout.now }
 {
     *pmp = registers_of(layout);
 }
@@ -28,8 +31,7 @@ fn registers_of(layout: &Layout) -> Pmp
     requires flash_start { layout.now.flash_start % 4 ≡ 0 }
     requires flash_end { layout.now.flash_end % 4 ≡ 0 }
     ensures registers { result ≡ process_registers layout.now }
-    ensures start { layout.now.start % 4 ≡ 0 }
-    ensures brk { layout.now.brk % 4 ≡ 0 }
+    ensures ordered { IsOrdered layout.now }
 {
     let mut pmp = Pmp::new();
     pmp.set_off(0, layout.flash_start);

@@ -4,16 +4,15 @@ use Rattle.std.proofs.Math.Nat.{div-eq_of_lt}
 use Rattle.std.proofs.Math.Pow.{pow_mono}
 use Rattle.std.proofs.lemmas.List.{take-append-drop, take_more, append-nil}
 use Rattle.std.proofs.lemmas.List.Concat.{flat_map-append}
-use Rattle.std.specs.List.{range_with_len}
+use Rattle.std.specs.List.{flat_map, range_with_len}
 use Rattle.tk_outside.specs.Writes.{WroteAll, WrotePart}
-use Rattle.tk_outside.proofs.WritesLemmas.{all_then_part, part_of_more}
+use Rattle.tk_outside.specs.Laws.{WritesCompose}
 use Rattle.process_record.specs.declared.summary.SlotLine.{SlotLine}
-use Rattle.process_record.specs.declared.summary.Unplaced.{Unplaced}
-use Rattle.board_report.specs.Report.{slot_text, slot_texts, unplaced_text, unplaced_texts, led_text, led_texts}
+use Rattle.board_report.specs.Report.{slot_text, slot_texts, led_text, led_texts}
 
 -- a piece failed after what stands before it was written
-pub part_between : {K : Type 0} {told : K → Option (List ℕ)} {faults : K → ℕ} {a b c : K} {front piece : List ℕ} (rest whole : List ℕ) → whole ≡ front ++ (piece ++ rest) → WroteAll told faults a b front → WrotePart told faults b c piece → WrotePart told faults a c whole
-part_between {K} {told} {faults} {a} {b} {c} rest whole e p q = subst (λ (t : List ℕ). WrotePart told faults a c t) (sym e) (all_then_part p (part_of_more rest q))
+pub part_between : {K : Type 0} {told : K → Option (List ℕ)} {faults : K → ℕ} {a b c : K} {front piece : List ℕ} → WritesCompose told faults → (rest whole : List ℕ) → whole ≡ front ++ (piece ++ rest) → WroteAll told faults a b front → WrotePart told faults b c piece → WrotePart told faults a c whole
+part_between {K} {told} {faults} {a} {b} {c} law rest whole e p q = subst (λ (t : List ℕ). WrotePart told faults a c t) (sym e) (law.all_then_part p (law.part_of_more rest q))
 
 -- the lines of some slots and of the slots after them
 slot_texts-append : (slot : ℕ) (xs ys : List SlotLine) → slot_texts slot (xs ++ ys) ≡ slot_texts slot xs ++ slot_texts (slot + length xs) ys
@@ -46,11 +45,12 @@ slots_more i lines line h e =
     ∙ ap (λ (l : SlotLine). slot_texts 0 (take i lines) ++ (slot_text i l ++ [])) (sym e)
     ∙ ap (λ (t : List ℕ). slot_texts 0 (take i lines) ++ t) (append-nil (slot_text i line))
 
-pub apps_around : (i : ℕ) (apps : List Unplaced) (d : Unplaced) → i < length apps → unplaced_texts apps ≡ unplaced_texts (take i apps) ++ (unplaced_text (get_or apps i d) ++ unplaced_texts (drop (i + 1) apps))
-apps_around i apps d h =
-    ap unplaced_texts (sym (take-append-drop i apps)) ∙ flat_map-append unplaced_text (take i apps) (drop i apps)
-    ∙ ap (λ (us : List Unplaced). unplaced_texts (take i apps) ++ unplaced_texts us) (drop-cons apps i d h)
-    ∙ ap (λ (n : ℕ). unplaced_texts (take i apps) ++ (unplaced_text (get_or apps i d) ++ unplaced_texts (drop n apps))) (sym (add-one i))
+-- the texts of some items, around one of them
+pub texts_around : {X : Type 0} (text : X → List ℕ) (xs : List X) (i : ℕ) (d : X) → i < length xs → flat_map text xs ≡ flat_map text (take i xs) ++ (text (get_or xs i d) ++ flat_map text (drop (i + 1) xs))
+texts_around {X} text xs i d h =
+    ap (flat_map text) (sym (take-append-drop i xs)) ∙ flat_map-append text (take i xs) (drop i xs)
+    ∙ ap (λ (ys : List X). flat_map text (take i xs) ++ flat_map text ys) (drop-cons xs i d h)
+    ∙ ap (λ (n : ℕ). flat_map text (take i xs) ++ (text (get_or xs i d) ++ flat_map text (drop n xs))) (sym (add-one i))
 
 -- a range in two parts
 led_texts-add : (leds from n m : ℕ) → map (led_text leds) (range_with_len from (n + m)) ≡ map (led_text leds) (range_with_len from n) ++ map (led_text leds) (range_with_len (from + n) m)

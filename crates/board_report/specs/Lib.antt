@@ -1,2 +1,3 @@
-pub mod Words
+pub mod FlashList
 pub mod Report
+pub mod Words

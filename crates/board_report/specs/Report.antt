@@ -8,7 +8,7 @@ use Rattle.process_record.specs.declared.process.State.TheVariants.{Running, Yie
 use Rattle.process_record.specs.declared.summary.SlotLine.{SlotLine}
 use Rattle.process_record.specs.declared.summary.Summary.{Summary}
 use Rattle.process_record.specs.declared.summary.Unplaced.{Unplaced}
-use Rattle.board_report.specs.Words.{access_text, rule_text, fault_text, name_text}
+use Rattle.board_report.specs.Words.{newline, access_text, rule_text, fault_text, name_text}
 use Rattle.board_report.specs.declared.report.End.{End}
 use Rattle.board_report.specs.declared.report.End.TheVariants.{Done, Turns}
 
@@ -26,9 +26,6 @@ state_text (Terminated code) denial = codes "terminated " ++ decimal code
 -- how many upcalls were dropped, where any was
 abbrev pub dropped_text : ℕ → List ℕ
 dropped_text dropped = if dropped == 0 then [] else codes " dropped " ++ decimal dropped
-
-abbrev pub newline : List ℕ
-newline = 10 ∷ []
 
 -- what comes before the state in a slot's line, and what comes after it
 abbrev pub slot_head : ℕ → SlotLine → List ℕ

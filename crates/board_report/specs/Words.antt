@@ -7,6 +7,10 @@ use Rattle.tk_base.specs.declared.access.Rule.TheVariants.{NoRegion, NoExecute, 
 use Rattle.tk_base.specs.declared.process.PlaceFault.{PlaceFault}
 use Rattle.tk_base.specs.declared.process.PlaceFault.TheVariants.{NoSlot, FixedTaken, NoRoom}
 
+-- the end of a line
+abbrev pub newline : List ℕ
+newline = 10 ∷ []
+
 abbrev pub access_text : Access → List ℕ
 access_text Fetch = codes "fetch"
 access_text Load = codes "load"

@@ -1,7 +1,12 @@
-//! The report of a board, as text.
+//! What a board tells as text: the report of a run, and the list of what its flash holds.
 #![tactic(auto)]
 
+mod list;
 mod report;
 mod words;
 
+pub use list::write_list;
 pub use report::{End, write_report};
+
+#[cfg(test)]
+mod tests;

@@ -2,13 +2,14 @@
 //! LEDs and for the end of the run.
 ghost use Rattle.std.specs.Prelude.{◌≡◌, ◌++◌, codes, decimal};
 ghost use Rattle.tk_outside.specs.Writes.{Writes};
-ghost use Rattle.board_report.specs.Report.{denial_text, state_text, dropped_text, newline, slot_head, slot_turns, slot_text, slot_texts, unplaced_text, unplaced_texts, led_text, led_texts, led_list, leds_text, end_text, end_line, report_text};
+ghost use Rattle.board_report.specs.Words.{newline};
+ghost use Rattle.board_report.specs.Report.{denial_text, state_text, dropped_text, slot_head, slot_turns, slot_text, slot_texts, unplaced_text, unplaced_texts, led_text, led_texts, led_list, leds_text, end_text, end_line, report_text};
 
 use crate::words::{access_word, fault_word, rule_word, shown_name};
 use itoa::Buffer;
 use process_record::{SlotLine, State, Summary, Unplaced};
 use tk_base::Denial;
-use tk_outside::{Failed, Sink, hex_text, put_all, put_number, put_pieces};
+use tk_outside::{Failed, Sink, hex_text, put_all, put_number, put_pieces, writes_compose};
 
 /// How a run ended.
 #[derive(Clone, Copy, Debug, PartialEq, Eq)]
@@ -43,6 +44,7 @@ fn write_denial<K: Sink>(out: &mut K, denial: &Option<Denial>) -> Result<(), Fai
 fn write_terminated<K: Sink>(out: &mut K, code: u32) -> Result<(), Failed>
     ensures { Writes K.told K.faults out.old out.new (codes "terminated " ++ decimal code) result }
 {
+    writes_compose::<K>();
     put_all(out, b"terminated ")?;
     put_number(out, u64::from(code))
 }
@@ -51,6 +53,7 @@ fn write_terminated<K: Sink>(out: &mut K, code: u32) -> Result<(), Failed>
 fn write_faulted<K: Sink>(out: &mut K, denial: &Option<Denial>) -> Result<(), Failed>
     ensures { Writes K.told K.faults out.old out.new (codes "faulted" ++ denial_text denial.now) result }
 {
+    writes_compose::<K>();
     put_all(out, b"faulted")?;
     write_denial(out, denial)
 }
@@ -115,6 +118,7 @@ fn write_turns<K: Sink>(out: &mut K, line: &SlotLine) -> Result<(), Failed>
 fn write_slot<K: Sink>(out: &mut K, slot: usize, line: &SlotLine) -> Result<(), Failed>
     ensures { Writes K.told K.faults out.old out.new (slot_text slot line.now) result }
 {
+    writes_compose::<K>();
     write_head(out, slot, line)?;
     write_state(out, line.state, &line.denial)?;
     write_turns(out, line)?;
@@ -125,6 +129,7 @@ fn write_slot<K: Sink>(out: &mut K, slot: usize, line: &SlotLine) -> Result<(), 
 fn write_slots<K: Sink>(out: &mut K, lines: &[SlotLine]) -> Result<(), Failed>
     ensures { Writes K.told K.faults out.old out.new (slot_texts 0 lines.now) result }
 {
+    writes_compose::<K>();
     for (slot, line) in lines.iter().enumerate() {
         write_slot(out, slot, line)?;
     }
@@ -153,6 +158,7 @@ fn write_unplaced<K: Sink>(out: &mut K, app: &Unplaced) -> Result<(), Failed>
 fn write_all_unplaced<K: Sink>(out: &mut K, apps: &[Unplaced]) -> Result<(), Failed>
     ensures { Writes K.told K.faults out.old out.new (unplaced_texts apps.now) result }
 {
+    writes_compose::<K>();
     for app in apps {
         write_unplaced(out, app)?;
     }
@@ -163,6 +169,7 @@ fn write_all_unplaced<K: Sink>(out: &mut K, apps: &[Unplaced]) -> Result<(), Fai
 fn write_led_states<K: Sink>(out: &mut K, leds: u32, count: u32) -> Result<(), Failed>
     ensures { Writes K.told K.faults out.old out.new (led_texts leds count) result }
 {
+    writes_compose::<K>();
     for led in 0..count {
         put_all(out, &[led_glyph(leds, led)])?;
     }
@@ -194,6 +201,7 @@ fn write_led_list<K: Sink>(out: &mut K, leds: u32, count: u32) -> Result<(), Fai
 fn write_leds<K: Sink>(out: &mut K, leds: u32, count: u32) -> Result<(), Failed>
     ensures { Writes K.told K.faults out.old out.new (leds_text leds count) result }
 {
+    writes_compose::<K>();
     put_all(out, b"leds ")?;
     write_led_list(out, leds, count)?;
     put_all(out, b"\n")
@@ -237,6 +245,7 @@ fn write_end<K: Sink>(out: &mut K, end: End, steps: u64, time: u64) -> Result<()
 pub fn write_report<K: Sink>(summary: &Summary, end: End, out: &mut K) -> Result<(), Failed>
     ensures { Writes K.told K.faults out.old out.new (report_text summary.now end) result }
 {
+    writes_compose::<K>();
     write_slots(out, &summary.slots)?;
     write_all_unplaced(out, &summary.unplaced)?;
     write_leds(out, summary.leds, summary.led_count)?;

@@ -1,35 +1,20 @@
 -- The objects of a flash image. Each begins with a header of the Tock Binary Format, and the next one stands
 -- where its total size ends. Places are counted from the start of flash.
 use Rattle.std.specs.Prelude.{◌≡◌, ◌≤◌, ℕ, zero, suc, ◌+◌, ◌-◌, ◌%◌, ◌==◌, Bool, false, not, ◌||◌, ◌&&◌, nat_lt, nat_le, if◌then◌else◌, List, [], ◌∷◌, length, slice_range, Option, Some, None, Result, Ok, Err}
+use Rattle.tk_base.specs.declared.access.TheConstants.{FLASH_START}
 use Rattle.tbf_headers.specs.declared.fault.HeaderFault.{HeaderFault}
 use Rattle.tbf_headers.specs.declared.program.Main.{Main}
-use Rattle.tbf_headers.specs.Numbers.{half, word, rounded}
+use Rattle.tbf_headers.specs.Numbers.{half, word}
 use Rattle.tbf_headers.specs.Meaning.{Meaning, reading}
+use Rattle.tbf_headers.specs.Addresses.{after_protected, entry_of, accessible_start, accessible_end}
 use Rattle.flash_walk.specs.declared.found.Found.{Found}
 use Rattle.flash_walk.specs.declared.found.Verdict.{Verdict}
 use Rattle.flash_walk.specs.declared.found.Verdict.TheVariants.{Bad, Padding, Disabled, BadEntry, WrongFlash, App}
 
--- the address of the first byte of flash
-abbrev pub flash_start : ℕ
-flash_start = 536870912
-
--- the first address after the header and the protected bytes of an object at an address
-abbrev pub after_protected : ℕ → Meaning → Main → ℕ
-after_protected start h m = start + h.header_size + m.protected
-
--- the address of the application's first instruction
-abbrev pub entry_of : ℕ → Meaning → Main → ℕ
-entry_of start h m = start + h.header_size + m.init
-
--- the end of accessible flash: the object's, or with a Program header the binary's rounded up to 4
-abbrev pub accessible_end : ℕ → ℕ → Option ℕ → ℕ
-accessible_end start total None = start + total
-accessible_end start total (Some binary_end) = rounded (start + binary_end)
-
--- the entry is outside accessible flash, which begins after the protected bytes, rounded up to 4
+-- the entry is outside accessible flash
 abbrev pub is_outside : ℕ → Meaning → Main → Bool
 is_outside start h m =
-    nat_lt (entry_of start h m) (rounded (after_protected start h m)) || nat_le (accessible_end start h.total_size m.binary_end) (entry_of start h m)
+    nat_lt (entry_of start h m) (accessible_start start h m) || nat_le (accessible_end start h.total_size m.binary_end) (entry_of start h m)
 
 -- the binary's end passes the object, or stands before the end of the protected bytes
 abbrev pub is_bad_binary_end : ℕ → ℕ → Option ℕ → Bool
@@ -79,7 +64,7 @@ unfoldable pub found_at : List ℕ → ℕ → Found
 found_at flash at = record {
   offset = at;
   size = size_at flash at;
-  verdict = verdict_of (flash_start + at) (reading (slice_range flash at (at + size_at flash at)));
+  verdict = verdict_of (FLASH_START + at) (reading (slice_range flash at (at + size_at flash at)));
 }
 
 -- at most n objects from a place on
@@ -96,4 +81,4 @@ pub record IsObject (flash : List ℕ) (f : Found) : Type 0 where
   pub large : 16 ≤ f.size
   pub within : f.offset + f.size ≤ length flash
   pub aligned : f.offset % 4 ≡ 0
-  pub judged : f.verdict ≡ verdict_of (flash_start + f.offset) (reading (slice_range flash f.offset (f.offset + f.size)))
+  pub judged : f.verdict ≡ verdict_of (FLASH_START + f.offset) (reading (slice_range flash f.offset (f.offset + f.size)))

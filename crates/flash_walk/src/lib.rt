@@ -3,11 +3,13 @@
 #![tactic(auto)]
 
 mod found;
+mod laws;
 mod verdict;
 mod walking;
 
 pub use found::{Found, Verdict};
-pub use walking::{FLASH_START, walk};
+pub use laws::objects_are_found;
+pub use walking::walk;
 
 #[cfg(test)]
 mod tests;

@@ -1,38 +1,12 @@
 //! What is said of one object.
 ghost use Rattle.std.specs.Prelude.{◌≡◌, ◌+◌, Some};
-ghost use Rattle.tbf_headers.specs.Numbers.{rounded};
 ghost use Rattle.tbf_headers.specs.Meaning.{reading};
 ghost use Rattle.tbf_headers.specs.Shown.{shown};
-ghost use Rattle.flash_walk.specs.Image.{accessible_end, is_bad_binary_end, entry_of, is_outside, has_bad_entry, is_wrong_flash, app_verdict, verdict_of};
+ghost use Rattle.flash_walk.specs.Image.{is_bad_binary_end, is_outside, has_bad_entry, is_wrong_flash, app_verdict, verdict_of};
 
 use crate::found::Verdict;
 use tbf_headers::{Header, Main, read_header};
 use tk_base::Addr;
-
-/// The sum of three numbers, which does not wrap.
-fn sum(a: u32, b: u32, c: u32) -> u64
-    ensures { result ≡ a + b + c }
-{
-    u64::from(a) + u64::from(b) + u64::from(c)
-}
-
-/// The sum of three numbers, which does not wrap, rounded up to a multiple of 4.
-fn rounded_sum(a: u32, b: u32, c: u32) -> u64
-    ensures { result ≡ rounded (a + b + c) }
-{
-    sum(a, b, c).next_multiple_of(4)
-}
-
-/// The end of accessible flash: the object's, or with a Program header the binary's rounded up
-/// to 4.
-fn accessible_end_of(object: Addr, total_size: u32, binary_end: Option<u32>) -> u64
-    ensures { result ≡ accessible_end object total_size binary_end }
-{
-    match binary_end {
-        None => sum(object, total_size, 0),
-        Some(end) => rounded_sum(object, end, 0),
-    }
-}
 
 /// Whether the binary's end passes the object, or stands before the end of the protected bytes.
 fn is_bad_end(protected_end: u64, total_size: u32, binary_end: Option<u32>) -> bool
@@ -44,26 +18,26 @@ fn is_bad_end(protected_end: u64, total_size: u32, binary_end: Option<u32>) -> b
     }
 }
 
-/// Whether an entry is outside of accessible flash.
-fn is_entry_outside(object: Addr, header: &Header<'_>, main: &Main, entry: u64) -> bool
-    requires { entry ≡ entry_of object (shown header.now) main.now }
+/// Whether the entry is outside of accessible flash.
+fn is_entry_outside(object: Addr, header: &Header<'_>, main: &Main) -> bool
+    requires { header.now.main ≡ Some main.now }
     ensures { result ≡ is_outside object (shown header.now) main.now }
 {
-    entry < rounded_sum(object, header.header_size, main.protected)
-        || entry >= accessible_end_of(object, header.total_size, main.binary_end)
+    let entry = header.entry(object);
+    entry < header.accessible_start(object) || entry >= header.accessible_end(object)
 }
 
 /// Whether the header with the protected bytes passes the object, the binary's end is bad, or the
 /// entry is odd or outside of accessible flash.
 fn is_bad_entry(object: Addr, header: &Header<'_>, main: &Main) -> bool
+    requires { header.now.main ≡ Some main.now }
     ensures { result ≡ has_bad_entry object (shown header.now) main.now }
 {
-    let protected_end = sum(header.header_size, main.protected, 0);
-    let entry = sum(object, header.header_size, main.init);
+    let protected_end = header.after_protected(0);
     protected_end > u64::from(header.total_size)
         || is_bad_end(protected_end, header.total_size, main.binary_end)
-        || entry % 2 == 1
-        || is_entry_outside(object, header, main, entry)
+        || header.entry(object) % 2 == 1
+        || is_entry_outside(object, header, main)
 }
 
 /// Whether there is a fixed flash start other than the address that the application stands at.
@@ -78,6 +52,7 @@ fn is_elsewhere(linked: u64, fixed: Option<(u32, u32)>) -> bool
 
 /// The first verdict that fits an object with a Program or a Main TLV.
 fn verdict_on_app(object: Addr, header: &Header<'_>, main: &Main) -> Verdict
+    requires { header.now.main ≡ Some main.now }
     ensures { result ≡ app_verdict object (shown header.now) main.now }
 {
     if header.flags % 2 == 0 {
@@ -86,10 +61,7 @@ fn verdict_on_app(object: Addr, header: &Header<'_>, main: &Main) -> Verdict
     if is_bad_entry(object, header, main) {
         return Verdict::BadEntry;
     }
-    if is_elsewhere(
-        sum(object, header.header_size, main.protected),
-        header.fixed,
-    ) {
+    if is_elsewhere(header.after_protected(object), header.fixed) {
         return Verdict::WrongFlash;
     }
     Verdict::App

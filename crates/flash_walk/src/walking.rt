@@ -6,10 +6,7 @@ use crate::found::Found;
 use crate::verdict::verdict_on;
 use arrayvec::ArrayVec;
 use tbf_headers::{half_at, word_at};
-use tk_base::Addr;
-
-/// The address of the first byte of flash.
-pub const FLASH_START: Addr = 0x2000_0000;
+use tk_base::FLASH_START;
 
 /// The object at a place. None where fewer than 16 bytes are left, the version is not 2, or the
 /// total size is below 16, no multiple of 4 or beyond what is left.

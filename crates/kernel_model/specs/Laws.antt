@@ -2,7 +2,7 @@
 use Rattle.std.specs.Prelude.{◌≡◌, ◌≢◌, ◌<◌, ℕ, Some, IsTrue, slice_get}
 use Rattle.std.specs.Option.{option_map}
 use Rattle.tk_base.specs.declared.process.Choice.TheVariants.{Run}
-use Rattle.kernel_model.specs.Record.{Turn, apply}
+use Rattle.kernel_model.specs.Turn.{Turn, apply}
 use Rattle.tk_base.specs.declared.process.Choice.{Choice}
 use Rattle.kernel_model.specs.World.{World, after, is_ready, step_limit}
 use Rattle.kernel_model.specs.Run.{next}

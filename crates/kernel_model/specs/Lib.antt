@@ -1,5 +1,7 @@
 pub mod Permission
 pub mod Record
+pub mod Calls
+pub mod Turn
 pub mod World
 pub mod RoundRobin
 pub mod Run

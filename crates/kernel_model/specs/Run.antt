@@ -4,7 +4,7 @@ use Rattle.std.specs.List.{flat_map}
 use Rattle.std.specs.Option.{option_map}
 use Rattle.tk_base.specs.declared.process.Choice.{Choice}
 use Rattle.tk_base.specs.declared.process.Choice.TheVariants.{Run}
-use Rattle.kernel_model.specs.Record.{runs}
+use Rattle.kernel_model.specs.Turn.{runs}
 use Rattle.kernel_model.specs.World.{World, Label, TurnOf, Printed, after, labels}
 use Rattle.kernel_model.specs.RoundRobin.{next_slot}
 

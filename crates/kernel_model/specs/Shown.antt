@@ -4,13 +4,13 @@ use Rattle.process_record.specs.declared.emit.Emit.{Emit}
 use Rattle.process_record.specs.declared.summary.SlotLine.{SlotLine}
 use Rattle.process_record.specs.declared.summary.Summary.{Summary}
 use Rattle.process_record.specs.Emit.{nothing}
+use Rattle.process_record.specs.Name.{name_of}
 use Rattle.kernel_model.specs.Record.{Record}
 use Rattle.kernel_model.specs.World.{World, Label, TurnOf, Printed}
 
--- The one object that can be placed has no name.
 abbrev pub line_of : Record → SlotLine
 line_of r = record {
-  name = record { items = [] };
+  name = record { items = name_of r.object };
   state = r.process.state;
   denial = r.process.denial;
   turns = r.process.turns;

@@ -6,7 +6,8 @@ use Rattle.tk_base.specs.declared.process.Choice.TheVariants.{Run}
 use Rattle.rv32_model.specs.UserTurn.{Touch}
 use Rattle.process_record.specs.declared.emit.CallMade.{CallMade}
 use Rattle.process_record.specs.declared.summary.Unplaced.{Unplaced}
-use Rattle.kernel_model.specs.Record.{Record, Settings, Event, Turn, turned, apply, runs}
+use Rattle.kernel_model.specs.Record.{Record, Settings}
+use Rattle.kernel_model.specs.Turn.{Event, Turn, turned, apply, runs}
 
 -- the records by slot, the apps that were not placed, the settings, the LEDs (bit n is LED n), the time, the
 -- steps made, and the present slot with its used turns

@@ -1,3 +1,4 @@
+-- Intervals of addresses, as TRD 104, "Memop", speaks of a process's memory.
 use Rattle.std.specs.Prelude.{ℕ, ◌+◌, ◌*◌, ◌/◌, Bool, ◌&&◌, nat_le}
 
 -- all of the bytes from an address on lie in the interval from its first address up to its end. No

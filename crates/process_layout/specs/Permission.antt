@@ -1,3 +1,5 @@
+-- What a process may access: fetches in flash, loads in both, stores in RAM (Levy et al., SOSP 2017; RISC-V
+-- privileged manual, "Physical Memory Protection").
 use Rattle.std.specs.Prelude.{ℕ, ◌%◌, ◌==◌, Bool, false, not, if◌then◌else◌, Option, None, Some}
 use Rattle.tk_base.specs.declared.access.Access.{Access}
 use Rattle.tk_base.specs.declared.access.Access.TheVariants.{Fetch, Load, Store}

@@ -12,7 +12,7 @@ use tk_base::Addr;
 /// Where the memory of one process lies. All fields are byte addresses.
 ///
 /// Always `start <= brk <= kernel_break <= end`, `mark <= brk` and `flash_start <= flash_end`, and
-/// `start`, `brk` and `kernel_break` are multiples of 4.
+/// `start`, `end`, `brk` and `kernel_break` are multiples of 4.
 #[derive(Clone, Copy, Debug, PartialEq, Eq)]
 pub struct Layout {
     /// The first byte of flash that the process may execute and read.
@@ -73,7 +73,7 @@ impl Model for Layout {
 }
 
 impl Layout {
-    ghost use Rattle.process_layout.specs.Extents.{permits_break};
+    ghost use Rattle.process_layout.specs.Extents.{permits_break, at_start};
     ghost use Rattle.process_layout.specs.Interval.{lies_within, rounded_up};
 
     /// Moves the break to an address, rounded up to a multiple of 4 (TRD 104, "Memop"), and says
@@ -85,15 +85,28 @@ impl Layout {
         ensures moved { OnTrue result (self.new ≡ record self.old { brk = rounded_up new }) }
         ensures refused { OnFalse result (self.new ≡ self.old) }
     {
-        let rounded = (new as u64 + 3) / 4 * 4;
-        if rounded < self.start as u64
-            || rounded > self.kernel_break as u64
-            || rounded < self.mark as u64
+        let rounded = (u64::from(new) + 3) / 4 * 4;
+        if rounded < u64::from(self.start)
+            || rounded > u64::from(self.kernel_break)
+            || rounded < u64::from(self.mark)
         {
             return false;
         }
         self.brk = rounded as u32;
         true
+    }
+
+    /// Moves break, kernel break and mark to where they are at the process's start, for an
+    /// application that needs at least so many bytes of RAM (TRD 104, "Exit"; Levy et al., SOSP 2017):
+    /// the break is past them, rounded up to a multiple of 4, and there are no grants and no buffers.
+    pub fn restart(&mut self, minimum_ram: u32)
+        requires { rounded_up (self.old.start + minimum_ram) ≤ self.old.end }
+        ensures { self.new ≡ at_start minimum_ram self.old }
+    {
+        let least = u64::from(self.start) + u64::from(minimum_ram);
+        self.brk = least.next_multiple_of(4) as u32;
+        self.kernel_break = self.end;
+        self.mark = self.start;
     }
 
     /// Takes room for a grant of so many bytes, which is from the new kernel break up to the old
@@ -120,7 +133,7 @@ impl Layout {
     pub fn in_ram(&self, at: Addr, size: u32) -> bool
         ensures { result ≡ lies_within self.now.start self.now.brk at size }
     {
-        self.start <= at && at as u64 + size as u64 <= self.brk as u64
+        self.start <= at && u64::from(at) + u64::from(size) <= u64::from(self.brk)
     }
 
     /// Whether all of the bytes from an address on lie in the flash that the process may execute
@@ -128,7 +141,7 @@ impl Layout {
     pub fn in_flash(&self, at: Addr, size: u32) -> bool
         ensures { result ≡ lies_within self.now.flash_start self.now.flash_end at size }
     {
-        self.flash_start <= at && at as u64 + size as u64 <= self.flash_end as u64
+        self.flash_start <= at && u64::from(at) + u64::from(size) <= u64::from(self.flash_end)
     }
 }
 

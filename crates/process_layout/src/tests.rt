@@ -1,7 +1,11 @@
+ghost use Rattle.std.specs.Prelude.{◌≡◌};
+
 use super::*;
 
 /// A process with 256 bytes of RAM in a block of 1024, and 24 bytes of code after a header of 44.
-fn first_layout() -> Layout {
+fn first_layout() -> Layout
+    ensures { result ≡ record { flash_start = 0x2000002C; flash_end = 0x20000044; start = 0x80000000; end = 0x80000400; brk = 0x80000100; kernel_break = 0x80000400; mark = 0x80000000 } }
+{
     Layout {
         flash_start: 0x2000002C,
         flash_end: 0x20000044,
@@ -37,6 +41,16 @@ fn grants_grow_down_to_the_break(rt: HostRuntime) {
     assert_eq!(rt; layout.take_grant(636), None);
     assert_eq!(rt; layout.kernel_break, 0x80000378);
     assert_eq!(rt; layout.take_grant(632), Some(0x80000100));
+}
+
+#[test]
+fn a_restart_forgets_grants_and_buffers(rt: HostRuntime) {
+    let mut layout = first_layout();
+    layout.brk = 0x80000200;
+    layout.kernel_break = 0x80000378;
+    layout.mark = 0x80000180;
+    layout.restart(253);
+    assert_eq!(rt; layout, first_layout());
 }
 
 #[test]

@@ -1,9 +1,14 @@
--- One process: TRD 104, "Yield" and "Exit"; the start registers as Tock gives them to a process.
+-- One process: TRD 104, "Yield", "Exit" and "Return Values"; the start registers as Tock gives them to a process.
 use Rattle.std.specs.Prelude.{ℕ, ◌+◌, ◌%◌, ◌^◌, None, Some, replicate}
 use Rattle.tk_base.specs.declared.access.Denial.{Denial}
 use Rattle.tk_base.specs.declared.regs.Regs.{Regs}
 use Rattle.tk_base.specs.Regs.{with_register}
-use Rattle.process_record.specs.declared.process.Object.{Object}
+use Rattle.tk_base.specs.declared.call.CallRule.{CallRule}
+use Rattle.syscall_abi.specs.declared.reply.Reply.{Reply}
+use Rattle.syscall_abi.specs.Reply.{put_reply}
+use Rattle.tbf_headers.specs.declared.program.Main.{Main}
+use Rattle.tbf_headers.specs.Meaning.{Meaning}
+use Rattle.tbf_headers.specs.Addresses.{after_protected, entry_of}
 use Rattle.process_record.specs.declared.process.Process.{Process}
 use Rattle.process_record.specs.declared.process.State.TheVariants.{Running, Faulted, Terminated}
 
@@ -11,21 +16,30 @@ use Rattle.process_record.specs.declared.process.State.TheVariants.{Running, Fau
 abbrev pub cleared : ℕ → Regs
 cleared pc = record { x = replicate 32 0; pc = pc }
 
--- sp and a1 are the start of the RAM, a0 is the entry, a2 the block's length, a3 the break
-abbrev pub start_regs : ℕ → ℕ → ℕ → ℕ → Regs
-start_regs entry ram length brk =
-    with_register (with_register (with_register (with_register (with_register (cleared entry) 2 ram) 10 entry) 11 ram) 12 length) 13 brk
+-- the registers of a start, for an object at an address: pc is the entry, a0 the first address after the header
+-- and the protected bytes, a1 and sp the start of the RAM, a2 the block's length, a3 the break
+abbrev pub start_regs : ℕ → Meaning → Main → ℕ → ℕ → ℕ → Regs
+start_regs object h m ram length brk =
+    with_register (with_register (with_register (with_register (with_register (cleared (entry_of object h m)) 2 ram) 10 (after_protected object h m)) 11 ram) 12 length) 13 brk
 
 -- a process at its start
-abbrev pub started : ℕ → Object → ℕ → ℕ → ℕ → Process
-started entry object ram length brk = record {
-  regs = start_regs entry ram length brk;
-  object = object;
+abbrev pub started : ℕ → Meaning → Main → ℕ → ℕ → ℕ → Process
+started object h m ram length brk = record {
+  regs = start_regs object h m ram length brk;
+  object = record { address = object; size = h.total_size };
   state = Running;
   restarts = 0;
   turns = 0;
   denial = None;
   refusal = None;
+}
+
+-- a process that starts again: its object, its turns, its last denial and its last refusal stay
+abbrev pub restarted : Process → Meaning → Main → ℕ → ℕ → ℕ → Process
+restarted p h m ram length brk = record p {
+  regs = start_regs p.object.address h m ram length brk;
+  state = Running;
+  restarts = p.restarts + 1;
 }
 
 abbrev pub after_turn : Process → Process
@@ -42,3 +56,11 @@ past_call regs = record regs { pc = (regs.pc + 4) % 2 ^ 32 }
 -- the process ends with a completion code
 abbrev pub after_exit : Process → ℕ → Process
 after_exit p code = record p { regs = past_call p.regs; state = Terminated code }
+
+-- a reply stands in the registers, with pc past the `ecall`
+abbrev pub after_reply : Process → Reply → Process
+after_reply p reply = record p { regs = past_call (put_reply reply p.regs) }
+
+-- the refused call is recorded, by the address of its `ecall` and the rule that it broke, and replied to
+abbrev pub after_refusal : Process → CallRule → Reply → Process
+after_refusal p rule reply = record (after_reply p reply) { refusal = Some (record { address = p.regs.pc; rule = rule }) }

@@ -2,9 +2,14 @@
 #![tactic(auto)]
 
 mod emit;
+mod name;
 mod process;
 mod summary;
 
 pub use emit::{CallMade, Emit};
-pub use process::{Object, Places, Process, Refusal, State};
+pub use name::{object_name, short_name};
+pub use process::{Object, Process, Refusal, State};
 pub use summary::{SlotLine, Summary, Unplaced};
+
+#[cfg(test)]
+mod tests;

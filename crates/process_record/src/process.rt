@@ -1,7 +1,11 @@
 //! The record of one process, apart from its memory.
-ghost use Rattle.std.specs.Prelude.{◌≡◌, ◌+◌, ◌<◌, ◌^◌, Some};
-ghost use Rattle.process_record.specs.Process.{started, after_turn, after_fault, after_exit};
+ghost use Rattle.std.specs.Prelude.{◌≡◌, ◌+◌, ◌<◌, ◌^◌, Some, IsSome, IfSome};
+ghost use Rattle.tbf_headers.specs.Addresses.{after_protected, entry_of};
+ghost use Rattle.tbf_headers.specs.Shown.{shown};
+ghost use Rattle.process_record.specs.Process.{start_regs, started, restarted, past_call, after_turn, after_fault, after_exit, after_reply, after_refusal};
 
+use syscall_abi::Reply;
+use tbf_headers::Header;
 use tk_base::{Addr, CallRule, Denial, Regs};
 
 /// Whether a process runs (TRD 104, "Yield", "Exit"). It lives while it is Running or Yielded.
@@ -25,17 +29,6 @@ pub struct Object {
     pub address: Addr,
     /// Its total size in bytes.
     pub size: u32,
-}
-
-/// Where a process may reach: its accessible flash, and its block of RAM, of which the part below the
-/// break is accessible. Each end is the first address past it.
-#[derive(Clone, Copy, Debug, PartialEq, Eq)]
-pub struct Places {
-    pub flash_start: Addr,
-    pub flash_end: Addr,
-    pub start: Addr,
-    pub end: Addr,
-    pub brk: Addr,
 }
 
 /// The last system call that was refused.
@@ -64,27 +57,48 @@ pub struct Process {
 }
 
 impl Process {
-    /// A process at its start: pc is the entry; a0 is the entry too, a1 the start of its RAM, a2 the
-    /// length of its block in bytes, a3 the break, sp the start of its RAM; other registers are 0. It
-    /// runs, and nothing happened to it yet.
-    pub fn start(entry: Addr, object: Object, ram: Addr, length: u32, brk: Addr) -> Process
-        ensures { result ≡ started entry object ram length brk }
+    /// A process at its start, for an application whose header stands at the address `object` and
+    /// whose block of RAM is `length` bytes from `ram` on. It has the registers of a start: pc is the
+    /// entry, a0 the address after the header and the protected bytes, a1 and sp the start of the
+    /// RAM, a2 the length, a3 the break; other registers are 0. It runs, and nothing happened to it
+    /// yet.
+    pub fn start(header: &Header<'_>, object: Addr, ram: Addr, length: u32, brk: Addr) -> Process
+        requires main { IsSome header.now.main }
+        requires entry { IfSome header.now.main (λ m. entry_of object (shown header.now) m < 2 ^ 32) }
+        requires protected { IfSome header.now.main
+            (λ m. after_protected object (shown header.now) m < 2 ^ 32) }
+        ensures { IfSome header.now.main
+            (λ m. result ≡ started object (shown header.now) m ram length brk) }
     {
-        let mut regs = Regs::at(entry);
-        regs.set(2, ram);
-        regs.set(10, entry);
-        regs.set(11, ram);
-        regs.set(12, length);
-        regs.set(13, brk);
         Process {
-            regs,
-            object,
+            regs: regs_at_start(header, object, ram, length, brk),
+            object: Object {
+                address: object,
+                size: header.total_size,
+            },
             state: State::Running,
             restarts: 0,
             turns: 0,
             denial: None,
             refusal: None,
         }
+    }
+
+    /// Starts the process again, with the registers of a start and a break. Its count of restarts
+    /// rises; its object, its count of turns, its last denial and its last refusal stay.
+    pub fn restart(&mut self, header: &Header<'_>, ram: Addr, length: u32, brk: Addr)
+        requires main { IsSome header.now.main }
+        requires entry { IfSome header.now.main
+            (λ m. entry_of self.old.object.address (shown header.now) m < 2 ^ 32) }
+        requires protected { IfSome header.now.main
+            (λ m. after_protected self.old.object.address (shown header.now) m < 2 ^ 32) }
+        requires count { self.old.restarts + 1 < 2 ^ 32 }
+        ensures { IfSome header.now.main
+            (λ m. self.new ≡ restarted self.old (shown header.now) m ram length brk) }
+    {
+        self.regs = regs_at_start(header, self.object.address, ram, length, brk);
+        self.state = State::Running;
+        self.restarts += 1;
     }
 
     /// Counts a turn.
@@ -103,11 +117,56 @@ impl Process {
         self.state = State::Faulted;
     }
 
-    /// Ends the process with a completion code. pc goes past the `ecall`.
+    /// Ends the process with a completion code (TRD 104, "Exit"). pc goes past the `ecall`.
     pub fn exit(&mut self, code: u32)
         ensures { self.new ≡ after_exit self.old code }
     {
-        self.regs.pc = self.regs.pc.wrapping_add(4);
+        self.pass_call();
         self.state = State::Terminated(code);
     }
+
+    /// Replies to a system call (TRD 104, "Return Values"): puts the reply into the registers, and
+    /// pc goes past the `ecall`.
+    pub fn reply(&mut self, reply: &Reply)
+        ensures { self.new ≡ after_reply self.old reply.now }
+    {
+        reply.put(&mut self.regs);
+        self.pass_call();
+    }
+
+    /// Records that the system call at pc broke a rule, and replies to it.
+    pub fn refuse(&mut self, rule: CallRule, reply: &Reply)
+        ensures { self.new ≡ after_refusal self.old rule reply.now }
+    {
+        self.refusal = Some(Refusal {
+            address: self.regs.pc,
+            rule,
+        });
+        self.reply(reply);
+    }
+
+    /// Moves pc past an `ecall`, which has 4 bytes.
+    fn pass_call(&mut self)
+        ensures { self.new ≡ record self.old { regs = past_call self.old.regs } }
+    {
+        self.regs.pc = self.regs.pc.wrapping_add(4);
+    }
+}
+
+/// The registers with which a process starts whose header stands at the address `object`.
+fn regs_at_start(header: &Header<'_>, object: Addr, ram: Addr, length: u32, brk: Addr) -> Regs
+    requires main { IsSome header.now.main }
+    requires entry { IfSome header.now.main (λ m. entry_of object (shown header.now) m < 2 ^ 32) }
+    requires protected { IfSome header.now.main
+        (λ m. after_protected object (shown header.now) m < 2 ^ 32) }
+    ensures { IfSome header.now.main
+        (λ m. result ≡ start_regs object (shown header.now) m ram length brk) }
+{
+    let mut regs = Regs::at(header.entry(object) as u32);
+    regs.set(2, ram);
+    regs.set(10, header.after_protected(object) as u32);
+    regs.set(11, ram);
+    regs.set(12, length);
+    regs.set(13, brk);
+    regs
 }

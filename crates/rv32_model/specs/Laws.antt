@@ -4,13 +4,15 @@ use Rattle.std.specs.List.{list_any}
 use Rattle.tk_base.specs.declared.access.Access.{Access}
 use Rattle.tk_base.specs.declared.access.Access.TheVariants.{Fetch, Load, Store}
 use Rattle.tk_base.specs.declared.access.Width.{Width}
+use Rattle.tk_base.specs.declared.access.Width.TheVariants.{Half}
 use Rattle.tk_base.specs.declared.access.Rule.{Rule}
 use Rattle.tk_base.specs.declared.access.Denial.{Denial}
 use Rattle.tk_base.specs.declared.regs.Regs.{Regs}
 use Rattle.tk_base.specs.Access.{width_bytes}
+use Rattle.tk_base.specs.Bus.{number_at}
 use Rattle.rv32_model.specs.declared.turn_end.TurnEnd.TheVariants.{Trap}
 use Rattle.rv32_model.specs.Instructions.{fits, table}
-use Rattle.rv32_model.specs.UserTurn.{Touch, user_turn, after_write}
+use Rattle.rv32_model.specs.UserTurn.{Touch, user_turn, after_write, data_denies}
 
 -- no word fits two rows of the table
 abbrev pub NoWordFitsTwoRows : Type 0
@@ -56,3 +58,17 @@ OnlyStoresWrite =
 -- what a turn writes it may store
 abbrev pub WritesArePermitted : Type 0
 WritesArePermitted = (denies : Denies) (bytes : ℕ → ℕ) (regs : Regs) → IfSome (user_turn denies bytes regs).write (λ w. denies Store w.address w.width ≡ None)
+
+-- Two boards that look alike to a process: they deny the same, and have the same numbers where it may fetch and load.
+pub record LookAlike (denies others : Denies) (bytes other_bytes : ℕ → ℕ) : Type 0 where
+  pub fetches : (at : ℕ) → denies Fetch at Half ≡ others Fetch at Half
+  pub accesses : (access : Access) (at : ℕ) (width : Width) → data_denies denies access at width ≡ data_denies others access at width
+  pub parcels : (at : ℕ) → denies Fetch at Half ≡ None → number_at bytes at Half ≡ number_at other_bytes at Half
+  pub loads : (at : ℕ) (width : Width) → data_denies denies Load at width ≡ None → number_at bytes at width ≡ number_at other_bytes at width
+
+-- a turn sees nothing but what it may access: the same turn follows from what looks alike
+abbrev pub SeesOnlyPermitted : Type 0
+SeesOnlyPermitted =
+    (denies others : Denies) (bytes other_bytes : ℕ → ℕ) (regs : Regs)
+    → LookAlike denies others bytes other_bytes
+    → user_turn denies bytes regs ≡ user_turn others other_bytes regs

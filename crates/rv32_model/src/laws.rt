@@ -1,6 +1,6 @@
 //! What holds of the instruction table and of every turn. The functions do nothing: each stands for
 //! the law that it ensures.
-ghost use Rattle.rv32_model.specs.Laws.{NoWordFitsTwoRows, AccessesArePermitted, DataIsAligned, DeniedTurnsChangeNothing, OnlyStoresWrite, WritesArePermitted};
+ghost use Rattle.rv32_model.specs.Laws.{NoWordFitsTwoRows, AccessesArePermitted, DataIsAligned, DeniedTurnsChangeNothing, OnlyStoresWrite, SeesOnlyPermitted, WritesArePermitted};
 
 /// No word fits two rows of the instruction table.
 #[tactic(auto, using(crate::proofs::Rows::no_word_fits_two_rows))]
@@ -36,4 +36,10 @@ pub fn only_stores_write()
 #[tactic(auto, using(crate::proofs::Turns::writes_are_permitted))]
 pub fn writes_are_permitted()
     ensures { WritesArePermitted }
+{}
+
+/// A turn sees nothing but what it may access.
+#[tactic(auto, using(crate::proofs::Sight::sees_only_permitted))]
+pub fn sees_only_permitted()
+    ensures { SeesOnlyPermitted }
 {}

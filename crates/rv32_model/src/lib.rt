@@ -10,6 +10,6 @@ mod turn_end;
 pub use instr::{BranchTest, Instr, LoadKind, Op};
 pub use laws::{
     accesses_are_permitted, data_is_aligned, denied_turns_change_nothing, no_word_fits_two_rows,
-    only_stores_write, writes_are_permitted,
+    only_stores_write, sees_only_permitted, writes_are_permitted,
 };
 pub use turn_end::TurnEnd;

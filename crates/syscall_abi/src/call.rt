@@ -1,34 +1,103 @@
 //! What a process asks for by `ecall`.
-ghost use Rattle.std.specs.Prelude.{◌≡◌};
-ghost use Rattle.syscall_abi.specs.Call.{call_of};
+ghost use Rattle.std.specs.Prelude.{◌≡◌, ◌<◌, ◌↔◌, IsNone};
+ghost use Rattle.syscall_abi.specs.Call.{call_of, class};
 
 use tk_base::Regs;
 
-/// A system call with its arguments.
+/// A system call with its arguments (TRD 104, "System Call API").
 #[derive(Clone, Copy, Debug, PartialEq, Eq)]
 pub enum Call {
-    /// The process ends itself; `kind` 0 ends it with the completion code.
-    Exit { kind: u32, code: u32 },
+    /// Class 0: the process gives up the processor, in the way of that number.
+    Yield {
+        number: u32,
+        a1: u32,
+        a2: u32,
+    },
+    /// Class 1: `function` becomes the driver's upcall of that number, and gets `app` with each call.
+    Subscribe {
+        driver: u32,
+        number: u32,
+        function: u32,
+        app: u32,
+    },
+    /// Class 2: the driver is to act.
+    Command {
+        driver: u32,
+        command: u32,
+        a2: u32,
+        a3: u32,
+    },
+    /// Class 3, Read-Write Allow: the driver may read and write the bytes from `address` on.
+    AllowRw {
+        driver: u32,
+        number: u32,
+        address: u32,
+        size: u32,
+    },
+    /// Class 4, Read-Only Allow: the driver may read the bytes from `address` on.
+    AllowRo {
+        driver: u32,
+        number: u32,
+        address: u32,
+        size: u32,
+    },
+    /// Class 5: the process asks about its memory, or moves its break.
+    Memop {
+        operation: u32,
+        argument: u32,
+    },
+    /// Class 6: the process ends itself, in the way of that kind, with the completion code.
+    Exit {
+        kind: u32,
+        code: u32,
+    },
 }
 
 impl Call {
     /// The number of the register that holds the class, a4.
     pub const CLASS: u8 = 14;
 
-    /// The call that the registers make. None exactly for an unknown class: the class stands in a4,
-    /// the arguments in a0 to a3 (TRD 104, "System Call API"). Of the classes only 6, exit, is known,
-    /// and of the exits only the one whose kind is 0.
+    /// The call that the registers make: the class stands in a4, the arguments in a0 to a3. None
+    /// exactly for a class above 6 (TRD 104, "System Call API").
+    #[tactic(auto, unfolding(crate::specs::Call::call_of, crate::specs::Call::table))]
     pub fn of(regs: &Regs) -> Option<Call>
-        ensures { result ≡ call_of regs.now }
+        ensures call { result ≡ call_of regs.now }
+        ensures none { IsNone result ↔ (6 < class regs.now) }
     {
-        let kind = regs.get(10);
-        if regs.get(Call::CLASS) == 6 && kind == 0 {
-            Some(Call::Exit {
-                kind,
-                code: regs.get(11),
-            })
-        } else {
-            None
+        let (a0, a1) = (regs.get(10), regs.get(11));
+        let (a2, a3) = (regs.get(12), regs.get(13));
+        match regs.get(Call::CLASS) {
+            0 => Some(Call::Yield { number: a0, a1, a2 }),
+            1 => Some(Call::Subscribe {
+                driver: a0,
+                number: a1,
+                function: a2,
+                app: a3,
+            }),
+            2 => Some(Call::Command {
+                driver: a0,
+                command: a1,
+                a2,
+                a3,
+            }),
+            3 => Some(Call::AllowRw {
+                driver: a0,
+                number: a1,
+                address: a2,
+                size: a3,
+            }),
+            4 => Some(Call::AllowRo {
+                driver: a0,
+                number: a1,
+                address: a2,
+                size: a3,
+            }),
+            5 => Some(Call::Memop {
+                operation: a0,
+                argument: a1,
+            }),
+            6 => Some(Call::Exit { kind: a0, code: a1 }),
+            _ => None,
         }
     }
 }

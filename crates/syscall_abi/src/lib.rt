@@ -1,6 +1,12 @@
-//! The system call interface: registers to a call (TRD 104, "System Call API").
+//! The system call interface: registers to a call, and a reply to registers (TRD 104, "System Call
+//! API").
 #![tactic(auto)]
 
 mod call;
+mod reply;
 
 pub use call::Call;
+pub use reply::Reply;
+
+#[cfg(test)]
+mod tests;

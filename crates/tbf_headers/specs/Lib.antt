@@ -3,3 +3,4 @@ pub mod Tlv
 pub mod Permissions
 pub mod Meaning
 pub mod Shown
+pub mod Addresses

@@ -75,3 +75,8 @@ reading bytes =
 -- writeable flash region n (Tock Binary Format, "Writeable Flash Regions"): pairs of offset and size
 abbrev pub region_in : ℕ → List ℕ → Option (ℕ × ℕ)
 region_in n c = if nat_lt n (length c / 8) then Some (word c (8 * n), word c (8 * n + 4)) else None
+
+-- how many regions there are
+abbrev pub region_count : Option (List ℕ) → ℕ
+region_count None = 0
+region_count (Some c) = length c / 8

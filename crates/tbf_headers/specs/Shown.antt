@@ -4,6 +4,7 @@ use Rattle.std.specs.Option.{option_copied}
 use Rattle.tbf_headers.specs.declared.fault.HeaderFault.{HeaderFault}
 use Rattle.tbf_headers.specs.declared.header.Header.{Header}
 use Rattle.tbf_headers.specs.declared.perms.Perms.{Perms}
+use Rattle.tbf_headers.specs.declared.regions.Regions.{Regions}
 use Rattle.tbf_headers.specs.Numbers.{half, word}
 use Rattle.tbf_headers.specs.Tlv.{first_bad}
 use Rattle.tbf_headers.specs.Meaning.{Meaning, reading, header_of, unless_bad, meaning_of}
@@ -11,6 +12,10 @@ use Rattle.tbf_headers.specs.Meaning.{Meaning, reading, header_of, unless_bad, m
 -- the content of the Permissions TLV
 abbrev pub permissions_of : Perms → List ℕ
 permissions_of p = p.content.now
+
+-- the content of the TLV of writeable flash regions
+abbrev pub regions_of : Regions → List ℕ
+regions_of r = r.content.now
 
 -- the meaning that a header shows
 abbrev pub shown : Header → Meaning
@@ -21,7 +26,7 @@ shown h = record {
   main = h.main;
   fixed = h.fixed;
   name = option_copied h.name;
-  regions = option_copied h.regions;
+  regions = option_map regions_of h.regions;
   permissions = option_map permissions_of h.perms;
 }
 

@@ -1,15 +1,17 @@
 //! The header of an object.
 ghost use Rattle.std.specs.Prelude.{◌≡◌, ◌+◌, ◌*◌, ◌%◌, ◌/◌, ◌<◌, ◌≤◌, length, Err, None, IsSome, IfSome, IfOk, option_map, option_and_then, MatchResult};
 ghost use Rattle.std.specs.Option.{option_copied};
-ghost use Rattle.tbf_headers.specs.Numbers.{half, word};
+ghost use Rattle.tbf_headers.specs.Numbers.{half, word, rounded};
 ghost use Rattle.tbf_headers.specs.Tlv.{first_bad, content};
-ghost use Rattle.tbf_headers.specs.Meaning.{reading, meaning_of, unless_bad, header_of, region_in, program_of, main_of, program_or_main, fixed_of};
-ghost use Rattle.tbf_headers.specs.Shown.{shown, shown_result, permissions_of, IsChecked, IsSized};
+ghost use Rattle.tbf_headers.specs.Meaning.{reading, meaning_of, unless_bad, header_of, region_in, region_count, program_of, main_of, program_or_main, fixed_of};
+ghost use Rattle.tbf_headers.specs.Addresses.{after_protected, entry_of, accessible_start, accessible_end};
+ghost use Rattle.tbf_headers.specs.Shown.{shown, shown_result, permissions_of, regions_of, IsChecked, IsSized};
 
 use crate::fault::HeaderFault;
 use crate::numbers::{checksum_of, half_at, word_at};
 use crate::perms::Perms;
 use crate::program::Main;
+use crate::regions::Regions;
 use crate::tlv::{FIXED, MAIN, NAME, PERMISSIONS, PROGRAM, REGIONS, content_of, first_bad_tlv};
 use tk_base::Addr;
 
@@ -28,7 +30,7 @@ pub struct Header<'a> {
     /// The RAM start and the flash start that the application is linked for, 0xFFFFFFFF for none.
     pub fixed: Option<(u32, u32)>,
     name: Option<&'a [u8]>,
-    regions: Option<&'a [u8]>,
+    regions: Option<Regions<'a>>,
     perms: Option<Perms<'a>>,
 }
 
@@ -37,12 +39,52 @@ impl<'a> Header<'a> {
     /// it, the header's size and the init offset, which does not wrap.
     pub fn entry(&self, object: Addr) -> u64
         requires { IsSome self.now.main }
-        ensures { IfSome self.now.main (λ m. result ≡ object + self.now.header_size + m.init) }
+        ensures { IfSome self.now.main (λ m. result ≡ entry_of object (shown self.now) m) }
     {
         let Some(main) = self.main else {
             unreachable!()
         };
         sum(object, self.header_size, main.init)
+    }
+
+    /// The first address after the header and the protected bytes, for an object at an address: the
+    /// sum of it, the header's size and the protected size, which does not wrap.
+    pub fn after_protected(&self, object: Addr) -> u64
+        requires { IsSome self.now.main }
+        ensures { IfSome self.now.main (λ m. result ≡ after_protected object (shown self.now) m) }
+    {
+        let Some(main) = self.main else {
+            unreachable!()
+        };
+        sum(object, self.header_size, main.protected)
+    }
+
+    /// The start of accessible flash, for an object at an address: the first address after the
+    /// header and the protected bytes, rounded up to a multiple of 4. It does not wrap.
+    pub fn accessible_start(&self, object: Addr) -> u64
+        requires { IsSome self.now.main }
+        ensures { IfSome self.now.main (λ m. result ≡ accessible_start object (shown self.now) m) }
+    {
+        let Some(main) = self.main else {
+            unreachable!()
+        };
+        rounded_sum(object, self.header_size, main.protected)
+    }
+
+    /// The end of accessible flash, for an object at an address: the object's end, or with a Program
+    /// TLV the binary's end rounded up to a multiple of 4. It does not wrap.
+    pub fn accessible_end(&self, object: Addr) -> u64
+        requires { IsSome self.now.main }
+        ensures { IfSome self.now.main
+            (λ m. result ≡ accessible_end object self.now.total_size m.binary_end) }
+    {
+        let Some(main) = self.main else {
+            unreachable!()
+        };
+        match main.binary_end {
+            None => sum(object, self.total_size, 0),
+            Some(binary_end) => rounded_sum(object, binary_end, 0),
+        }
     }
 
     /// The bytes of the package's name. None where there is no such TLV.
@@ -58,11 +100,17 @@ impl<'a> Header<'a> {
         ensures { result ≡ option_and_then (region_in n) (shown self.now).regions }
     {
         let regions = self.regions?;
-        let n = n as usize;
-        if n < regions.len() / 8 {
-            Some((word_at(regions, 8 * n), word_at(regions, 8 * n + 4)))
-        } else {
-            None
+        regions.get(n)
+    }
+
+    /// How many writeable flash regions the header names: 0 where there is no such TLV (Tock Binary
+    /// Format, "Writeable Flash Regions").
+    pub fn region_count(&self) -> u32
+        ensures { result ≡ region_count (shown self.now).regions }
+    {
+        match self.regions {
+            None => 0,
+            Some(regions) => regions.count(),
         }
     }
 
@@ -79,6 +127,13 @@ fn sum(a: u32, b: u32, c: u32) -> u64
     ensures { result ≡ a + b + c }
 {
     u64::from(a) + u64::from(b) + u64::from(c)
+}
+
+/// The sum of three numbers, which does not wrap, rounded up to a multiple of 4.
+fn rounded_sum(a: u32, b: u32, c: u32) -> u64
+    ensures { result ≡ rounded (a + b + c) }
+{
+    sum(a, b, c).next_multiple_of(4)
 }
 
 /// What the content of a Program TLV says.
@@ -130,6 +185,17 @@ fn fixed_in(header: &[u8]) -> Option<(u32, u32)>
 {
     let c = content_of(header, FIXED)?;
     Some((word_at(c, 0), word_at(c, 4)))
+}
+
+/// The regions of the TLV.
+fn regions_in(header: &[u8]) -> Option<Regions<'_>>
+    requires aligned { length header.now % 4 ≡ 0 }
+    requires short { length header.now < 65536 }
+    requires good { first_bad header.now ≡ None }
+    ensures { option_map regions_of result ≡ content 2 header.now }
+{
+    let c = content_of(header, REGIONS)?;
+    Some(Regions::of(c))
 }
 
 /// The permissions of the TLV.
@@ -200,7 +266,7 @@ fn fields<'a>(object: &[u8], header: &'a [u8]) -> Header<'a>
         main: main_in(header),
         fixed: fixed_in(header),
         name: content_of(header, NAME),
-        regions: content_of(header, REGIONS),
+        regions: regions_in(header),
         perms: perms_in(header),
     }
 }

@@ -6,6 +6,7 @@ mod header;
 mod numbers;
 mod perms;
 mod program;
+mod regions;
 mod tlv;
 
 pub use fault::HeaderFault;

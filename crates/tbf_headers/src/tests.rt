@@ -54,6 +54,7 @@ fn plain_object(rt: HostRuntime) -> Result<(), Fail> {
     assert_eq!(rt; header.fixed, None);
     assert!(rt; header.name().is_none());
     assert!(rt; header.region(0).is_none());
+    assert_eq!(rt; header.region_count(), 0);
     assert!(rt; header.perms().is_none());
     Ok(())
 }
@@ -112,6 +113,7 @@ fn two_regions_and_fixed_addresses(rt: HostRuntime) -> Result<(), Fail> {
     assert_eq!(rt; header.region(0), Some((0x1000, 0x200)));
     assert_eq!(rt; header.region(1), Some((0x2000, 0x400)));
     assert_eq!(rt; header.region(2), None);
+    assert_eq!(rt; header.region_count(), 2);
     assert_eq!(rt; header.fixed, Some((0x8000_0400, 0x2000_0038)));
     Ok(())
 }

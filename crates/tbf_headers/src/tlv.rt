@@ -96,6 +96,7 @@ pub fn content_of(header: &[u8], kind: u16) -> Option<&[u8]>
     requires good { first_bad header.now ≡ None }
     ensures content { option_copied result ≡ content kind header.now }
     ensures long { IfSome result (λ c. least_length kind ≤ length c.now) }
+    ensures short { IfSome result (λ c. length c.now < 65536) }
     ensures counted { kind ≡ 6 → IfSome result (λ c. 2 + 16 * half c.now 0 ≤ length c.now) }
 {
     let at = first_tlv(header, kind)?;

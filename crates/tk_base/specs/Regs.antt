@@ -1,4 +1,4 @@
-use Rattle.std.specs.Prelude.{ℕ, ◌==◌, Bool, if◌then◌else◌, slice_index, slice_set}
+use Rattle.std.specs.Prelude.{ℕ, ◌==◌, if◌then◌else◌, slice_index, slice_set}
 use Rattle.tk_base.specs.declared.regs.Regs.{Regs}
 
 -- the value of a register: x0 reads 0, and so does what is past x31

@@ -5,6 +5,12 @@ ghost use Rattle.tk_base.specs.Access.{width_bytes, cause_of};
 /// A byte's address, from 0 to `2^32 - 1`.
 pub type Addr = u32;
 
+/// The address of the first byte of flash.
+pub const FLASH_START: Addr = 0x2000_0000;
+
+/// The address of the first byte of RAM.
+pub const RAM_START: Addr = 0x8000_0000;
+
 /// How many bytes an access covers: 1, 2 or 4.
 #[derive(Clone, Copy, Debug, PartialEq, Eq)]
 pub enum Width {

@@ -8,7 +8,7 @@ mod call;
 mod process;
 mod regs;
 
-pub use access::{Access, Addr, Denial, Rule, Width};
+pub use access::{Access, Addr, Denial, FLASH_START, RAM_START, Rule, Width};
 pub use bus::Bus;
 pub use call::{CallRule, ErrorCode};
 pub use process::{Choice, PlaceFault, ProcessId, Slot};

@@ -1,3 +1,3 @@
-pub mod WritesLemmas
+mod WritesLemmas
 mod PutLemmas
 mod ScheduleLemmas

@@ -1,12 +1,10 @@
--- Writes that follow one another make one write of the joined text. A function that makes several writes, each with
--- `?`, meets its `Writes` clause by these: `all_then_part` where a later one fails, `part_of_more` where more was to
--- follow, and `all_then_all` where all succeeded.
-use Rattle.std.proofs.Common.{ℕ, ◌≤◌, List, [], ◌++◌, Result, Ok, Err, IsOk, append_assoc, arith, length-append}
+-- Writes that follow one another make one write of the joined text: the proof of the law `WritesCompose`.
+use Rattle.std.proofs.Common.{ℕ, ◌≤◌, List, [], ◌++◌, Result, Ok, Err, append_assoc, arith, length-append}
 use Rattle.std.specs.Prelude.{Option, IsErr}
 use Rattle.std.proofs.lemmas.Result.{MatchResult-from_err}
-use Rattle.std.proofs.lemmas.Bool.{false≢true}
 use Rattle.std.proofs.KnownBytes.{Appends-nil, Appends-trans}
 use Rattle.tk_outside.specs.Count.{Rose}
+use Rattle.tk_outside.specs.Laws.{WritesCompose}
 use Rattle.tk_outside.specs.Writes.{WroteAll, WrotePart, Writes}
 
 -- a count that rose after it did not fall rose over both
@@ -62,8 +60,13 @@ pub all_then_writes : {K A E : Type 0} {told : K → Option (List ℕ)} {faults 
 all_then_writes c back (Ok x) p q = all_then_all p q
 all_then_writes c back (Err e) p q = all_then_part p q
 
--- a write that succeeded and one after it are a write of the joined text
-pub writes_then_writes : {K A B E F : Type 0} (told : K → Option (List ℕ)) (faults : K → ℕ) (a b c : K) (front back : List ℕ) (r : Result A E) (s : Result B F)
-    → IsOk r → Writes told faults a b front r → Writes told faults b c back s → Writes told faults a c (front ++ back) s
-writes_then_writes told faults a b c front back (Ok x) s ok p q = all_then_writes c back s p q
-writes_then_writes told faults a b c front back (Err e) s ok p q = absurd (false≢true ok)
+-- the law of every sink
+pub compose : {K : Type 0} (told : K → Option (List ℕ)) (faults : K → ℕ) → WritesCompose told faults
+compose told faults = record {
+  wrote_nothing = wrote_nothing told faults;
+  all_then_all = all_then_all;
+  all_then_part = all_then_part;
+  part_of_more = part_of_more;
+  writes_part = writes_part;
+  all_then_writes = all_then_writes;
+}

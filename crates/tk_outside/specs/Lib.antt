@@ -1,4 +1,5 @@
 pub mod Count
+pub mod Laws
 pub mod MemShelf
 pub mod MemSink
 pub mod Names

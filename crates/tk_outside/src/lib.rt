@@ -4,6 +4,7 @@
 #![tactic(auto)]
 
 mod failed;
+mod laws;
 mod mem_shelf;
 mod mem_sink;
 mod put;
@@ -13,6 +14,7 @@ mod sink;
 mod system;
 
 pub use failed::{Failed, NoMemory};
+pub use laws::writes_compose;
 pub use mem_shelf::{MemShelf, are_distinct};
 pub use mem_sink::MemSink;
 pub use put::{hex_text, put_all, put_hex, put_number, put_pieces};

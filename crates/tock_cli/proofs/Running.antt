@@ -4,10 +4,10 @@ use Rattle.std.proofs.lemmas.List.{append-nil}
 use Rattle.tk_base.specs.declared.process.Choice.{Choice}
 use Rattle.tk_base.specs.declared.process.Choice.TheVariants.{Run}
 use Rattle.tk_outside.specs.Writes.{WroteAll, WrotePart}
-use Rattle.tk_outside.proofs.WritesLemmas.{all_then_all, all_then_part, part_of_more}
+use Rattle.tk_outside.specs.Laws.{WritesCompose}
 use Rattle.kernel_model.specs.World.{World, after, labels}
 use Rattle.kernel_model.specs.Run.{Ran, next, round, printed, stays, told_first}
-use Rattle.kernel_model.proofs.Runs.{round-stop, round-step, round-zero, round-more, printed-append}
+use Rattle.tock_cli.proofs.Runs.{round-stop, round-step, round-zero, round-more, printed-append}
 use Rattle.tock_cli.specs.declared.run.Mode.{Mode}
 use Rattle.tock_cli.specs.declared.run.Mode.TheVariants.{Boot}
 use Rattle.tock_cli.specs.RunText.{IsWorldOf, end_text, run_text, mode_text}
@@ -46,10 +46,10 @@ module _ {K : Type 0} {told : K → Option (List ℕ)} {faults : K → ℕ} {n i
       ap (λ (w : World). after w c) r.came ∙ sym (round-more i from c there)
 
   -- one step more
-  pub one_more : (c : Choice) (then : World) (later : K) → i < n → next here ≡ Some c → then ≡ after here c → WroteAll told faults now later (printed (labels here c)) → RunsOn told faults n (i + 1) from then old later
-  one_more c then later h e f w = record {
+  pub one_more : WritesCompose told faults → (c : Choice) (then : World) (later : K) → i < n → next here ≡ Some c → then ≡ after here c → WroteAll told faults now later (printed (labels here c)) → RunsOn told faults n (i + 1) from then old later
+  one_more law c then later h e f w = record {
     done = r.done ++ printed (labels here c);
-    wrote = all_then_all r.wrote w;
+    wrote = law.all_then_all r.wrote w;
     prints = around c h e ∙ sym (append_assoc r.done (printed (labels here c)) (printed (round (n - (i + 1)) (after here c)).labels)) ∙ ap (λ (v : World). (r.done ++ printed (labels here c)) ++ printed (round (n - (i + 1)) v).labels) (sym f);
     leads = r.leads ∙ ap (λ (q : Ran). q.world) (goes c h e) ∙ ap (λ (v : World). (round (n - (i + 1)) v).world) (sym f);
     came = f ∙ came_on c e ∙ ap (λ (k : ℕ). (round k from).world) (number i);
@@ -63,8 +63,8 @@ module _ {K : Type 0} {told : K → Option (List ℕ)} {faults : K → ℕ} {n i
       counted = omega (arith, r.steps)
 
   -- a write that failed in a step
-  pub part : (c : Choice) (later : K) → i < n → next here ≡ Some c → WrotePart told faults now later (printed (labels here c)) → WrotePart told faults old later (printed (round n from).labels)
-  part c later h e w = subst (λ (t : List ℕ). WrotePart told faults old later t) (sym (around c h e)) (all_then_part r.wrote (part_of_more (printed (round (n - (i + 1)) (after here c)).labels) w))
+  pub part : WritesCompose told faults → (c : Choice) (later : K) → i < n → next here ≡ Some c → WrotePart told faults now later (printed (labels here c)) → WrotePart told faults old later (printed (round n from).labels)
+  part law c later h e w = subst (λ (t : List ℕ). WrotePart told faults old later t) (sym (around c h e)) (law.all_then_part r.wrote (law.part_of_more (printed (round (n - (i + 1)) (after here c)).labels) w))
 
   -- a world of the run
   pub world_on : (c : Choice) (then : World) → i < n → next here ≡ Some c → then ≡ after here c → IsWorldOf n from then
@@ -86,10 +86,10 @@ module _ {K : Type 0} {told : K → Option (List ℕ)} {faults : K → ℕ} {n i
       stopped (ap (λ (k : ℕ). round k here) none ∙ round-zero here)
 
 -- a run that begins
-pub begins : {K : Type 0} (told : K → Option (List ℕ)) (faults : K → ℕ) (n : ℕ) (from : World) (old : K) → WroteAll told faults old old [] → RunsOn told faults n 0 from from old old
-begins told faults n from old w = record {
+pub begins : {K : Type 0} (told : K → Option (List ℕ)) (faults : K → ℕ) (n : ℕ) (from : World) (old : K) → WritesCompose told faults → RunsOn told faults n 0 from from old old
+begins told faults n from old law = record {
   done = [];
-  wrote = w;
+  wrote = law.wrote_nothing old;
   prints = ap (λ (k : ℕ). printed (round k from).labels) (whole n);
   leads = ap (λ (k : ℕ). (round k from).world) (whole n);
   came = sym (ap (λ (q : Ran). q.world) (round-zero from));

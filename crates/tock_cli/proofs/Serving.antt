@@ -1,20 +1,19 @@
 -- From what happened to what the program's answer says.
-use Rattle.std.proofs.Common.{◌≡◌, ◌≢◌, ℕ, ◌<◌, ◌≤◌, List, [], length, Option, None, Some, IfSome, IsSome, ◌⊎◌, inl, inr, refl, sym, ap, subst, ◌∙◌, arith}
+use Rattle.std.proofs.Common.{◌≡◌, ℕ, ◌<◌, ◌≤◌, List, length, Option, None, Some, IfSome, IsSome, IsSomeAnd, IsOk, IsErr, Result, Ok, Err, ◌⊎◌, ◌↔◌, inl, inr, refl, sym, subst, arith}
+use Rattle.std.specs.Option.{option_and_then}
+use Rattle.script_text.specs.declared.rule.Script.{Script as Settings}
+use Rattle.script_text.specs.Reading.{Fault as BadLine, reading}
 use Rattle.kernel_model.specs.World.{World}
-use Rattle.kernel_model.specs.Run.{round}
-use Rattle.board_core.specs.Opening.{opening}
 use Rattle.tock_cli.specs.declared.refusal.File.{File}
 use Rattle.tock_cli.specs.declared.refusal.File.TheVariants.{Flash, Script as ScriptFile}
 use Rattle.tock_cli.specs.declared.refusal.Refusal.{Refusal}
 use Rattle.tock_cli.specs.declared.refusal.Refusal.TheVariants.{Usage, Fault, TooLong, Script, Memory}
 use Rattle.tock_cli.specs.declared.serve.Outcome.{Outcome}
-use Rattle.tock_cli.specs.declared.serve.Outcome.TheVariants.{Ran, Refused, SinkFailed}
-use Rattle.tock_cli.specs.declared.prepare.Ready.{Ready}
-use Rattle.tock_cli.specs.Words.{BootWords}
-use Rattle.tock_cli.specs.Refusals.{Told, Cause, IsWithin, line_of, name_in}
-use Rattle.tock_cli.specs.Ready.{IsReady}
-use Rattle.tock_cli.specs.RunText.{run_text}
-use Rattle.tock_cli.specs.Served.{Sent, All, Part, IsRun, Happens, answer_of, RefusalIs, RunIs, IsUnhindered, IsWritten, Decided, Serves}
+use Rattle.tock_cli.specs.declared.serve.Outcome.TheVariants.{Done, Refused, SinkFailed}
+use Rattle.tock_cli.specs.Words.{Command, Boots, Lists, script_of}
+use Rattle.tock_cli.specs.Refusals.{Told, Cause, IsWithin, bytes_in, line_of, name_in}
+use Rattle.tock_cli.specs.Ready.{Task, Running, Listing, IsFlash, IsTask, IsTaskOf, left_by}
+use Rattle.tock_cli.specs.Served.{Sent, All, Happens, answer_of, RefusalIs, TaskIs, IsUnhindered, IsWritten, HasReading, LeavesBoard, Decided, Serves}
 
 any : {X : Type 0} (o : Option X) (R : X → Type 0) → ((x : X) → R x) → IfSome o R
 any None R f = tt
@@ -24,93 +23,119 @@ given : {X : Type 0} (o : Option X) (P R : X → Type 0) → IfSome o P → ((x 
 given None P R p f = tt
 given (Some x) P R p f = f x p
 
-module _ (told : Told) (sent : Sent) (words : BootWords) where
+both : {X : Type 0} (o : Option X) (P Q R : X → Type 0) → IfSome o P → IfSome o Q → ((x : X) → P x → Q x → R x) → IfSome o R
+both None P Q R p q f = tt
+both (Some x) P Q R p q f = f x p q
+
+-- there is a value, of which two facts hold that exclude one another
+clash : {X : Type 0} (o : Option X) (P Q : X → Type 0) → IsSomeAnd o P → IfSome o Q → ((x : X) → P x → Q x → ⊥) → ⊥
+clash None P Q p q f = p
+clash (Some x) P Q p q f = f x p q
+
+no_reading : (r : Result Settings BadLine) (fault : BadLine) → IsOk r → r ≡ Err fault → ⊥
+no_reading (Ok s) fault o e = cc
+no_reading (Err f) fault o e = cc
+
+read_is_error : (r : Result Settings BadLine) → IsOk r → IsErr r → ⊥
+read_is_error (Ok s) o e = cc
+read_is_error (Err f) o e = cc
+
+-- what is known of the files once a task is given
+module _ (told : Told) where
+  flash_within : (name flash : List ℕ) → IsFlash told.bytes name flash → IfSome (told.bytes name) (λ f. length f ≤ 1048576)
+  flash_within name flash h = given (told.bytes name) _ _ h.read (λ f e. subst (λ (b : List ℕ). length b ≤ 1048576) e h.within)
+
+  task_flash : (command : Command) (task : Task) → IsTaskOf told.bytes command task → IsWithin told command Flash
+  task_flash (Boots words) (Running n world) h = flash_within words.flash h.1.flash h.1.is_flash
+  task_flash (Boots words) (Listing flash) h = absurd h
+  task_flash (Lists name) (Running n world) h = absurd h
+  task_flash (Lists name) (Listing flash) h = flash_within name flash h
+
+  task_script : (command : Command) (task : Task) → IsTaskOf told.bytes command task → IfSome (bytes_in told command ScriptFile) (λ s. (length s ≤ 262144) × IsOk (reading s))
+  task_script (Boots words) (Running n world) h = given (told.bytes words.script) _ _ h.1.read (λ s q. (q.0, subst (λ (r : Result Settings BadLine). IsOk r) (sym q.1) refl))
+  task_script (Boots words) (Listing flash) h = absurd h
+  task_script (Lists name) task h = tt
+
+module _ (told : Told) (sent : Sent) (command : Command) where
   -- a fault is no cause where reading the file was not hindered
-  no_fault : (file : File) → IsUnhindered told words file → told.rose → (¬ told.is_sound (name_in words file)) → ⊥
-  no_fault file (inl sound) rose unsound = unsound sound
+  no_fault : (file : File) → IsUnhindered told command file → told.rose → IsSomeAnd (name_in command file) (λ name. ¬ told.is_sound name) → ⊥
+  no_fault file (inl sound) rose unsound = clash (name_in command file) (λ name. ¬ told.is_sound name) told.is_sound unsound sound (λ name u s. u s)
   no_fault file (inr calm) rose unsound = calm rose
 
   -- a flash file that is too long leaves no other cause
-  long_flash : (last : Option World) (o : Outcome) → Happens told sent (Some words) last o → IfSome (told.bytes words.flash) (λ f. 1048576 < length f → IsUnhindered told words Flash → IsWritten sent → (answer_of o ≡ 4) ⊎ (answer_of o ≡ 7))
-  long_flash last Ran h = given (told.bytes words.flash) _ _ h.flash (λ f q l u w. absurd (omega (arith, q.0)))
+  long_flash : (last : Option World) (o : Outcome) → Happens told sent (Some command) last o → IfSome (bytes_in told command Flash) (λ f. 1048576 < length f → IsUnhindered told command Flash → IsWritten sent → (answer_of o ≡ 4) ⊎ (answer_of o ≡ 7))
+  long_flash last Done h = given (bytes_in told command Flash) _ _ (task_flash told command h.task h.given) (λ f q l u w. absurd (omega arith))
   long_flash last (Refused Usage) h = absurd h.0.cause
-  long_flash last (Refused (Fault Flash)) h = any (told.bytes words.flash) _ (λ f l u w. absurd (no_fault Flash u h.0.cause.0 h.0.cause.1))
-  long_flash last (Refused (Fault ScriptFile)) h = given (told.bytes words.flash) _ _ h.0.cause.2 (λ f q l u w. absurd (omega arith))
-  long_flash last (Refused (TooLong Flash)) h = any (told.bytes words.flash) _ (λ f l u w. inl refl)
-  long_flash last (Refused (TooLong ScriptFile)) h = given (told.bytes words.flash) _ _ h.0.cause.1 (λ f q l u w. absurd (omega arith))
-  long_flash last (Refused Script) h = given (told.bytes words.flash) _ _ h.0.cause.0 (λ f q l u w. absurd (omega arith))
-  long_flash last (Refused Memory) h = any (told.bytes words.flash) _ (λ f l u w. inr refl)
-  long_flash last SinkFailed h = any (told.bytes words.flash) _ (λ f l u w. absurd (w h.0.rose))
+  long_flash last (Refused (Fault Flash)) h = any (bytes_in told command Flash) _ (λ f l u w. absurd (no_fault Flash u h.0.cause.0 h.0.cause.1))
+  long_flash last (Refused (Fault ScriptFile)) h = given (bytes_in told command Flash) _ _ h.0.cause.2 (λ f q l u w. absurd (omega arith))
+  long_flash last (Refused (TooLong Flash)) h = any (bytes_in told command Flash) _ (λ f l u w. inl refl)
+  long_flash last (Refused (TooLong ScriptFile)) h = given (bytes_in told command Flash) _ _ h.0.cause.2 (λ f q l u w. absurd (omega arith))
+  long_flash last (Refused (Script line rule)) h = given (bytes_in told command Flash) _ _ h.0.cause.1 (λ f q l u w. absurd (omega arith))
+  long_flash last (Refused Memory) h = any (bytes_in told command Flash) _ (λ f l u w. inr refl)
+  long_flash last SinkFailed h = any (bytes_in told command Flash) _ (λ f l u w. absurd (w h.0.rose))
 
   -- where the flash file is within its limit, a fault or a length of it is no cause
-  module _ (within : IsWithin told words Flash) (flash : IsUnhindered told words Flash) (script : IsUnhindered told words ScriptFile) (written : IsWritten sent) where
-    -- what is said of both files, from what is known of each
-    pair : (F : List ℕ → Type 0) (S : List ℕ → Type 0) (R : List ℕ → List ℕ → Type 0) → IfSome (told.bytes words.flash) F → IfSome (told.bytes words.script) S → ((f s : List ℕ) → F f → S s → R f s) → IfSome (told.bytes words.flash) (λ f. IfSome (told.bytes words.script) (λ s. R f s))
-    pair F S R p q r = given (told.bytes words.flash) F (λ f. IfSome (told.bytes words.script) (λ s. R f s)) p (λ f x. given (told.bytes words.script) S (λ s. R f s) q (λ s y. r f s x y))
+  module _ (within : IsWithin told command Flash) (flash : IsUnhindered told command Flash) (script : IsUnhindered told command ScriptFile) (written : IsWritten sent) where
+    -- what is said of both files
+    each : (R : List ℕ → List ℕ → Type 0) → ((f : List ℕ) → IfSome (bytes_in told command ScriptFile) (R f)) → IfSome (bytes_in told command Flash) (λ f. IfSome (bytes_in told command ScriptFile) (R f))
+    each R r = any (bytes_in told command Flash) (λ f. IfSome (bytes_in told command ScriptFile) (R f)) r
 
-    none : (R : List ℕ → List ℕ → Type 0) → ((f s : List ℕ) → R f s) → IfSome (told.bytes words.flash) (λ f. IfSome (told.bytes words.script) (λ s. R f s))
-    none R r = any (told.bytes words.flash) (λ f. IfSome (told.bytes words.script) (λ s. R f s)) (λ f. any (told.bytes words.script) (λ s. R f s) (λ s. r f s))
+    -- a refusal of the flash file's length
+    not_too_long : (R : List ℕ → Type 0) → IfSome (bytes_in told command Flash) (λ b. 1048576 < length b) → IfSome (bytes_in told command Flash) R
+    not_too_long R l = both (bytes_in told command Flash) (λ b. length b ≤ 1048576) (λ b. 1048576 < length b) R within l (λ f x y. absurd (omega arith))
 
-    -- the two files against a refusal of the flash file's length
-    too_long_flash : (R : List ℕ → List ℕ → Type 0) → IfSome (told.bytes words.flash) (λ b. 1048576 < length b) → IfSome (told.bytes words.flash) (λ f. IfSome (told.bytes words.script) (λ s. R f s))
-    too_long_flash R l = given (told.bytes words.flash) (λ f. (length f ≤ 1048576) × (1048576 < length f)) (λ f. IfSome (told.bytes words.script) (λ s. R f s)) (both (told.bytes words.flash) within l) (λ f x. absurd (omega (arith, x.0, x.1)))
-      where
-        both : (o : Option (List ℕ)) → IfSome o (λ b. length b ≤ 1048576) → IfSome o (λ b. 1048576 < length b) → IfSome o (λ f. (length f ≤ 1048576) × (1048576 < length f))
-        both None x y = tt
-        both (Some f) x y = (x, y)
-
-    long_script : (last : Option World) (o : Outcome) → Happens told sent (Some words) last o → IfSome (told.bytes words.flash) (λ f. IfSome (told.bytes words.script) (λ s. 262144 < length s → (answer_of o ≡ 4) ⊎ (answer_of o ≡ 7)))
-    long_script last Ran h = pair _ (λ s. s ≡ []) (λ f s. 262144 < length s → (0 ≡ 4) ⊎ (0 ≡ 7)) within h.script (λ f s x y l. absurd (omega (arith, ap length y)))
+    long_script : (last : Option World) (o : Outcome) → Happens told sent (Some command) last o → IfSome (bytes_in told command Flash) (λ f. IfSome (bytes_in told command ScriptFile) (λ s. 262144 < length s → (answer_of o ≡ 4) ⊎ (answer_of o ≡ 7)))
+    long_script last Done h = each _ (λ f. given (bytes_in told command ScriptFile) _ _ (task_script told command h.task h.given) (λ s q l. absurd (omega (arith, q.0))))
     long_script last (Refused Usage) h = absurd h.0.cause
     long_script last (Refused (Fault Flash)) h = absurd (no_fault Flash flash h.0.cause.0 h.0.cause.1)
     long_script last (Refused (Fault ScriptFile)) h = absurd (no_fault ScriptFile script h.0.cause.0 h.0.cause.1)
-    long_script last (Refused (TooLong Flash)) h = too_long_flash (λ f s. 262144 < length s → (4 ≡ 4) ⊎ (4 ≡ 7)) h.0.cause.0
-    long_script last (Refused (TooLong ScriptFile)) h = none (λ f s. 262144 < length s → (4 ≡ 4) ⊎ (4 ≡ 7)) (λ f s l. inl refl)
-    long_script last (Refused Script) h = pair _ (λ s. length s ≤ 262144) (λ f s. 262144 < length s → (5 ≡ 4) ⊎ (5 ≡ 7)) within h.0.cause.1 (λ f s x y l. absurd (omega arith))
-    long_script last (Refused Memory) h = none (λ f s. 262144 < length s → (7 ≡ 4) ⊎ (7 ≡ 7)) (λ f s l. inr refl)
+    long_script last (Refused (TooLong file)) h = each _ (λ f. any (bytes_in told command ScriptFile) _ (λ s l. inl refl))
+    long_script last (Refused (Script line rule)) h = each _ (λ f. given (bytes_in told command ScriptFile) _ _ h.0.cause.2 (λ s q l. absurd (omega arith)))
+    long_script last (Refused Memory) h = each _ (λ f. any (bytes_in told command ScriptFile) _ (λ s l. inr refl))
     long_script last SinkFailed h = absurd (written h.0.rose)
 
-    bad_script : (last : Option World) (o : Outcome) → Happens told sent (Some words) last o → IfSome (told.bytes words.flash) (λ f. IfSome (told.bytes words.script) (λ s. length s ≤ 262144 → s ≢ [] → (answer_of o ≡ 5) ⊎ (answer_of o ≡ 7)))
-    bad_script last Ran h = pair _ (λ s. s ≡ []) (λ f s. length s ≤ 262144 → s ≢ [] → (0 ≡ 5) ⊎ (0 ≡ 7)) within h.script (λ f s x y l n. absurd (n y))
+    bad_script : (last : Option World) (o : Outcome) → Happens told sent (Some command) last o → IfSome (bytes_in told command Flash) (λ f. IfSome (bytes_in told command ScriptFile) (λ s. length s ≤ 262144 → IsErr (reading s) → (answer_of o ≡ 5) ⊎ (answer_of o ≡ 7)))
+    bad_script last Done h = each _ (λ f. given (bytes_in told command ScriptFile) _ _ (task_script told command h.task h.given) (λ s q l e. absurd (read_is_error (reading s) q.1 e)))
     bad_script last (Refused Usage) h = absurd h.0.cause
     bad_script last (Refused (Fault Flash)) h = absurd (no_fault Flash flash h.0.cause.0 h.0.cause.1)
     bad_script last (Refused (Fault ScriptFile)) h = absurd (no_fault ScriptFile script h.0.cause.0 h.0.cause.1)
-    bad_script last (Refused (TooLong Flash)) h = too_long_flash (λ f s. length s ≤ 262144 → s ≢ [] → (4 ≡ 5) ⊎ (4 ≡ 7)) h.0.cause.0
-    bad_script last (Refused (TooLong ScriptFile)) h = pair _ (λ s. 262144 < length s) (λ f s. length s ≤ 262144 → s ≢ [] → (4 ≡ 5) ⊎ (4 ≡ 7)) within h.0.cause.0 (λ f s x y l n. absurd (omega arith))
-    bad_script last (Refused Script) h = none (λ f s. length s ≤ 262144 → s ≢ [] → (5 ≡ 5) ⊎ (5 ≡ 7)) (λ f s l n. inl refl)
-    bad_script last (Refused Memory) h = none (λ f s. length s ≤ 262144 → s ≢ [] → (7 ≡ 5) ⊎ (7 ≡ 7)) (λ f s l n. inr refl)
+    bad_script last (Refused (TooLong Flash)) h = not_too_long _ h.0.cause.1
+    bad_script last (Refused (TooLong ScriptFile)) h = each _ (λ f. given (bytes_in told command ScriptFile) _ _ h.0.cause.1 (λ s q l e. absurd (omega arith)))
+    bad_script last (Refused (Script line rule)) h = each _ (λ f. any (bytes_in told command ScriptFile) _ (λ s l e. inl refl))
+    bad_script last (Refused Memory) h = each _ (λ f. any (bytes_in told command ScriptFile) _ (λ s l e. inr refl))
     bad_script last SinkFailed h = absurd (written h.0.rose)
 
-    complete : (last : Option World) (o : Outcome) → Happens told sent (Some words) last o → IfSome (told.bytes words.flash) (λ f. IfSome (told.bytes words.script) (λ s. s ≡ [] → (answer_of o ≡ 0) ⊎ (answer_of o ≡ 7)))
-    complete last Ran h = none (λ f s. s ≡ [] → (0 ≡ 0) ⊎ (0 ≡ 7)) (λ f s e. inl refl)
+    -- a script that has a reading is not refused
+    no_refusal : (o : Option (List ℕ)) (P : List ℕ → Type 0) → IfSome o (λ name. IsSomeAnd (told.bytes name) (λ s. (length s ≤ 262144) × IsOk (reading s))) → IsSome o → IfSome (option_and_then told.bytes o) P → ((s : List ℕ) → (length s ≤ 262144) × IsOk (reading s) → P s → ⊥) → ⊥
+    no_refusal None P r i p f = cc
+    no_refusal (Some name) P r i p f = clash (told.bytes name) (λ s. (length s ≤ 262144) × IsOk (reading s)) P r p f
+
+    complete : (last : Option World) (o : Outcome) → Happens told sent (Some command) last o → IfSome (bytes_in told command Flash) (λ f. HasReading told command → (answer_of o ≡ 0) ⊎ (answer_of o ≡ 7))
+    complete last Done h = any (bytes_in told command Flash) _ (λ f r. inl refl)
     complete last (Refused Usage) h = absurd h.0.cause
     complete last (Refused (Fault Flash)) h = absurd (no_fault Flash flash h.0.cause.0 h.0.cause.1)
     complete last (Refused (Fault ScriptFile)) h = absurd (no_fault ScriptFile script h.0.cause.0 h.0.cause.1)
-    complete last (Refused (TooLong Flash)) h = too_long_flash (λ f s. s ≡ [] → (4 ≡ 0) ⊎ (4 ≡ 7)) h.0.cause.0
-    complete last (Refused (TooLong ScriptFile)) h = pair _ (λ s. 262144 < length s) (λ f s. s ≡ [] → (4 ≡ 0) ⊎ (4 ≡ 7)) within h.0.cause.0 (λ f s x y e. absurd (omega (arith, ap length e)))
-    complete last (Refused Script) h = pair _ (λ s. s ≢ []) (λ f s. s ≡ [] → (5 ≡ 0) ⊎ (5 ≡ 7)) within h.0.cause.2 (λ f s x y e. absurd (y e))
-    complete last (Refused Memory) h = none (λ f s. s ≡ [] → (7 ≡ 0) ⊎ (7 ≡ 7)) (λ f s e. inr refl)
+    complete last (Refused (TooLong Flash)) h = not_too_long _ h.0.cause.1
+    complete last (Refused (TooLong ScriptFile)) h = any (bytes_in told command Flash) _ (λ f r. absurd (no_refusal (script_of command) _ r h.0.cause.0 h.0.cause.1 (λ s p l. omega (arith, p.0))))
+    complete last (Refused (Script line rule)) h = any (bytes_in told command Flash) _ (λ f r. absurd (no_refusal (script_of command) _ r h.0.cause.0 h.0.cause.3 (λ s p e. no_reading (reading s) _ p.1 e)))
+    complete last (Refused Memory) h = any (bytes_in told command Flash) _ (λ f r. inr refl)
     complete last SinkFailed h = absurd (written h.0.rose)
 
 module _ (told : Told) (sent : Sent) (last : Option World) where
-  decided : (words : Option BootWords) (o : Outcome) → Happens told sent words last o → Decided told sent words (answer_of o)
-  decided None Ran h = absurd h
+  decided : (words : Option Command) (o : Outcome) → Happens told sent words last o → Decided told sent words (answer_of o)
+  decided None Done h = absurd h.given
   decided None (Refused Usage) h = λ w. refl
   decided None (Refused (Fault file)) h = absurd h.0.cause
   decided None (Refused (TooLong file)) h = absurd h.0.cause
-  decided None (Refused Script) h = absurd h.0.cause
+  decided None (Refused (Script line rule)) h = absurd h.0.cause
   decided None (Refused Memory) h = absurd h.0.cause
   decided None SinkFailed h = λ w. absurd (w h.0.rose)
-  decided (Some words) o h = record {
-    long_flash = long_flash told sent words last o h;
-    long_script = λ within flash script written. long_script told sent words within flash script written last o h;
-    bad_script = λ within flash script written. bad_script told sent words within flash script written last o h;
-    complete = λ within flash script written. complete told sent words within flash script written last o h;
+  decided (Some command) o h = record {
+    long_flash = long_flash told sent command last o h;
+    long_script = λ within flash script written. long_script told sent command within flash script written last o h;
+    bad_script = λ within flash script written. bad_script told sent command within flash script written last o h;
+    complete = λ within flash script written. complete told sent command within flash script written last o h;
   }
-
-  ran_left : (words : Option BootWords) → IsRun told sent words last → IsSome last
-  ran_left None h = absurd h
-  ran_left (Some words) h = h.board
 
   none_left : last ≡ None → IsSome last → ⊥
   none_left e s = absurd (no_some last e s)
@@ -119,22 +144,38 @@ module _ (told : Told) (sent : Sent) (last : Option World) where
       no_some None e s = cc
       no_some (Some w) e s = cc
 
+  -- a board is left by a run
+  board_left : (words : Option Command) (task : Task) → IsTask told.bytes words task → last ≡ left_by task → LeavesBoard words → IsSome last
+  board_left None task h e b = absurd h
+  board_left (Some (Boots words)) (Running n world) h e b = subst (λ (o : Option World). IsSome o) (sym e) refl
+  board_left (Some (Boots words)) (Listing flash) h e b = absurd h
+  board_left (Some (Lists name)) task h e b = absurd b
+
+  run_left : (words : Option Command) (task : Task) → IsTask told.bytes words task → last ≡ left_by task → IsSome last → LeavesBoard words
+  run_left None task h e s = absurd h
+  run_left (Some (Boots words)) task h e s = tt
+  run_left (Some (Lists name)) (Running n world) h e s = absurd h
+  run_left (Some (Lists name)) (Listing flash) h e s = absurd (none_left e s)
+
+  no_board : (n : ℕ) (words : Option Command) → last ≡ None → (n ≡ 0 → ⊥) → IsSome last ↔ ((n ≡ 0) × LeavesBoard words)
+  no_board n words e differs = (λ s. absurd (none_left e s), λ b. absurd (differs b.0))
+
   -- each answer with its cause
-  pub serves_at : (words : Option BootWords) (o : Outcome) → Happens told sent words last o → Serves told sent words last (answer_of o)
-  serves_at words Ran h = record {
-    ran = λ e. h;
+  pub serves_at : (words : Option Command) (o : Outcome) → Happens told sent words last o → Serves told sent words last (answer_of o)
+  serves_at words Done h = record {
+    done = λ e. h;
     usage = λ e. cc;
     fault = λ e. cc;
     too_long = λ e. cc;
     script = λ e. cc;
     sink = λ e. cc;
     memory = λ e. cc;
-    answers = (Ran, refl);
-    left = (λ s. refl, λ e. ran_left words h);
-    decided = decided words Ran h;
+    answers = (Done, refl);
+    left = (λ s. (refl, run_left words h.task h.given h.left s), λ e. board_left words h.task h.given h.left e.1);
+    decided = decided words Done h;
   }
   serves_at words (Refused Usage) h = record {
-    ran = λ e. cc;
+    done = λ e. cc;
     usage = λ e. h.0;
     fault = λ e. cc;
     too_long = λ e. cc;
@@ -142,11 +183,11 @@ module _ (told : Told) (sent : Sent) (last : Option World) where
     sink = λ e. cc;
     memory = λ e. cc;
     answers = (Refused Usage, refl);
-    left = (λ s. absurd (none_left h.1 s), λ e. cc);
+    left = no_board 2 words h.1 (λ e. cc);
     decided = decided words (Refused Usage) h;
   }
   serves_at words (Refused (Fault file)) h = record {
-    ran = λ e. cc;
+    done = λ e. cc;
     usage = λ e. cc;
     fault = λ e. (file, h.0);
     too_long = λ e. cc;
@@ -154,11 +195,11 @@ module _ (told : Told) (sent : Sent) (last : Option World) where
     sink = λ e. cc;
     memory = λ e. cc;
     answers = (Refused (Fault file), refl);
-    left = (λ s. absurd (none_left h.1 s), λ e. cc);
+    left = no_board 3 words h.1 (λ e. cc);
     decided = decided words (Refused (Fault file)) h;
   }
   serves_at words (Refused (TooLong file)) h = record {
-    ran = λ e. cc;
+    done = λ e. cc;
     usage = λ e. cc;
     fault = λ e. cc;
     too_long = λ e. (file, h.0);
@@ -166,23 +207,23 @@ module _ (told : Told) (sent : Sent) (last : Option World) where
     sink = λ e. cc;
     memory = λ e. cc;
     answers = (Refused (TooLong file), refl);
-    left = (λ s. absurd (none_left h.1 s), λ e. cc);
+    left = no_board 4 words h.1 (λ e. cc);
     decided = decided words (Refused (TooLong file)) h;
   }
-  serves_at words (Refused Script) h = record {
-    ran = λ e. cc;
+  serves_at words (Refused (Script line rule)) h = record {
+    done = λ e. cc;
     usage = λ e. cc;
     fault = λ e. cc;
     too_long = λ e. cc;
-    script = λ e. h.0;
+    script = λ e. record { line = line; rule = rule; refused = h.0 };
     sink = λ e. cc;
     memory = λ e. cc;
-    answers = (Refused Script, refl);
-    left = (λ s. absurd (none_left h.1 s), λ e. cc);
-    decided = decided words (Refused Script) h;
+    answers = (Refused (Script line rule), refl);
+    left = no_board 5 words h.1 (λ e. cc);
+    decided = decided words (Refused (Script line rule)) h;
   }
   serves_at words (Refused Memory) h = record {
-    ran = λ e. cc;
+    done = λ e. cc;
     usage = λ e. cc;
     fault = λ e. cc;
     too_long = λ e. cc;
@@ -190,11 +231,11 @@ module _ (told : Told) (sent : Sent) (last : Option World) where
     sink = λ e. cc;
     memory = λ e. h.0;
     answers = (Refused Memory, refl);
-    left = (λ s. absurd (none_left h.1 s), λ e. cc);
+    left = no_board 7 words h.1 (λ e. cc);
     decided = decided words (Refused Memory) h;
   }
   serves_at words SinkFailed h = record {
-    ran = λ e. cc;
+    done = λ e. cc;
     usage = λ e. cc;
     fault = λ e. cc;
     too_long = λ e. cc;
@@ -202,13 +243,13 @@ module _ (told : Told) (sent : Sent) (last : Option World) where
     sink = λ e. h.0;
     memory = λ e. cc;
     answers = (SinkFailed, refl);
-    left = (λ s. absurd (none_left h.1 s), λ e. cc);
+    left = no_board 6 words h.1 (λ e. cc);
     decided = decided words SinkFailed h;
   }
 
 -- what a refusal leads to
-pub refused_happens : (told : Told) (sent : Sent) (words : Option BootWords) (last : Option World) (refusal : Refusal) (o : Outcome) → Cause told words refusal → last ≡ None → RefusalIs sent refusal o → Happens told sent words last o
-refused_happens told sent words last refusal Ran c e r = absurd r
+pub refused_happens : (told : Told) (sent : Sent) (words : Option Command) (last : Option World) (refusal : Refusal) (o : Outcome) → Cause told words refusal → last ≡ None → RefusalIs sent refusal o → Happens told sent words last o
+refused_happens told sent words last refusal Done c e r = absurd r
 refused_happens told sent words last refusal (Refused other) c e r = (
   record {
     cause = subst (λ (x : Refusal). Cause told words x) (sym r.0) c;
@@ -224,34 +265,17 @@ refused_happens told sent words last refusal SinkFailed c e r = (
   e,
 )
 
--- what a run leads to
-pub run_happens : (told : Told) (sent : Sent) (words : Option BootWords) (last : Option World) (ready : Ready) (o : Outcome) → IsReady told.bytes words ready → RunIs sent ready last o → Happens told sent words last o
-run_happens told sent None last ready o h r = absurd h
-run_happens told sent (Some words) last ready Ran h r = record {
-  flash = given (told.bytes words.flash) _ _ h.flash (λ f q. (q.0, told_text f q.1, r.1 ∙ told_world f q.1));
-  script = h.script;
-  board = subst (λ (x : Option World). IsSome x) (sym r.1) refl;
-}
-  where
-    told_text : (f : List ℕ) → ready.board ≡ opening f → All sent (run_text words.turns (opening f))
-    told_text f e = subst (λ (w : World). All sent (run_text words.turns w)) e (subst (λ (n : ℕ). All sent (run_text n ready.board)) h.turns r.0)
-
-    told_world : (f : List ℕ) → ready.board ≡ opening f → Some (round ready.turns ready.board).world ≡ Some (round words.turns (opening f)).world
-    told_world f e = ap (λ (n : ℕ). Some (round n ready.board).world) h.turns ∙ ap (λ (w : World). Some (round words.turns w).world) e
-run_happens told sent (Some words) last ready (Refused refusal) h r = absurd r
-run_happens told sent (Some words) last ready SinkFailed h r = (
+-- what doing a task leads to
+pub task_happens : (told : Told) (sent : Sent) (words : Option Command) (last : Option World) (task : Task) (o : Outcome) → IsTask told.bytes words task → TaskIs sent task last o → Happens told sent words last o
+task_happens told sent words last task Done h r = record { task = task; given = h; text = r.0; left = r.1 }
+task_happens told sent words last task (Refused refusal) h r = absurd r
+task_happens told sent words last task SinkFailed h r = (
   record {
     rose = r.0.rose;
-    part = inl (record {
-      flash = given (told.bytes words.flash) _ _ h.flash (λ f q. (q.0, part_text f q.1));
-      script = h.script;
-    });
+    part = inl (record { task = task; given = h; part = r.0 });
   },
   r.1,
 )
-  where
-    part_text : (f : List ℕ) → ready.board ≡ opening f → Part sent (run_text words.turns (opening f))
-    part_text f e = subst (λ (w : World). Part sent (run_text words.turns w)) e (subst (λ (n : ℕ). Part sent (run_text n ready.board)) h.turns r.0)
 
-pub serves : (told : Told) (sent : Sent) (words : Option BootWords) (last : Option World) (o : Outcome) (answer : ℕ) → answer ≡ answer_of o → Happens told sent words last o → Serves told sent words last answer
+pub serves : (told : Told) (sent : Sent) (words : Option Command) (last : Option World) (o : Outcome) (answer : ℕ) → answer ≡ answer_of o → Happens told sent words last o → Serves told sent words last answer
 serves told sent words last o answer e h = subst (λ (n : ℕ). Serves told sent words last n) (sym e) (serves_at told sent last words o h)

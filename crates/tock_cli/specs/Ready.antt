@@ -1,31 +1,72 @@
--- A board before its first step.
-use Rattle.std.specs.Prelude.{◌≡◌, ℕ, ◌≤◌, List, [], length, Option, None, Some, IfSome}
+-- What is left to do once the files are read.
+use Rattle.std.specs.Prelude.{◌≡◌, ℕ, ◌≤◌, List, length, Option, None, Some, IfSome, Ok}
+use Rattle.script_text.specs.declared.rule.Script.{Script}
+use Rattle.script_text.specs.Reading.{reading}
 use Rattle.tk_intake.specs.declared.IntakeError.{IntakeError}
 use Rattle.tk_intake.specs.declared.IntakeError.TheVariants as intake
+use Rattle.kernel_model.specs.World.{World}
+use Rattle.kernel_model.specs.Run.{round}
 use Rattle.board_core.specs.Opening.{opening}
+use Rattle.board_report.specs.FlashList.{list_text}
 use Rattle.tock_cli.specs.declared.refusal.File.{File}
 use Rattle.tock_cli.specs.declared.refusal.Refusal.{Refusal}
 use Rattle.tock_cli.specs.declared.refusal.Refusal.TheVariants.{Fault, TooLong, Memory}
 use Rattle.tock_cli.specs.declared.prepare.Ready.{Ready}
-use Rattle.tock_cli.specs.Words.{BootWords, most_turns}
+use Rattle.tock_cli.specs.declared.prepare.Ready.TheVariants as ready
+use Rattle.tock_cli.specs.Words.{BootWords, Command, Boots, Lists, most_turns}
+use Rattle.tock_cli.specs.RunText.{run_text}
 
 abbrev pub refusal_of : IntakeError → File → Refusal
 refusal_of intake.Failed file = Fault file
 refusal_of intake.TooLong file = TooLong file
 refusal_of intake.Memory file = Memory
 
--- The board shows the opening world of the flash file, the script file has a reading, and both are within their
--- limits.
-pub record IsReadyFor (bytes : List ℕ → Option (List ℕ)) (words : BootWords) (ready : Ready) : Type 0 where
-  pub turns : ready.turns ≡ words.turns
-  pub flash : IfSome (bytes words.flash) (λ b. (length b ≤ 1048576) × (ready.board ≡ opening b))
-  pub script : IfSome (bytes words.script) (λ b. b ≡ [])
+-- what is left to do: a run of at most so many steps from a world, or the list of a flash image
+pub data Task : Type 0 where
+  Running : ℕ → World → Task
+  Listing : List ℕ → Task
 
-abbrev pub IsReady : (List ℕ → Option (List ℕ)) → Option BootWords → Ready → Type 0
-IsReady bytes None ready = ⊥
-IsReady bytes (Some words) ready = IsReadyFor bytes words ready
+-- its text
+abbrev pub text_of : Task → List ℕ
+text_of (Running n world) = run_text n world
+text_of (Listing flash) = list_text flash
 
--- No step was made, and the steps to make are within the limit of a board.
-pub record IsFresh (ready : Ready) : Type 0 where
-  pub steps : ready.board.steps ≡ 0
-  pub turns : ready.turns ≤ most_turns
+-- the world that the board shows that it leaves: the last one of a run
+abbrev pub left_by : Task → Option World
+left_by (Running n world) = Some (round n world).world
+left_by (Listing flash) = None
+
+-- the bytes of the flash file of that name
+pub record IsFlash (bytes : List ℕ → Option (List ℕ)) (name flash : List ℕ) : Type 0 where
+  pub within : length flash ≤ 1048576
+  pub read : IfSome (bytes name) (λ f. flash ≡ f)
+
+-- The opening world of the flash file and the script file: each is within its limit, and the script has a reading.
+pub record IsOpening (bytes : List ℕ → Option (List ℕ)) (words : BootWords) (world : World) : Type 0 where
+  pub flash : List ℕ
+  pub is_flash : IsFlash bytes words.flash flash
+  pub script : Script
+  pub read : IfSome (bytes words.script) (λ s. (length s ≤ 262144) × (reading s ≡ Ok script))
+  pub opens : world ≡ opening script flash
+
+-- the task that a command gives, by the bytes under each name
+abbrev pub IsTaskOf : (List ℕ → Option (List ℕ)) → Command → Task → Type 0
+IsTaskOf bytes (Boots words) (Running n world) = (n ≡ words.turns) × IsOpening bytes words world
+IsTaskOf bytes (Boots words) (Listing flash) = ⊥
+IsTaskOf bytes (Lists name) (Running n world) = ⊥
+IsTaskOf bytes (Lists name) (Listing flash) = IsFlash bytes name flash
+
+-- words that are no command give none
+abbrev pub IsTask : (List ℕ → Option (List ℕ)) → Option Command → Task → Type 0
+IsTask bytes None task = ⊥
+IsTask bytes (Some command) task = IsTaskOf bytes command task
+
+-- the task of what is ready
+abbrev pub task_of : Ready → Task
+task_of (ready.Run board turns) = Running turns board
+task_of (ready.List flash) = Listing flash.items
+
+-- No step was made, and the steps to make are within the limit of a board; the image is within its limit.
+abbrev pub IsFresh : Ready → Type 0
+IsFresh (ready.Run board turns) = (board.steps ≡ 0) × (turns ≤ most_turns)
+IsFresh (ready.List flash) = length flash.items ≤ 1048576

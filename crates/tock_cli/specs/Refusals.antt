@@ -1,35 +1,36 @@
--- Why a run is not begun.
-use Rattle.std.specs.Prelude.{◌≢◌, ℕ, ◌<◌, ◌≤◌, List, [], length, codes, Option, None, Some, IfSome}
+-- Why a command is refused.
+use Rattle.std.specs.Prelude.{◌≡◌, ℕ, ◌<◌, ◌≤◌, List, ◌++◌, length, codes, decimal, Option, None, Some, IfSome, IsSome, IsSomeAnd, Err}
+use Rattle.std.specs.Option.{option_and_then}
+use Rattle.script_text.specs.Rules.{word_of}
+use Rattle.script_text.specs.Reading.{reading}
 use Rattle.tk_outside.specs.Count.{Rose}
 use Rattle.tock_cli.specs.declared.refusal.File.{File}
 use Rattle.tock_cli.specs.declared.refusal.File.TheVariants.{Flash, Script as ScriptFile}
 use Rattle.tock_cli.specs.declared.refusal.Refusal.{Refusal}
 use Rattle.tock_cli.specs.declared.refusal.Refusal.TheVariants.{Usage, Fault, TooLong, Script, Memory}
-use Rattle.tock_cli.specs.Words.{BootWords}
+use Rattle.tock_cli.specs.Words.{Command, flash_of, script_of}
 
 abbrev pub status_of : Refusal → ℕ
 status_of Usage = 2
 status_of (Fault file) = 3
 status_of (TooLong file) = 4
-status_of Script = 5
+status_of (Script line rule) = 5
 status_of Memory = 7
+
+-- a file as a line names it
+abbrev pub file_text : File → List ℕ
+file_text Flash = codes "flash"
+file_text ScriptFile = codes "script"
 
 abbrev pub usage_line : List ℕ
 usage_line = codes "usage: tock boot FLASH SCRIPT --turns N | trace FLASH SCRIPT --turns N | list FLASH | soak NUMBER --turns N\n"
 
-abbrev pub fault_line : File → List ℕ
-fault_line Flash = codes "file flash fault\n"
-fault_line ScriptFile = codes "file script fault\n"
-
-abbrev pub too_long_line : File → List ℕ
-too_long_line Flash = codes "file flash too long\n"
-too_long_line ScriptFile = codes "file script too long\n"
-
+-- the line of a refusal; that of a script's names its bad line, and the rule that it breaks
 abbrev pub line_of : Refusal → List ℕ
 line_of Usage = usage_line
-line_of (Fault file) = fault_line file
-line_of (TooLong file) = too_long_line file
-line_of Script = codes "script 1 unknown-word\n"
+line_of (Fault file) = codes "file " ++ (file_text file ++ codes " fault\n")
+line_of (TooLong file) = codes "file " ++ (file_text file ++ codes " too long\n")
+line_of (Script line rule) = codes "script " ++ (decimal line ++ (codes " " ++ (word_of rule ++ codes "\n")))
 line_of Memory = codes "memory\n"
 
 -- the greatest number of bytes of a file
@@ -37,9 +38,10 @@ abbrev pub limit_of : File → ℕ
 limit_of Flash = 1048576
 limit_of ScriptFile = 262144
 
-abbrev pub name_in : BootWords → File → List ℕ
-name_in words Flash = words.flash
-name_in words ScriptFile = words.script
+-- the name of a file, where the words name it
+abbrev pub name_in : Command → File → Option (List ℕ)
+name_in command Flash = Some (flash_of command)
+name_in command ScriptFile = script_of command
 
 -- what a shelf tells: the bytes under each name, which names are sound, and whether its count of faults rose
 pub record Told : Type 1 where
@@ -47,35 +49,40 @@ pub record Told : Type 1 where
   pub is_sound : List ℕ → Type 0
   pub rose : Type 0
 
--- a file is within its limit
-abbrev pub IsWithin : Told → BootWords → File → Type 0
-IsWithin told words file = IfSome (told.bytes (name_in words file)) (λ b. length b ≤ limit_of file)
+-- the bytes of a file, where the words name it and the shelf tells them
+abbrev pub bytes_in : Told → Command → File → Option (List ℕ)
+bytes_in told command file = option_and_then told.bytes (name_in command file)
+
+-- a file that the words name is within its limit
+abbrev pub IsWithin : Told → Command → File → Type 0
+IsWithin told command file = IfSome (bytes_in told command file) (λ b. length b ≤ limit_of file)
 
 -- The flash file is read first: where the fault is the script's, the flash file was within its limit.
-abbrev pub IsPast : Told → BootWords → File → Type 0
-IsPast told words Flash = Unit {0}
-IsPast told words ScriptFile = IsWithin told words Flash
+abbrev pub IsPast : Told → Command → File → Type 0
+IsPast told command Flash = Unit {0}
+IsPast told command ScriptFile = IsWithin told command Flash
 
--- the cause of each refusal, where the words are a command
-abbrev pub CauseOf : Told → BootWords → Refusal → Type 0
-CauseOf told words Usage = ⊥
-CauseOf told words (Fault file) = told.rose × (¬ told.is_sound (name_in words file)) × IsPast told words file
-CauseOf told words (TooLong file) = IfSome (told.bytes (name_in words file)) (λ b. limit_of file < length b) × IsPast told words file
-CauseOf told words Script = IsWithin told words Flash × IsWithin told words ScriptFile × IfSome (told.bytes words.script) (λ b. b ≢ [])
-CauseOf told words Memory = Unit {0}
+-- The cause of each refusal, where the words are a command. A file that a line names is one that the words name.
+abbrev pub CauseOf : Told → Command → Refusal → Type 0
+CauseOf told command Usage = ⊥
+CauseOf told command (Fault file) = told.rose × IsSomeAnd (name_in command file) (λ name. ¬ told.is_sound name) × IsPast told command file
+CauseOf told command (TooLong file) = IsSome (name_in command file) × IfSome (bytes_in told command file) (λ b. limit_of file < length b) × IsPast told command file
+CauseOf told command (Script line rule) =
+    IsSome (script_of command) × IsWithin told command Flash × IsWithin told command ScriptFile × IfSome (bytes_in told command ScriptFile) (λ s. reading s ≡ Err (record { line = line; rule = rule }))
+CauseOf told command Memory = Unit {0}
 
 -- and where they are none: nothing else is looked at
 abbrev pub CauseWithout : Refusal → Type 0
 CauseWithout Usage = Unit {0}
 CauseWithout (Fault file) = ⊥
 CauseWithout (TooLong file) = ⊥
-CauseWithout Script = ⊥
+CauseWithout (Script line rule) = ⊥
 CauseWithout Memory = ⊥
 
 -- the cause of a refusal
-abbrev pub Cause : Told → Option BootWords → Refusal → Type 0
+abbrev pub Cause : Told → Option Command → Refusal → Type 0
 Cause told None refusal = CauseWithout refusal
-Cause told (Some words) refusal = CauseOf told words refusal
+Cause told (Some command) refusal = CauseOf told command refusal
 
 -- what a shelf tells whose count of faults was one number and is now another
 abbrev pub told_by : (List ℕ → Option (List ℕ)) → (List ℕ → Type 0) → ℕ → ℕ → Told

@@ -1,6 +1,7 @@
-//! `tock`: runs the applications of a flash image on the board.
+//! `tock`: runs the applications of a flash image on the board, and lists what an image holds.
 #![tactic(auto)]
 
+mod list;
 mod prepare;
 mod refusal;
 mod run;

@@ -1,12 +1,13 @@
-//! What is done before the first step: the words, the flash file, the script file, the board.
+//! What is done before any text is written: the words, the files, the script's reading, the board.
 ghost use Rattle.std.specs.Prelude.{◌≡◌, ◌≤◌, map, string_bytes, IfOk, IfErr};
-ghost use Rattle.tock_cli.specs.Words.{accepted, most_turns, shown_words};
+ghost use Rattle.tock_cli.specs.Words.{accepted, most_turns, shown_words, Boots, Lists};
 ghost use Rattle.tock_cli.specs.Refusals.{Cause, CauseOf, told_by};
-ghost use Rattle.tock_cli.specs.Ready.{IsFresh, IsReady, IsReadyFor, refusal_of};
+ghost use Rattle.tock_cli.specs.Ready.{IsFresh, IsTask, IsTaskOf, refusal_of, task_of};
 
 use crate::refusal::{File, Refusal};
-use crate::words::{BootCommand, command};
+use crate::words::{BootCommand, Command};
 use board_core::Board;
+use script_text::{ScriptError, read_script};
 use std::alloc::Global;
 use tk_intake::{IntakeError, read_whole};
 use tk_outside::Shelf;
@@ -16,11 +17,13 @@ const FLASH_LIMIT: usize = 1_048_576;
 
 const SCRIPT_LIMIT: usize = 262_144;
 
-/// A board before its first step, and how many steps it is to make.
+/// What is left to do once the files are read.
 #[derive(Drop)]
-pub struct Ready {
-    pub board: Board,
-    pub turns: u32,
+pub enum Ready {
+    /// A run: the board before its first step, and how many steps it is to make at most.
+    Run { board: Board, turns: u32 },
+    /// The list of the objects of a flash image.
+    List { flash: Vec<u8> },
 }
 
 /// The refusal for a file that was not read.
@@ -34,27 +37,33 @@ fn not_read(error: IntakeError, file: File) -> Refusal
     }
 }
 
-/// Reads the two files, and makes the board.
+/// Reads the two files and the script, and makes the board.
 #[tactic(auto, unfolding(board_core::specs::Opening::opening))]
-fn load<H: Shelf>(alloc: Global, words: BootCommand<'_>, shelf: &mut H) -> Result<Ready, Refusal>
+fn load_run<H: Shelf>(
+    alloc: Global,
+    words: BootCommand<'_>,
+    shelf: &mut H,
+) -> Result<Ready, Refusal>
     requires { words.turns ≤ most_turns }
-    ensures ready { IfOk result (IsReadyFor (H.bytes shelf.old) (shown_words words.entry)) }
+    ensures task { IfOk result (λ ready. IsTaskOf (H.bytes shelf.old) (Boots (shown_words words.entry)) (task_of ready)) }
     ensures fresh { IfOk result IsFresh }
-    ensures refused { IfErr result (CauseOf (told_by (H.bytes shelf.old) (H.is_sound shelf.old) (H.faults shelf.old) (H.faults shelf.new)) (shown_words words.entry)) }
+    ensures refused { IfErr result (CauseOf (told_by (H.bytes shelf.old) (H.is_sound shelf.old) (H.faults shelf.old) (H.faults shelf.new)) (Boots (shown_words words.entry))) }
 {
     let flash = match read_whole(alloc, shelf, words.flash, FLASH_LIMIT) {
         Ok(bytes) => bytes,
         Err(error) => return Err(not_read(error, File::Flash)),
     };
-    let script = match read_whole(alloc, shelf, words.script, SCRIPT_LIMIT) {
+    let text = match read_whole(alloc, shelf, words.script, SCRIPT_LIMIT) {
         Ok(bytes) => bytes,
         Err(error) => return Err(not_read(error, File::Script)),
     };
-    if !script.is_empty() {
-        return Err(Refusal::Script);
-    }
-    match Board::boot(alloc, flash) {
-        Ok(board) => Ok(Ready {
+    let script = match read_script(alloc, &text) {
+        Ok(script) => script,
+        Err(ScriptError::Bad { line, rule }) => return Err(Refusal::Script { line, rule }),
+        Err(ScriptError::Memory) => return Err(Refusal::Memory),
+    };
+    match Board::boot(alloc, flash, script) {
+        Ok(board) => Ok(Ready::Run {
             board,
             turns: words.turns,
         }),
@@ -62,15 +71,28 @@ fn load<H: Shelf>(alloc: Global, words: BootCommand<'_>, shelf: &mut H) -> Resul
     }
 }
 
-/// Does all that comes before the first step: the words, the flash file, the script file, the board. A
-/// refusal names the first cause in this order.
+/// Reads the flash file alone.
+fn load_list<H: Shelf>(alloc: Global, name: &str, shelf: &mut H) -> Result<Ready, Refusal>
+    ensures task { IfOk result (λ ready. IsTaskOf (H.bytes shelf.old) (Lists name.now) (task_of ready)) }
+    ensures fresh { IfOk result IsFresh }
+    ensures refused { IfErr result (CauseOf (told_by (H.bytes shelf.old) (H.is_sound shelf.old) (H.faults shelf.old) (H.faults shelf.new)) (Lists name.now)) }
+{
+    match read_whole(alloc, shelf, name, FLASH_LIMIT) {
+        Ok(flash) => Ok(Ready::List { flash }),
+        Err(error) => Err(not_read(error, File::Flash)),
+    }
+}
+
+/// Does all that comes before any text: the words, the flash file, and for a run the script file, the
+/// script's reading and the board. A refusal names the first cause in this order.
 pub fn prepare<H: Shelf>(alloc: Global, words: &[String], shelf: &mut H) -> Result<Ready, Refusal>
-    ensures ready { IfOk result (IsReady (H.bytes shelf.old) (accepted (map string_bytes words.now))) }
+    ensures task { IfOk result (λ ready. IsTask (H.bytes shelf.old) (accepted (map string_bytes words.now)) (task_of ready)) }
     ensures fresh { IfOk result IsFresh }
     ensures refused { IfErr result (Cause (told_by (H.bytes shelf.old) (H.is_sound shelf.old) (H.faults shelf.old) (H.faults shelf.new)) (accepted (map string_bytes words.now))) }
 {
-    match command(words) {
-        Some(words) => load(alloc, words, shelf),
+    match Command::of(words) {
+        Some(Command::Boot(words)) => load_run(alloc, words, shelf),
+        Some(Command::List { flash }) => load_list(alloc, flash, shelf),
         None => Err(Refusal::Usage),
     }
 }

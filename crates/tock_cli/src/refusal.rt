@@ -1,15 +1,32 @@
-//! Why a run is not begun: the answer and the line of each cause.
+//! Why a command is refused: the answer and the line of each cause.
 ghost use Rattle.std.specs.Prelude.{◌≡◌};
-ghost use Rattle.tock_cli.specs.Refusals.{status_of, line_of};
+ghost use Rattle.tk_outside.specs.Writes.{Writes};
+ghost use Rattle.tock_cli.specs.Refusals.{file_text, status_of, line_of};
 
-/// One of the two files that the words name.
+use itoa::Buffer;
+use script_text::ScriptRule;
+use tk_outside::{Failed, Sink, put_all, put_pieces};
+
+/// One of the files that the words name.
 #[derive(Clone, Copy, Debug, PartialEq, Eq)]
 pub enum File {
     Flash,
     Script,
 }
 
-/// Why a run is not begun.
+impl File {
+    /// The file as a line names it.
+    fn word(self) -> &'static [u8]
+        ensures { result.now ≡ file_text self }
+    {
+        match self {
+            File::Flash => b"flash",
+            File::Script => b"script",
+        }
+    }
+}
+
+/// Why a command is refused.
 #[derive(Clone, Copy, Debug, PartialEq, Eq)]
 pub enum Refusal {
     /// The words are no command.
@@ -18,8 +35,8 @@ pub enum Refusal {
     Fault(File),
     /// A file has more bytes than its limit.
     TooLong(File),
-    /// The script has no reading.
-    Script,
+    /// The script has no reading: its first bad line, counted from 1, and the first rule that it breaks.
+    Script { line: u32, rule: ScriptRule },
     /// There was no memory.
     Memory,
 }
@@ -33,25 +50,28 @@ impl Refusal {
             Refusal::Usage => 2,
             Refusal::Fault(_) => 3,
             Refusal::TooLong(_) => 4,
-            Refusal::Script => 5,
+            Refusal::Script { .. } => 5,
             Refusal::Memory => 7,
         }
     }
 
-    /// The line that is written.
-    pub fn line(self) -> &'static [u8]
-        ensures { result.now ≡ line_of self }
+    /// Writes the line of the refusal.
+    pub fn write_line<K: Sink>(self, out: &mut K) -> Result<(), Failed>
+        ensures { Writes K.told K.faults out.old out.new (line_of self) result }
     {
         match self {
-            Refusal::Usage => {
-                b"usage: tock boot FLASH SCRIPT --turns N | trace FLASH SCRIPT --turns N | list FLASH | soak NUMBER --turns N\n"
+            Refusal::Usage => put_all(
+                out,
+                b"usage: tock boot FLASH SCRIPT --turns N | trace FLASH SCRIPT --turns N | list FLASH | soak NUMBER --turns N\n",
+            ),
+            Refusal::Fault(file) => put_pieces(out, &[b"file ", file.word(), b" fault\n"]),
+            Refusal::TooLong(file) => put_pieces(out, &[b"file ", file.word(), b" too long\n"]),
+            Refusal::Script { line, rule } => {
+                let mut digits = Buffer::new();
+                let number = digits.format(line).as_bytes();
+                put_pieces(out, &[b"script ", number, b" ", rule.word(), b"\n"])
             }
-            Refusal::Fault(File::Flash) => b"file flash fault\n",
-            Refusal::Fault(File::Script) => b"file script fault\n",
-            Refusal::TooLong(File::Flash) => b"file flash too long\n",
-            Refusal::TooLong(File::Script) => b"file script too long\n",
-            Refusal::Script => b"script 1 unknown-word\n",
-            Refusal::Memory => b"memory\n",
+            Refusal::Memory => put_all(out, b"memory\n"),
         }
     }
 }

@@ -7,7 +7,7 @@ ghost use Rattle.tock_cli.specs.RunText.{mode_text, end_of, end_text, IsWorldOf}
 use board_core::Board;
 use board_report::{End, write_report};
 use process_record::Emit;
-use tk_outside::{Failed, Sink, put_all};
+use tk_outside::{Failed, Sink, put_all, writes_compose};
 
 /// What is written of a run.
 #[derive(Clone, Copy, Debug, PartialEq, Eq)]
@@ -23,6 +23,7 @@ fn run_steps<K: Sink>(board: &mut Board, turns: u32, out: &mut K) -> Result<(), 
     ensures last { OnOk result (board.new ≡ (round turns board.old).world) }
     ensures some { OnErr result (IsWorldOf turns board.old board.new) }
 {
+    writes_compose::<K>();
     let mut emit = Emit::new();
     for _ in 0..turns {
         let Some(choice) = board.next_choice() else {
@@ -51,6 +52,7 @@ fn end_of_run(board: &Board) -> End
 fn write_end_of_run<K: Sink>(board: &Board, out: &mut K) -> Result<(), Failed>
     ensures { Writes K.told K.faults out.old out.new (end_text board.now) result }
 {
+    writes_compose::<K>();
     put_all(out, b"==\n")?;
     write_report(&board.summary(), end_of_run(board), out)
 }
@@ -71,6 +73,7 @@ pub fn run_out<K: Sink>(
     ensures last { OnOk result (board.new ≡ (round turns board.old).world) }
     ensures some { OnErr result (IsWorldOf turns board.old board.new) }
 {
+    writes_compose::<K>();
     match mode {
         Mode::Boot => {
             run_steps(board, turns, out)?;

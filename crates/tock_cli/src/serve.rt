@@ -1,23 +1,24 @@
 //! The whole program over a shelf and a sink.
-ghost use Rattle.std.specs.Prelude.{◌≡◌, map, string_bytes};
+ghost use Rattle.std.specs.Prelude.{◌≡◌, None, map, string_bytes};
 ghost use Rattle.tock_cli.specs.Words.{accepted};
 ghost use Rattle.tock_cli.specs.Refusals.{told_by};
-ghost use Rattle.tock_cli.specs.Ready.{IsFresh};
-ghost use Rattle.tock_cli.specs.Served.{Happens, RefusalIs, RunIs, Serves, answer_of};
+ghost use Rattle.tock_cli.specs.Ready.{IsFresh, task_of};
+ghost use Rattle.tock_cli.specs.Served.{Happens, RefusalIs, TaskIs, Serves, answer_of};
 
+use crate::list::list_out;
 use crate::prepare::{Ready, prepare};
 use crate::refusal::Refusal;
 use crate::run::{Mode, run_out};
 use board_core::Board;
 use std::alloc::Global;
-use tk_outside::{Shelf, Sink, put_all};
+use tk_outside::{Shelf, Sink};
 
 /// How the program ended.
 #[derive(Clone, Copy, Debug, PartialEq, Eq)]
 enum Outcome {
-    /// The run was made, and its text written.
-    Ran,
-    /// The run was not begun.
+    /// The command's run was made or its list was, and the whole text written.
+    Done,
+    /// The command was refused.
     Refused(Refusal),
     /// Text could not be written.
     SinkFailed,
@@ -29,7 +30,7 @@ impl Outcome {
         ensures { result ≡ answer_of self }
     {
         match self {
-            Outcome::Ran => 0,
+            Outcome::Done => 0,
             Outcome::Refused(refusal) => refusal.status(),
             Outcome::SinkFailed => 6,
         }
@@ -40,27 +41,31 @@ impl Outcome {
 fn refuse<K: Sink>(refusal: Refusal, out: &mut K) -> Outcome
     ensures { RefusalIs (record { Sink = _; told = K.told; faults = K.faults; old = out.old; new = out.new }) refusal result }
 {
-    match put_all(out, refusal.line()) {
+    match refusal.write_line(out) {
         Ok(()) => Outcome::Refused(refusal),
         Err(_) => Outcome::SinkFailed,
     }
 }
 
-/// Makes the run.
-fn run_ready<K: Sink>(ready: Ready, out: &mut K, last: &mut Option<Board>) -> Outcome
-    requires { IsFresh ready }
-    ensures { RunIs (record { Sink = _; told = K.told; faults = K.faults; old = out.old; new = out.new }) ready last.new result }
+/// Does what is left to do, and leaves the board of a run.
+fn finish<K: Sink>(ready: Ready, out: &mut K, last: &mut Option<Board>) -> Outcome
+    requires fresh { IsFresh ready }
+    requires none { last.old ≡ None }
+    ensures { TaskIs (record { Sink = _; told = K.told; faults = K.faults; old = out.old; new = out.new }) (task_of ready) last.new result }
 {
-    let Ready { mut board, turns } = ready;
-    match run_out(&mut board, Mode::Boot, turns, out) {
-        Ok(()) => {
-            *last = Some(board);
-            Outcome::Ran
+    let written = match ready {
+        Ready::Run { mut board, turns } => {
+            let written = run_out(&mut board, Mode::Boot, turns, out);
+            if written.is_ok() {
+                *last = Some(board);
+            }
+            written
         }
-        Err(_) => {
-            *last = None;
-            Outcome::SinkFailed
-        }
+        Ready::List { flash } => list_out(&flash, out),
+    };
+    match written {
+        Ok(()) => Outcome::Done,
+        Err(_) => Outcome::SinkFailed,
     }
 }
 
@@ -78,25 +83,26 @@ fn act<H: Shelf, K: Sink>(
 {
     *last = None;
     match prepare(alloc, words, shelf) {
-        Ok(ready) => run_ready(ready, out, last),
+        Ok(ready) => finish(ready, out, last),
         Err(refusal) => refuse(refusal, out),
     }
 }
 
-/// The program over the words of the command line, the first of which is its own name. It runs the
-/// applications of a flash file on the board and writes the text of the run to `out`; else it writes one
-/// line. What `last` held is dropped; afterwards it holds a board exactly at answer 0, and that board
-/// shows the last world of the run.
+/// The program over the words of the command line, the first of which is its own name. `boot` runs the
+/// applications of a flash file on the board of a script, and writes the text of the run to `out`; `list`
+/// writes the list of the objects of a flash file; else it writes one line. What `last` held is dropped;
+/// afterwards it holds a board exactly at answer 0 of `boot`, and that board shows the last world of the
+/// run.
 ///
 /// | Answer | Comes |
 /// |---|---|
-/// | 0 | the run was made, and its whole text written |
+/// | 0 | each file that the words name was read to its end, and the whole text of the run or list was written |
 /// | 2 | the words are no command |
-/// | 3 | a file could not be read: the shelf's count of faults rose, and the line names a file that is not sound |
-/// | 4 | a file has more bytes than its limit, 1,048,576 for flash and 262,144 for the script |
-/// | 5 | the script has no reading |
+/// | 3 | a file could not be read: the shelf's count of faults rose, and the line names a file that the words name and that is not sound |
+/// | 4 | a file has more bytes than its limit, 1,048,576 for flash, which is read first, and 262,144 for the script |
+/// | 5 | the script has no reading: the line names its first bad line and the first rule that this line breaks |
 /// | 6 | the sink's count of faults rose; a part of the text or line was written that lacks at least one byte |
-/// | 7 | there was no memory, before the first step |
+/// | 7 | there was no memory, before any text |
 pub fn serve<H: Shelf, K: Sink>(
     alloc: Global,
     words: &[String],

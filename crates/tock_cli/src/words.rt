@@ -1,7 +1,7 @@
 //! The words of the command line.
-ghost use Rattle.std.specs.Prelude.{◌≡◌, ◌≤◌, map, string_bytes, IfSome};
+ghost use Rattle.std.specs.Prelude.{◌≡◌, map, string_bytes, IfSome};
 ghost use Rattle.std.specs.Str.{all_ascii_digits};
-ghost use Rattle.tock_cli.specs.Words.{accepted, most_turns, number_of, shown};
+ghost use Rattle.tock_cli.specs.Words.{accepted, number_of, shown, HasTurnsWithin};
 
 /// The words of `tock boot FLASH SCRIPT --turns N`.
 #[derive(Clone, Copy)]
@@ -9,6 +9,15 @@ pub struct BootCommand<'a> {
     pub flash: &'a str,
     pub script: &'a str,
     pub turns: u32,
+}
+
+/// A command.
+#[derive(Clone, Copy)]
+pub enum Command<'a> {
+    /// `tock boot FLASH SCRIPT --turns N`: a run of the applications of a flash file.
+    Boot(BootCommand<'a>),
+    /// `tock list FLASH`: the list of the objects of a flash file.
+    List { flash: &'a str },
 }
 
 /// The greatest number of turns that is accepted.
@@ -39,21 +48,26 @@ fn number(text: &str, limit: u64) -> Option<u64>
     }
 }
 
-/// The command that the words are; None where they are none. The first word is the program's name.
-pub fn command(words: &[String]) -> Option<BootCommand<'_>>
-    ensures words { shown result ≡ accepted (map string_bytes words.now) }
-    ensures turns { IfSome result (λ command. command.turns ≤ most_turns) }
-{
-    let [_, name, flash, script, flag, turns] = words else {
-        return None;
-    };
-    if name.as_str() != "boot" || flag.as_str() != "--turns" {
-        return None;
+impl<'a> Command<'a> {
+    /// The command that the words are; None where they are none. The first word is the program's name.
+    pub fn of(words: &'a [String]) -> Option<Command<'a>>
+        ensures words { shown result ≡ accepted (map string_bytes words.now) }
+        ensures turns { IfSome result HasTurnsWithin }
+    {
+        match words {
+            [_, name, flash] if name.as_str() == "list" => Some(Command::List {
+                flash: flash.as_str(),
+            }),
+            [_, name, flash, script, flag, turns]
+                if name.as_str() == "boot" && flag.as_str() == "--turns" => {
+                let turns = number(turns.as_str(), MOST_TURNS)?;
+                Some(Command::Boot(BootCommand {
+                    flash: flash.as_str(),
+                    script: script.as_str(),
+                    turns: turns as u32,
+                }))
+            }
+            _ => None,
+        }
     }
-    let turns = number(turns.as_str(), MOST_TURNS)?;
-    Some(BootCommand {
-        flash: flash.as_str(),
-        script: script.as_str(),
-        turns: turns as u32,
-    })
 }

@@ -1,26 +1,26 @@
 use Rattle.std.proofs.Common.{◌≡◌, ◌+◌, ◌≤◌, length, drop, All, AllPairs, List, ◌++◌, ◌∷◌, [], sym, ap, ◌∙◌, subst, lit<, arith}
-use Rattle.std.specs.List.{filter_map}
+use Rattle.std.specs.List.{count_by, filter_map}
 use Rattle.app_placement.specs.declared.placed.Filled.{Filled}
 use Rattle.std.proofs.lemmas.List.Elements.{All-push}
 use Rattle.app_placement.specs.declared.placed.Placed.{Placed}
 use Rattle.app_placement.specs.Applications.{application_of, applications}
-use Rattle.app_placement.specs.Placement.{place_of, filled_after, places_from, placements, LiesInRam, LiesBefore, LiesInFlash, IsLaidOut, AreNumbered}
+use Rattle.app_placement.specs.Placement.{place_of, filled_after, places_from, placements, LiesInRam, LiesBefore, LiesInFlash, IsLaidOut, AreNumbered, is_placed}
 use Rattle.app_placement.proofs.Objects.{one_found, few_found}
-use Rattle.app_placement.proofs.Laws.{IsFilled, filled_after-filled, place_of-in_flash, place_of-laid_out, placements-numbered, placements-in_ram, placements-apart}
+use Rattle.app_placement.proofs.Laws.{IsFilled, filled_after-filled, place_of-in_flash, place_of-laid_out, placements-numbered, placements-in_ram, placements-apart, placements-few}
 use Rattle.app_placement.proofs.Steps.{left_after_one, whole_at_end}
 use Rattle.app_placement.proofs.placing.place.Goals as goal
 
 pub application_at-requires-clause-object : goal.application_at-requires-clause-object
-application_at-requires-clause-object c = (one_found c.args.flash.now c.args.found.now c.loop-object.object-index _ c.requires.found c.loop-object-test.true).object
+application_at-requires-clause-object c = (one_found c.args.flash.now c.args.found.now c.loop-object.object-index _ c.objects_are_found.ensures c.requires.flash c.requires.found c.loop-object-test.true).object
 
 pub push-requires : goal.push-requires
 push-requires c =
-    let few : length c.args.found.now ≤ 64 = few_found c.args.flash.now c.args.found.now c.requires.found in
+    let few : length c.args.found.now ≤ 64 = few_found c.args.flash.now c.args.found.now c.objects_are_found.ensures c.requires.flash c.requires.found in
     (lit< tt, omega (arith, c.loop-object.invariant.few, c.loop-object-test.true))
 
 pub loop-object-preserved : goal.loop-object-preserved
 loop-object-preserved c =
-    let found = one_found c.args.flash.now c.args.found.now c.loop-object.object-index _ c.requires.found c.loop-object-test.true in
+    let found = one_found c.args.flash.now c.args.found.now c.loop-object.object-index _ c.objects_are_found.ensures c.requires.flash c.requires.found c.loop-object-test.true in
     let whole = placements c.args.ram (applications c.args.flash.now) in
     let ask = application_of c.args.flash.now in
     let next : c.next_filled-filled.result ≡ filled_after c.loop-object.filled (place_of c.args.ram c.loop-object.filled c.in-Some.app) =
@@ -52,3 +52,6 @@ returns-clause-apart c = subst (AllPairs LiesBefore) (sym (returns-clause-places
 
 pub returns-clause-slots : goal.returns-clause-slots
 returns-clause-slots c = subst AreNumbered (sym (returns-clause-places c)) (placements-numbered c.args.ram (applications c.args.flash.now))
+
+pub returns-clause-few : goal.returns-clause-few
+returns-clause-few c = subst (λ (xs : List Placed). count_by is_placed xs ≤ 8) (sym (returns-clause-places c)) (placements-few c.args.ram (applications c.args.flash.now))

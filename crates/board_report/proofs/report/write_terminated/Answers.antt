@@ -1,9 +1,12 @@
 use Rattle.std.proofs.Common.{decimal}
-use Rattle.tk_outside.proofs.WritesLemmas.{writes_part, part_of_more, all_then_writes}
 use Rattle.board_report.proofs.report.write_terminated.Goals as goal
 
 pub returns-in_err-put_all : goal.returns-in_err-put_all
-returns-in_err-put_all g c = let e = c.in_err-put_all.ensures in writes_part _ c.from_residual.ensures.0 (part_of_more (decimal c.args.code) e)
+returns-in_err-put_all g c =
+    let law = c.writes_compose.ensures in
+    law.writes_part _ c.from_residual.ensures.0 (law.part_of_more (decimal c.args.code) c.in_err-put_all.ensures)
 
 pub returns : goal.returns
-returns g c = let e = c.in_ok-put_all.ensures in all_then_writes _ (decimal c.args.code) _ e (rw c.from.ensures at c.put_number.ensures)
+returns g c =
+    let law = c.writes_compose.ensures in
+    law.all_then_writes _ (decimal c.args.code) _ c.in_ok-put_all.ensures (rw c.from.ensures at c.put_number.ensures)

@@ -1,5 +1,5 @@
 use Rattle.std.proofs.Common.{refl, slice_get}
-use Rattle.kernel_model.specs.Record.{Turn, apply}
+use Rattle.kernel_model.specs.Turn.{Turn, apply}
 use Rattle.kernel_model.specs.World.{after}
 use Rattle.kernel_model.proofs.Places.{changed-own, changed-other}
 use Rattle.kernel_model.proofs.laws.only_its_own_turn.Goals as goal

@@ -1,14 +1,13 @@
 use Rattle.std.proofs.Common.{sym, ap, ◌∙◌}
 use Rattle.std.proofs.lemmas.Result.{MatchResult-from_err}
 use Rattle.process_record.specs.declared.emit.Emit.{Emit}
-use Rattle.tk_outside.proofs.WritesLemmas.{wrote_nothing, writes_part}
 use Rattle.kernel_model.specs.World.{labels}
-use Rattle.kernel_model.proofs.Runs.{shown_by-printed}
+use Rattle.tock_cli.proofs.Runs.{shown_by-printed}
 use Rattle.tock_cli.proofs.Running.{begins, over, made, part, world_on, one_more}
 use Rattle.tock_cli.proofs.run.run_steps.Goals as goal
 
 pub loop-init : goal.loop-init
-loop-init g c = begins _ _ c.args.turns c.args.board.now c.args.out.now (wrote_nothing _ _ _)
+loop-init g c = begins _ _ c.args.turns c.args.board.now c.args.out.now c.writes_compose.ensures
 
 pub returns-in_default-clause-prints : goal.returns-in_default-clause-prints
 returns-in_default-clause-prints g c = (over c.loop.invariant (sym c.in_default.ensures.next)).0
@@ -18,9 +17,10 @@ returns-in_default-clause-last g c = (over c.loop.invariant (sym c.in_default.en
 
 pub returns-in_err-put_all-clause-prints : goal.returns-in_err-put_all-clause-prints
 returns-in_err-put_all-clause-prints g c =
+    let law = c.writes_compose.ensures in
     let e = c.in_err-put_all.ensures in
     let shown = c.deref.ensures.0 ∙ ap (λ (x : Emit). x.printed.items) c.in-Ok.ensures.shown ∙ shown_by-printed (labels c.loop.board c.in-Some.choice) in
-    writes_part _ c.from_residual.ensures.0 (part c.loop.invariant c.in-Some.choice c.put_all.new.out c.loop-test.true (sym c.in-Some.ensures.next) (rw shown at e))
+    law.writes_part _ c.from_residual.ensures.0 (part c.loop.invariant law c.in-Some.choice c.put_all.new.out c.loop-test.true (sym c.in-Some.ensures.next) (rw shown at e))
 
 pub returns-in_err-put_all-clause-some : goal.returns-in_err-put_all-clause-some
 returns-in_err-put_all-clause-some g c =
@@ -28,9 +28,10 @@ returns-in_err-put_all-clause-some g c =
 
 pub loop-preserved : goal.loop-preserved
 loop-preserved g c =
+    let law = c.writes_compose.ensures in
     let e = c.in_ok-put_all.ensures in
     let shown = c.deref.ensures.0 ∙ ap (λ (x : Emit). x.printed.items) c.in-Ok.ensures.shown ∙ shown_by-printed (labels c.loop.board c.in-Some.choice) in
-    one_more c.loop.invariant c.in-Some.choice c.step.new.self c.put_all.new.out c.loop-test.true (sym c.in-Some.ensures.next) c.in-Ok.ensures.ok (rw shown at e)
+    one_more c.loop.invariant law c.in-Some.choice c.step.new.self c.put_all.new.out c.loop-test.true (sym c.in-Some.ensures.next) c.in-Ok.ensures.ok (rw shown at e)
 
 pub returns-clause-prints : goal.returns-clause-prints
 returns-clause-prints g c = (made c.loop.invariant c.loop-test.false).0

@@ -7,6 +7,6 @@ use Rattle.board_core.proofs.board.Board.keeps_turn.Goals as goal
 
 pub returns-in-Some : goal.returns-in-Some
 returns-in-Some c =
-    goes_on_next c.self.inside c.in-Some.present c.in-Some.is c.if-self-lt-SLICE.true
+    goes_on_next c.self.inside c.in-Some.present c.self.invariant.blocks c.in-Some.is c.if-self-lt-SLICE.true
     (ap (λ (seats : List Seat). can_turn (slice_get seats c.in-Some.present)) (sym c.deref.ensures.value) ∙ sym c.if-can_run.ensures)
     ∙ ap next c.self.view_is

@@ -13,7 +13,7 @@ use Rattle.board_core.proofs.board.Board.next_choice.Goals.{After-choose}
 is_next : (c : After-choose) → c.choose.result ≡ next c.args.self.now
 is_next c =
     next_by_status c.args.self.now (record { ready = c.add_ready.new.ready; present = c.self.inside.present; used = c.self.inside.used; slice = 100 }) c.choose.result
-    (status_shown c.self.inside c.add_ready.new.ready (c.add_ready.ensures ∙ ap (map seat_runs) c.deref.ensures.value) ∙ ap status_of c.self.view_is)
+    (status_shown c.self.inside c.add_ready.new.ready c.self.invariant.blocks (c.add_ready.ensures ∙ ap (map seat_runs) c.deref.ensures.value) ∙ ap status_of c.self.view_is)
     (c.choose.ensures ∙ ap (λ (ready : List Bool). option_map Run (next_slot ready c.self.inside.present c.self.inside.used 100)) c.deref-2.ensures.0)
 
 pub returns-clause-next : goal.returns-clause-next

@@ -1,0 +1,48 @@
+-- The text of `tock list`: a line for each object of a flash image, and how many there are.
+use Rattle.std.specs.Prelude.{ℕ, ◌+◌, List, ◌++◌, length, slice_range, codes, decimal}
+use Rattle.std.specs.List.{flat_map}
+use Rattle.tbf_headers.specs.declared.fault.HeaderFault.{HeaderFault}
+use Rattle.tbf_headers.specs.declared.fault.HeaderFault.TheVariants.{Short, Version, Sizes, Checksum, Tlv}
+use Rattle.flash_walk.specs.declared.found.Found.{Found}
+use Rattle.flash_walk.specs.declared.found.Verdict.{Verdict}
+use Rattle.flash_walk.specs.declared.found.Verdict.TheVariants.{Bad, Padding, Disabled, BadEntry, WrongFlash, App}
+use Rattle.flash_walk.specs.Image.{objects}
+use Rattle.process_record.specs.Name.{name_of}
+use Rattle.board_report.specs.Words.{newline, name_text}
+
+-- A walk lists no object that is too short or of another version: these two words stand nowhere in a list.
+abbrev pub bad_text : HeaderFault → List ℕ
+bad_text Short = codes "bad-short"
+bad_text Version = codes "bad-version"
+bad_text Sizes = codes "bad-sizes"
+bad_text Checksum = codes "bad-checksum"
+bad_text (Tlv at) = codes "bad-tlv"
+
+abbrev pub verdict_text : Verdict → List ℕ
+verdict_text (Bad fault) = bad_text fault
+verdict_text Padding = codes "padding"
+verdict_text Disabled = codes "disabled"
+verdict_text BadEntry = codes "bad-entry"
+verdict_text WrongFlash = codes "wrong-flash"
+verdict_text App = codes "app"
+
+-- the bytes of an object
+abbrev pub bytes_of : List ℕ → Found → List ℕ
+bytes_of flash f = slice_range flash f.offset (f.offset + f.size)
+
+-- the line of an object of a flash image
+unfoldable pub object_text : List ℕ → Found → List ℕ
+object_text flash f =
+    codes "object " ++ (decimal f.offset ++ (codes " " ++ (decimal f.size ++ (codes " " ++ (verdict_text f.verdict ++ (codes " " ++ (name_text (name_of (bytes_of flash f)) ++ newline)))))))
+
+-- the line of how many there are
+unfoldable pub count_text : ℕ → List ℕ
+count_text count = codes "objects " ++ (decimal count ++ newline)
+
+-- the lines of objects of a flash image
+abbrev pub object_texts : List ℕ → List Found → List ℕ
+object_texts flash found = flat_map (object_text flash) found
+
+-- the whole list, by the flash image alone
+unfoldable pub list_text : List ℕ → List ℕ
+list_text flash = object_texts flash (objects flash) ++ count_text (length (objects flash))

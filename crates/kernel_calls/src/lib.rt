@@ -1,0 +1,15 @@
+//! The system calls that the kernel serves itself: memop and exit (TRD 104, "Memop", "Exit").
+#![tactic(auto)]
+
+mod exits;
+mod headers;
+mod memops;
+mod outcome;
+mod replies;
+mod serving;
+
+pub use outcome::Outcome;
+pub use serving::kernel_call;
+
+#[cfg(test)]
+mod tests;

@@ -1,0 +1,5 @@
+pub mod Text
+pub mod Rules
+pub mod Reading
+pub mod Line
+pub mod Drafted

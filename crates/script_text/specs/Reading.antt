@@ -1,0 +1,45 @@
+-- The reading of a script: what it says, or its first bad line.
+use Rattle.std.specs.Prelude.{◌≡◌, ℕ, ◌-◌, List, [], ◌∷◌, take, find, filter_map, Option, option_map, unwrap_or, Result, Ok, Err}
+use Rattle.std.specs.List.{enumerate_from}
+use Rattle.script_text.specs.declared.rule.Script.{Script}
+use Rattle.script_text.specs.declared.rule.ScriptError.{ScriptError}
+use Rattle.script_text.specs.declared.rule.ScriptError.TheVariants.{Bad, Memory}
+use Rattle.script_text.specs.declared.rule.ScriptRule.{ScriptRule}
+use Rattle.script_text.specs.Text.{lines, number}
+use Rattle.script_text.specs.Rules.{Row, ram_row, second_word, begins_with, broken}
+
+-- a line's number, from 1, and the first rule that it breaks
+pub record Fault : Type 0 where
+  pub line : ℕ
+  pub rule : ScriptRule
+
+-- the fault of line n, which breaks a rule with the lines before it
+abbrev pub fault_of : List (List ℕ) → ℕ × List ℕ → Option Fault
+fault_of all line = option_map (λ rule. record { line = line.0; rule = rule }) (broken (take (line.0 - 1) all) line.1)
+
+-- the faults of all lines, in the lines' order
+unfoldable pub faults : List (List ℕ) → List Fault
+faults all = filter_map (fault_of all) (enumerate_from 1 all)
+
+-- the number that a line gives for a row of the table
+abbrev pub given : Row → List (List ℕ) → Option ℕ
+given row all = option_map (λ line. number (second_word line)) (find (begins_with row.name) all)
+
+-- what lines say that have no fault
+abbrev pub settings : List (List ℕ) → Script
+settings all = record { ram = unwrap_or (given ram_row all) ram_row.default }
+
+-- the settings, unless there is a fault: then the first one
+abbrev pub unless_bad : List Fault → Script → Result Script Fault
+unless_bad [] script = Ok script
+unless_bad (fault ∷ more) script = Err fault
+
+-- the reading of a script's bytes
+unfoldable pub reading : List ℕ → Result Script Fault
+reading script = unless_bad (faults (lines script)) (settings (lines script))
+
+-- what was read is the reading; memory never runs out yet
+abbrev pub Reads : Result Script ScriptError → Result Script Fault → Type 0
+Reads (Ok script) read = read ≡ Ok script
+Reads (Err (Bad line rule)) read = read ≡ Err (record { line = line; rule = rule })
+Reads (Err Memory) read = ⊥

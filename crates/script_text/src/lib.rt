@@ -1,0 +1,16 @@
+//! The script: what the board's devices do and what it is set to, as lines of text.
+#![tactic(auto)]
+
+mod draft;
+mod line;
+mod number;
+mod read;
+mod rule;
+mod table;
+mod text;
+
+pub use read::read_script;
+pub use rule::{Script, ScriptError, ScriptRule};
+
+#[cfg(test)]
+mod tests;

@@ -1,0 +1,127 @@
+//! The lines of a script, the words of a line, and numbers.
+ghost use Rattle.std.specs.Prelude.{◌≡◌, [], ◌∷◌, not, position, MatchOption};
+ghost use Rattle.std.specs.Iterator.{YieldsFirstRef, item_count};
+ghost use Rattle.script_text.specs.Text.{is_line_feed, is_blank, lines, words, without_return};
+
+/// The lines of a script that are left, in order. A line ends at a line feed or at the script's
+/// end, and comes without the one carriage return at its end.
+#[derive(Drop)]
+pub struct Lines<'a> {
+    rest: &'a [u8],
+}
+
+impl<'a> Lines<'a> {
+    /// All lines of a script.
+    pub fn of(script: &'a [u8]) -> Lines<'a>
+        ensures { result.rest.now ≡ script.now }
+    {
+        Lines { rest: script }
+    }
+}
+
+impl<'a> Iterator for Lines<'a> {
+    type Item = &'a [u8];
+
+    ghost next_gives = { YieldsFirstRef (λ s. lines s.rest.now) };
+
+    ghost remaining = { item_count (λ s. lines s.rest.now) };
+
+    fn next(&mut self) -> Option<&'a [u8]> {
+        let (line, rest) = first_line(self.rest)?;
+        self.rest = rest;
+        Some(line)
+    }
+}
+
+/// The first line, and the bytes after its line feed. None where there are no bytes.
+#[tactic(auto, using(crate::proofs::TextLemmas::first_lines))]
+fn first_line(bytes: &[u8]) -> Option<(&[u8], &[u8])>
+    ensures { MatchOption result (lines bytes.now ≡ []) (λ found. lines bytes.now ≡ found.0.now ∷ lines found.1.now) }
+{
+    if bytes.is_empty() {
+        return None;
+    }
+    match line_feed_in(bytes) {
+        Some(at) => Some((trimmed(bytes.split_at(at).0), bytes.split_at(at + 1).1)),
+        None => Some((trimmed(bytes), &[])),
+    }
+}
+
+/// The place of the first line feed.
+fn line_feed_in(bytes: &[u8]) -> Option<usize>
+    ensures { result ≡ position is_line_feed bytes.now }
+{
+    bytes.iter().position(|byte| *byte == b'\n')
+}
+
+/// A line without the one carriage return at its end.
+fn trimmed(line: &[u8]) -> &[u8]
+    ensures { result.now ≡ without_return line.now }
+{
+    match line {
+        [front @ .., b'\r'] => front,
+        _ => line,
+    }
+}
+
+/// The words of a line that are left, in order. Spaces and tabs stand between them.
+#[derive(Drop)]
+pub struct Words<'a> {
+    rest: &'a [u8],
+}
+
+impl<'a> Words<'a> {
+    /// All words of a line.
+    pub fn of(line: &'a [u8]) -> Words<'a>
+        ensures { result.rest.now ≡ line.now }
+    {
+        Words { rest: line }
+    }
+}
+
+impl<'a> Iterator for Words<'a> {
+    type Item = &'a [u8];
+
+    ghost next_gives = { YieldsFirstRef (λ s. words s.rest.now) };
+
+    ghost remaining = { item_count (λ s. words s.rest.now) };
+
+    fn next(&mut self) -> Option<&'a [u8]> {
+        let (word, rest) = first_word(self.rest)?;
+        self.rest = rest;
+        Some(word)
+    }
+}
+
+/// The first word, and what stands after it. None where there are blanks alone.
+#[tactic(auto, using(crate::proofs::TextLemmas::first_words))]
+fn first_word(line: &[u8]) -> Option<(&[u8], &[u8])>
+    ensures { MatchOption result (words line.now ≡ []) (λ found. words line.now ≡ found.0.now ∷ words found.1.now) }
+{
+    let text = line.split_at(word_in(line)?).1;
+    match blank_in(text) {
+        Some(at) => Some(text.split_at(at)),
+        None => Some((text, &[])),
+    }
+}
+
+/// Whether a byte is a space or a tab.
+fn is_blank_byte(byte: u8) -> bool
+    ensures { result ≡ is_blank byte }
+{
+    byte == b' ' || byte == b'\t'
+}
+
+/// The place of the first byte of a word.
+fn word_in(line: &[u8]) -> Option<usize>
+    ensures { result ≡ position (λ byte. not (is_blank byte)) line.now }
+{
+    line.iter().position(|byte| !is_blank_byte(*byte))
+}
+
+/// The place of the first blank.
+fn blank_in(text: &[u8]) -> Option<usize>
+    ensures { result ≡ position is_blank text.now }
+{
+    text.iter().position(|byte| is_blank_byte(*byte))
+}
