@@ -17,7 +17,7 @@ use tk_base::{CallRule, Slot};
 
 /// Gives a process the registers of its start, and its layout the places of it, by the header of its
 /// object.
-fn start_again(flash: &[u8], layout: &mut Layout, process: &mut Process)
+fn reset_process(flash: &[u8], layout: &mut Layout, process: &mut Process)
     requires own { IsOwnObject flash.now process.old.object layout.old }
     requires count { process.old.restarts + 1 < 2 ^ 32 }
     ensures restarted { (b : BlockBytes) (dropped : ℕ) →
@@ -35,7 +35,7 @@ fn start_again(flash: &[u8], layout: &mut Layout, process: &mut Process)
 }
 
 /// Starts a process again, over a block of zeros.
-fn start_over(memory: &mut Memory, layout: &mut Layout, process: &mut Process, slot: Slot)
+fn restart_process(memory: &mut Memory, layout: &mut Layout, process: &mut Process, slot: Slot)
     requires slot { slot < length memory.old.blocks }
     requires own { IsOwnObject memory.old.flash process.old.object layout.old }
     requires count { process.old.restarts + 1 < 2 ^ 32 }
@@ -46,7 +46,7 @@ fn start_over(memory: &mut Memory, layout: &mut Layout, process: &mut Process, s
     ensures length { length (block_of memory.new slot).bytes ≡ length (block_of memory.old slot).bytes }
     ensures stays { Stays process.old layout.old process.new layout.new }
 {
-    start_again(memory.flash(), layout, process);
+    reset_process(memory.flash(), layout, process);
     memory.clear_block(slot);
 }
 
@@ -76,7 +76,7 @@ pub fn leave(
             Outcome::Ended
         }
         1 => {
-            start_over(memory, layout, process, slot);
+            restart_process(memory, layout, process, slot);
             Outcome::Again
         }
         _ => give(process, Err(CallRule::NoOperation)),

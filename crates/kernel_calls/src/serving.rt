@@ -33,13 +33,21 @@ fn serve_memop(
     give(process, answer)
 }
 
-/// Serves a system call of the process in a slot, if the kernel serves its class itself (TRD 104,
-/// "Memop", "Exit"): memop asks about the process's memory or moves its break; exit ends the process
-/// with a completion code, or starts it again with the registers, the break and the zeroed block of
-/// its start. Any other class is unserved, and then nothing changes.
+/// Serves a system call of the process in a slot, where the kernel serves its class itself. Any other
+/// class is unserved, and then nothing changes.
 ///
-/// A process that got a reply goes on past the call; where it was refused, that is recorded. The header
-/// of its object is read again from flash where it is needed.
+/// Memop (TRD 104, "Memop") moves the process's break, or answers an address or a number of its
+/// memory. It is refused with [`Break`](tk_base::CallRule::Break) where the break, rounded up to a
+/// multiple of 4, may not be moved there; with [`Index`](tk_base::CallRule::Index) where the header
+/// names no flash region of that number; and with
+/// [`NoOperation`](tk_base::CallRule::NoOperation) where there is no such operation.
+///
+/// Exit (TRD 104, "Exit") of kind 0 ends the process with a completion code; of kind 1 it starts the
+/// process again, with the registers and the break of its start and every byte of its block 0. Another
+/// kind is refused with `NoOperation`.
+///
+/// A process that is replied to goes on after the call, and a refusal is recorded. The header of its
+/// object is read from flash where it is needed.
 #[tactic(auto, unfolding(kernel_model::specs::Calls::served))]
 pub fn kernel_call(
     memory: &mut Memory,

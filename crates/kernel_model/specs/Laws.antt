@@ -2,6 +2,10 @@
 use Rattle.std.specs.Prelude.{◌≡◌, ◌≢◌, ◌<◌, ℕ, Some, IsTrue, slice_get}
 use Rattle.std.specs.Option.{option_map}
 use Rattle.tk_base.specs.declared.process.Choice.TheVariants.{Run}
+use Rattle.tk_base.specs.declared.call.CallRule.{CallRule}
+use Rattle.syscall_abi.specs.declared.call.Call.{Call as SystemCall}
+use Rattle.kernel_model.specs.Record.{Record}
+use Rattle.kernel_model.specs.Calls.{Answered, served, refused}
 use Rattle.kernel_model.specs.Turn.{Turn, apply}
 use Rattle.tk_base.specs.declared.process.Choice.{Choice}
 use Rattle.kernel_model.specs.World.{World, after, is_ready, step_limit}
@@ -15,3 +19,8 @@ pub record OnlyItsOwnTurn : Type 0 where
 -- below the limit of steps the next choice of the round robin may be made
 abbrev pub NextIsReady : Type 0
 NextIsReady = (w : World) (c : Choice) → next w ≡ Some c → w.steps < step_limit → IsTrue (is_ready w c)
+
+-- A call that is refused gets the failure of the rule that it broke; of the process it changes the reply registers, pc
+-- and the recorded refusal, and nothing of its layout and its block (TRD 104, "Return Values").
+abbrev pub RefusedChangesNothingElse : Type 0
+RefusedChangesNothingElse = (r : Record) (call : SystemCall) (a : Answered) (rule : CallRule) → served r call ≡ Some a → a.rule ≡ Some rule → a ≡ refused r rule

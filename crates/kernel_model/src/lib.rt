@@ -4,4 +4,4 @@
 
 mod laws;
 
-pub use laws::{next_is_ready, only_its_own_turn};
+pub use laws::{next_is_ready, only_its_own_turn, refused_changes_nothing_else};

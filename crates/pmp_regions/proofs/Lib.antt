@@ -1,2 +1,4 @@
 pub mod Intervals
 pub mod Lowest
+pub mod Words
+pub mod Windows

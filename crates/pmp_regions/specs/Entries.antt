@@ -23,9 +23,12 @@ is_tor Off = false
 is_tor Tor = true
 
 -- the first address of an entry's range: the address register of the entry below, or 0
+abbrev pub bottom_word : List Entry → ℕ → ℕ
+bottom_word pmp zero = 0
+bottom_word pmp (suc i) = (entry_of pmp i).address
+
 abbrev pub bottom_of : List Entry → ℕ → ℕ
-bottom_of pmp zero = 0
-bottom_of pmp (suc i) = 4 * (entry_of pmp i).address
+bottom_of pmp i = 4 * bottom_word pmp i
 
 -- the end of an entry's range: its own address register
 abbrev pub top_of : List Entry → ℕ → ℕ

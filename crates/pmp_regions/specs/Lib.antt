@@ -1,2 +1,4 @@
 pub mod Entries
 pub mod Check
+pub mod Spans
+pub mod Windows

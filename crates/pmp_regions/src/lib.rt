@@ -2,7 +2,8 @@
 //! load from and store to (the privileged RISC-V manual, "Physical Memory Protection").
 #![tactic(auto)]
 
-ghost use Rattle.std.specs.Prelude.{◌≡◌, ◌%◌, ◌<◌, IfSome, length, replicate, slice_set};
+ghost use Rattle.std.specs.Prelude.{◌≡◌, ◌↔◌, ◌%◌, ◌<◌, IfSome, IsTrue, None, length, replicate, slice_set};
+ghost use Rattle.std.specs.Bool.{OnTrue};
 ghost use Rattle.tk_base.specs.Bus.{answered};
 
 use std::marker::Model;
@@ -29,9 +30,16 @@ pub struct Entry {
 }
 
 /// The protection registers. Contracts see the list of the eight entries.
-#[derive(Clone, Copy, Debug, PartialEq, Eq)]
+///
+/// Beside the entries two windows of addresses are kept, so that [`Pmp::check`] need not search all
+/// entries for each access. They change no answer, and are empty until [`Pmp::settle`] finds them.
+#[derive(Debug, Drop)]
 pub struct Pmp {
     entries: [Entry; 8],
+    /// Where every fetch and every load is permitted.
+    code: Window,
+    /// Where every load and every store is permitted.
+    data: Window,
 }
 
 impl Model for Pmp {
@@ -40,14 +48,18 @@ impl Model for Pmp {
 
     ghost Value = { List Entry };
 
+    ghost use Rattle.pmp_regions.specs.Windows.{ArePermitted};
+
     ghost view = { λ p. p.entries };
 
-    ghost inverse = { λ entries. record { entries = entries } };
+    ghost invariant = { λ p. ArePermitted p.entries p.code p.«data» };
 }
 
 impl Pmp {
-    ghost use Rattle.pmp_regions.specs.Entries.{cleared, tor_entry, off_entry, bottom_of, top_of};
+    ghost use Rattle.pmp_regions.specs.Entries.{cleared, tor_entry, off_entry, bottom_word};
+    ghost use Rattle.pmp_regions.specs.Spans.{IsSpan};
     ghost use Rattle.pmp_regions.specs.Check.{denied_by, deciding, matches_any, matches_all};
+    ghost use Rattle.pmp_regions.specs.Windows.{Permits, Decides, EndBy};
 
     /// How many entries there are.
     pub const COUNT: usize = 8;
@@ -58,6 +70,8 @@ impl Pmp {
     {
         Pmp {
             entries: [Pmp::CLEARED; 8],
+            code: Window::EMPTY,
+            data: Window::EMPTY,
         }
     }
 
@@ -83,7 +97,7 @@ impl Pmp {
             execute: x,
             address: top / 4,
         };
-        self.entries[entry] = range;
+        self.set(entry, range);
     }
 
     /// Turns an entry off. Its address is still the bottom of the entry above, if that is a range.
@@ -93,10 +107,11 @@ impl Pmp {
         ensures set { self.new ≡ slice_set self.old entry (off_entry at) }
         ensures eight { length self.new ≡ 8 }
     {
-        self.entries[entry] = Entry {
+        let bottom = Entry {
             address: at / 4,
             ..Pmp::CLEARED
         };
+        self.set(entry, bottom);
     }
 
     /// Clears an entry: it is off, and its address 0.
@@ -105,19 +120,133 @@ impl Pmp {
         ensures set { self.new ≡ slice_set self.old entry cleared }
         ensures eight { length self.new ≡ 8 }
     {
-        self.entries[entry] = Pmp::CLEARED;
+        self.set(entry, Pmp::CLEARED);
+    }
+
+    /// Sets an entry, and empties the windows, in which other accesses may be permitted now.
+    fn set(&mut self, entry: usize, value: Entry)
+        requires { entry < 8 }
+        ensures set { self.new ≡ slice_set self.old entry value }
+        ensures eight { length self.new ≡ 8 }
+    {
+        self.entries[entry] = value;
+        self.code = Window::EMPTY;
+        self.data = Window::EMPTY;
+    }
+
+    /// Finds the two windows: the range of entry 1, where that may be executed and read, and the range
+    /// of entry 3, where that may be read and written. A range that a lower entry's range reaches
+    /// into has no window.
+    ///
+    /// It is there for speed alone, since nearly every access of a process lies in one of the two, and
+    /// changes no answer. To set or clear an entry empties both windows.
+    pub fn settle(&mut self)
+        ensures { self.new ≡ self.old }
+    {
+        let code = self.code_window();
+        let data = self.data_window();
+        self.code = code;
+        self.data = data;
+    }
+
+    /// The range of entry 1, where it may be executed and read.
+    #[tactic(auto, using(crate::proofs::Windows::permits_by))]
+    fn code_window(&self) -> Window
+        ensures fetch { Permits self.now Access.Fetch result }
+        ensures load { Permits self.now Access.Load result }
+    {
+        let entry = self.entries[1];
+        if !entry.execute || !entry.read {
+            return Window::EMPTY;
+        }
+        self.window(1)
+    }
+
+    /// The range of entry 3, where it may be read and written.
+    #[tactic(auto, using(crate::proofs::Windows::permits_by))]
+    fn data_window(&self) -> Window
+        ensures load { Permits self.now Access.Load result }
+        ensures store { Permits self.now Access.Store result }
+    {
+        let entry = self.entries[3];
+        if !entry.read || !entry.write {
+            return Window::EMPTY;
+        }
+        self.window(3)
+    }
+
+    /// The addresses of an entry's range, in which the entry decides every access: none where it is
+    /// off, where a lower entry's range reaches into it, or where an end is above all addresses.
+    #[tactic(auto, using(crate::proofs::Windows::decides_range, crate::proofs::Windows::decides_none))]
+    fn window(&self, entry: usize) -> Window
+        requires { entry < 8 }
+        ensures { Decides self.now entry result }
+    {
+        let range = self.entries[entry];
+        if range.mode == Mode::Off || !self.is_clear_below(entry) {
+            return Window::EMPTY;
+        }
+        match (
+            self.bottom(entry).checked_mul(4),
+            range.address.checked_mul(4),
+        ) {
+            (Some(from), Some(to)) => Window { from, to },
+            _ => Window::EMPTY,
+        }
+    }
+
+    /// Whether the ranges of all lower entries end at or below the bottom of an entry's range.
+    fn is_clear_below(&self, entry: usize) -> bool
+        requires { entry < 8 }
+        ensures { IsTrue result ↔ EndBy self.now entry (bottom_word self.now entry) }
+    {
+        let bottom = self.bottom(entry);
+        for lower in 0..entry {
+            let range = self.entries[lower];
+            if range.mode == Mode::Tor && bottom < range.address {
+                return false;
+            }
+        }
+        true
     }
 
     /// Whether user mode may make an access. Otherwise the rule is [`Rule::NoRegion`] where no
     /// entry matches any of the bytes or the lowest that does matches only some of them, and else
     /// that of the permission bit which that entry lacks.
+    ///
+    /// An access in a window of its kind needs no search.
+    #[inline]
     pub fn check(&self, access: Access, at: Addr, width: Width) -> Result<(), Rule>
         ensures { result ≡ answered (denied_by self.now access at width) tt }
     {
-        let Some(entry) = self.deciding(at, width) else {
+        if self.is_in_window(access, at, width) {
+            return Ok(());
+        }
+        self.search(access, at, width)
+    }
+
+    /// Whether an access lies in a window where its kind is permitted.
+    #[inline]
+    fn is_in_window(&self, access: Access, at: Addr, width: Width) -> bool
+        ensures { OnTrue result (denied_by self.now access at width ≡ None) }
+    {
+        match access {
+            Access::Fetch => self.code.holds(at, width),
+            Access::Load => self.data.holds(at, width) || self.code.holds(at, width),
+            Access::Store => self.data.holds(at, width),
+        }
+    }
+
+    /// The answer of [`Pmp::check`] by the entries alone.
+    #[cold]
+    fn search(&self, access: Access, at: Addr, width: Width) -> Result<(), Rule>
+        ensures { result ≡ answered (denied_by self.now access at width) tt }
+    {
+        let span = Span::of(at, width);
+        let Some(entry) = self.deciding(&span) else {
             return Err(Rule::NoRegion);
         };
-        if !self.matches_all(entry, at, width) {
+        if !self.matches_all(entry, &span) {
             return Err(Rule::NoRegion);
         }
         let entry = self.entries[entry];
@@ -130,54 +259,103 @@ impl Pmp {
     }
 
     /// The lowest entry that matches any byte of an access.
-    fn deciding(&self, at: Addr, width: Width) -> Option<usize>
-        ensures entry { result ≡ deciding self.now at width }
+    fn deciding(&self, span: &Span) -> Option<usize>
+        requires { IsSpan span.now }
+        ensures entry { result ≡ deciding self.now span.now.at span.now.width }
         ensures below { IfSome result (λ i. i < 8) }
     {
         for entry in 0..Pmp::COUNT {
-            if self.matches_any(entry, at, width) {
+            if self.matches_any(entry, span) {
                 return Some(entry);
             }
         }
         None
     }
 
-    #[tactic(auto, using(crate::proofs::Intervals::matches_any_within))]
-    fn matches_any(&self, entry: usize, at: Addr, width: Width) -> bool
-        requires { entry < 8 }
-        ensures { result ≡ matches_any self.now entry at width }
+    #[tactic(auto, using(crate::proofs::Words::any_of_words))]
+    fn matches_any(&self, entry: usize, span: &Span) -> bool
+        requires entry { entry < 8 }
+        requires span { IsSpan span.now }
+        ensures { result ≡ matches_any self.now entry span.now.at span.now.width }
     {
+        let top = self.entries[entry].address;
         let bottom = self.bottom(entry);
-        let top = self.top(entry);
-        let end = at as u64 + width.bytes() as u64;
-        self.entries[entry].mode == Mode::Tor && bottom < top && bottom < end && (at as u64) < top
-    }
-
-    #[tactic(auto, using(crate::proofs::Intervals::matches_all_within))]
-    fn matches_all(&self, entry: usize, at: Addr, width: Width) -> bool
-        requires { entry < 8 }
-        ensures { result ≡ matches_all self.now entry at width }
-    {
-        let end = at as u64 + width.bytes() as u64;
         self.entries[entry].mode == Mode::Tor
-            && self.bottom(entry) <= at as u64
-            && end <= self.top(entry)
+            && bottom < top
+            && bottom <= span.last
+            && span.first < top
     }
 
-    /// Where an entry's range begins.
-    fn bottom(&self, entry: usize) -> u64
-        requires { entry < 8 }
-        ensures { result ≡ bottom_of self.now entry }
+    #[tactic(auto, using(crate::proofs::Words::all_of_words))]
+    fn matches_all(&self, entry: usize, span: &Span) -> bool
+        requires entry { entry < 8 }
+        requires span { IsSpan span.now }
+        ensures { result ≡ matches_all self.now entry span.now.at span.now.width }
     {
-        if entry == 0 { 0 } else { self.top(entry - 1) }
+        self.entries[entry].mode == Mode::Tor
+            && self.bottom(entry) <= span.first
+            && span.last < self.entries[entry].address
     }
 
-    /// Where an entry's range ends.
-    fn top(&self, entry: usize) -> u64
+    /// Where an entry's range begins, divided by 4.
+    fn bottom(&self, entry: usize) -> u32
         requires { entry < 8 }
-        ensures { result ≡ top_of self.now entry }
+        ensures { result ≡ bottom_word self.now entry }
     {
-        self.entries[entry].address as u64 * 4
+        if entry == 0 {
+            0
+        } else {
+            self.entries[entry - 1].address
+        }
+    }
+}
+
+/// The addresses from one on up to but not including an end.
+#[derive(Clone, Copy, Debug)]
+struct Window {
+    from: Addr,
+    to: Addr,
+}
+
+impl Window {
+    ghost use Rattle.pmp_regions.specs.Windows.{holds};
+
+    const EMPTY: Window = Window { from: 0, to: 0 };
+
+    /// Whether all bytes of an access lie in the window.
+    #[inline]
+    fn holds(&self, at: Addr, width: Width) -> bool
+        ensures { result ≡ holds self.now at width }
+    {
+        self.from <= at && u64::from(at) + u64::from(width.bytes()) <= u64::from(self.to)
+    }
+}
+
+/// An access, and the addresses of its first and its last byte divided by 4, as the address registers
+/// hold them.
+#[derive(Clone, Copy)]
+struct Span {
+    at: Addr,
+    width: Width,
+    first: u32,
+    last: u32,
+}
+
+impl Span {
+    ghost use Rattle.pmp_regions.specs.Spans.{IsSpan};
+
+    fn of(at: Addr, width: Width) -> Span
+        ensures at { result.at ≡ at }
+        ensures width { result.width ≡ width }
+        ensures span { IsSpan result }
+    {
+        let end = u64::from(at) + u64::from(width.bytes());
+        Span {
+            at,
+            width,
+            first: at / 4,
+            last: ((end - 1) / 4) as u32,
+        }
     }
 }
 

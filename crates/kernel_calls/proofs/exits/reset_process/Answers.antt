@@ -1,6 +1,6 @@
 use Rattle.tbf_headers.specs.Shown.{shown}
 use Rattle.kernel_calls.proofs.Starts.{starts_again}
-use Rattle.kernel_calls.proofs.exits.start_again.Goals as goal
+use Rattle.kernel_calls.proofs.exits.reset_process.Goals as goal
 
 pub returns-clause-restarted : goal.returns-clause-restarted
 returns-clause-restarted c = λ b dropped.

@@ -1,0 +1,9 @@
+-- An access in units of the address registers.
+use Rattle.std.specs.Prelude.{◌≡◌, ◌+◌, ◌-◌, ◌/◌}
+use Rattle.tk_base.specs.Access.{width_bytes}
+use Rattle.pmp_regions.specs.declared.Span.{Span}
+
+-- the addresses of the first and the last byte of an access, divided by 4
+pub record IsSpan (s : Span) : Type 0 where
+  pub first : s.first ≡ s.at / 4
+  pub last : s.last ≡ (s.at + width_bytes s.width - 1) / 4

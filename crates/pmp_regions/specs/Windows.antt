@@ -1,0 +1,34 @@
+-- Windows of addresses beside the entries, where an access needs no search.
+use Rattle.std.specs.Prelude.{◌≡◌, ℕ, ◌+◌, ◌<◌, ◌≤◌, Bool, true, ◌&&◌, nat_le, IsTrue, List, None, Some}
+use Rattle.tk_base.specs.declared.access.Access.{Access}
+use Rattle.tk_base.specs.declared.access.Access.TheVariants.{Fetch, Load, Store}
+use Rattle.tk_base.specs.declared.access.Width.{Width}
+use Rattle.tk_base.specs.Access.{width_bytes}
+use Rattle.pmp_regions.specs.declared.Entry.{Entry}
+use Rattle.pmp_regions.specs.declared.Window.{Window}
+use Rattle.pmp_regions.specs.Entries.{entry_of, is_tor}
+use Rattle.pmp_regions.specs.Check.{deciding, matches_all, denied_by}
+
+-- all bytes of an access lie in a window
+abbrev pub holds : Window → ℕ → Width → Bool
+holds w at width = nat_le w.from at && nat_le (at + width_bytes width) w.to
+
+-- the entries permit every access of a kind in a window
+abbrev pub Permits : List Entry → Access → Window → Type 0
+Permits pmp access w = (at : ℕ) (width : Width) → IsTrue (holds w at width) → denied_by pmp access at width ≡ None
+
+-- what the two windows stand for
+pub record ArePermitted (pmp : List Entry) (code memory : Window) : Type 0 where
+  pub fetch : Permits pmp Fetch code
+  pub load_code : Permits pmp Load code
+  pub load_data : Permits pmp Load memory
+  pub store : Permits pmp Store memory
+
+-- an entry decides every access in a window, and matches all bytes of it
+pub record Decides (pmp : List Entry) (i : ℕ) (w : Window) : Type 0 where
+  pub decides : (at : ℕ) (width : Width) → IsTrue (holds w at width) → deciding pmp at width ≡ Some i
+  pub matches : (at : ℕ) (width : Width) → IsTrue (holds w at width) → matches_all pmp i at width ≡ true
+
+-- the ranges of the first n entries end at or below a word
+abbrev pub EndBy : List Entry → ℕ → ℕ → Type 0
+EndBy pmp n word = (k : ℕ) → k < n → IsTrue (is_tor (entry_of pmp k).mode) → (entry_of pmp k).address ≤ word
