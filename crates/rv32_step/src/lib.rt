@@ -14,6 +14,7 @@ use rv32_decode::decode32;
 use rv32_model::{Instr, TurnEnd, writes_are_permitted};
 use tk_base::{Access, Addr, Bus, Denial, Regs, Rule};
 
+#[inline]
 fn parcel<B: Bus>(bus: &B, at: Addr) -> Result<u16, Denial>
     ensures { result ≡ parcel_at (B.denies bus.now) (B.bytes bus.now) at }
 {
@@ -27,6 +28,7 @@ fn parcel<B: Bus>(bus: &B, at: Addr) -> Result<u16, Denial>
     }
 }
 
+#[inline]
 #[tactic(auto, unfolding(rv32_model::specs::UserTurn::fetched))]
 fn fetch<B: Bus>(bus: &B, pc: Addr) -> Result<u32, Denial>
     ensures value { result ≡ fetched (B.denies bus.now) (B.bytes bus.now) pc }
