@@ -6,16 +6,18 @@ use Rattle.std.proofs.lemmas.List.Elements.{All-nil, All-cons, All-weaker}
 use Rattle.std.proofs.lemmas.List.Sums.{sum_by-cons}
 use Rattle.std.proofs.lemmas.List.Kept.{AllPairs-cons}
 use Rattle.tk_base.specs.declared.access.TheConstants.{RAM_START}
+use Rattle.tk_base.specs.declared.limits.TheConstants.{FLASH_LIMIT}
+use Rattle.tk_base.specs.declared.process.TheConstants.Slot.{COUNT}
 use Rattle.tk_base.specs.declared.process.PlaceFault.{PlaceFault}
 use Rattle.tk_base.specs.declared.process.PlaceFault.TheVariants.{NoSlot, FixedTaken, NoRoom}
 use Rattle.flash_walk.specs.declared.found.Found.{Found}
-use Rattle.flash_walk.specs.Image.{size_at}
+use Rattle.flash_walk.specs.Image.{size_at, object_bytes}
 use Rattle.app_placement.specs.declared.application.Application.{Application}
 use Rattle.app_placement.specs.declared.placed.Filled.{Filled}
 use Rattle.app_placement.specs.declared.placed.Place.{Place}
 use Rattle.app_placement.specs.declared.placed.Placed.{Placed}
 use Rattle.app_placement.proofs.Objects.{IsFound, asked_of_found}
-use Rattle.app_placement.specs.Applications.{application_of, application_in, object_bytes}
+use Rattle.app_placement.specs.Applications.{application_of, application_in}
 use Rattle.tbf_headers.specs.Meaning.{reading}
 use Rattle.app_placement.specs.Placement.{block_length, block_start, is_taken, extents, place_of, filled_after, places_from, placements, LiesInRam, LiesBefore, LiesInFlash, IsAccessible, IsLaidOut, is_placed, AreNumbered}
 
@@ -52,7 +54,7 @@ place_of-follows ram filled app f =
     let start = block_start filled.last_end app.fixed_start in
     let end = start + block_length app.minimum_ram in
     let P : Place → Type 0 = Follows ram filled.last_end filled.count in
-    ok_of_cond P (nat_le 8 filled.count) NoSlot _ (λ free.
+    ok_of_cond P (nat_le COUNT filled.count) NoSlot _ (λ free.
     ok_of_cond P (is_taken filled.last_end app.fixed_start) FixedTaken _ (λ taken.
     ok_of_cond P (nat_lt (RAM_START + ram) end) NoRoom _ (λ room.
     let s = start_not_taken filled.last_end app.fixed_start f.aligned taken in
@@ -150,18 +152,18 @@ pub placements-apart : (ram : ℕ) (apps : List Application) → AllPairs LiesBe
 placements-apart ram apps = places_from-apart ram _ apps (none_filled ram)
 
 -- what an application asks for in its object lies in flash
-accessible_in_flash : (flash : List ℕ) (f : Found) (offset from to : ℕ) → length flash ≤ 1048576 → IsFound flash f → offset ≡ f.offset → IsAccessible f.offset f.size from to → IsAccessible offset (size_at flash offset) from to × (offset + size_at flash offset ≤ length flash) × (to ≤ RAM_START)
+accessible_in_flash : (flash : List ℕ) (f : Found) (offset from to : ℕ) → length flash ≤ FLASH_LIMIT → IsFound flash f → offset ≡ f.offset → IsAccessible f.offset f.size from to → IsAccessible offset (size_at flash offset) from to × (offset + size_at flash offset ≤ length flash) × (to ≤ RAM_START)
 accessible_in_flash flash f offset from to short found e a =
     let size : size_at flash offset ≡ f.size = ap (size_at flash) e ∙ sym found.size in
     let within : f.offset + f.size ≤ length flash = found.object.within in
     (record { from_object = omega arith; within_object = omega arith; not_empty = a.not_empty; from_aligned = a.from_aligned; to_aligned = a.to_aligned }, omega arith, omega arith)
 
-pub place_of-in_flash : (flash : List ℕ) (f : Found) (ram : ℕ) (filled : Filled) (app : Application) → length flash ≤ 1048576 → IsFound flash f → app.offset ≡ f.offset → IsAccessible f.offset f.size app.flash_from app.flash_to → LiesInFlash flash (record { offset = app.offset; place = place_of ram filled app })
+pub place_of-in_flash : (flash : List ℕ) (f : Found) (ram : ℕ) (filled : Filled) (app : Application) → length flash ≤ FLASH_LIMIT → IsFound flash f → app.offset ≡ f.offset → IsAccessible f.offset f.size app.flash_from app.flash_to → LiesInFlash flash (record { offset = app.offset; place = place_of ram filled app })
 unfolding place_of
 place_of-in_flash flash f ram filled app short found e a =
     let lies = accessible_in_flash flash f app.offset app.flash_from app.flash_to short found e a in
     let P : Place → Type 0 = λ q. IsAccessible app.offset (size_at flash app.offset) q.layout.flash_start q.layout.flash_end × (app.offset + size_at flash app.offset ≤ length flash) × (q.layout.flash_end ≤ RAM_START) in
-    ok_of_cond P (nat_le 8 filled.count) NoSlot _ (λ free.
+    ok_of_cond P (nat_le COUNT filled.count) NoSlot _ (λ free.
     ok_of_cond P (is_taken filled.last_end app.fixed_start) FixedTaken _ (λ taken.
     ok_of_cond P (nat_lt (RAM_START + ram) (block_start filled.last_end app.fixed_start + block_length app.minimum_ram)) NoRoom (Ok (record { slot = filled.count; layout = extents app (block_start filled.last_end app.fixed_start) })) (λ room. lies)))
 
@@ -173,7 +175,7 @@ place_of-laid_out flash f ram filled app found e h =
     let P : Place → Type 0 = λ q. option_map (λ (a : Application). extents a q.layout.start) (application_in app.offset (reading (object_bytes flash app.offset))) ≡ Some q.layout in
     let start = block_start filled.last_end app.fixed_start in (
       asked.0,
-      ok_of_cond P (nat_le 8 filled.count) NoSlot _ (λ free.
+      ok_of_cond P (nat_le COUNT filled.count) NoSlot _ (λ free.
           ok_of_cond P (is_taken filled.last_end app.fixed_start) FixedTaken _ (λ taken.
           ok_of_cond P (nat_lt (RAM_START + ram) (start + block_length app.minimum_ram)) NoRoom (Ok (record { slot = filled.count; layout = extents app start })) (λ room.
           ap (option_map (λ (a : Application). extents a start)) asked.1))),

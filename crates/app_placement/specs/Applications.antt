@@ -1,15 +1,16 @@
 -- What the applications of a flash image ask for, by their headers (Tock Binary Format, "Main", "Program" and
 -- "Fixed Addresses").
-use Rattle.std.specs.Prelude.{ℕ, ◌+◌, ◌==◌, Bool, true, false, if◌then◌else◌, List, slice_range, filter_map, Option, Some, None, option_map, Result, Ok, Err}
+use Rattle.std.specs.Prelude.{ℕ, ◌+◌, ◌==◌, Bool, true, false, if◌then◌else◌, List, filter_map, Option, Some, None, option_map, Result, Ok, Err}
 use Rattle.tk_base.specs.declared.access.TheConstants.{FLASH_START}
 use Rattle.tbf_headers.specs.declared.fault.HeaderFault.{HeaderFault}
 use Rattle.tbf_headers.specs.declared.program.Main.{Main}
 use Rattle.tbf_headers.specs.Meaning.{Meaning, reading}
-use Rattle.tbf_headers.specs.Addresses.{accessible_start, accessible_end}
+use Rattle.tbf_headers.specs.Addresses.{accessible_start, accessible_end_of}
+use Rattle.tbf_headers.specs.Objects.{object_at}
 use Rattle.flash_walk.specs.declared.found.Found.{Found}
 use Rattle.flash_walk.specs.declared.found.Verdict.{Verdict}
 use Rattle.flash_walk.specs.declared.found.Verdict.TheVariants.{Bad, Padding, Disabled, BadEntry, WrongFlash, App}
-use Rattle.flash_walk.specs.Image.{size_at, objects}
+use Rattle.flash_walk.specs.Image.{objects}
 use Rattle.app_placement.specs.declared.application.Application.{Application}
 
 -- the RAM start that an application is linked for; 0xFFFFFFFF for none
@@ -22,7 +23,7 @@ abbrev pub application : ℕ → Meaning → Main → Application
 application offset h m = record {
   offset = offset;
   flash_from = accessible_start (FLASH_START + offset) h m;
-  flash_to = accessible_end (FLASH_START + offset) h.total_size m.binary_end;
+  flash_to = accessible_end_of (FLASH_START + offset) h m;
   minimum_ram = m.minimum_ram;
   fixed_start = fixed_start h.fixed;
 }
@@ -42,12 +43,8 @@ is_app App = true
 
 -- what an object that was found asks for, if it is an application
 abbrev pub application_of : List ℕ → Found → Option Application
-application_of flash f = if is_app f.verdict then application_in f.offset (reading (slice_range flash f.offset (f.offset + f.size))) else None
+application_of flash f = if is_app f.verdict then application_in f.offset (reading (object_at flash f.offset f.size)) else None
 
 -- the applications of a flash image, in the order in which they stand there
 abbrev pub applications : List ℕ → List Application
 applications flash = filter_map (application_of flash) (objects flash)
-
--- the bytes of the object at an offset
-abbrev pub object_bytes : List ℕ → ℕ → List ℕ
-object_bytes flash offset = slice_range flash offset (offset + size_at flash offset)

@@ -2,14 +2,14 @@
 -- grants at the end).
 use Rattle.std.specs.Prelude.{◌≡◌, ◌≤◌, ◌<◌, ℕ, ◌+◌, ◌*◌, ◌/◌, ◌%◌, ◌==◌, Bool, false, not, ◌||◌, nat_lt, nat_le, if◌then◌else◌, List, [], ◌∷◌, length, take, count_by, slice_index_or, Option, Some, None, option_map, Result, Ok, Err, is_ok, IfOk}
 use Rattle.tk_base.specs.declared.access.TheConstants.{FLASH_START, RAM_START}
+use Rattle.tk_base.specs.declared.process.TheConstants.Slot.{COUNT}
 use Rattle.tk_base.specs.declared.process.PlaceFault.{PlaceFault}
 use Rattle.tk_base.specs.declared.process.PlaceFault.TheVariants.{NoSlot, FixedTaken, NoRoom}
-use Rattle.process_layout.specs.Extents.{Extents}
-use Rattle.process_layout.specs.Interval.{rounded_up}
-use Rattle.flash_walk.specs.Image.{size_at, verdict_of}
+use Rattle.process_layout.specs.Extents.{Extents, extents_at_start}
+use Rattle.flash_walk.specs.Image.{size_at, object_bytes, verdict_of}
 use Rattle.flash_walk.specs.declared.found.Verdict.TheVariants.{App}
 use Rattle.tbf_headers.specs.Meaning.{reading}
-use Rattle.app_placement.specs.Applications.{application_in, object_bytes}
+use Rattle.app_placement.specs.Applications.{application_in}
 use Rattle.app_placement.specs.declared.application.Application.{Application}
 use Rattle.app_placement.specs.declared.placed.Filled.{Filled}
 use Rattle.app_placement.specs.declared.placed.Place.{Place}
@@ -29,23 +29,15 @@ abbrev pub is_taken : ℕ → Option ℕ → Bool
 is_taken last_end None = false
 is_taken last_end (Some fixed) = not (fixed % 8 == 0) || nat_lt fixed last_end
 
--- the memory of an application whose block starts at an address
+-- the memory of an application whose block starts at an address, as it is at the application's start
 abbrev pub extents : Application → ℕ → Extents
-extents app start = record {
-  flash_start = app.flash_from;
-  flash_end = app.flash_to;
-  start = start;
-  end = start + block_length app.minimum_ram;
-  brk = rounded_up (start + app.minimum_ram);
-  kernel_break = start + block_length app.minimum_ram;
-  mark = start;
-}
+extents app start = extents_at_start app.flash_from app.flash_to start (start + block_length app.minimum_ram) app.minimum_ram
 
 -- an application's place in so many bytes of RAM, or the first cause for which it has none
 unfoldable pub place_of : ℕ → Filled → Application → Result Place PlaceFault
 place_of ram filled app =
     let start = block_start filled.last_end app.fixed_start in
-    if nat_le 8 filled.count then Err NoSlot
+    if nat_le COUNT filled.count then Err NoSlot
     else (if is_taken filled.last_end app.fixed_start then Err FixedTaken
     else (if nat_lt (RAM_START + ram) (start + block_length app.minimum_ram) then Err NoRoom
     else Ok (record { slot = filled.count; layout = extents app start })))
@@ -86,11 +78,18 @@ abbrev pub LiesInFlash : List ℕ → Placed → Type 0
 LiesInFlash flash p =
     IfOk p.place (λ q. IsAccessible p.offset (size_at flash p.offset) q.layout.flash_start q.layout.flash_end × (p.offset + size_at flash p.offset ≤ length flash) × (q.layout.flash_end ≤ RAM_START))
 
+-- the object at an offset is an application
+abbrev pub IsApp : List ℕ → ℕ → Type 0
+IsApp flash offset = verdict_of (FLASH_START + offset) (reading (object_bytes flash offset)) ≡ App
+
+-- the memory that the application at an offset asks for, from its block's start on
+abbrev pub asked_extents : List ℕ → ℕ → ℕ → Option Extents
+asked_extents flash offset start = option_map (λ app. extents app start) (application_in offset (reading (object_bytes flash offset)))
+
 -- the object of each is an application, and the memory of one that is placed is what its header asks for, from
 -- its block's start on
 abbrev pub IsLaidOut : List ℕ → Placed → Type 0
-IsLaidOut flash p =
-    (verdict_of (FLASH_START + p.offset) (reading (object_bytes flash p.offset)) ≡ App) × IfOk p.place (λ q. option_map (λ app. extents app q.layout.start) (application_in p.offset (reading (object_bytes flash p.offset))) ≡ Some q.layout)
+IsLaidOut flash p = IsApp flash p.offset × IfOk p.place (λ q. asked_extents flash p.offset q.layout.start ≡ Some q.layout)
 
 abbrev pub is_placed : Placed → Bool
 is_placed p = is_ok p.place

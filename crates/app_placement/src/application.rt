@@ -1,5 +1,5 @@
 //! What an application asks for.
-ghost use Rattle.std.specs.Prelude.{◌≡◌, ◌+◌, ◌%◌, ◌≤◌, length, Some, IfSome};
+ghost use Rattle.std.specs.Prelude.{◌≡◌, ◌+◌, ◌%◌, ◌≤◌, length, IfSome};
 ghost use Rattle.tbf_headers.specs.Shown.{shown};
 ghost use Rattle.flash_walk.specs.Image.{app_verdict, verdict_of, IsObject};
 ghost use Rattle.flash_walk.specs.declared.found.Verdict.TheVariants.{App};
@@ -7,8 +7,8 @@ ghost use Rattle.app_placement.specs.Applications.{application_of, application, 
 ghost use Rattle.app_placement.specs.Placement.{IsAccessible};
 
 use flash_walk::{Found, Verdict};
-use tbf_headers::{Header, Main, read_header};
-use tk_base::{Addr, FLASH_START};
+use tbf_headers::{AppHeader, object_at, read_header};
+use tk_base::{Addr, FLASH_LIMIT, FLASH_START};
 
 /// What an application asks for, by its header.
 #[derive(Clone, Copy, Debug, PartialEq, Eq)]
@@ -42,30 +42,29 @@ fn fixed_start_of(fixed: Option<(u32, u32)>) -> Option<Addr>
 }
 
 /// What an application at a place in flash asks for.
-fn application_from(offset: u32, header: &Header<'_>, main: &Main) -> Application
-    requires place { offset + header.now.total_size ≤ 1048576 }
+fn application_from(offset: u32, app: &AppHeader<'_>) -> Application
+    requires place { offset + app.now.header.total_size ≤ FLASH_LIMIT }
     requires aligned { offset % 4 ≡ 0 }
-    requires whole { header.now.total_size % 4 ≡ 0 }
-    requires main { header.now.main ≡ Some main.now }
-    requires app { app_verdict (FLASH_START + offset) (shown header.now) main.now ≡ App }
-    ensures application { result ≡ application offset (shown header.now) main.now }
-    ensures accessible { IsAccessible offset header.now.total_size result.flash_from result.flash_to }
+    requires whole { app.now.header.total_size % 4 ≡ 0 }
+    requires app { app_verdict (FLASH_START + offset) (shown app.now.header) app.now.main ≡ App }
+    ensures application { result ≡ application offset (shown app.now.header) app.now.main }
+    ensures accessible { IsAccessible offset app.now.header.total_size result.flash_from result.flash_to }
 {
     let object = FLASH_START + offset;
-    let from = header.accessible_start(object);
-    let to = header.accessible_end(object);
+    let from = app.accessible_start(object);
+    let to = app.accessible_end(object);
     Application {
         offset,
         flash_from: from as u32,
         flash_to: to as u32,
-        minimum_ram: main.minimum_ram,
-        fixed_start: fixed_start_of(header.fixed),
+        minimum_ram: app.main.minimum_ram,
+        fixed_start: fixed_start_of(app.header.fixed),
     }
 }
 
 /// What an object that was found asks for, if it is an application.
 pub(crate) fn application_at(flash: &[u8], object: &Found) -> Option<Application>
-    requires short { length flash.now ≤ 1048576 }
+    requires short { length flash.now ≤ FLASH_LIMIT }
     requires object { IsObject flash.now object.now }
     ensures application { result ≡ application_of flash.now object.now }
     ensures accessible { IfSome result (λ app. (app.offset ≡ object.now.offset)
@@ -74,13 +73,11 @@ pub(crate) fn application_at(flash: &[u8], object: &Found) -> Option<Application
     if object.verdict != Verdict::App {
         return None;
     }
-    let from = object.offset as usize;
-    let to = from + object.size as usize;
-    match read_header(&flash[from..to]) {
+    match read_header(object_at(flash, object.offset, object.size)) {
         Err(_) => None,
         Ok(header) => {
-            let main = header.main?;
-            Some(application_from(object.offset, &header, &main))
+            let app = header.app()?;
+            Some(application_from(object.offset, &app))
         }
     }
 }

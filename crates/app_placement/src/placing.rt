@@ -2,14 +2,14 @@
 ghost use Rattle.std.specs.Prelude.{◌≡◌, ◌+◌, ◌%◌, ◌≤◌, ◌<◌, length, count_by, All, AllPairs};
 ghost use Rattle.flash_walk.specs.Image.{objects};
 ghost use Rattle.app_placement.specs.Applications.{applications};
-ghost use Rattle.app_placement.specs.Placement.{block_length, block_start, is_taken, place_of, filled_after, placements, extents, LiesInRam, LiesBefore, LiesInFlash, IsLaidOut, AreNumbered, is_placed};
+ghost use Rattle.app_placement.specs.Placement.{block_length, block_start, is_taken, place_of, filled_after, placements, LiesInRam, LiesBefore, LiesInFlash, IsLaidOut, AreNumbered, is_placed};
 
 use crate::application::{Application, application_at};
 use crate::placed::{Filled, Place, Placed};
 use arrayvec::ArrayVec;
 use flash_walk::{Found, objects_are_found};
 use process_layout::Layout;
-use tk_base::{Addr, PlaceFault, RAM_START, Slot};
+use tk_base::{Addr, FLASH_LIMIT, PlaceFault, RAM_LIMIT, RAM_START, Slot};
 
 /// The length of a block of RAM, in bytes: the minimum RAM and 768 bytes, rounded up to a multiple
 /// of 1024.
@@ -39,29 +39,10 @@ fn block_start_of(last_end: Addr, fixed_start: Option<Addr>) -> Addr
     }
 }
 
-/// The memory of an application whose block has this start and end.
-fn layout_of(app: &Application, start: Addr, end: Addr) -> Layout
-    requires flash { app.now.flash_from ≤ app.now.flash_to }
-    requires start { start % 4 ≡ 0 }
-    requires end { end ≡ start + block_length app.now.minimum_ram }
-    ensures { result ≡ extents app.now start }
-{
-    let brk = (u64::from(start) + u64::from(app.minimum_ram)).next_multiple_of(4);
-    Layout {
-        flash_start: app.flash_from,
-        flash_end: app.flash_to,
-        start,
-        end,
-        brk: brk as u32,
-        kernel_break: end,
-        mark: start,
-    }
-}
-
 /// The place of the next application, or the first cause for which it has none.
 #[tactic(auto, unfolding(crate::specs::Placement::place_of))]
 fn next_place(ram: u32, filled: &Filled, app: &Application) -> Result<Place, PlaceFault>
-    requires ram { ram ≤ 262144 }
+    requires ram { ram ≤ RAM_LIMIT }
     requires aligned { filled.now.last_end % 4 ≡ 0 }
     requires flash { app.now.flash_from ≤ app.now.flash_to }
     ensures { result ≡ place_of ram filled.now app.now }
@@ -77,15 +58,16 @@ fn next_place(ram: u32, filled: &Filled, app: &Application) -> Result<Place, Pla
     if end > u64::from(RAM_START) + u64::from(ram) {
         return Err(PlaceFault::NoRoom);
     }
+    let (from, to) = (app.flash_from, app.flash_to);
     Ok(Place {
         slot: Slot::new(filled.count),
-        layout: layout_of(app, start, end as u32),
+        layout: Layout::for_start(from, to, start, end as u32, app.minimum_ram),
     })
 }
 
 /// How far RAM and the slots are filled after an application was placed or was not.
 fn next_filled(filled: &Filled, place: &Result<Place, PlaceFault>) -> Filled
-    requires { filled.now.count ≤ 8 }
+    requires { filled.now.count ≤ Slot.COUNT }
     ensures { result ≡ filled_after filled.now place.now }
 {
     match place {
@@ -98,17 +80,15 @@ fn next_filled(filled: &Filled, place: &Result<Place, PlaceFault>) -> Filled
 }
 
 /// Places the applications of a flash image in RAM of this size, in bytes, in the order in which
-/// they stand in flash. `found` is what the walk over the flash image finds.
+/// they stand in flash (Levy et al., SOSP 2017: each process has one block of RAM). `found` is what the walk over the flash image finds.
 ///
 /// An application is not placed where eight are placed already; where it is linked for a RAM
 /// start that is no multiple of 8 or lies below the end of the last block; or where its block
 /// would pass the end of RAM. The first of these causes is told. It then takes no slot and no RAM.
 pub fn place(found: &[Found], flash: &[u8], ram: u32) -> ArrayVec<Placed, 64>
     requires found { found.now ≡ objects flash.now }
-    requires flash { length flash.now ≤ 1048576 }
-    requires least { 4096 ≤ ram }
-    requires most { ram ≤ 262144 }
-    requires multiple { ram % 1024 ≡ 0 }
+    requires flash { length flash.now ≤ FLASH_LIMIT }
+    requires ram { ram ≤ RAM_LIMIT }
     ensures places { result.items ≡ placements ram (applications flash.now) }
     // Each block lies in RAM, apart from the others, and the accessible flash in its object.
     ensures ram { All (LiesInRam ram) result.items }
@@ -117,7 +97,7 @@ pub fn place(found: &[Found], flash: &[u8], ram: u32) -> ArrayVec<Placed, 64>
     // Each layout is the one for its object, and the slots are taken in order.
     ensures layouts { All (IsLaidOut flash.now) result.items }
     ensures slots { AreNumbered result.items }
-    ensures few { count_by is_placed result.items ≤ 8 }
+    ensures few { count_by is_placed result.items ≤ Slot.COUNT }
 {
     objects_are_found();
     let mut placed = ArrayVec::new();

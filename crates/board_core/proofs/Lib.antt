@@ -1,7 +1,5 @@
-pub mod Blocks
 pub mod Boards
-pub mod Homes
-pub mod Opening
-pub mod Order
+pub mod Crews
+pub mod Pairs
 pub mod Sight
 pub mod Turns

@@ -1,6 +1,7 @@
+pub mod Settings
 pub mod Opening
-pub mod Reach
-pub mod Seated
+pub mod Guards
 pub mod Shown
+pub mod Residents
+pub mod Boot
 pub mod Shows
-pub mod Status

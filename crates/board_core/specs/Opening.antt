@@ -1,35 +1,31 @@
 -- The opening world of a flash image under a script: its applications in their places, before the first step.
-use Rattle.std.specs.Prelude.{ℕ, ◌≤◌, IfOk, ◌+◌, ◌-◌, List, replicate, filter_map, Option, None, Some, option_map, Result, Ok, Err}
-use Rattle.tk_base.specs.declared.access.TheConstants.{FLASH_START, RAM_START}
+use Rattle.std.specs.Prelude.{ℕ, ◌+◌, ◌-◌, List, [], filter_map, Option, None, Some, option_map, Result, Ok, Err}
+use Rattle.tk_base.specs.declared.access.TheConstants.{FLASH_START}
 use Rattle.tk_base.specs.declared.process.PlaceFault.{PlaceFault}
 use Rattle.tbf_headers.specs.declared.fault.HeaderFault.{HeaderFault}
 use Rattle.tbf_headers.specs.declared.program.Main.{Main}
 use Rattle.tbf_headers.specs.Meaning.{Meaning, reading}
 use Rattle.process_layout.specs.Extents.{Extents}
-use Rattle.board_memory.specs.Memory.{BlockBytes}
-use Rattle.app_placement.specs.Applications.{applications, object_bytes}
+use Rattle.process_own.specs.Own as own
+use Rattle.flash_walk.specs.Image.{object_bytes}
+use Rattle.app_placement.specs.Applications.{applications}
 use Rattle.app_placement.specs.Placement.{placements}
 use Rattle.app_placement.specs.declared.placed.Place.{Place}
 use Rattle.app_placement.specs.declared.placed.Placed.{Placed}
 use Rattle.process_record.specs.Process.{started}
 use Rattle.process_record.specs.declared.summary.Unplaced.{Unplaced}
-use Rattle.script_text.specs.declared.rule.Script.{Script}
+use Rattle.script_text.specs.Settings.{Settings as Script}
 use Rattle.kernel_model.specs.Record.{Record}
 use Rattle.kernel_model.specs.World.{World}
-use Rattle.board_core.specs.Shows.{settings}
-
--- the block of a layout, zeroed
-abbrev pub first_block : Extents → BlockBytes
-first_block e = record { start = e.start; bytes = replicate (e.end - e.start) 0 }
+use Rattle.board_core.specs.Settings.{settings, pace, fresh_storage}
 
 -- the record of an application whose object stands at an offset: at its start, its block zeroed
 unfoldable pub opened : List ℕ → ℕ → Extents → Meaning → Main → Record
 opened flash offset e h m = record {
   process = started (FLASH_START + offset) h m e.start (e.end - e.start) e.brk;
   object = object_bytes flash offset;
-  layout = e;
-  ram = replicate (e.end - e.start) 0;
-  dropped = 0;
+  own = own.opened e;
+  storage = fresh_storage;
 }
 
 abbrev pub opened_by : List ℕ → ℕ → Extents → Result Meaning HeaderFault → Option Record
@@ -52,23 +48,18 @@ unplaced_in offset (Err fault) = Some (record { offset = offset; fault = fault }
 abbrev pub unplaced_at : Placed → Option Unplaced
 unplaced_at p = unplaced_in p.offset p.place
 
--- a block that is placed starts in RAM
-abbrev pub StartsInRam : Placed → Type 0
-StartsInRam p = IfOk p.place (λ place. RAM_START ≤ place.layout.start)
-
 -- the places of the applications of a flash image, in so many bytes of RAM
 abbrev pub places : ℕ → List ℕ → List Placed
 places ram flash = placements ram (applications flash)
 
--- the world before the first step: time and all counts are 0, all LEDs are off, and no slot is present
+-- the world before the first step: time and all counts are 0, nobody waits, all LEDs are off, and no slot is present
 unfoldable pub opening : Script → List ℕ → World
 opening script flash = record {
   records = filter_map (record_at flash) (places script.ram flash);
   unplaced = filter_map unplaced_at (places script.ram flash);
   settings = settings;
-  leds = 0;
-  time = 0;
-  steps = 0;
-  present = None;
-  used = 0;
+  pace = pace;
+  devices = record { writes = []; reads = []; randoms = []; stores = []; leds = 0 };
+  clock = record { time = 0; steps = 0 };
+  present = record { slot = None; used = 0 };
 }

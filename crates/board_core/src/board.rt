@@ -1,31 +1,33 @@
 //! The board.
-ghost use Rattle.std.specs.Prelude.{◌≡◌, ◌+◌, ◌%◌, [], ◌≤◌, ◌<◌, ◌↔◌, All, map, length, slice_get, IsOk, IsTrue, IfOk, IfSome, Some, OnOk, OnErr, vec_len};
+ghost use Rattle.std.specs.Prelude.{◌≡◌, ◌+◌, [], ◌≤◌, ◌<◌, ◌↔◌, All, map, length, slice_get, IsOk, IsTrue, IfOk, IfSome, Some, OnOk, OnErr, vec_len};
 ghost use Rattle.std.specs.List.{zip};
 ghost use Rattle.tk_base.specs.declared.process.Choice.TheVariants.{Run};
-ghost use Rattle.kernel_model.specs.World.{is_ready, after, labels, step_limit, used_after};
-ghost use Rattle.kernel_model.specs.Run.{next};
+ghost use Rattle.tk_base.specs.declared.limits.TheConstants.{STEP_LIMIT};
+ghost use Rattle.turn_scheduler.specs.RoundRobin.{used_after};
+ghost use Rattle.turn_scheduler.specs.Status.{situation_of as status_situation};
 ghost use Rattle.process_record.specs.Name.{name_of};
+ghost use Rattle.kernel_calls.specs.Own.{object_in};
+ghost use Rattle.kernel_model.specs.World.{is_ready, after, labels};
+ghost use Rattle.kernel_model.specs.Run.{next, situation_of};
 ghost use Rattle.kernel_model.specs.Shown.{shown_by, summary_of};
 ghost use Rattle.board_core.specs.Opening.{opening};
-ghost use Rattle.board_core.specs.Status.{status_of};
-ghost use Rattle.kernel_calls.specs.Own.{object_in};
-ghost use Rattle.board_core.specs.Seated.{IsSeated, HasObject, TurnsAt, can_turn, seat_runs, seat_line};
+ghost use Rattle.board_core.specs.Guards.{GuardsOnly};
+ghost use Rattle.board_core.specs.Residents.{IsSeated, HasObject, TurnsAt, can_turn, process_runs, line_in};
 
-use crate::boot::{first_seats, placed_in, unplaced};
-use crate::schedule::{Status, choose};
-use crate::seat::{Seat, Shown, has_turns, take_turn};
+use crate::boot::{Crew, first_crew, placed_in, unplaced};
+use crate::guard::Guard;
+use crate::turn::{Shown, has_turns, take_turn};
 use arrayvec::ArrayVec;
-use board_memory::Memory;
+use grant_enter::Home;
 use kernel_model::next_is_ready;
-use process_record::{Emit, Object, SlotLine, Summary, Unplaced, object_name};
+use process_record::{Emit, Object, Process, SlotLine, Summary, Unplaced, object_name};
 use script_text::Script;
 use std::alloc::Global;
 use std::marker::Model;
-use tk_base::{Choice, FLASH_START, Slot};
+use tbf_headers::object_at;
+use tk_base::{Choice, FLASH_LIMIT, FLASH_START, STEP_LIMIT, Slot};
 use tk_outside::NoMemory;
-
-/// How many steps a board makes at most.
-const STEP_LIMIT: u64 = 4_000_000_000;
+use turn_scheduler::{Status, next_choice, used_after};
 
 /// How many turns a process may have in a row while another is ready.
 const SLICE: u32 = 100;
@@ -40,22 +42,23 @@ pub struct NotReady;
 /// A board with its processes. Contracts see the world that it shows.
 #[derive(Drop)]
 pub struct Board {
-    /// Flash, and the block of each slot.
-    memory: Memory,
+    /// The memory of the processes.
+    home: Home,
     /// The processes, slot 0 first.
-    seats: Vec<Seat>,
+    processes: Vec<Process>,
+    /// The registers under which they run.
+    guard: Guard,
     /// The applications that have no place.
     unplaced: ArrayVec<Unplaced, 64>,
     /// In ticks.
     time: u64,
     steps: u64,
-    /// The slot that had the last turn, and how many it had in a row.
+    /// The slot that had the last turn, and how many turns of its slice it has used.
     present: Option<Slot>,
     used: u32,
 }
 
 impl Model for Board {
-    ghost use Rattle.tk_base.specs.declared.process.Choice.TheVariants.{Run};
     ghost use Rattle.kernel_model.specs.World.{World};
 
     ghost Value = { World };
@@ -68,47 +71,52 @@ impl Model for Board {
 }
 
 /// Whether a slot can have a turn.
-fn can_run(seats: &[Seat], slot: Slot) -> bool
-    ensures { result ≡ can_turn (slice_get seats.now slot) }
+fn can_run(processes: &[Process], slot: Slot) -> bool
+    ensures { result ≡ can_turn (slice_get processes.now slot) }
 {
-    match seats.get(slot.index()) {
-        Some(seat) => has_turns(seat.process.state),
+    match processes.get(slot.index()) {
+        Some(process) => has_turns(process.state),
         None => false,
     }
 }
 
-/// How many turns in a row the slot has had after one more.
+/// How many turns of its slice the slot has used after one more.
 fn used_after_turn(present: Option<Slot>, used: u32, slot: Slot) -> u32
     requires { used ≤ SLICE }
     ensures value { result ≡ used_after present used SLICE slot }
     ensures within { result ≤ SLICE }
 {
-    match present {
-        Some(present) if present == slot && used < SLICE => used + 1,
-        _ => 1,
-    }
+    used_after(present, used, SLICE, slot)
 }
 
 /// One turn of the process in a slot.
-fn turn_at(memory: &mut Memory, seats: &mut Vec<Seat>, slot: Slot, steps: u64) -> Shown
-    requires within { slot < length seats.old.items }
-    requires blocks { length memory.old.blocks ≡ length seats.old.items }
-    requires seated { All (IsSeated memory.old.flash steps) (zip seats.old.items memory.old.blocks) }
-    requires limit { steps < step_limit }
-    ensures { TurnsAt slot steps memory.old memory.new seats.old.items seats.new.items result }
+fn turn_at(
+    home: &mut Home,
+    processes: &mut Vec<Process>,
+    guard: &mut Guard,
+    slot: Slot,
+    steps: u64,
+) -> Shown
+    requires within { slot < length processes.old.items }
+    requires owns { length home.old.owns ≡ length processes.old.items }
+    requires seated { All (IsSeated home.old.flash steps) (zip processes.old.items home.old.owns) }
+    requires limit { steps < STEP_LIMIT }
+    requires guard { GuardsOnly guard.old home.old }
+    ensures turn { TurnsAt slot steps home.old home.new processes.old.items processes.new.items result }
+    ensures guard { GuardsOnly guard.new home.new }
 {
-    take_turn(&mut seats[slot.index()], memory, slot, steps)
+    take_turn(home, &mut processes[slot.index()], guard, slot, steps)
 }
 
 /// Adds for each slot whether it is ready. The table is filled where it lies: moving it would cost more
 /// than filling it, at each step.
-fn add_ready(seats: &[Seat], ready: &mut ArrayVec<bool, 8>)
-    requires few { length seats.now ≤ 8 }
+fn add_ready(processes: &[Process], ready: &mut ArrayVec<bool, 8>)
+    requires few { length processes.now ≤ 8 }
     requires fresh { ready.old.items ≡ [] }
-    ensures { ready.new.items ≡ map seat_runs seats.now }
+    ensures { ready.new.items ≡ map process_runs processes.now }
 {
-    for seat in seats {
-        ready.push(has_turns(seat.process.state));
+    for process in processes {
+        ready.push(has_turns(process.state));
     }
 }
 
@@ -118,8 +126,7 @@ fn name_in(flash: &[u8], object: &Object) -> ArrayVec<u8, 32>
     requires to { object.now.address + object.now.size ≤ FLASH_START + length flash.now }
     ensures { result.items ≡ name_of (object_in flash.now object.now) }
 {
-    let from = (object.address - FLASH_START) as usize;
-    object_name(&flash[from..from + object.size as usize])
+    object_name(object_at(flash, object.address - FLASH_START, object.size))
 }
 
 /// The same applications again.
@@ -135,42 +142,43 @@ fn copied(unplaced: &[Unplaced]) -> ArrayVec<Unplaced, 64>
 }
 
 /// The line of each slot.
-fn slot_lines(seats: &[Seat], flash: &[u8]) -> ArrayVec<SlotLine, 8>
-    requires few { length seats.now ≤ 8 }
-    requires objects { All (HasObject flash.now) seats.now }
-    ensures { result.items ≡ map (seat_line flash.now) seats.now }
+fn slot_lines(home: &Home, processes: &[Process]) -> ArrayVec<SlotLine, 8>
+    requires few { length processes.now ≤ 8 }
+    requires owns { length home.now.owns ≡ length processes.now }
+    requires objects { All (HasObject home.now.flash) processes.now }
+    ensures { result.items ≡ map (line_in home.now.flash) (zip processes.now home.now.owns) }
 {
     let mut lines = ArrayVec::new();
-    for seat in seats {
+    for (slot, process) in processes.iter().enumerate() {
         lines.push(SlotLine {
-            name: name_in(flash, &seat.process.object),
-            state: seat.process.state,
-            denial: seat.process.denial,
-            turns: seat.process.turns,
-            restarts: seat.process.restarts,
-            dropped: seat.dropped,
+            name: name_in(home.flash(), &process.object),
+            state: process.state,
+            denial: process.denial,
+            turns: process.turns,
+            restarts: process.restarts,
+            dropped: home.dropped(Slot::new(slot)),
         });
     }
     lines
 }
 
 impl Board {
-    /// The board of a flash image of at most 1,048,576 bytes under a script, whose RAM is 4 to 256 whole KiB,
-    /// before its first step. The applications of the image are in their places, each block of RAM is
-    /// zeroed. The one error is want of memory; image and script are dropped then.
+    /// The board of a flash image of at most [`FLASH_LIMIT`] bytes under a script, before its first step. The
+    /// applications of the image are in their places, each block of RAM is zeroed. The one error is
+    /// want of memory; image and script are dropped then.
     pub fn boot(alloc: Global, flash: Vec<u8>, script: Script) -> Result<Board, NoMemory>
-        requires flash { vec_len flash ≤ 1048576 }
-        requires least { 4096 ≤ script.ram }
-        requires most { script.ram ≤ 262144 }
-        requires multiple { script.ram % 1024 ≡ 0 }
+        requires { vec_len flash ≤ FLASH_LIMIT }
         ensures { IfOk result (λ board. board ≡ opening script flash.items) }
     {
         let placed = placed_in(&flash, script.ram);
-        let mut memory = Memory::new(alloc, flash);
-        let seats = first_seats(alloc, &placed, &mut memory)?;
+        let Crew { processes, layouts } = first_crew(alloc, &flash, &placed)?;
+        let Ok(home) = Home::new(alloc, flash, script.ram, &layouts) else {
+            return Err(NoMemory);
+        };
         Ok(Board {
-            memory,
-            seats,
+            home,
+            processes,
+            guard: Guard::new(),
             unplaced: unplaced(&placed),
             time: 0,
             steps: 0,
@@ -186,7 +194,7 @@ impl Board {
         if self.steps >= STEP_LIMIT {
             return false;
         }
-        can_run(&self.seats, slot)
+        can_run(&self.processes, slot)
     }
 
     /// A turn of the process in a slot.
@@ -199,7 +207,13 @@ impl Board {
         if !self.may_run(slot) {
             return Err(NotReady);
         }
-        let shown = turn_at(&mut self.memory, &mut self.seats, slot, self.steps);
+        let shown = turn_at(
+            &mut self.home,
+            &mut self.processes,
+            &mut self.guard,
+            slot,
+            self.steps,
+        );
         self.used = used_after_turn(self.present, self.used, slot);
         self.present = Some(slot);
         self.time += 1;
@@ -213,7 +227,9 @@ impl Board {
 
     /// Makes one step, and shows it in `emit`. Afterwards the board shows the world after the abstract
     /// kernel's step. `NotReady` comes exactly where the choice may not be made: its slot holds no
-    /// process that can have a turn, or 4,000,000,000 steps were made; nothing has changed then.
+    /// process that can have a turn, it is not a slot's turn, or 4,000,000,000 steps were made; nothing has
+    /// changed then.
+    #[tactic(auto, unfolding(kernel_model::specs::World::is_ready))]
     pub fn step(&mut self, choice: Choice, emit: &mut Emit) -> Result<(), NotReady>
         ensures ready { IsOk result ↔ IsTrue (is_ready self.old choice) }
         ensures ok { OnOk result (self.new ≡ after self.old choice) }
@@ -222,47 +238,55 @@ impl Board {
     {
         match choice {
             Choice::Run(slot) => self.run(slot, emit),
+            Choice::Device(_) | Choice::Pass(_) => Err(NotReady),
         }
     }
 
     /// What the round robin reads of the board.
+    #[inline(never)]
     pub fn status(&self) -> Status
-        ensures { result ≡ status_of self.now }
+        ensures { status_situation result ≡ situation_of self.now }
     {
         let mut status = Status {
             ready: ArrayVec::new(),
+            devices: ArrayVec::new(),
+            next: None,
+            time: self.time,
             present: self.present,
             used: self.used,
             slice: SLICE,
         };
-        add_ready(&self.seats, &mut status.ready);
+        add_ready(&self.processes, &mut status.ready);
         status
     }
 
     /// The present slot, where it keeps its turn: it can have one, and has turns left in its slice.
+    #[inline(always)]
     fn keeps_turn(&self) -> Option<Slot>
         ensures { IfSome result (λ slot. Some (Run slot) ≡ next self.now) }
     {
         match self.present {
-            Some(present) if self.used < SLICE && can_run(&self.seats, present) => Some(present),
+            Some(present) if self.used < SLICE && can_run(&self.processes, present) => Some(
+                present,
+            ),
             _ => None,
         }
     }
 
     /// The next choice of the round robin; None exactly where no process can have a turn. It may be made
     /// while fewer than 4,000,000,000 steps were made.
+    // As a call of its own it cost a tenth of a step.
+    #[inline(always)]
     pub fn next_choice(&self) -> Option<Choice>
         ensures next { result ≡ next self.now }
-        ensures ready { IfSome result (λ choice. self.now.steps < step_limit → IsTrue (is_ready self.now choice)) }
+        ensures ready { IfSome result (λ choice. self.now.clock.steps < STEP_LIMIT → IsTrue (is_ready self.now choice)) }
     {
         next_is_ready();
         // What comes most often needs no table of the slots.
         if let Some(slot) = self.keeps_turn() {
             return Some(Choice::Run(slot));
         }
-        let mut ready = ArrayVec::new();
-        add_ready(&self.seats, &mut ready);
-        choose(&ready, self.present, self.used, SLICE)
+        next_choice(&self.status())
     }
 
     /// What the report says of the board.
@@ -270,7 +294,7 @@ impl Board {
         ensures { result ≡ summary_of self.now }
     {
         Summary {
-            slots: slot_lines(&self.seats, self.memory.flash()),
+            slots: slot_lines(&self.home, &self.processes),
             unplaced: copied(&self.unplaced),
             leds: 0,
             led_count: LEDS,

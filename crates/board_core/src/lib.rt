@@ -1,12 +1,14 @@
-//! The board: processes over flash and RAM, one step at a time, as the abstract kernel makes it.
+//! The board: processes over one RAM and one register file, one step at a time, as the abstract kernel
+//! makes it.
 #![tactic(auto)]
 
 mod board;
 mod boot;
-mod reach;
-mod schedule;
-mod seat;
+mod guard;
+mod turn;
 
 pub use board::{Board, NotReady};
-pub use schedule::{Status, next_choice};
 pub use tk_outside::NoMemory;
+
+#[cfg(test)]
+mod tests;

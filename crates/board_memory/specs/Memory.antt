@@ -1,41 +1,42 @@
-use Rattle.std.specs.Prelude.{◌≡◌, ℕ, ◌+◌, ◌-◌, ◌≤◌, List, [], length, take, drop, slice_index_or, slice_set}
+-- Flash and RAM, and the places of a process in both (Levy et al., SOSP 2017, section 4).
+use Rattle.std.specs.Prelude.{ℕ, ◌+◌, ◌-◌, ◌≤◌, List, ◌++◌, length, take, drop, replicate, slice_range}
 use Rattle.std.specs.List.{refill}
+use Rattle.tk_base.specs.declared.access.TheConstants.{FLASH_START, RAM_START}
 use Rattle.process_layout.specs.Extents.{Extents}
-use Rattle.tk_base.specs.declared.access.TheConstants.{FLASH_START}
 
--- a slot's block of RAM: the address of its first byte, and its bytes
-pub record BlockBytes : Type 0 where
-  pub start : ℕ
-  pub bytes : List ℕ
-
--- the bytes of flash, and the blocks by slot
+-- the bytes of flash and of RAM
 pub record MemoryBytes : Type 0 where
   pub flash : List ℕ
-  pub blocks : List BlockBytes
+  pub ram : List ℕ
 
--- the block of a slot
-abbrev pub block_of : MemoryBytes → ℕ → BlockBytes
-block_of m slot = slice_index_or m.blocks slot (record { start = 0; bytes = [] })
-
--- the memory with other bytes in a slot's block
-abbrev pub with_block : MemoryBytes → ℕ → List ℕ → MemoryBytes
-with_block m slot bytes = record m { blocks = slice_set m.blocks slot (record (block_of m slot) { bytes = bytes }) }
-
--- the same where the bytes are cut or filled up to as many as the block has
-abbrev pub with_lent : MemoryBytes → ℕ → List ℕ → MemoryBytes
-with_lent m slot bytes = with_block m slot (refill (length (block_of m slot).bytes) (block_of m slot).bytes bytes)
-
--- the accessible flash lies in flash, and the block is the one of the layout
-pub record IsPlaced (e : Extents) (flash : List ℕ) (b : BlockBytes) : Type 0 where
+-- the accessible flash lies in flash, and the block in RAM
+pub record IsPlaced (e : Extents) (m : MemoryBytes) : Type 0 where
   pub flash_from : FLASH_START ≤ e.flash_start
-  pub flash_to : e.flash_end ≤ FLASH_START + length flash
-  pub start : e.start ≡ b.start
-  pub end : e.end ≡ b.start + length b.bytes
+  pub flash_to : e.flash_end ≤ FLASH_START + length m.flash
+  pub from : RAM_START ≤ e.start
+  pub to : e.end ≤ RAM_START + length m.ram
 
--- a process's own bytes of its block, those below the kernel break
-abbrev pub app_bytes : Extents → BlockBytes → List ℕ
-app_bytes e b = take (e.kernel_break - e.start) b.bytes
+-- the bytes of RAM from one address up to another
+abbrev pub ram_between : List ℕ → ℕ → ℕ → List ℕ
+ram_between ram from to = slice_range ram (from - RAM_START) (to - RAM_START)
 
--- the kernel's bytes of the block, those from the kernel break on
-abbrev pub kernel_bytes : Extents → BlockBytes → List ℕ
-kernel_bytes e b = drop (e.kernel_break - e.start) b.bytes
+-- the bytes of a layout's accessible flash
+abbrev pub accessible_flash : Extents → List ℕ → List ℕ
+accessible_flash e flash = slice_range flash (e.flash_start - FLASH_START) (e.flash_end - FLASH_START)
+
+-- bytes with others written over them from a place on
+abbrev pub over : List ℕ → ℕ → List ℕ → List ℕ
+over bytes at others = take at bytes ++ (others ++ drop (length others) (drop at bytes))
+
+-- memory with a block of zeros
+abbrev pub cleared : Extents → MemoryBytes → MemoryBytes
+cleared e m = record m { ram = over m.ram (e.start - RAM_START) (replicate (e.end - e.start) 0) }
+
+-- memory with bytes written over RAM from an address on; RAM keeps its length
+abbrev pub with_run : MemoryBytes → ℕ → List ℕ → MemoryBytes
+with_run m from bytes =
+    record m { ram = refill (length m.ram) m.ram (over m.ram (from - RAM_START) bytes) }
+
+-- memory with these bytes as its RAM; RAM keeps its length
+abbrev pub with_ram : MemoryBytes → List ℕ → MemoryBytes
+with_ram m bytes = record m { ram = refill (length m.ram) m.ram bytes }

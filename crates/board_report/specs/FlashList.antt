@@ -1,8 +1,9 @@
 -- The text of `tock list`: a line for each object of a flash image, and how many there are.
-use Rattle.std.specs.Prelude.{ℕ, ◌+◌, List, ◌++◌, length, slice_range, codes, decimal}
+use Rattle.std.specs.Prelude.{ℕ, List, ◌++◌, length, codes, decimal}
 use Rattle.std.specs.List.{flat_map}
 use Rattle.tbf_headers.specs.declared.fault.HeaderFault.{HeaderFault}
 use Rattle.tbf_headers.specs.declared.fault.HeaderFault.TheVariants.{Short, Version, Sizes, Checksum, Tlv}
+use Rattle.tbf_headers.specs.Objects.{object_at}
 use Rattle.flash_walk.specs.declared.found.Found.{Found}
 use Rattle.flash_walk.specs.declared.found.Verdict.{Verdict}
 use Rattle.flash_walk.specs.declared.found.Verdict.TheVariants.{Bad, Padding, Disabled, BadEntry, WrongFlash, App}
@@ -26,14 +27,10 @@ verdict_text BadEntry = codes "bad-entry"
 verdict_text WrongFlash = codes "wrong-flash"
 verdict_text App = codes "app"
 
--- the bytes of an object
-abbrev pub bytes_of : List ℕ → Found → List ℕ
-bytes_of flash f = slice_range flash f.offset (f.offset + f.size)
-
 -- the line of an object of a flash image
 unfoldable pub object_text : List ℕ → Found → List ℕ
 object_text flash f =
-    codes "object " ++ (decimal f.offset ++ (codes " " ++ (decimal f.size ++ (codes " " ++ (verdict_text f.verdict ++ (codes " " ++ (name_text (name_of (bytes_of flash f)) ++ newline)))))))
+    codes "object " ++ (decimal f.offset ++ (codes " " ++ (decimal f.size ++ (codes " " ++ (verdict_text f.verdict ++ (codes " " ++ (name_text (name_of (object_at flash f.offset f.size)) ++ newline)))))))
 
 -- the line of how many there are
 unfoldable pub count_text : ℕ → List ℕ

@@ -8,7 +8,8 @@ use crate::words::shown_name;
 use flash_walk::{Found, Verdict, objects_are_found};
 use itoa::Buffer;
 use process_record::object_name;
-use tbf_headers::HeaderFault;
+use tbf_headers::{HeaderFault, object_at};
+use tk_base::FLASH_LIMIT;
 use tk_outside::{Failed, Sink, put_pieces, writes_compose};
 
 /// The word of an object whose header has a fault. A walk lists none that is too short or of another
@@ -47,8 +48,8 @@ fn write_object<K: Sink>(out: &mut K, flash: &[u8], object: &Found) -> Result<()
 {
     let mut offset = Buffer::new();
     let mut size = Buffer::new();
-    let start = object.offset as usize;
-    let name = shown_name(&object_name(&flash[start..start + object.size as usize]));
+    let bytes = object_at(flash, object.offset, object.size);
+    let name = shown_name(&object_name(bytes));
     put_pieces(
         out,
         &[
@@ -86,8 +87,8 @@ fn write_count<K: Sink>(out: &mut K, count: usize) -> Result<(), Failed>
     put_pieces(out, &[b"objects ", digits.format(count).as_bytes(), b"\n"])
 }
 
-/// Writes the list of the objects of a flash image of at most 1048576 bytes, in flash order: for each
-/// `object OFFSET SIZE VERDICT NAME`, where offset and size are in bytes, and then `objects N`.
+/// Writes the list of the objects of a flash image of at most [`FLASH_LIMIT`] bytes, in flash order: for
+/// each `object OFFSET SIZE VERDICT NAME`, where offset and size are in bytes, and then `objects N`.
 ///
 /// The verdict is `app`, `padding`, `disabled`, `bad-entry`, `wrong-flash`, or for a header with a
 /// fault `bad-sizes`, `bad-checksum` or `bad-tlv`. The name is the package's (Tock Binary Format,
@@ -96,7 +97,7 @@ fn write_count<K: Sink>(out: &mut K, count: usize) -> Result<(), Failed>
 /// [`Failed`] comes only where the sink's count of faults rose; a part of the list was written then
 /// that lacks at least one byte. No memory is taken.
 pub fn write_list<K: Sink>(flash: &[u8], found: &[Found], out: &mut K) -> Result<(), Failed>
-    requires flash { length flash.now ≤ 1048576 }
+    requires flash { length flash.now ≤ FLASH_LIMIT }
     requires found { found.now ≡ objects flash.now }
     ensures { Writes K.told K.faults out.old out.new (list_text flash.now) result }
 {

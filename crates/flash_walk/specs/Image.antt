@@ -1,12 +1,14 @@
--- The objects of a flash image. Each begins with a header of the Tock Binary Format, and the next one stands
--- where its total size ends. Places are counted from the start of flash.
-use Rattle.std.specs.Prelude.{◌≡◌, ◌≤◌, ℕ, zero, suc, ◌+◌, ◌-◌, ◌%◌, ◌==◌, Bool, false, not, ◌||◌, ◌&&◌, nat_lt, nat_le, if◌then◌else◌, List, [], ◌∷◌, length, slice_range, Option, Some, None, Result, Ok, Err}
+-- The objects of a flash image. Each begins with a header (Tock Binary Format, "TBF Header Base"), and the next one
+-- stands where its total size ends. What an application must have beside is the board's own rule, after the formats
+-- of "Main", "Program" and "Fixed Addresses". Places are counted from the start of flash.
+use Rattle.std.specs.Prelude.{◌≡◌, ◌≤◌, ℕ, zero, suc, ◌+◌, ◌-◌, ◌%◌, ◌==◌, Bool, false, not, ◌||◌, ◌&&◌, nat_lt, nat_le, if◌then◌else◌, List, [], ◌∷◌, length, Option, Some, None, Result, Ok, Err}
 use Rattle.tk_base.specs.declared.access.TheConstants.{FLASH_START}
 use Rattle.tbf_headers.specs.declared.fault.HeaderFault.{HeaderFault}
 use Rattle.tbf_headers.specs.declared.program.Main.{Main}
 use Rattle.tbf_headers.specs.Numbers.{half, word}
 use Rattle.tbf_headers.specs.Meaning.{Meaning, reading}
-use Rattle.tbf_headers.specs.Addresses.{after_protected, entry_of, accessible_start, accessible_end}
+use Rattle.tbf_headers.specs.Addresses.{after_protected, entry_of, accessible_start, accessible_end_of}
+use Rattle.tbf_headers.specs.Objects.{object_at}
 use Rattle.flash_walk.specs.declared.found.Found.{Found}
 use Rattle.flash_walk.specs.declared.found.Verdict.{Verdict}
 use Rattle.flash_walk.specs.declared.found.Verdict.TheVariants.{Bad, Padding, Disabled, BadEntry, WrongFlash, App}
@@ -14,7 +16,7 @@ use Rattle.flash_walk.specs.declared.found.Verdict.TheVariants.{Bad, Padding, Di
 -- the entry is outside accessible flash
 abbrev pub is_outside : ℕ → Meaning → Main → Bool
 is_outside start h m =
-    nat_lt (entry_of start h m) (accessible_start start h m) || nat_le (accessible_end start h.total_size m.binary_end) (entry_of start h m)
+    nat_lt (entry_of start h m) (accessible_start start h m) || nat_le (accessible_end_of start h m) (entry_of start h m)
 
 -- the binary's end passes the object, or stands before the end of the protected bytes
 abbrev pub is_bad_binary_end : ℕ → ℕ → Option ℕ → Bool
@@ -53,6 +55,10 @@ verdict_of start (Ok h) = object_verdict start h h.main
 abbrev pub size_at : List ℕ → ℕ → ℕ
 size_at flash at = word flash (at + 4)
 
+-- the bytes of the object at a place
+abbrev pub object_bytes : List ℕ → ℕ → List ℕ
+object_bytes flash at = object_at flash at (size_at flash at)
+
 -- no object stands at a place: fewer than 16 bytes are left, the version is not 2, or the total size is below
 -- 16, no multiple of 4 or beyond what is left
 abbrev pub ends_at : List ℕ → ℕ → Bool
@@ -64,7 +70,7 @@ unfoldable pub found_at : List ℕ → ℕ → Found
 found_at flash at = record {
   offset = at;
   size = size_at flash at;
-  verdict = verdict_of (FLASH_START + at) (reading (slice_range flash at (at + size_at flash at)));
+  verdict = verdict_of (FLASH_START + at) (reading (object_bytes flash at));
 }
 
 -- at most n objects from a place on
@@ -81,4 +87,4 @@ pub record IsObject (flash : List ℕ) (f : Found) : Type 0 where
   pub large : 16 ≤ f.size
   pub within : f.offset + f.size ≤ length flash
   pub aligned : f.offset % 4 ≡ 0
-  pub judged : f.verdict ≡ verdict_of (FLASH_START + f.offset) (reading (slice_range flash f.offset (f.offset + f.size)))
+  pub judged : f.verdict ≡ verdict_of (FLASH_START + f.offset) (reading (object_at flash f.offset f.size))

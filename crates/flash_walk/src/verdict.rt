@@ -1,11 +1,11 @@
 //! What is said of one object.
-ghost use Rattle.std.specs.Prelude.{◌≡◌, ◌+◌, Some};
+ghost use Rattle.std.specs.Prelude.{◌≡◌, ◌+◌};
 ghost use Rattle.tbf_headers.specs.Meaning.{reading};
 ghost use Rattle.tbf_headers.specs.Shown.{shown};
 ghost use Rattle.flash_walk.specs.Image.{is_bad_binary_end, is_outside, has_bad_entry, is_wrong_flash, app_verdict, verdict_of};
 
 use crate::found::Verdict;
-use tbf_headers::{Header, Main, read_header};
+use tbf_headers::{AppHeader, read_header};
 use tk_base::Addr;
 
 /// Whether the binary's end passes the object, or stands before the end of the protected bytes.
@@ -19,25 +19,24 @@ fn is_bad_end(protected_end: u64, total_size: u32, binary_end: Option<u32>) -> b
 }
 
 /// Whether the entry is outside of accessible flash.
-fn is_entry_outside(object: Addr, header: &Header<'_>, main: &Main) -> bool
-    requires { header.now.main ≡ Some main.now }
-    ensures { result ≡ is_outside object (shown header.now) main.now }
+fn is_entry_outside(object: Addr, app: &AppHeader<'_>) -> bool
+    ensures { result ≡ is_outside object (shown app.now.header) app.now.main }
 {
-    let entry = header.entry(object);
-    entry < header.accessible_start(object) || entry >= header.accessible_end(object)
+    let entry = app.entry(object);
+    entry < app.accessible_start(object) || entry >= app.accessible_end(object)
 }
 
 /// Whether the header with the protected bytes passes the object, the binary's end is bad, or the
 /// entry is odd or outside of accessible flash.
-fn is_bad_entry(object: Addr, header: &Header<'_>, main: &Main) -> bool
-    requires { header.now.main ≡ Some main.now }
-    ensures { result ≡ has_bad_entry object (shown header.now) main.now }
+fn is_bad_entry(object: Addr, app: &AppHeader<'_>) -> bool
+    ensures { result ≡ has_bad_entry object (shown app.now.header) app.now.main }
 {
-    let protected_end = header.after_protected(0);
-    protected_end > u64::from(header.total_size)
-        || is_bad_end(protected_end, header.total_size, main.binary_end)
-        || header.entry(object) % 2 == 1
-        || is_entry_outside(object, header, main)
+    let protected_end = app.after_protected(0);
+    let total_size = app.header.total_size;
+    protected_end > u64::from(total_size)
+        || is_bad_end(protected_end, total_size, app.main.binary_end)
+        || app.entry(object) % 2 == 1
+        || is_entry_outside(object, app)
 }
 
 /// Whether there is a fixed flash start other than the address that the application stands at.
@@ -50,18 +49,17 @@ fn is_elsewhere(linked: u64, fixed: Option<(u32, u32)>) -> bool
     }
 }
 
-/// The first verdict that fits an object with a Program or a Main TLV.
-fn verdict_on_app(object: Addr, header: &Header<'_>, main: &Main) -> Verdict
-    requires { header.now.main ≡ Some main.now }
-    ensures { result ≡ app_verdict object (shown header.now) main.now }
+/// The first verdict that fits an application.
+fn verdict_on_app(object: Addr, app: &AppHeader<'_>) -> Verdict
+    ensures { result ≡ app_verdict object (shown app.now.header) app.now.main }
 {
-    if header.flags % 2 == 0 {
+    if app.header.flags % 2 == 0 {
         return Verdict::Disabled;
     }
-    if is_bad_entry(object, header, main) {
+    if is_bad_entry(object, app) {
         return Verdict::BadEntry;
     }
-    if is_elsewhere(header.after_protected(object), header.fixed) {
+    if is_elsewhere(app.after_protected(object), app.header.fixed) {
         return Verdict::WrongFlash;
     }
     Verdict::App
@@ -73,9 +71,9 @@ pub fn verdict_on(bytes: &[u8], object: Addr) -> Verdict
 {
     match read_header(bytes) {
         Err(fault) => Verdict::Bad(fault),
-        Ok(header) => match header.main {
+        Ok(header) => match header.app() {
             None => Verdict::Padding,
-            Some(main) => verdict_on_app(object, &header, &main),
+            Some(app) => verdict_on_app(object, &app),
         },
     }
 }

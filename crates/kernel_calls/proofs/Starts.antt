@@ -1,34 +1,49 @@
--- A process that starts again.
-use Rattle.std.proofs.Common.{◌≡◌, ℕ, ◌-◌, List, length, replicate, Option, Some, IfSome, Ok, ap, sym, ◌∙◌, subst}
+-- A process that starts again, and records that keep their object.
+use Rattle.std.proofs.Common.{◌≡◌, ◌≢◌, ℕ, ◌-◌, List, Option, Some, Result, Ok, ap, ap₂, sym, ◌∙◌, arith}
+use Rattle.std.proofs.lemmas.Bool.Decides.{nat_tests}
+use Rattle.tk_base.specs.declared.call.CallRule.{CallRule}
+use Rattle.tk_base.specs.declared.call.CallRule.TheVariants.{NoOperation}
 use Rattle.tbf_headers.specs.declared.program.Main.{Main}
 use Rattle.tbf_headers.specs.Meaning.{Meaning, reading}
-use Rattle.process_layout.specs.Extents.{Extents, at_start}
+use Rattle.process_layout.specs.Extents.{Extents, first_break}
+use Rattle.process_own.specs.Own.{Own, restarted as own_restarted}
+use Rattle.syscall_abi.specs.declared.reply.Reply.{Reply}
+use Rattle.process_record.specs.declared.process.Object.{Object}
+use Rattle.process_record.specs.declared.outcome.Outcome.{Outcome}
 use Rattle.process_record.specs.declared.process.Process.{Process}
 use Rattle.process_record.specs.Process.{restarted}
-use Rattle.board_memory.specs.Memory.{BlockBytes}
-use Rattle.kernel_model.specs.Record.{Record}
-use Rattle.kernel_model.specs.Calls.{restart, restarted_by, restarted_main}
+use Rattle.kernel_model.specs.Record.{Record, with_process}
+use Rattle.kernel_model.specs.Calls.{refused, exit, restart, restarted_by, restarted_main}
 use Rattle.kernel_calls.specs.Own.{object_in, record_in}
+use Rattle.kernel_calls.specs.Outcomes.{returned}
 
--- the record with a block of zeros
-abbrev zeroed : List ℕ → BlockBytes → Process → Extents → ℕ → Record
-zeroed flash b p e dropped = record (record_in flash b p e dropped) { ram = replicate (length b.bytes) 0 }
+-- a record that keeps its object
+pub of_object : (flash : List ℕ) (p q : Process) (own : Own) (storage : List ℕ) → q.object ≡ p.object → with_process (record_in flash p own storage) q ≡ record_in flash q own storage
+of_object flash p q own storage same = ap (λ (x : Object). record { process = q; object = object_in flash x; own = own; storage = storage }) (sym same)
 
-from_start : (flash : List ℕ) (b : BlockBytes) (p q : Process) (e : Extents) (dropped : ℕ) (h : Meaning) (m : Main) → reading (object_in flash p.object) ≡ Ok h → h.main ≡ Some m → q ≡ restarted p h m e.start (e.end - e.start) (at_start m.minimum_ram e).brk → zeroed flash b q (at_start m.minimum_ram e) dropped ≡ restart (record_in flash b p e dropped)
+-- what a reply leaves of the record
+pub given : (flash : List ℕ) (p q : Process) (own : Own) (storage : List ℕ) (answer : Result Reply CallRule) (o : Outcome) → q.object ≡ p.object → returned (with_process (record_in flash p own storage) p) answer ≡ record { after = with_process (record_in flash p own storage) q; outcome = o } → returned (record_in flash p own storage) answer ≡ record { after = record_in flash q own storage; outcome = o }
+given flash p q own storage answer o same gives = gives ∙ ap (λ (s : Record). record { after = s; outcome = o }) (of_object flash p q own storage same)
+
+pub no_exit : (r : Record) (kind code : ℕ) → kind ≢ 0 → kind ≢ 1 → exit r kind code ≡ refused r NoOperation
+unfolding exit
+no_exit r kind code zeroth first = grind (arith, nat_tests)
+
+-- the start by a header that was read
+pub starts_again : (flash read_from : List ℕ) (p q : Process) (own own_after : Own) (storage : List ℕ) (h g : Meaning) (m : Main) (main : Option Main) (e : Extents) (brk : ℕ)
+    → read_from ≡ flash → reading (object_in read_from p.object) ≡ Ok h → h.main ≡ Some m → g ≡ h → e ≡ own.layout → brk ≡ first_break e.start m.minimum_ram
+    → q ≡ restarted p g m e.start (e.end - e.start) brk → own_after ≡ own_restarted brk own → q.object ≡ p.object
+    → record_in flash q own_after storage ≡ restart (record_in flash p own storage)
 unfolding restart
-from_start flash b p q e dropped h m read main is =
-    let r = record_in flash b p e dropped in
-    ap (λ (x : Process). zeroed flash b x (at_start m.minimum_ram e) dropped) is ∙ sym (ap (restarted_by r) read ∙ ap (restarted_main r h) main)
-
-from_layout : (flash : List ℕ) (b : BlockBytes) (p q : Process) (e f : Extents) (dropped : ℕ) (h : Meaning) (m : Main) → reading (object_in flash p.object) ≡ Ok h → h.main ≡ Some m → f ≡ at_start m.minimum_ram e → q ≡ restarted p h m f.start (f.end - f.start) f.brk → zeroed flash b q f dropped ≡ restart (record_in flash b p e dropped)
-from_layout flash b p q e f dropped h m read main placed =
-    subst (λ (l : Extents). q ≡ restarted p h m l.start (l.end - l.start) l.brk → zeroed flash b q l dropped ≡ restart (record_in flash b p e dropped)) (sym placed) (from_start flash b p q e dropped h m read main)
-
-of_main : (P : Main → Type 0) (main : Option Main) (m : Main) → main ≡ Some m → IfSome main P → P m
-of_main P main m is holds = subst (λ (x : Option Main). IfSome x P) is holds
-
--- the registers and the layout of a start, by the header that was read
-pub starts_again : (flash : List ℕ) (b : BlockBytes) (p q : Process) (e f g : Extents) (dropped : ℕ) (h : Meaning) (m : Main) → reading (object_in flash p.object) ≡ Ok h → h.main ≡ Some m → f ≡ at_start m.minimum_ram e → g ≡ f → IfSome h.main (λ m. q ≡ restarted p h m g.start (g.end - g.start) g.brk) → zeroed flash b q f dropped ≡ restart (record_in flash b p e dropped)
-starts_again flash b p q e f g dropped h m read main placed same holds =
-    let is : q ≡ restarted p h m g.start (g.end - g.start) g.brk = of_main (λ m. q ≡ restarted p h m g.start (g.end - g.start) g.brk) h.main m main holds in
-    from_layout flash b p q e f dropped h m read main placed (subst (λ (l : Extents). q ≡ restarted p h m l.start (l.end - l.start) l.brk) same is)
+starts_again flash read_from p q own own_after storage h g m main e brk whole read has same place at is left object =
+    let r = record_in flash p own storage in
+    let reads : reading r.object ≡ Ok h = ap (λ (f : List ℕ). reading (object_in f p.object)) (sym whole) ∙ read in
+    let brk_is : brk ≡ first_break own.layout.start m.minimum_ram = at ∙ ap (λ (x : Extents). first_break x.start m.minimum_ram) place in
+    let process : q ≡ restarted p h m own.layout.start (own.layout.end - own.layout.start) (first_break own.layout.start m.minimum_ram)
+    = is ∙ ap (λ (x : Meaning). restarted p x m e.start (e.end - e.start) brk) same
+    ∙ ap (λ (x : Extents). restarted p h m x.start (x.end - x.start) brk) place
+    ∙ ap (restarted p h m own.layout.start (own.layout.end - own.layout.start)) brk_is in
+    let own_is : own_after ≡ own_restarted (first_break own.layout.start m.minimum_ram) own = left ∙ ap (λ (n : ℕ). own_restarted n own) brk_is in
+    ap (λ (o : Object). record { process = q; object = object_in flash o; own = own_after; storage = storage }) object
+    ∙ ap₂ (λ (x : Process) (o : Own). record { process = x; object = object_in flash p.object; own = o; storage = storage }) process own_is
+    ∙ sym (ap (restarted_by r) reads ∙ ap (restarted_main r h) has)

@@ -1,30 +1,32 @@
--- A process with its own object and its own block (Levy et al., SOSP 2017; Tock Binary Format, "Main" and "Program").
-use Rattle.std.specs.Prelude.{◌≡◌, ℕ, ◌+◌, ◌-◌, ◌^◌, ◌<◌, ◌≤◌, List, length, slice_range, Option, None, Some, Result, Ok, Err, IsOk}
+-- A process with its own object (Levy et al., SOSP 2017; Tock Binary Format, "Main" and "Program").
+use Rattle.std.specs.Prelude.{◌≡◌, ℕ, ◌+◌, ◌-◌, ◌^◌, ◌<◌, ◌≤◌, Bool, true, false, List, length, Option, None, Some, Result, Ok, Err, IsOk}
 use Rattle.tk_base.specs.declared.access.TheConstants.{FLASH_START}
 use Rattle.tbf_headers.specs.declared.fault.HeaderFault.{HeaderFault}
 use Rattle.tbf_headers.specs.declared.program.Main.{Main}
 use Rattle.tbf_headers.specs.Meaning.{Meaning, reading}
 use Rattle.tbf_headers.specs.Addresses.{after_protected, entry_of}
-use Rattle.process_layout.specs.Extents.{Extents}
-use Rattle.process_layout.specs.Interval.{rounded_up}
+use Rattle.tbf_headers.specs.Objects.{object_at}
+use Rattle.process_layout.specs.Extents.{Extents, first_break}
+use Rattle.process_own.specs.Own.{Own}
 use Rattle.process_record.specs.declared.process.Object.{Object}
 use Rattle.process_record.specs.declared.process.Process.{Process}
-use Rattle.board_memory.specs.Memory.{BlockBytes}
+use Rattle.process_record.specs.declared.process.State.{State}
+use Rattle.process_record.specs.declared.process.State.TheVariants.{Running, Yielded, Faulted, Terminated}
 use Rattle.kernel_model.specs.Record.{Record}
 
--- the bytes of an object in flash
+-- the bytes of a process's object in flash
 abbrev pub object_in : List ℕ → Object → List ℕ
-object_in flash object = slice_range flash (object.address - FLASH_START) (object.address - FLASH_START + object.size)
+object_in flash object = object_at flash (object.address - FLASH_START) object.size
 
--- the record that flash, a block, a process, its layout and the number of its dropped upcalls show
-abbrev pub record_in : List ℕ → BlockBytes → Process → Extents → ℕ → Record
-record_in flash block p e dropped = record { process = p; object = object_in flash p.object; layout = e; ram = block.bytes; dropped = dropped }
+-- the record that flash, a process, what is its own and its storage show
+abbrev pub record_in : List ℕ → Process → Own → List ℕ → Record
+record_in flash process own storage = record { process = process; object = object_in flash process.object; own = own; storage = storage }
 
 -- an application's start has addresses below 2^32, and its block holds the RAM that it needs at least
 pub record CanStart (address : ℕ) (e : Extents) (h : Meaning) (m : Main) : Type 0 where
   pub entry : entry_of address h m < 2 ^ 32
   pub protected : after_protected address h m < 2 ^ 32
-  pub fits : rounded_up (e.start + m.minimum_ram) ≤ e.end
+  pub fits : first_break e.start m.minimum_ram ≤ e.end
 
 -- a header with a Program or a Main TLV
 abbrev pub HasStart : ℕ → Extents → Meaning → Option Main → Type 0
@@ -42,19 +44,25 @@ pub record HasHeader (flash : List ℕ) (object : Object) : Type 0 where
   pub to : object.address + object.size ≤ FLASH_START + length flash
   pub read : IsOk (reading (object_in flash object))
 
--- the object lies in flash, has an end below 2^32, and is an application that can start
+-- the object lies in flash, has an end below 2^32, holds the accessible flash, and is an application that can start
 pub record IsOwnObject (flash : List ℕ) (object : Object) (e : Extents) : Type 0 where
   pub from : FLASH_START ≤ object.address
   pub to : object.address + object.size ≤ FLASH_START + length flash
   pub below : object.address + object.size < 2 ^ 32
+  pub accessible_from : object.address ≤ e.flash_start
+  pub accessible_to : e.flash_end ≤ object.address + object.size
   pub application : IsApplication object.address e (reading (object_in flash object))
 
--- the block is the one of the layout
-pub record IsOwnBlock (b : BlockBytes) (e : Extents) : Type 0 where
-  pub start : b.start ≡ e.start
-  pub end : e.end ≡ e.start + length b.bytes
+-- a process lives while it runs or waits (TRD 104, "Yield", "Exit")
+abbrev pub is_alive : State → Bool
+is_alive Running = true
+is_alive Yielded = true
+is_alive Faulted = false
+is_alive (Terminated code) = false
 
--- a process's own object in flash and its own block
-pub record IsOwn (flash : List ℕ) (b : BlockBytes) (p : Process) (e : Extents) : Type 0 where
-  pub object : IsOwnObject flash p.object e
-  pub block : IsOwnBlock b e
+-- A process with its own object and what is kept of it: it lives exactly while it runs or waits, and its life is the
+-- count of its restarts.
+pub record IsOwn (flash : List ℕ) (process : Process) (own : Own) : Type 0 where
+  pub object : IsOwnObject flash process.object own.layout
+  pub lives : own.lives ≡ is_alive process.state
+  pub life : own.life ≡ process.restarts

@@ -5,7 +5,7 @@ ghost use Rattle.tbf_headers.specs.Shown.{shown};
 ghost use Rattle.kernel_calls.specs.Own.{object_in, HasHeader};
 
 use process_record::Object;
-use tbf_headers::{Header, read_header};
+use tbf_headers::{Header, object_at, read_header};
 use tk_base::FLASH_START;
 
 /// The header of an object in flash.
@@ -13,9 +13,8 @@ pub fn header_of<'a>(flash: &'a [u8], object: &Object) -> Header<'a>
     requires { HasHeader flash.now object.now }
     ensures { reading (object_in flash.now object.now) ≡ Ok (shown result) }
 {
-    let from = (object.address - FLASH_START) as usize;
-    let to = from + object.size as usize;
-    let Ok(header) = read_header(&flash[from..to]) else {
+    let bytes = object_at(flash, object.address - FLASH_START, object.size);
+    let Ok(header) = read_header(bytes) else {
         unreachable!()
     };
     header

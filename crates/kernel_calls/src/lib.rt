@@ -4,12 +4,7 @@
 mod exits;
 mod headers;
 mod memops;
-mod outcome;
 mod replies;
 mod serving;
 
-pub use outcome::Outcome;
 pub use serving::kernel_call;
-
-#[cfg(test)]
-mod tests;

@@ -1,17 +1,17 @@
 //! Memop: a process asks about its memory, or moves its break (TRD 104, "Memop").
-ghost use Rattle.std.specs.Prelude.{◌≡◌, ◌+◌, ℕ};
-ghost use Rattle.board_memory.specs.Memory.{BlockBytes};
-ghost use Rattle.process_layout.specs.Extents.{Extents};
-ghost use Rattle.kernel_model.specs.Record.{Record};
+ghost use Rattle.std.specs.Prelude.{◌≡◌, ◌+◌, ◌<◌, ℕ, List, length};
+ghost use Rattle.process_own.specs.Own.{Own};
+ghost use Rattle.grant_enter.specs.Homes.{own_of, ChangesOnly};
+ghost use Rattle.kernel_model.specs.Record.{Record, with_own};
 ghost use Rattle.kernel_model.specs.Calls.{break_moved, moved_by, region, region_end, memop};
-ghost use Rattle.kernel_calls.specs.Own.{object_in, record_in, HasHeader, IsOwnObject};
-ghost use Rattle.kernel_calls.specs.Outcomes.{as_address, returned};
+ghost use Rattle.kernel_calls.specs.Own.{record_in, HasHeader, IsOwnObject};
+ghost use Rattle.kernel_calls.specs.Outcomes.{as_address, record_at, returned, MovesBreak};
 
 use crate::headers::header_of;
-use process_layout::Layout;
+use grant_enter::Home;
 use process_record::Process;
 use syscall_abi::Reply;
-use tk_base::CallRule;
+use tk_base::{CallRule, Slot};
 
 /// The place to which a signed number moves a break. None where it is no address.
 fn moved(brk: u32, by: u32) -> Option<u32>
@@ -20,14 +20,21 @@ fn moved(brk: u32, by: u32) -> Option<u32>
     u32::try_from(i64::from(brk) + i64::from(by.cast_signed())).ok()
 }
 
-/// Moves the break to a place, if there is one and the break may be there.
-fn move_break(layout: &mut Layout, place: Option<u32>, reply: Reply) -> Result<Reply, CallRule>
-    ensures answer { (r : Record) → returned (record r { layout = layout.new }) result
-        ≡ break_moved (record r { layout = layout.old }) place reply }
-    ensures stays { layout.new ≡ record layout.old { brk = layout.new.brk } }
+/// Moves the break of the process in a slot to a place, if there is one and the break may be there.
+fn move_break(
+    home: &mut Home,
+    slot: Slot,
+    place: Option<u32>,
+    reply: Reply,
+) -> Result<Reply, CallRule>
+    requires { slot < length home.old.owns }
+    ensures answer { (r : Record) → returned (with_own r (own_of home.new slot)) result
+        ≡ break_moved (with_own r (own_of home.old slot)) place reply }
+    ensures stays { MovesBreak (own_of home.old slot) (own_of home.new slot) }
+    ensures rest { ChangesOnly slot home.old home.new }
 {
     match place {
-        Some(place) if layout.set_break(place) => Ok(reply),
+        Some(place) if home.set_break(slot, place) => Ok(reply),
         _ => Err(CallRule::Break),
     }
 }
@@ -35,7 +42,7 @@ fn move_break(layout: &mut Layout, place: Option<u32>, reply: Reply) -> Result<R
 /// The address at which region n of a process's object starts, mod 2^32.
 fn region_start_of(flash: &[u8], process: &Process, n: u32) -> Result<Reply, CallRule>
     requires { HasHeader flash.now process.now.object }
-    ensures { (b : BlockBytes) (e : Extents) (dropped : ℕ) → let r = record_in flash.now b process.now e dropped in
+    ensures { (own : Own) (storage : List ℕ) → let r = record_in flash.now process.now own storage in
         returned r result ≡ region_end r (λ region. region.0) (region r n) }
 {
     let header = header_of(flash, &process.object);
@@ -47,7 +54,7 @@ fn region_start_of(flash: &[u8], process: &Process, n: u32) -> Result<Reply, Cal
 /// The address at which region n of a process's object ends, mod 2^32.
 fn region_end_of(flash: &[u8], process: &Process, n: u32) -> Result<Reply, CallRule>
     requires { HasHeader flash.now process.now.object }
-    ensures { (b : BlockBytes) (e : Extents) (dropped : ℕ) → let r = record_in flash.now b process.now e dropped in
+    ensures { (own : Own) (storage : List ℕ) → let r = record_in flash.now process.now own storage in
         returned r result ≡ region_end r (λ region. region.0 + region.1) (region r n) }
 {
     let header = header_of(flash, &process.object);
@@ -56,35 +63,38 @@ fn region_end_of(flash: &[u8], process: &Process, n: u32) -> Result<Reply, CallR
     Ok(Reply::SuccessU32(start.wrapping_add(size)))
 }
 
-/// Does an operation of memop for a process, or says which rule refuses it.
+/// Does an operation of memop for the process in a slot, or says which rule refuses it.
 #[tactic(auto, unfolding(kernel_model::specs::Calls::memop, kernel_model::specs::Calls::memops))]
 pub fn operate(
-    flash: &[u8],
-    layout: &mut Layout,
+    home: &mut Home,
     process: &Process,
+    slot: Slot,
     operation: u32,
     argument: u32,
 ) -> Result<Reply, CallRule>
-    requires { IsOwnObject flash.now process.now.object layout.old }
-    ensures answer { (b : BlockBytes) (dropped : ℕ) → returned (record_in flash.now b process.now layout.new dropped) result
-        ≡ memop (record_in flash.now b process.now layout.old dropped) operation argument }
-    ensures stays { layout.new ≡ record layout.old { brk = layout.new.brk } }
+    requires slot { slot < length home.old.owns }
+    requires object { IsOwnObject home.old.flash process.now.object (own_of home.old slot).layout }
+    ensures answer { (storage : List ℕ) → returned (record_at home.new slot process.now storage) result
+        ≡ memop (record_at home.old slot process.now storage) operation argument }
+    ensures stays { MovesBreak (own_of home.old slot) (own_of home.new slot) }
+    ensures rest { ChangesOnly slot home.old home.new }
 {
     let object = &process.object;
+    let layout = home.layout(slot);
     match operation {
-        0 => move_break(layout, Some(argument), Reply::Success),
+        0 => move_break(home, slot, Some(argument), Reply::Success),
         1 => {
-            let former = layout.brk;
-            move_break(layout, moved(former, argument), Reply::SuccessU32(former))
+            let place = moved(layout.brk, argument);
+            move_break(home, slot, place, Reply::SuccessU32(layout.brk))
         }
         2 => Ok(Reply::SuccessU32(layout.start)),
         3 => Ok(Reply::SuccessU32(layout.end)),
         4 => Ok(Reply::SuccessU32(object.address)),
         5 => Ok(Reply::SuccessU32(object.address + object.size)),
         6 => Ok(Reply::SuccessU32(layout.kernel_break)),
-        7 => Ok(Reply::SuccessU32(header_of(flash, object).region_count())),
-        8 => region_start_of(flash, process, argument),
-        9 => region_end_of(flash, process, argument),
+        7 => Ok(Reply::SuccessU32(header_of(home.flash(), object).region_count())),
+        8 => region_start_of(home.flash(), process, argument),
+        9 => region_end_of(home.flash(), process, argument),
         10 | 11 => Ok(Reply::Success),
         _ => Err(CallRule::NoOperation),
     }

@@ -1,35 +1,35 @@
 //! The system calls that the kernel serves itself.
-ghost use Rattle.std.specs.Prelude.{◌≡◌, ◌+◌, ◌<◌, ◌^◌, ℕ, length};
-ghost use Rattle.board_memory.specs.Memory.{BlockBytes, block_of, with_block};
+ghost use Rattle.std.specs.Prelude.{◌+◌, ◌<◌, ◌^◌, length};
 ghost use Rattle.syscall_abi.specs.declared.call.Call.TheVariants.{Memop};
-ghost use Rattle.kernel_calls.specs.Own.{record_in, IsOwn, IsOwnObject};
-ghost use Rattle.kernel_calls.specs.Outcomes.{Answers, Stays};
+ghost use Rattle.grant_enter.specs.Homes.{own_of, ChangesOnly};
+ghost use Rattle.kernel_calls.specs.Own.{IsOwn};
+ghost use Rattle.kernel_calls.specs.Outcomes.{ServesAt, Stays};
 
 use crate::exits::leave;
 use crate::memops::operate;
-use crate::outcome::Outcome;
 use crate::replies::give;
-use board_memory::Memory;
-use process_layout::Layout;
-use process_record::Process;
+use grant_enter::Home;
+use process_record::{Outcome, Process};
 use syscall_abi::Call;
 use tk_base::Slot;
 
-/// Does an operation of memop for a process, and replies to it.
+/// Does an operation of memop for the process in a slot, and replies to it.
 fn serve_memop(
-    flash: &[u8],
-    layout: &mut Layout,
+    home: &mut Home,
     process: &mut Process,
+    slot: Slot,
     operation: u32,
     argument: u32,
 ) -> Outcome
-    requires { IsOwnObject flash.now process.old.object layout.old }
-    ensures answer { (b : BlockBytes) (dropped : ℕ) → Answers
-        (record_in flash.now b process.old layout.old dropped) (Memop operation argument)
-        (record_in flash.now b process.new layout.new dropped) result }
-    ensures stays { Stays process.old layout.old process.new layout.new }
+    requires slot { slot < length home.old.owns }
+    requires own { IsOwn home.old.flash process.old (own_of home.old slot) }
+    ensures serves { ServesAt slot home.old process.old (Memop operation argument)
+        home.new process.new result }
+    ensures own { IsOwn home.new.flash process.new (own_of home.new slot) }
+    ensures stays { Stays process.old process.new }
+    ensures rest { ChangesOnly slot home.old home.new }
 {
-    let answer = operate(flash, layout, process, operation, argument);
+    let answer = operate(home, process, slot, operation, argument);
     give(process, answer)
 }
 
@@ -49,30 +49,21 @@ fn serve_memop(
 /// A process that is replied to goes on after the call, and a refusal is recorded. The header of its
 /// object is read from flash where it is needed.
 #[tactic(auto, unfolding(kernel_model::specs::Calls::served))]
-pub fn kernel_call(
-    memory: &mut Memory,
-    layout: &mut Layout,
-    process: &mut Process,
-    slot: Slot,
-    call: &Call,
-) -> Outcome
-    requires slot { slot < length memory.old.blocks }
-    requires own { IsOwn memory.old.flash (block_of memory.old slot) process.old layout.old }
+pub fn kernel_call(home: &mut Home, process: &mut Process, slot: Slot, call: &Call) -> Outcome
+    requires slot { slot < length home.old.owns }
+    requires own { IsOwn home.old.flash process.old (own_of home.old slot) }
     requires count { process.old.restarts + 1 < 2 ^ 32 }
-    ensures answer { (dropped : ℕ) → Answers
-        (record_in memory.old.flash (block_of memory.old slot) process.old layout.old dropped) call.now
-        (record_in memory.new.flash (block_of memory.new slot) process.new layout.new dropped) result }
-    ensures rest { memory.new ≡ with_block memory.old slot (block_of memory.new slot).bytes }
-    ensures length { length (block_of memory.new slot).bytes ≡ length (block_of memory.old slot).bytes }
-    ensures own { IsOwn memory.new.flash (block_of memory.new slot) process.new layout.new }
-    ensures stays { Stays process.old layout.old process.new layout.new }
+    ensures serves { ServesAt slot home.old process.old call.now home.new process.new result }
+    ensures own { IsOwn home.new.flash process.new (own_of home.new slot) }
+    ensures stays { Stays process.old process.new }
+    ensures rest { ChangesOnly slot home.old home.new }
 {
     match *call {
         Call::Memop {
             operation,
             argument,
-        } => serve_memop(memory.flash(), layout, process, operation, argument),
-        Call::Exit { kind, code } => leave(memory, layout, process, slot, kind, code),
+        } => serve_memop(home, process, slot, operation, argument),
+        Call::Exit { kind, code } => leave(home, process, slot, kind, code),
         Call::Yield { .. }
         | Call::Subscribe { .. }
         | Call::Command { .. }

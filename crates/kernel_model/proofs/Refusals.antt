@@ -1,52 +1,54 @@
 -- What a refused call changes, by cases on the call.
-use Rattle.std.proofs.Common.{◌≡◌, ℕ, ◌+◌, ◌==◌, Bool, true, false, cond, List, [], ◌∷◌, find, Option, None, Some, refl, ap, subst, sym, ◌∙◌}
+use Rattle.std.proofs.Common.{◌≡◌, ℕ, ◌+◌, ◌==◌, Bool, true, false, cond, List, [], ◌∷◌, find, Option, None, Some, refl, ap, sym, ◌∙◌}
 use Rattle.tk_base.specs.declared.call.CallRule.{CallRule}
 use Rattle.tk_base.specs.declared.call.CallRule.TheVariants.{Break, Index, NoOperation}
 use Rattle.process_layout.specs.Extents.{permits_break}
-use Rattle.process_layout.specs.Interval.{rounded_up}
 use Rattle.syscall_abi.specs.declared.call.Call.{Call as SystemCall}
 use Rattle.syscall_abi.specs.declared.call.Call.TheVariants.{Yield, Subscribe, Command, AllowRw, AllowRo, Memop, Exit}
 use Rattle.syscall_abi.specs.declared.reply.Reply.{Reply}
 use Rattle.syscall_abi.specs.declared.reply.Reply.TheVariants.{Success, SuccessU32}
 use Rattle.process_record.specs.Process.{after_exit}
-use Rattle.kernel_model.specs.Record.{Record, with_process}
-use Rattle.kernel_model.specs.Calls.{Answered, replied, refused, break_moved, moved_by, region, region_end, memops, memop, or_refused, left, restart, exit, served}
+use Rattle.process_record.specs.declared.outcome.Outcome.TheVariants as outcomes
+use Rattle.process_own.specs.Own.{ended}
+use Rattle.kernel_model.specs.Record.{Record}
+use Rattle.kernel_model.specs.Turn.{rule_shown}
+use Rattle.kernel_model.specs.Calls.{Served, replied, refused, break_moved, with_break_at, moved_by, region, region_end, memops, memop, or_refused, restart, exit, served, unserved}
 use Rattle.kernel_model.specs.Laws.{RefusedChangesNothingElse}
 
 -- an answer that is a refusal is that of its rule alone
-IsPlain : Record → Answered → Type 0
-IsPlain r a = (rule : CallRule) → a.rule ≡ Some rule → a ≡ refused r rule
+IsPlain : Record → Served → Type 0
+IsPlain r a = (rule : CallRule) → rule_shown a.outcome ≡ Some rule → a ≡ refused r rule
 
 plain_refused : (r : Record) (broken : CallRule) → IsPlain r (refused r broken)
 unfolding IsPlain
 plain_refused r broken rule e = let same : broken ≡ rule = cc in ap (refused r) same
 
 -- one that breaks no rule is none
-plain_unbroken : (r : Record) (a : Answered) → a.rule ≡ None → IsPlain r a
+plain_unbroken : (r : Record) (a : Served) → rule_shown a.outcome ≡ None → IsPlain r a
 unfolding IsPlain
 plain_unbroken r a none rule e = absurd (no_rule (sym none ∙ e))
   where
     no_rule : ◌≡◌ {A = Option CallRule} None (Some rule) → ⊥
     no_rule e = cc
 
-plain_test : (r : Record) (b : Bool) (x y : Answered) → IsPlain r x → IsPlain r y → IsPlain r (cond b x y)
+plain_test : (r : Record) (b : Bool) (x y : Served) → IsPlain r x → IsPlain r y → IsPlain r (cond b x y)
 plain_test r true x y p q = p
 plain_test r false x y p q = q
 
 plain_break : (r : Record) (new : Option ℕ) (reply : Reply) → IsPlain r (break_moved r new reply)
 plain_break r None reply = plain_refused r Break
-plain_break r (Some new) reply = plain_test r (permits_break r.layout new) _ _ (plain_unbroken r (replied (record r { layout = record r.layout { brk = rounded_up new } }) reply) refl) (plain_refused r Break)
+plain_break r (Some new) reply = plain_test r (permits_break r.own.layout new) _ _ (plain_unbroken r (replied (with_break_at r new) reply) refl) (plain_refused r Break)
 
 plain_region : (r : Record) (offset : ℕ × ℕ → ℕ) (region : Option (ℕ × ℕ)) → IsPlain r (region_end r offset region)
 plain_region r offset None = plain_refused r Index
 plain_region r offset (Some region) = plain_unbroken r (region_end r offset (Some region)) refl
 
 -- what holds of each row holds of the one that is found
-Each : Record → List (ℕ × Answered) → Type 0
+Each : Record → List (ℕ × Served) → Type 0
 Each r [] = Unit {0}
 Each r (row ∷ rows) = IsPlain r row.1 × Each r rows
 
-plain_found : (r : Record) (p : ℕ × Answered → Bool) (rows : List (ℕ × Answered)) → Each r rows → IsPlain r (or_refused r (find p rows))
+plain_found : (r : Record) (p : ℕ × Served → Bool) (rows : List (ℕ × Served)) → Each r rows → IsPlain r (or_refused r (find p rows))
 unfolding Each
 plain_found r p [] each = plain_refused r NoOperation
 plain_found r p (row ∷ rows) each = by_test (p row) each.0 (plain_found r p rows each.1)
@@ -59,24 +61,24 @@ plain_memop : (r : Record) (operation argument : ℕ) → IsPlain r (memop r ope
 unfolding Each memop memops
 plain_memop r operation argument =
     plain_found r (λ row. row.0 == operation) (memops r argument)
-    (plain_break r (Some argument) Success, (plain_break r (moved_by r.layout.brk argument) (SuccessU32 r.layout.brk), (plain_unbroken r _ refl, (plain_unbroken r _ refl, (plain_unbroken r _ refl, (plain_unbroken r _ refl, (plain_unbroken r _ refl, (plain_unbroken r _ refl, (plain_region r (λ p. p.0) (region r argument), (plain_region r (λ p. p.0 + p.1) (region r argument), (plain_unbroken r _ refl, (plain_unbroken r _ refl, tt))))))))))))
+    (plain_break r (Some argument) Success, (plain_break r (moved_by r.own.layout.brk argument) (SuccessU32 r.own.layout.brk), (plain_unbroken r _ refl, (plain_unbroken r _ refl, (plain_unbroken r _ refl, (plain_unbroken r _ refl, (plain_unbroken r _ refl, (plain_unbroken r _ refl, (plain_region r (λ p. p.0) (region r argument), (plain_region r (λ p. p.0 + p.1) (region r argument), (plain_unbroken r _ refl, (plain_unbroken r _ refl, tt))))))))))))
 
 plain_exit : (r : Record) (kind code : ℕ) → IsPlain r (exit r kind code)
 unfolding exit
 plain_exit r kind code =
-    plain_test r (kind == 0) _ _ (plain_unbroken r (left (with_process r (after_exit r.process code))) refl)
-    (plain_test r (kind == 1) _ _ (plain_unbroken r (left (restart r)) refl) (plain_refused r NoOperation))
+    plain_test r (kind == 0) _ _ (plain_unbroken r (record { after = record r { process = after_exit r.process code; own = ended r.own }; outcome = outcomes.Ended }) refl)
+    (plain_test r (kind == 1) _ _ (plain_unbroken r (record { after = restart r; outcome = outcomes.Again }) refl) (plain_refused r NoOperation))
 
-plain_served : (r : Record) (call : SystemCall) (a : Answered) → served r call ≡ Some a → IsPlain r a
+plain_served : (r : Record) (call : SystemCall) → IsPlain r (served r call)
 unfolding served
-plain_served r (Memop operation argument) a e = let same : memop r operation argument ≡ a = cc in subst (IsPlain r) same (plain_memop r operation argument)
-plain_served r (Exit kind code) a e = let same : exit r kind code ≡ a = cc in subst (IsPlain r) same (plain_exit r kind code)
-plain_served r (Yield number a1 a2) a e = cc
-plain_served r (Subscribe driver number function app) a e = cc
-plain_served r (Command driver command a2 a3) a e = cc
-plain_served r (AllowRw driver number address size) a e = cc
-plain_served r (AllowRo driver number address size) a e = cc
+plain_served r (Memop operation argument) = plain_memop r operation argument
+plain_served r (Exit kind code) = plain_exit r kind code
+plain_served r (Yield number a1 a2) = plain_unbroken r (unserved r) refl
+plain_served r (Subscribe driver number function app) = plain_unbroken r (unserved r) refl
+plain_served r (Command driver command a2 a3) = plain_unbroken r (unserved r) refl
+plain_served r (AllowRw driver number address size) = plain_unbroken r (unserved r) refl
+plain_served r (AllowRo driver number address size) = plain_unbroken r (unserved r) refl
 
 pub refused_changes_nothing_else : RefusedChangesNothingElse
 unfolding IsPlain
-refused_changes_nothing_else r call a rule e f = plain_served r call a e rule f
+refused_changes_nothing_else r call rule e = plain_served r call rule e

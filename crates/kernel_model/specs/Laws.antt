@@ -1,26 +1,32 @@
 -- Laws over the definitions alone.
 use Rattle.std.specs.Prelude.{◌≡◌, ◌≢◌, ◌<◌, ℕ, Some, IsTrue, slice_get}
 use Rattle.std.specs.Option.{option_map}
+use Rattle.tk_base.specs.declared.limits.TheConstants.{STEP_LIMIT}
+use Rattle.tk_base.specs.declared.process.Choice.{Choice}
 use Rattle.tk_base.specs.declared.process.Choice.TheVariants.{Run}
 use Rattle.tk_base.specs.declared.call.CallRule.{CallRule}
 use Rattle.syscall_abi.specs.declared.call.Call.{Call as SystemCall}
 use Rattle.kernel_model.specs.Record.{Record}
-use Rattle.kernel_model.specs.Calls.{Answered, served, refused}
-use Rattle.kernel_model.specs.Turn.{Turn, apply}
-use Rattle.tk_base.specs.declared.process.Choice.{Choice}
-use Rattle.kernel_model.specs.World.{World, after, is_ready, step_limit}
+use Rattle.process_record.specs.declared.outcome.Outcome.TheVariants.{Unserved}
+use Rattle.kernel_model.specs.Calls.{served, refused, unserved}
+use Rattle.kernel_model.specs.Turn.{Turn, apply, rule_shown}
+use Rattle.kernel_model.specs.World.{World, after, is_ready}
 use Rattle.kernel_model.specs.Run.{next}
 
 -- a step changes the record of no process but the one whose turn it is, and that one by its turn
 pub record OnlyItsOwnTurn : Type 0 where
-  pub its_own : (w : World) (slot : ℕ) → slice_get (after w (Run slot)).records slot ≡ option_map (apply w.settings (Turn w.time)) (slice_get w.records slot)
+  pub its_own : (w : World) (slot : ℕ) → slice_get (after w (Run slot)).records slot ≡ option_map (apply w.settings (Turn w.clock.time)) (slice_get w.records slot)
   pub no_other : (w : World) (slot other : ℕ) → other ≢ slot → slice_get (after w (Run slot)).records other ≡ slice_get w.records other
 
 -- below the limit of steps the next choice of the round robin may be made
 abbrev pub NextIsReady : Type 0
-NextIsReady = (w : World) (c : Choice) → next w ≡ Some c → w.steps < step_limit → IsTrue (is_ready w c)
+NextIsReady = (w : World) (c : Choice) → next w ≡ Some c → w.clock.steps < STEP_LIMIT → IsTrue (is_ready w c)
 
 -- A call that is refused gets the failure of the rule that it broke; of the process it changes the reply registers, pc
--- and the recorded refusal, and nothing of its layout and its block (TRD 104, "Return Values").
+-- and the recorded refusal, and nothing of what else is its own (TRD 104, "Return Values").
 abbrev pub RefusedChangesNothingElse : Type 0
-RefusedChangesNothingElse = (r : Record) (call : SystemCall) (a : Answered) (rule : CallRule) → served r call ≡ Some a → a.rule ≡ Some rule → a ≡ refused r rule
+RefusedChangesNothingElse = (r : Record) (call : SystemCall) (rule : CallRule) → rule_shown (served r call).outcome ≡ Some rule → served r call ≡ refused r rule
+
+-- A call that nothing serves changes nothing.
+abbrev pub UnservedChangesNothing : Type 0
+UnservedChangesNothing = (r : Record) (call : SystemCall) → (served r call).outcome ≡ Unserved → served r call ≡ unserved r

@@ -1,9 +1,8 @@
-pub mod Permission
 pub mod Record
 pub mod Calls
 pub mod Turn
 pub mod World
-pub mod RoundRobin
 pub mod Run
 pub mod Shown
 pub mod Laws
+pub mod Worked

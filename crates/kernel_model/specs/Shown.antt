@@ -15,7 +15,7 @@ line_of r = record {
   denial = r.process.denial;
   turns = r.process.turns;
   restarts = r.process.restarts;
-  dropped = r.dropped;
+  dropped = r.own.dropped;
 }
 
 -- what the report says of a world
@@ -23,14 +23,14 @@ unfoldable pub summary_of : World → Summary
 summary_of w = record {
   slots = record { items = map line_of w.records };
   unplaced = record { items = w.unplaced };
-  leds = w.leds;
+  leds = w.devices.leds;
   led_count = w.settings.leds;
-  steps = w.steps;
-  time = w.time;
+  steps = w.clock.steps;
+  time = w.clock.time;
 }
 
 abbrev pub with_label : Label → Emit → Emit
-with_label (TurnOf slot time accesses call denial) e = record e { slot = Some slot; made = call; denial = denial }
+with_label (TurnOf slot time told) e = record e { slot = Some slot; made = told.call; denial = told.denial }
 with_label (Printed slot bytes) e = record e { printed = record { items = bytes ++ e.printed.items } }
 
 -- what a step shows that told these labels

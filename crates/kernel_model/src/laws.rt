@@ -1,5 +1,5 @@
 //! Laws of the definitions, each the contract of a function that does nothing.
-ghost use Rattle.kernel_model.specs.Laws.{NextIsReady, OnlyItsOwnTurn, RefusedChangesNothingElse};
+ghost use Rattle.kernel_model.specs.Laws.{NextIsReady, OnlyItsOwnTurn, RefusedChangesNothingElse, UnservedChangesNothing};
 
 /// A step changes the record of no process but the one whose turn it is, and that one by its turn.
 pub fn only_its_own_turn()
@@ -16,4 +16,10 @@ pub fn next_is_ready()
 #[tactic(auto, using(crate::proofs::Refusals::refused_changes_nothing_else))]
 pub fn refused_changes_nothing_else()
     ensures { RefusedChangesNothingElse }
+{}
+
+/// A call that nothing serves changes nothing.
+#[tactic(auto, using(crate::proofs::Unserved::unserved_changes_nothing))]
+pub fn unserved_changes_nothing()
+    ensures { UnservedChangesNothing }
 {}

@@ -4,4 +4,9 @@
 
 mod laws;
 
-pub use laws::{next_is_ready, only_its_own_turn, refused_changes_nothing_else};
+pub use laws::{
+    next_is_ready, only_its_own_turn, refused_changes_nothing_else, unserved_changes_nothing,
+};
+
+#[cfg(test)]
+mod tests;

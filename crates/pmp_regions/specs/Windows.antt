@@ -18,11 +18,11 @@ abbrev pub Permits : List Entry → Access → Window → Type 0
 Permits pmp access w = (at : ℕ) (width : Width) → IsTrue (holds w at width) → denied_by pmp access at width ≡ None
 
 -- what the two windows stand for
-pub record ArePermitted (pmp : List Entry) (code memory : Window) : Type 0 where
-  pub fetch : Permits pmp Fetch code
-  pub load_code : Permits pmp Load code
-  pub load_data : Permits pmp Load memory
-  pub store : Permits pmp Store memory
+pub record ArePermitted (pmp : List Entry) (executable writable : Window) : Type 0 where
+  pub fetch : Permits pmp Fetch executable
+  pub load_executable : Permits pmp Load executable
+  pub load_writable : Permits pmp Load writable
+  pub store : Permits pmp Store writable
 
 -- an entry decides every access in a window, and matches all bytes of it
 pub record Decides (pmp : List Entry) (i : ℕ) (w : Window) : Type 0 where

@@ -37,9 +37,9 @@ pub struct Entry {
 pub struct Pmp {
     entries: [Entry; 8],
     /// Where every fetch and every load is permitted.
-    code: Window,
+    executable: Window,
     /// Where every load and every store is permitted.
-    data: Window,
+    writable: Window,
 }
 
 impl Model for Pmp {
@@ -52,7 +52,7 @@ impl Model for Pmp {
 
     ghost view = { λ p. p.entries };
 
-    ghost invariant = { λ p. ArePermitted p.entries p.code p.«data» };
+    ghost invariant = { λ p. ArePermitted p.entries p.executable p.writable };
 }
 
 impl Pmp {
@@ -70,8 +70,8 @@ impl Pmp {
     {
         Pmp {
             entries: [Pmp::CLEARED; 8],
-            code: Window::EMPTY,
-            data: Window::EMPTY,
+            executable: Window::EMPTY,
+            writable: Window::EMPTY,
         }
     }
 
@@ -130,8 +130,8 @@ impl Pmp {
         ensures eight { length self.new ≡ 8 }
     {
         self.entries[entry] = value;
-        self.code = Window::EMPTY;
-        self.data = Window::EMPTY;
+        self.executable = Window::EMPTY;
+        self.writable = Window::EMPTY;
     }
 
     /// Finds the two windows: the range of entry 1, where that may be executed and read, and the range
@@ -143,15 +143,15 @@ impl Pmp {
     pub fn settle(&mut self)
         ensures { self.new ≡ self.old }
     {
-        let code = self.code_window();
-        let data = self.data_window();
-        self.code = code;
-        self.data = data;
+        let executable = self.executable_window();
+        let writable = self.writable_window();
+        self.executable = executable;
+        self.writable = writable;
     }
 
     /// The range of entry 1, where it may be executed and read.
     #[tactic(auto, using(crate::proofs::Windows::permits_by))]
-    fn code_window(&self) -> Window
+    fn executable_window(&self) -> Window
         ensures fetch { Permits self.now Access.Fetch result }
         ensures load { Permits self.now Access.Load result }
     {
@@ -164,7 +164,7 @@ impl Pmp {
 
     /// The range of entry 3, where it may be read and written.
     #[tactic(auto, using(crate::proofs::Windows::permits_by))]
-    fn data_window(&self) -> Window
+    fn writable_window(&self) -> Window
         ensures load { Permits self.now Access.Load result }
         ensures store { Permits self.now Access.Store result }
     {
@@ -231,9 +231,9 @@ impl Pmp {
         ensures { OnTrue result (denied_by self.now access at width ≡ None) }
     {
         match access {
-            Access::Fetch => self.code.holds(at, width),
-            Access::Load => self.data.holds(at, width) || self.code.holds(at, width),
-            Access::Store => self.data.holds(at, width),
+            Access::Fetch => self.executable.holds(at, width),
+            Access::Load => self.writable.holds(at, width) || self.executable.holds(at, width),
+            Access::Store => self.writable.holds(at, width),
         }
     }
 

@@ -1,5 +1,5 @@
 use Rattle.std.specs.Prelude.{ℕ, ◌+◌, Bool, ◌&&◌, nat_le}
-use Rattle.process_layout.specs.Interval.{rounded_up}
+use Rattle.tk_base.specs.Numbers.{rounded_up}
 
 -- Where a process's memory lies. Its accessible flash is from flash_start up to flash_end and its
 -- accessible RAM from start up to brk; its grants are from kernel_break up to end (Levy et al.,
@@ -18,7 +18,17 @@ pub record Extents : Type 0 where
 abbrev pub permits_break : Extents → ℕ → Bool
 permits_break e new = nat_le e.start (rounded_up new) && nat_le (rounded_up new) e.kernel_break && nat_le e.mark (rounded_up new)
 
--- where the memory of a process lies at its start: the break is past its least RAM, rounded up to 4, and there are
--- no grants and no buffers
-abbrev pub at_start : ℕ → Extents → Extents
-at_start minimum_ram e = record e { brk = rounded_up (e.start + minimum_ram); kernel_break = e.end; mark = e.start }
+-- where the memory of a process lies with its first break: there are no grants and no buffers (TRD 104, "Exit";
+-- Levy et al., SOSP 2017)
+abbrev pub with_break : ℕ → Extents → Extents
+with_break brk e = record e { brk = brk; kernel_break = e.end; mark = e.start }
+
+-- the first break of a process whose block starts at an address: past its least RAM, rounded up to a multiple of 4
+abbrev pub first_break : ℕ → ℕ → ℕ
+first_break start minimum_ram = rounded_up (start + minimum_ram)
+
+-- where it lies at the process's start, by the ends of its accessible flash and of its block
+abbrev pub extents_at_start : ℕ → ℕ → ℕ → ℕ → ℕ → Extents
+extents_at_start flash_start flash_end start end minimum_ram =
+    with_break (first_break start minimum_ram)
+    (record { flash_start = flash_start; flash_end = flash_end; start = start; end = end; brk = start; kernel_break = end; mark = start })

@@ -73,8 +73,39 @@ impl Model for Layout {
 }
 
 impl Layout {
-    ghost use Rattle.process_layout.specs.Extents.{permits_break, at_start};
-    ghost use Rattle.process_layout.specs.Interval.{lies_within, rounded_up};
+    ghost use Rattle.tk_base.specs.Numbers.{rounded_up};
+    ghost use Rattle.process_layout.specs.Extents.{permits_break, first_break, with_break, extents_at_start};
+    ghost use Rattle.process_layout.specs.Interval.{lies_within};
+
+    /// Where the memory of a process lies at its start (TRD 104, "Exit"; Levy et al., SOSP 2017), by
+    /// the ends of its accessible flash and of its block, and by how many bytes of RAM it needs at
+    /// least: the break is past them, rounded up to a multiple of 4, and there are no grants and no
+    /// buffers.
+    pub fn for_start(
+        flash_start: Addr,
+        flash_end: Addr,
+        start: Addr,
+        end: Addr,
+        minimum_ram: u32,
+    ) -> Layout
+        requires flash { flash_start ≤ flash_end }
+        requires start { start % 4 ≡ 0 }
+        requires end { end % 4 ≡ 0 }
+        requires room { first_break start minimum_ram ≤ end }
+        ensures { result ≡ extents_at_start flash_start flash_end start end minimum_ram }
+    {
+        let mut layout = Layout {
+            flash_start,
+            flash_end,
+            start,
+            end,
+            brk: start,
+            kernel_break: end,
+            mark: start,
+        };
+        layout.restart(layout.first_break(minimum_ram));
+        layout
+    }
 
     /// Moves the break to an address, rounded up to a multiple of 4 (TRD 104, "Memop"), and says
     /// whether it did. It is refused where the rounded address is below the block's start, above
@@ -96,15 +127,27 @@ impl Layout {
         true
     }
 
-    /// Moves break, kernel break and mark to where they are at the process's start, for an
-    /// application that needs at least so many bytes of RAM (TRD 104, "Exit"; Levy et al., SOSP 2017):
-    /// the break is past them, rounded up to a multiple of 4, and there are no grants and no buffers.
-    pub fn restart(&mut self, minimum_ram: u32)
-        requires { rounded_up (self.old.start + minimum_ram) ≤ self.old.end }
-        ensures { self.new ≡ at_start minimum_ram self.old }
+    /// The first break of a process that needs at least so many bytes of RAM: past them, rounded up to a
+    /// multiple of 4.
+    pub fn first_break(&self, minimum_ram: u32) -> Addr
+        requires { first_break self.now.start minimum_ram ≤ self.now.end }
+        ensures { result ≡ first_break self.now.start minimum_ram }
     {
-        let least = u64::from(self.start) + u64::from(minimum_ram);
-        self.brk = least.next_multiple_of(4) as u32;
+        let least = (u64::from(self.start) + u64::from(minimum_ram)).next_multiple_of(4);
+        let is_in_block = least <= u64::from(self.end);
+        prove!(is_in_block);
+        least as u32
+    }
+
+    /// Moves the break to an address, and kernel break and mark to where they are at the process's start
+    /// (TRD 104, "Exit"; Levy et al., SOSP 2017): there are no grants and no buffers.
+    pub fn restart(&mut self, brk: Addr)
+        requires from { self.old.start ≤ brk }
+        requires to { brk ≤ self.old.end }
+        requires aligned { brk % 4 ≡ 0 }
+        ensures { self.new ≡ with_break brk self.old }
+    {
+        self.brk = brk;
         self.kernel_break = self.end;
         self.mark = self.start;
     }

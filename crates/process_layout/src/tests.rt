@@ -1,20 +1,13 @@
 ghost use Rattle.std.specs.Prelude.{◌≡◌};
+ghost use Rattle.process_layout.specs.Extents.{extents_at_start};
 
 use super::*;
 
 /// A process with 256 bytes of RAM in a block of 1024, and 24 bytes of code after a header of 44.
 fn first_layout() -> Layout
-    ensures { result ≡ record { flash_start = 0x2000002C; flash_end = 0x20000044; start = 0x80000000; end = 0x80000400; brk = 0x80000100; kernel_break = 0x80000400; mark = 0x80000000 } }
+    ensures { result ≡ extents_at_start 0x2000002C 0x20000044 0x80000000 0x80000400 253 }
 {
-    Layout {
-        flash_start: 0x2000002C,
-        flash_end: 0x20000044,
-        start: 0x80000000,
-        end: 0x80000400,
-        brk: 0x80000100,
-        kernel_break: 0x80000400,
-        mark: 0x80000000,
-    }
+    Layout::for_start(0x2000002C, 0x20000044, 0x80000000, 0x80000400, 253)
 }
 
 #[test]
@@ -49,7 +42,7 @@ fn a_restart_forgets_grants_and_buffers(rt: HostRuntime) {
     layout.brk = 0x80000200;
     layout.kernel_break = 0x80000378;
     layout.mark = 0x80000180;
-    layout.restart(253);
+    layout.restart(layout.first_break(253));
     assert_eq!(rt; layout, first_layout());
 }
 

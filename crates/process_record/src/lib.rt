@@ -3,11 +3,13 @@
 
 mod emit;
 mod name;
+mod outcome;
 mod process;
 mod summary;
 
 pub use emit::{CallMade, Emit};
 pub use name::{object_name, short_name};
+pub use outcome::Outcome;
 pub use process::{Object, Process, Refusal, State};
 pub use summary::{SlotLine, Summary, Unplaced};
 

@@ -1,11 +1,11 @@
 //! The record of one process, apart from its memory.
-ghost use Rattle.std.specs.Prelude.{◌≡◌, ◌+◌, ◌<◌, ◌^◌, Some, IsSome, IfSome};
+ghost use Rattle.std.specs.Prelude.{◌≡◌, ◌+◌, ◌<◌, ◌^◌, Some};
 ghost use Rattle.tbf_headers.specs.Addresses.{after_protected, entry_of};
 ghost use Rattle.tbf_headers.specs.Shown.{shown};
 ghost use Rattle.process_record.specs.Process.{start_regs, started, restarted, past_call, after_turn, after_fault, after_exit, after_reply, after_refusal};
 
 use syscall_abi::Reply;
-use tbf_headers::Header;
+use tbf_headers::AppHeader;
 use tk_base::{Addr, CallRule, Denial, Regs};
 
 /// Whether a process runs (TRD 104, "Yield", "Exit"). It lives while it is Running or Yielded.
@@ -57,24 +57,21 @@ pub struct Process {
 }
 
 impl Process {
-    /// A process at its start, for an application whose header stands at the address `object` and
-    /// whose block of RAM is `length` bytes from `ram` on. It has the registers of a start: pc is the
-    /// entry, a0 the address after the header and the protected bytes, a1 and sp the start of the
-    /// RAM, a2 the length, a3 the break; other registers are 0. It runs, and nothing happened to it
-    /// yet.
-    pub fn start(header: &Header<'_>, object: Addr, ram: Addr, length: u32, brk: Addr) -> Process
-        requires main { IsSome header.now.main }
-        requires entry { IfSome header.now.main (λ m. entry_of object (shown header.now) m < 2 ^ 32) }
-        requires protected { IfSome header.now.main
-            (λ m. after_protected object (shown header.now) m < 2 ^ 32) }
-        ensures { IfSome header.now.main
-            (λ m. result ≡ started object (shown header.now) m ram length brk) }
+    /// A process at its start (TRD 104, "Exit"), for an application whose header stands at the
+    /// address `object` and whose block of RAM is `length` bytes from `ram` on. It has the registers
+    /// of a start: pc is the entry, a0 the address after the header and the protected bytes, a1 and
+    /// sp the start of the RAM, a2 the length, a3 the break; other registers are 0. It runs, and
+    /// nothing happened to it yet.
+    pub fn start(app: &AppHeader<'_>, object: Addr, ram: Addr, length: u32, brk: Addr) -> Process
+        requires entry { entry_of object (shown app.now.header) app.now.main < 2 ^ 32 }
+        requires protected { after_protected object (shown app.now.header) app.now.main < 2 ^ 32 }
+        ensures { result ≡ started object (shown app.now.header) app.now.main ram length brk }
     {
         Process {
-            regs: regs_at_start(header, object, ram, length, brk),
+            regs: regs_at_start(app, object, ram, length, brk),
             object: Object {
                 address: object,
-                size: header.total_size,
+                size: app.header.total_size,
             },
             state: State::Running,
             restarts: 0,
@@ -84,19 +81,18 @@ impl Process {
         }
     }
 
-    /// Starts the process again, with the registers of a start and a break. Its count of restarts
-    /// rises; its object, its count of turns, its last denial and its last refusal stay.
-    pub fn restart(&mut self, header: &Header<'_>, ram: Addr, length: u32, brk: Addr)
-        requires main { IsSome header.now.main }
-        requires entry { IfSome header.now.main
-            (λ m. entry_of self.old.object.address (shown header.now) m < 2 ^ 32) }
-        requires protected { IfSome header.now.main
-            (λ m. after_protected self.old.object.address (shown header.now) m < 2 ^ 32) }
+    /// Starts the process again (TRD 104, "Exit"), with the registers of a start and a break. Its
+    /// count of restarts rises; its object, its count of turns, its last denial and its last refusal
+    /// stay.
+    pub fn restart(&mut self, app: &AppHeader<'_>, ram: Addr, length: u32, brk: Addr)
+        requires entry { let at = self.old.object.address in
+            entry_of at (shown app.now.header) app.now.main < 2 ^ 32 }
+        requires protected { let at = self.old.object.address in
+            after_protected at (shown app.now.header) app.now.main < 2 ^ 32 }
         requires count { self.old.restarts + 1 < 2 ^ 32 }
-        ensures { IfSome header.now.main
-            (λ m. self.new ≡ restarted self.old (shown header.now) m ram length brk) }
+        ensures { self.new ≡ restarted self.old (shown app.now.header) app.now.main ram length brk }
     {
-        self.regs = regs_at_start(header, self.object.address, ram, length, brk);
+        self.regs = regs_at_start(app, self.object.address, ram, length, brk);
         self.state = State::Running;
         self.restarts += 1;
     }
@@ -154,17 +150,14 @@ impl Process {
 }
 
 /// The registers with which a process starts whose header stands at the address `object`.
-fn regs_at_start(header: &Header<'_>, object: Addr, ram: Addr, length: u32, brk: Addr) -> Regs
-    requires main { IsSome header.now.main }
-    requires entry { IfSome header.now.main (λ m. entry_of object (shown header.now) m < 2 ^ 32) }
-    requires protected { IfSome header.now.main
-        (λ m. after_protected object (shown header.now) m < 2 ^ 32) }
-    ensures { IfSome header.now.main
-        (λ m. result ≡ start_regs object (shown header.now) m ram length brk) }
+fn regs_at_start(app: &AppHeader<'_>, object: Addr, ram: Addr, length: u32, brk: Addr) -> Regs
+    requires entry { entry_of object (shown app.now.header) app.now.main < 2 ^ 32 }
+    requires protected { after_protected object (shown app.now.header) app.now.main < 2 ^ 32 }
+    ensures { result ≡ start_regs object (shown app.now.header) app.now.main ram length brk }
 {
-    let mut regs = Regs::at(header.entry(object) as u32);
+    let mut regs = Regs::at(app.entry(object) as u32);
     regs.set(2, ram);
-    regs.set(10, header.after_protected(object) as u32);
+    regs.set(10, app.after_protected(object) as u32);
     regs.set(11, ram);
     regs.set(12, length);
     regs.set(13, brk);

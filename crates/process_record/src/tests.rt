@@ -1,47 +1,48 @@
 use super::*;
 use std::test::Fail;
 use syscall_abi::Reply;
-use tbf_headers::{Header, read_header};
+use tbf_headers::{AppHeader, read_header};
+use test_objects::{Tlv, object};
 use tk_base::{Access, Addr, CallRule, Denial, ErrorCode, FLASH_START, RAM_START, Rule};
 
-/// An enabled object of 64 bytes with a Main TLV: init 4, protected 8, minimum RAM 256.
-const OBJECT: [u8; 64] = [
-    0x02, 0x00, 0x20, 0x00, 0x40, 0x00, 0x00, 0x00, 0x01, 0x00, 0x00, 0x00, 0x4e, 0x01, 0x2c, 0x00,
-    0x01, 0x00, 0x0c, 0x00, 0x04, 0x00, 0x00, 0x00, 0x08, 0x00, 0x00, 0x00, 0x00, 0x01, 0x00, 0x00,
-    0x13, 0x07, 0x60, 0x00, 0x13, 0x05, 0x00, 0x00, 0x93, 0x05, 0x70, 0x00, 0x73, 0x00, 0x00, 0x00,
-    0x00, 0x00, 0x00, 0x00, 0x00, 0x00, 0x00, 0x00, 0x00, 0x00, 0x00, 0x00, 0x00, 0x00, 0x00, 0x00,
-];
+/// An enabled object with a Main TLV.
+fn plain() -> [u8; 64] {
+    let main = Tlv::Main {
+        init: 4,
+        protected: 8,
+        minimum_ram: 256,
+    };
+    object(1, &[main], &[])
+}
 
 const BREAK: Addr = RAM_START + 256;
 
 /// The process of the object, or None where its header cannot be started.
-fn started(header: &Header<'_>) -> Option<Process> {
-    let _main = header.main?;
-    if header.entry(FLASH_START) < 0x1_0000_0000
-        && header.after_protected(FLASH_START) < 0x1_0000_0000
-    {
-        Some(Process::start(header, FLASH_START, RAM_START, 1024, BREAK))
+fn started(app: &AppHeader<'_>) -> Option<Process> {
+    if app.entry(FLASH_START) < 0x1_0000_0000 && app.after_protected(FLASH_START) < 0x1_0000_0000 {
+        Some(Process::start(app, FLASH_START, RAM_START, 1024, BREAK))
     } else {
         None
     }
 }
 
 /// Starts the process again, where its header can be started.
-fn start_again(process: &mut Process, header: &Header<'_>) {
+fn start_again(process: &mut Process, app: &AppHeader<'_>) {
     let object = process.object.address;
-    let starts = header.main.is_some() && process.restarts < 100;
-    if starts
-        && header.entry(object) < 0x1_0000_0000
-        && header.after_protected(object) < 0x1_0000_0000
+    if process.restarts < 100
+        && app.entry(object) < 0x1_0000_0000
+        && app.after_protected(object) < 0x1_0000_0000
     {
-        process.restart(header, RAM_START, 1024, BREAK);
+        process.restart(app, RAM_START, 1024, BREAK);
     }
 }
 
 #[test]
 fn starts_by_its_header(rt: HostRuntime) -> Result<(), Fail> {
-    let header = read_header(&OBJECT).ok().ok_or("the header has no fault")?;
-    let process = started(&header).ok_or("the header can be started")?;
+    let object = plain();
+    let header = read_header(&object).ok().ok_or("the header has no fault")?;
+    let app = header.app().ok_or("it is an application")?;
+    let process = started(&app).ok_or("the header can be started")?;
     assert_eq!(rt; process.regs.pc, 0x2000_0024);
     assert_eq!(rt; process.regs.get(10), 0x2000_0028);
     assert_eq!(rt; process.regs.get(11), RAM_START);
@@ -62,8 +63,10 @@ fn starts_by_its_header(rt: HostRuntime) -> Result<(), Fail> {
 
 #[test]
 fn refused_and_replied_to(rt: HostRuntime) -> Result<(), Fail> {
-    let header = read_header(&OBJECT).ok().ok_or("the header has no fault")?;
-    let mut process = started(&header).ok_or("the header can be started")?;
+    let object = plain();
+    let header = read_header(&object).ok().ok_or("the header has no fault")?;
+    let app = header.app().ok_or("it is an application")?;
+    let mut process = started(&app).ok_or("the header can be started")?;
     process.reply(&Reply::SuccessU32(7));
     assert_eq!(rt; process.regs.pc, 0x2000_0028);
     assert_eq!(rt; process.regs.get(10), 129);
@@ -83,8 +86,10 @@ fn refused_and_replied_to(rt: HostRuntime) -> Result<(), Fail> {
 
 #[test]
 fn starts_again(rt: HostRuntime) -> Result<(), Fail> {
-    let header = read_header(&OBJECT).ok().ok_or("the header has no fault")?;
-    let mut process = started(&header).ok_or("the header can be started")?;
+    let object = plain();
+    let header = read_header(&object).ok().ok_or("the header has no fault")?;
+    let app = header.app().ok_or("it is an application")?;
+    let mut process = started(&app).ok_or("the header can be started")?;
     let denial = Denial {
         access: Access::Load,
         address: 0,
@@ -93,8 +98,8 @@ fn starts_again(rt: HostRuntime) -> Result<(), Fail> {
     process.turns = 5;
     process.refuse(CallRule::NoDriver, &Reply::Failure(ErrorCode::NoDevice));
     process.fault(denial);
-    start_again(&mut process, &header);
-    let first = started(&header).ok_or("the header can be started")?;
+    start_again(&mut process, &app);
+    let first = started(&app).ok_or("the header can be started")?;
     assert_eq!(rt; process.regs, first.regs);
     assert_eq!(rt; process.object, first.object);
     assert_eq!(rt; process.state, State::Running);

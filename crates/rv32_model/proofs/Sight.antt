@@ -5,13 +5,14 @@ use Rattle.tk_base.specs.declared.access.Width.TheVariants.{Half}
 use Rattle.tk_base.specs.declared.access.Rule.{Rule}
 use Rattle.tk_base.specs.declared.access.Denial.{Denial}
 use Rattle.tk_base.specs.declared.regs.Regs.{Regs}
+use Rattle.tk_base.specs.Access.{misaligned_first}
 use Rattle.tk_base.specs.Bus.{number_at}
 use Rattle.tk_base.specs.Regs.{register}
 use Rattle.rv32_model.specs.declared.instr.LoadKind.{LoadKind}
 use Rattle.rv32_model.specs.declared.instr.Instr.{Instr}
 use Rattle.rv32_model.specs.declared.instr.Instr.TheVariants as instrs
 use Rattle.rv32_model.specs.Laws.{Denies, LookAlike, SeesOnlyPermitted}
-use Rattle.rv32_model.specs.UserTurn.{user_turn, on_word, executed, fetched, after_load, after_store, data_denies, effect, load_width, w32_of, judged_parcel, with_first, with_second, parcel_at, length_of, instr_of}
+use Rattle.rv32_model.specs.UserTurn.{user_turn, on_word, executed, fetched, after_load, after_store, effect, load_width, w32_of, judged_parcel, with_first, with_second, parcel_at, length_of, instr_of}
 
 judged_same : (at : ℕ) (o : Option Rule) (n m : ℕ) → (o ≡ None → n ≡ m) → judged_parcel at o n ≡ judged_parcel at o m
 judged_same at None n m e = ap (λ (x : ℕ). judged_parcel at None x) (e refl)
@@ -42,7 +43,7 @@ effect_same d e b c l length (instrs.Jalr rd rs1 offset) regs = refl
 effect_same d e b c l length (instrs.Branch test rs1 rs2 offset) regs = refl
 effect_same d e b c l length (instrs.Load kind rd rs1 offset) regs =
     let at = w32_of (register regs rs1 + offset) in
-    load_same length regs kind rd at (data_denies d Load at (load_width kind)) (number_at b at (load_width kind)) (number_at c at (load_width kind)) (l.loads at (load_width kind))
+    load_same length regs kind rd at (misaligned_first d Load at (load_width kind)) (number_at b at (load_width kind)) (number_at c at (load_width kind)) (l.loads at (load_width kind))
     ∙ ap (after_load length regs kind rd at (number_at c at (load_width kind))) (l.accesses Load at (load_width kind))
 effect_same d e b c l length (instrs.Store width rs1 rs2 offset) regs =
     let at = w32_of (register regs rs1 + offset) in

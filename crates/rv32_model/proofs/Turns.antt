@@ -10,9 +10,10 @@ use Rattle.tk_base.specs.declared.access.Access.TheVariants.{Fetch, Load, Store}
 use Rattle.tk_base.specs.declared.access.Width.{Width}
 use Rattle.tk_base.specs.declared.access.Width.TheVariants.{Half}
 use Rattle.tk_base.specs.declared.access.Rule.{Rule}
+use Rattle.tk_base.specs.declared.access.Rule.TheVariants.{Misaligned}
 use Rattle.tk_base.specs.declared.access.Denial.{Denial}
 use Rattle.tk_base.specs.declared.regs.Regs.{Regs}
-use Rattle.tk_base.specs.Access.{width_bytes}
+use Rattle.tk_base.specs.Access.{width_bytes, is_misaligned, misaligned_first}
 use Rattle.tk_base.specs.Bus.{number_at}
 use Rattle.tk_base.specs.Regs.{register}
 use Rattle.rv32_model.specs.declared.instr.LoadKind.{LoadKind}
@@ -20,7 +21,7 @@ use Rattle.rv32_model.specs.declared.instr.Instr.{Instr}
 use Rattle.rv32_model.specs.declared.instr.Instr.TheVariants as instrs
 use Rattle.rv32_model.specs.declared.turn_end.TurnEnd.TheVariants.{Trap}
 use Rattle.rv32_model.specs.Laws.{Denies, stores_at, AccessesArePermitted, DataIsAligned, DeniedTurnsChangeNothing, OnlyStoresWrite, WritesArePermitted}
-use Rattle.rv32_model.specs.UserTurn.{Touch, UserTurn, user_turn, on_word, executed, fetched, after_write, after_load, after_store, data_denies, effect, fetches, load_width, touch_of, w32_of, judged_parcel, with_first, with_second, parcel_at, length_of, instr_of}
+use Rattle.rv32_model.specs.UserTurn.{Touch, UserTurn, user_turn, on_word, executed, fetched, after_write, after_load, after_store, effect, fetches, load_width, touch_of, w32_of, judged_parcel, with_first, with_second, parcel_at, length_of, instr_of}
 
 -- a denied turn changes nothing
 Kept : (ℕ → ℕ) → Regs → UserTurn → Type 0
@@ -45,10 +46,10 @@ effect_kept denies bytes length (instrs.Jalr rd rs1 offset) regs d e = cc
 effect_kept denies bytes length (instrs.Branch test rs1 rs2 offset) regs d e = cc
 effect_kept denies bytes length (instrs.Load kind rd rs1 offset) regs d e =
     let at = w32_of (register regs rs1 + offset) in
-    load_kept bytes length regs kind rd at (number_at bytes at (load_width kind)) (data_denies denies Load at (load_width kind)) d e
+    load_kept bytes length regs kind rd at (number_at bytes at (load_width kind)) (misaligned_first denies Load at (load_width kind)) d e
 effect_kept denies bytes length (instrs.Store width rs1 rs2 offset) regs d e =
     let at = w32_of (register regs rs1 + offset) in
-    store_kept bytes length regs width at (register regs rs2) (data_denies denies Store at width) d e
+    store_kept bytes length regs width at (register regs rs2) (misaligned_first denies Store at width) d e
 effect_kept denies bytes length (instrs.OpImm op rd rs1 imm) regs d e = cc
 effect_kept denies bytes length (instrs.Op op rd rs1 rs2) regs d e = cc
 effect_kept denies bytes length instrs.Fence regs d e = cc
@@ -78,7 +79,7 @@ store_touches : (P : Touch → Type 0) (length : ℕ) (regs : Regs) (width : Wid
 store_touches P length regs width at value None f p = All-append P (fetches length regs) (touch_of Store at width ∷ []) f (All-cons P (touch_of Store at width) [] (p refl) (All-nil P))
 store_touches P length regs width at value (Some rule) f p = All-nil P
 
-effect_touches : (P : Touch → Type 0) (denies : Denies) (bytes : ℕ → ℕ) (length : ℕ) (i : Instr) (regs : Regs) → All P (fetches length regs) → ((access : Access) (at : ℕ) (width : Width) → data_denies denies access at width ≡ None → P (touch_of access at width)) → All P (effect denies bytes length i regs).accesses
+effect_touches : (P : Touch → Type 0) (denies : Denies) (bytes : ℕ → ℕ) (length : ℕ) (i : Instr) (regs : Regs) → All P (fetches length regs) → ((access : Access) (at : ℕ) (width : Width) → misaligned_first denies access at width ≡ None → P (touch_of access at width)) → All P (effect denies bytes length i regs).accesses
 effect_touches P denies bytes length (instrs.Lui rd imm) regs f p = f
 effect_touches P denies bytes length (instrs.Auipc rd imm) regs f p = f
 effect_touches P denies bytes length (instrs.Jal rd offset) regs f p = f
@@ -86,17 +87,17 @@ effect_touches P denies bytes length (instrs.Jalr rd rs1 offset) regs f p = f
 effect_touches P denies bytes length (instrs.Branch test rs1 rs2 offset) regs f p = f
 effect_touches P denies bytes length (instrs.Load kind rd rs1 offset) regs f p =
     let at = w32_of (register regs rs1 + offset) in
-    load_touches P length regs kind rd at (number_at bytes at (load_width kind)) (data_denies denies Load at (load_width kind)) f (p Load at (load_width kind))
+    load_touches P length regs kind rd at (number_at bytes at (load_width kind)) (misaligned_first denies Load at (load_width kind)) f (p Load at (load_width kind))
 effect_touches P denies bytes length (instrs.Store width rs1 rs2 offset) regs f p =
     let at = w32_of (register regs rs1 + offset) in
-    store_touches P length regs width at (register regs rs2) (data_denies denies Store at width) f (p Store at width)
+    store_touches P length regs width at (register regs rs2) (misaligned_first denies Store at width) f (p Store at width)
 effect_touches P denies bytes length (instrs.OpImm op rd rs1 imm) regs f p = f
 effect_touches P denies bytes length (instrs.Op op rd rs1 rs2) regs f p = f
 effect_touches P denies bytes length instrs.Fence regs f p = f
 effect_touches P denies bytes length instrs.Ecall regs f p = f
 effect_touches P denies bytes length instrs.Ebreak regs f p = All-nil P
 
-executed_touches : (P : Touch → Type 0) (denies : Denies) (bytes : ℕ → ℕ) (length : ℕ) (o : Option Instr) (regs : Regs) → All P (fetches length regs) → ((access : Access) (at : ℕ) (width : Width) → data_denies denies access at width ≡ None → P (touch_of access at width)) → All P (executed denies bytes length o regs).accesses
+executed_touches : (P : Touch → Type 0) (denies : Denies) (bytes : ℕ → ℕ) (length : ℕ) (o : Option Instr) (regs : Regs) → All P (fetches length regs) → ((access : Access) (at : ℕ) (width : Width) → misaligned_first denies access at width ≡ None → P (touch_of access at width)) → All P (executed denies bytes length o regs).accesses
 unfolding executed
 executed_touches P denies bytes length (Some i) regs f p = effect_touches P denies bytes length i regs f p
 executed_touches P denies bytes length None regs f p = All-nil P
@@ -144,7 +145,7 @@ fetches_each P length regs p q =
 
 -- what holds of each permitted fetch, and of each load and store that is not denied
 Holds : Denies → (Touch → Type 0) → Type 0
-Holds denies P = ((at : ℕ) → denies Fetch at Half ≡ None → P (touch_of Fetch at Half)) × ((access : Access) (at : ℕ) (width : Width) → data_denies denies access at width ≡ None → P (touch_of access at width))
+Holds denies P = ((at : ℕ) → denies Fetch at Half ≡ None → P (touch_of Fetch at Half)) × ((access : Access) (at : ℕ) (width : Width) → misaligned_first denies access at width ≡ None → P (touch_of access at width))
 
 word_touches : (P : Touch → Type 0) (denies : Denies) (bytes : ℕ → ℕ) (regs : Regs) (r : Result ℕ Denial) → fetched denies bytes regs.pc ≡ r → Holds denies P → All P (on_word denies bytes r regs).accesses
 unfolding on_word Holds SecondPermitted
@@ -157,16 +158,26 @@ turn_touches : (P : Touch → Type 0) (denies : Denies) (bytes : ℕ → ℕ) (r
 unfolding user_turn
 turn_touches P denies bytes regs h = word_touches P denies bytes regs (fetched denies bytes regs.pc) refl h
 
-data_permitted : (denies : Denies) (access : Access) (at : ℕ) (width : Width) → data_denies denies access at width ≡ None → (denies access at width ≡ None) × (at % width_bytes width ≡ 0)
-data_permitted denies access at width e = grind (arith, nat_tests)
+none_first : (b : Bool) (o : Option Rule) (rule : Rule) → (if b then Some rule else o) ≡ None → (b ≡ false) × (o ≡ None)
+none_first true o rule e = cc
+none_first false o rule e = (refl, e)
+
+-- what is not denied, misaligned first, is permitted and aligned
+data_permitted : (denies : Denies) (access : Access) (at : ℕ) (width : Width) → misaligned_first denies access at width ≡ None → denies access at width ≡ None
+data_permitted denies access at width e = (none_first (is_misaligned access at width) (denies access at width) Misaligned e).1
+
+data_aligned : (denies : Denies) (access : Access) (at : ℕ) (width : Width) → misaligned_first denies access at width ≡ None → access ≢ Fetch → at % width_bytes width ≡ 0
+data_aligned denies Fetch at width e n = absurd (n refl)
+data_aligned denies Load at width e n = let aligned = (none_first (is_misaligned Load at width) (denies Load at width) Misaligned e).0 in grind (arith, nat_tests)
+data_aligned denies Store at width e n = let aligned = (none_first (is_misaligned Store at width) (denies Store at width) Misaligned e).0 in grind (arith, nat_tests)
 
 pub accesses_are_permitted : AccessesArePermitted
 unfolding Holds
-accesses_are_permitted denies bytes regs = turn_touches (λ t. denies t.access t.address t.width ≡ None) denies bytes regs ((λ at h. h), (λ access at width h. (data_permitted denies access at width h).0))
+accesses_are_permitted denies bytes regs = turn_touches (λ t. denies t.access t.address t.width ≡ None) denies bytes regs ((λ at h. h), data_permitted denies)
 
 pub data_is_aligned : DataIsAligned
 unfolding Holds
-data_is_aligned denies bytes regs = turn_touches (λ t. t.access ≢ Fetch → t.address % width_bytes t.width ≡ 0) denies bytes regs ((λ at h n. absurd (n refl)), (λ access at width h n. (data_permitted denies access at width h).1))
+data_is_aligned denies bytes regs = turn_touches (λ t. t.access ≢ Fetch → t.address % width_bytes t.width ≡ 0) denies bytes regs ((λ at h n. absurd (n refl)), data_aligned denies)
 
 -- a byte that no store covers stays
 Stays : ℕ → (ℕ → ℕ) → UserTurn → Type 0
@@ -199,10 +210,10 @@ effect_stays a denies bytes length (instrs.Jalr rd rs1 offset) regs e = refl
 effect_stays a denies bytes length (instrs.Branch test rs1 rs2 offset) regs e = refl
 effect_stays a denies bytes length (instrs.Load kind rd rs1 offset) regs e =
     let at = w32_of (register regs rs1 + offset) in
-    load_stays a bytes length regs kind rd at (number_at bytes at (load_width kind)) (data_denies denies Load at (load_width kind)) e
+    load_stays a bytes length regs kind rd at (number_at bytes at (load_width kind)) (misaligned_first denies Load at (load_width kind)) e
 effect_stays a denies bytes length (instrs.Store width rs1 rs2 offset) regs e =
     let at = w32_of (register regs rs1 + offset) in
-    store_stays a bytes length regs width at (register regs rs2) (data_denies denies Store at width) e
+    store_stays a bytes length regs width at (register regs rs2) (misaligned_first denies Store at width) e
 effect_stays a denies bytes length (instrs.OpImm op rd rs1 imm) regs e = refl
 effect_stays a denies bytes length (instrs.Op op rd rs1 rs2) regs e = refl
 effect_stays a denies bytes length instrs.Fence regs e = refl
@@ -227,9 +238,9 @@ only_stores_write denies bytes regs a e = word_stays a denies bytes (fetched den
 Permitted : Denies → UserTurn → Type 0
 Permitted denies t = IfSome t.write (λ w. denies Store w.address w.width ≡ None)
 
-store_permitted : (denies : Denies) (length : ℕ) (regs : Regs) (width : Width) (at value : ℕ) (o : Option Rule) → o ≡ data_denies denies Store at width → Permitted denies (after_store length regs width at value o)
+store_permitted : (denies : Denies) (length : ℕ) (regs : Regs) (width : Width) (at value : ℕ) (o : Option Rule) → o ≡ misaligned_first denies Store at width → Permitted denies (after_store length regs width at value o)
 unfolding Permitted
-store_permitted denies length regs width at value None e = (data_permitted denies Store at width (sym e)).0
+store_permitted denies length regs width at value None e = data_permitted denies Store at width (sym e)
 store_permitted denies length regs width at value (Some rule) e = tt
 
 load_permitted : (denies : Denies) (length : ℕ) (regs : Regs) (kind : LoadKind) (rd at number : ℕ) (o : Option Rule) → Permitted denies (after_load length regs kind rd at number o)
@@ -246,10 +257,10 @@ effect_permitted denies bytes length (instrs.Jalr rd rs1 offset) regs = tt
 effect_permitted denies bytes length (instrs.Branch test rs1 rs2 offset) regs = tt
 effect_permitted denies bytes length (instrs.Load kind rd rs1 offset) regs =
     let at = w32_of (register regs rs1 + offset) in
-    load_permitted denies length regs kind rd at (number_at bytes at (load_width kind)) (data_denies denies Load at (load_width kind))
+    load_permitted denies length regs kind rd at (number_at bytes at (load_width kind)) (misaligned_first denies Load at (load_width kind))
 effect_permitted denies bytes length (instrs.Store width rs1 rs2 offset) regs =
     let at = w32_of (register regs rs1 + offset) in
-    store_permitted denies length regs width at (register regs rs2) (data_denies denies Store at width) refl
+    store_permitted denies length regs width at (register regs rs2) (misaligned_first denies Store at width) refl
 effect_permitted denies bytes length (instrs.OpImm op rd rs1 imm) regs = tt
 effect_permitted denies bytes length (instrs.Op op rd rs1 rs2) regs = tt
 effect_permitted denies bytes length instrs.Fence regs = tt

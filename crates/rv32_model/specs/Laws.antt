@@ -8,11 +8,11 @@ use Rattle.tk_base.specs.declared.access.Width.TheVariants.{Half}
 use Rattle.tk_base.specs.declared.access.Rule.{Rule}
 use Rattle.tk_base.specs.declared.access.Denial.{Denial}
 use Rattle.tk_base.specs.declared.regs.Regs.{Regs}
-use Rattle.tk_base.specs.Access.{width_bytes}
+use Rattle.tk_base.specs.Access.{width_bytes, misaligned_first}
 use Rattle.tk_base.specs.Bus.{number_at}
 use Rattle.rv32_model.specs.declared.turn_end.TurnEnd.TheVariants.{Trap}
 use Rattle.rv32_model.specs.Instructions.{fits, table}
-use Rattle.rv32_model.specs.UserTurn.{Touch, user_turn, after_write, data_denies}
+use Rattle.rv32_model.specs.UserTurn.{Touch, user_turn, bytes_after}
 
 -- no word fits two rows of the table
 abbrev pub NoWordFitsTwoRows : Type 0
@@ -36,7 +36,7 @@ DeniedTurnsChangeNothing =
     (denies : Denies) (bytes : ℕ → ℕ) (regs : Regs) (denial : Denial)
     → (user_turn denies bytes regs).end ≡ Trap denial
     → ((user_turn denies bytes regs).regs ≡ regs)
-    × (after_write (user_turn denies bytes regs).write bytes ≡ bytes)
+    × (bytes_after denies bytes regs ≡ bytes)
     × ((user_turn denies bytes regs).accesses ≡ [])
 
 abbrev pub is_store : Access → Bool
@@ -53,18 +53,22 @@ abbrev pub OnlyStoresWrite : Type 0
 OnlyStoresWrite =
     (denies : Denies) (bytes : ℕ → ℕ) (regs : Regs) (at : ℕ)
     → list_any (stores_at at) (user_turn denies bytes regs).accesses ≡ false
-    → after_write (user_turn denies bytes regs).write bytes at ≡ bytes at
+    → bytes_after denies bytes regs at ≡ bytes at
 
 -- what a turn writes it may store
+abbrev pub MayWrite : Denies → (ℕ → ℕ) → Regs → Type 0
+MayWrite denies bytes regs = IfSome (user_turn denies bytes regs).write (λ w. denies Store w.address w.width ≡ None)
+
+-- this holds of every turn
 abbrev pub WritesArePermitted : Type 0
-WritesArePermitted = (denies : Denies) (bytes : ℕ → ℕ) (regs : Regs) → IfSome (user_turn denies bytes regs).write (λ w. denies Store w.address w.width ≡ None)
+WritesArePermitted = (denies : Denies) (bytes : ℕ → ℕ) (regs : Regs) → MayWrite denies bytes regs
 
 -- Two boards that look alike to a process: they deny the same, and have the same numbers where it may fetch and load.
 pub record LookAlike (denies others : Denies) (bytes other_bytes : ℕ → ℕ) : Type 0 where
   pub fetches : (at : ℕ) → denies Fetch at Half ≡ others Fetch at Half
-  pub accesses : (access : Access) (at : ℕ) (width : Width) → data_denies denies access at width ≡ data_denies others access at width
+  pub accesses : (access : Access) (at : ℕ) (width : Width) → misaligned_first denies access at width ≡ misaligned_first others access at width
   pub parcels : (at : ℕ) → denies Fetch at Half ≡ None → number_at bytes at Half ≡ number_at other_bytes at Half
-  pub loads : (at : ℕ) (width : Width) → data_denies denies Load at width ≡ None → number_at bytes at width ≡ number_at other_bytes at width
+  pub loads : (at : ℕ) (width : Width) → misaligned_first denies Load at width ≡ None → number_at bytes at width ≡ number_at other_bytes at width
 
 -- a turn sees nothing but what it may access: the same turn follows from what looks alike
 abbrev pub SeesOnlyPermitted : Type 0

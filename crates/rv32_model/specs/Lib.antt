@@ -2,3 +2,4 @@ pub mod Compressed
 pub mod Instructions
 pub mod Laws
 pub mod UserTurn
+pub mod Worked

@@ -9,10 +9,10 @@ use Rattle.tk_base.specs.declared.access.Access.TheVariants.{Fetch, Load, Store}
 use Rattle.tk_base.specs.declared.access.Width.{Width}
 use Rattle.tk_base.specs.declared.access.Width.TheVariants.{Byte, Half, Word}
 use Rattle.tk_base.specs.declared.access.Rule.{Rule}
-use Rattle.tk_base.specs.declared.access.Rule.TheVariants.{Misaligned, Illegal, Breakpoint}
+use Rattle.tk_base.specs.declared.access.Rule.TheVariants.{Illegal, Breakpoint}
 use Rattle.tk_base.specs.declared.access.Denial.{Denial}
 use Rattle.tk_base.specs.declared.regs.Regs.{Regs}
-use Rattle.tk_base.specs.Access.{width_bytes}
+use Rattle.tk_base.specs.Access.{misaligned_first}
 use Rattle.tk_base.specs.Bus.{number_at, written}
 use Rattle.tk_base.specs.Regs.{register, with_register}
 use Rattle.rv32_model.specs.declared.instr.Op.{Op}
@@ -51,6 +51,9 @@ pub record UserTurn : Type 0 where
 abbrev pub after_write : Option Write → (ℕ → ℕ) → ℕ → ℕ
 after_write None bytes = bytes
 after_write (Some w) bytes = written bytes w.address w.width w.value
+
+abbrev pub bytes_left : UserTurn → (ℕ → ℕ) → ℕ → ℕ
+bytes_left turn bytes = after_write turn.write bytes
 
 -- values are modulo 2^32
 abbrev pub w32_of : ℕ → ℕ
@@ -176,11 +179,6 @@ loaded Lw n = n
 loaded Lbu n = n % 2 ^ 8
 loaded Lhu n = n % 2 ^ 16
 
--- Why a load or store is denied: an address that is no multiple of the width is misaligned, whatever
--- lies there.
-abbrev pub data_denies : (Access → ℕ → Width → Option Rule) → Access → ℕ → Width → Option Rule
-data_denies denies access at width = if at % width_bytes width == 0 then denies access at width else Some Misaligned
-
 abbrev pub after_load : ℕ → Regs → LoadKind → ℕ → ℕ → ℕ → Option Rule → UserTurn
 after_load length regs kind rd at number None = record (computed length regs rd (loaded kind number)) { accesses = fetches length regs ++ (touch_of Load at (load_width kind) ∷ []) }
 after_load length regs kind rd at number (Some rule) = trapped regs (denied_at Load at rule)
@@ -189,19 +187,28 @@ abbrev pub after_store : ℕ → Regs → Width → ℕ → ℕ → Option Rule 
 after_store length regs width at value None = record { regs = record regs { pc = link length regs }; write = Some (record { address = at; width = width; value = value }); accesses = fetches length regs ++ (touch_of Store at width ∷ []); end = Went }
 after_store length regs width at value (Some rule) = trapped regs (denied_at Store at rule)
 
+-- the effect of a branch by an instruction of a length in bytes
+abbrev pub branch_effect : ℕ → Regs → BranchTest → ℕ → ℕ → ℕ → UserTurn
+branch_effect length regs test rs1 rs2 offset =
+    gone length regs regs (if is_taken test (register regs rs1) (register regs rs2) then w32_of (regs.pc + offset) else link length regs)
+
+-- the effect of a load from an address, and of a store at one, by an instruction of a length in bytes
+abbrev pub load_effect : (Access → ℕ → Width → Option Rule) → (ℕ → ℕ) → ℕ → Regs → LoadKind → ℕ → ℕ → UserTurn
+load_effect denies bytes length regs kind rd at =
+    after_load length regs kind rd at (number_at bytes at (load_width kind)) (misaligned_first denies Load at (load_width kind))
+
+abbrev pub store_effect : (Access → ℕ → Width → Option Rule) → ℕ → Regs → Width → ℕ → ℕ → UserTurn
+store_effect denies length regs width at value = after_store length regs width at value (misaligned_first denies Store at width)
+
 -- the effect of an instruction of a length in bytes
 abbrev pub effect : (Access → ℕ → Width → Option Rule) → (ℕ → ℕ) → ℕ → Instr → Regs → UserTurn
 effect denies bytes length (instrs.Lui rd imm) regs = computed length regs rd imm
 effect denies bytes length (instrs.Auipc rd imm) regs = computed length regs rd (w32_of (regs.pc + imm))
 effect denies bytes length (instrs.Jal rd offset) regs = jumped length regs rd (w32_of (regs.pc + offset))
 effect denies bytes length (instrs.Jalr rd rs1 offset) regs = jumped length regs rd (w32_of (register regs rs1 + offset) / 2 * 2)
-effect denies bytes length (instrs.Branch test rs1 rs2 offset) regs = gone length regs regs (if is_taken test (register regs rs1) (register regs rs2) then w32_of (regs.pc + offset) else link length regs)
-effect denies bytes length (instrs.Load kind rd rs1 offset) regs =
-    let at = w32_of (register regs rs1 + offset) in
-    after_load length regs kind rd at (number_at bytes at (load_width kind)) (data_denies denies Load at (load_width kind))
-effect denies bytes length (instrs.Store width rs1 rs2 offset) regs =
-    let at = w32_of (register regs rs1 + offset) in
-    after_store length regs width at (register regs rs2) (data_denies denies Store at width)
+effect denies bytes length (instrs.Branch test rs1 rs2 offset) regs = branch_effect length regs test rs1 rs2 offset
+effect denies bytes length (instrs.Load kind rd rs1 offset) regs = load_effect denies bytes length regs kind rd (w32_of (register regs rs1 + offset))
+effect denies bytes length (instrs.Store width rs1 rs2 offset) regs = store_effect denies length regs width (w32_of (register regs rs1 + offset)) (register regs rs2)
 effect denies bytes length (instrs.OpImm op rd rs1 imm) regs = computed length regs rd (operation op (register regs rs1) imm)
 effect denies bytes length (instrs.Op op rd rs1 rs2) regs = computed length regs rd (operation op (register regs rs1) (register regs rs2))
 effect denies bytes length instrs.Fence regs = gone length regs regs (link length regs)
@@ -220,3 +227,7 @@ on_word denies bytes (Err denial) regs = trapped regs denial
 -- one turn, over what is denied and the bytes
 unfoldable pub user_turn : (Access → ℕ → Width → Option Rule) → (ℕ → ℕ) → Regs → UserTurn
 user_turn denies bytes regs = on_word denies bytes (fetched denies bytes regs.pc) regs
+
+-- the bytes that it leaves
+abbrev pub bytes_after : (Access → ℕ → Width → Option Rule) → (ℕ → ℕ) → Regs → ℕ → ℕ
+bytes_after denies bytes regs = bytes_left (user_turn denies bytes regs) bytes

@@ -13,3 +13,6 @@ pub use laws::{
     only_stores_write, sees_only_permitted, writes_are_permitted,
 };
 pub use turn_end::TurnEnd;
+
+#[cfg(test)]
+mod tests;

@@ -1,12 +1,10 @@
 //! The effect of one instruction.
-ghost use Rattle.std.specs.Prelude.{◌≡◌, ◌==◌, ◌+◌, ◌%◌, if◌then◌else◌};
-ghost use Rattle.tk_base.specs.declared.access.Access.TheVariants as accesses;
+ghost use Rattle.std.specs.Prelude.{◌≡◌, if◌then◌else◌};
 ghost use Rattle.tk_base.specs.declared.access.Rule.TheVariants as rules;
-ghost use Rattle.tk_base.specs.Access.{width_bytes};
-ghost use Rattle.tk_base.specs.Bus.{answered, number_at};
-ghost use Rattle.tk_base.specs.Regs.{register};
+ghost use Rattle.tk_base.specs.Access.{is_misaligned};
+ghost use Rattle.tk_base.specs.Bus.{answered};
 ghost use Rattle.rv32_model.specs.declared.turn_end.TurnEnd.TheVariants as ends;
-ghost use Rattle.rv32_model.specs.UserTurn.{effect, after_write, after_load, after_store, computed, data_denies, is_taken, jumped, link, load_width, loaded, w32_of};
+ghost use Rattle.rv32_model.specs.UserTurn.{effect, bytes_left, branch_effect, load_effect, store_effect, computed, jumped, load_width, loaded};
 
 use crate::operate::{operate, takes};
 use rv32_model::{BranchTest, Instr, LoadKind, TurnEnd};
@@ -48,10 +46,11 @@ fn extend(kind: LoadKind, number: u32) -> u32
     }
 }
 
-fn require_aligned(at: Addr, width: Width) -> Result<(), Rule>
-    ensures { result ≡ answered (if at % width_bytes width == 0 then None else Some rules.Misaligned) tt }
+/// Refuses a misaligned load or store, before the bus is asked.
+fn require_aligned(access: Access, at: Addr, width: Width) -> Result<(), Rule>
+    ensures { result ≡ answered (if is_misaligned access at width then Some rules.Misaligned else None) tt }
 {
-    if at % width.bytes() == 0 {
+    if access == Access::Fetch || at % width.bytes() == 0 {
         Ok(())
     } else {
         Err(Rule::Misaligned)
@@ -59,11 +58,11 @@ fn require_aligned(at: Addr, width: Width) -> Result<(), Rule>
 }
 
 fn load<B: Bus>(kind: LoadKind, rd: u8, at: Addr, length: u32, regs: &mut Regs, bus: &B) -> TurnEnd
-    ensures regs { regs.new ≡ (after_load length regs.old kind rd at (number_at (B.bytes bus.now) at (load_width kind)) (data_denies (B.denies bus.now) accesses.Load at (load_width kind))).regs }
-    ensures end { result ≡ (after_load length regs.old kind rd at (number_at (B.bytes bus.now) at (load_width kind)) (data_denies (B.denies bus.now) accesses.Load at (load_width kind))).end }
+    ensures regs { regs.new ≡ (load_effect (B.denies bus.now) (B.bytes bus.now) length regs.old kind rd at).regs }
+    ensures end { result ≡ (load_effect (B.denies bus.now) (B.bytes bus.now) length regs.old kind rd at).end }
 {
     let width = read_width(kind);
-    let answer = match require_aligned(at, width) {
+    let answer = match require_aligned(Access::Load, at, width) {
         Ok(()) => bus.load(at, width),
         Err(rule) => Err(rule),
     };
@@ -89,13 +88,14 @@ fn store<B: Bus>(
     regs: &mut Regs,
     bus: &mut B,
 ) -> TurnEnd
-    ensures regs { regs.new ≡ (after_store length regs.old width at value (data_denies (B.denies bus.old) accesses.Store at width)).regs }
-    ensures end { result ≡ (after_store length regs.old width at value (data_denies (B.denies bus.old) accesses.Store at width)).end }
-    ensures bytes { B.bytes bus.new ≡ after_write (after_store length regs.old width at value (data_denies (B.denies bus.old) accesses.Store at width)).write (B.bytes bus.old) }
+    ensures regs { regs.new ≡ (store_effect (B.denies bus.old) length regs.old width at value).regs }
+    ensures end { result ≡ (store_effect (B.denies bus.old) length regs.old width at value).end }
+    ensures bytes { let turn = store_effect (B.denies bus.old) length regs.old width at value in
+        B.bytes bus.new ≡ bytes_left turn (B.bytes bus.old) }
     ensures denies { B.denies bus.new ≡ B.denies bus.old }
     ensures frame { B.frame bus.new ≡ B.frame bus.old }
 {
-    let answer = match require_aligned(at, width) {
+    let answer = match require_aligned(Access::Store, at, width) {
         Ok(()) => bus.store(at, width, value),
         Err(rule) => Err(rule),
     };
@@ -132,7 +132,7 @@ fn jump(rd: u8, to: Addr, length: u32, regs: &mut Regs) -> TurnEnd
 }
 
 fn branch(test: BranchTest, rs1: u8, rs2: u8, offset: u32, length: u32, regs: &mut Regs) -> TurnEnd
-    ensures regs { regs.new ≡ record regs.old { pc = if is_taken test (register regs.old rs1) (register regs.old rs2) then w32_of (regs.old.pc + offset) else link length regs.old } }
+    ensures regs { regs.new ≡ (branch_effect length regs.old test rs1 rs2 offset).regs }
     ensures end { result ≡ ends.Went }
 {
     let taken = takes(test, regs.get(rs1), regs.get(rs2));
@@ -146,7 +146,8 @@ fn branch(test: BranchTest, rs1: u8, rs2: u8, offset: u32, length: u32, regs: &m
 pub fn execute<B: Bus>(instr: Instr, length: u32, regs: &mut Regs, bus: &mut B) -> TurnEnd
     ensures regs { regs.new ≡ (effect (B.denies bus.old) (B.bytes bus.old) length instr regs.old).regs }
     ensures end { result ≡ (effect (B.denies bus.old) (B.bytes bus.old) length instr regs.old).end }
-    ensures bytes { B.bytes bus.new ≡ after_write (effect (B.denies bus.old) (B.bytes bus.old) length instr regs.old).write (B.bytes bus.old) }
+    ensures bytes { let turn = effect (B.denies bus.old) (B.bytes bus.old) length instr regs.old in
+        B.bytes bus.new ≡ bytes_left turn (B.bytes bus.old) }
     ensures denies { B.denies bus.new ≡ B.denies bus.old }
     ensures frame { B.frame bus.new ≡ B.frame bus.old }
 {

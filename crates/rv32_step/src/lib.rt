@@ -4,9 +4,9 @@
 mod execute;
 mod operate;
 
-ghost use Rattle.std.specs.Prelude.{◌≡◌, ◌≢◌, ◌%◌, ◌<◌, ◌^◌, None, IfOk, IfSome};
-ghost use Rattle.tk_base.specs.declared.access.Access.TheVariants.{Store};
-ghost use Rattle.rv32_model.specs.UserTurn.{user_turn, fetched, length_of, instr_of, parcel_at, after_write};
+ghost use Rattle.std.specs.Prelude.{◌≡◌, ◌≢◌, ◌%◌, ◌<◌, ◌^◌, IfOk};
+ghost use Rattle.rv32_model.specs.UserTurn.{user_turn, fetched, length_of, instr_of, parcel_at, bytes_after};
+ghost use Rattle.rv32_model.specs.Laws.{MayWrite};
 
 use crate::execute::execute;
 use rv32_compressed::decode16;
@@ -60,17 +60,17 @@ fn decode(word: u32) -> Option<Instr>
     }
 }
 
-/// One instruction of the process whose registers these are, 32 or 16 bits long. `Call` leaves pc at the `ecall`; a trap
-/// leaves registers and bytes as they were. The answer, the registers and the bytes are those of the
-/// definition of a user turn.
+/// One instruction of the process whose registers these are, 32 or 16 bits long (RISC-V
+/// unprivileged manual). `Call` leaves pc at the `ecall`; a trap leaves registers and bytes as they
+/// were. The answer, the registers and the bytes are those of the definition of a user turn.
 #[tactic(auto, unfolding(rv32_model::specs::UserTurn::user_turn, rv32_model::specs::UserTurn::on_word, rv32_model::specs::UserTurn::executed))]
 pub fn turn<B: Bus>(regs: &mut Regs, bus: &mut B) -> TurnEnd
     ensures regs { regs.new ≡ (user_turn (B.denies bus.old) (B.bytes bus.old) regs.old).regs }
     ensures end { result ≡ (user_turn (B.denies bus.old) (B.bytes bus.old) regs.old).end }
-    ensures bytes { B.bytes bus.new ≡ after_write (user_turn (B.denies bus.old) (B.bytes bus.old) regs.old).write (B.bytes bus.old) }
+    ensures bytes { B.bytes bus.new ≡ bytes_after (B.denies bus.old) (B.bytes bus.old) regs.old }
     ensures denies { B.denies bus.new ≡ B.denies bus.old }
     ensures frame { B.frame bus.new ≡ B.frame bus.old }
-    ensures permitted { IfSome (user_turn (B.denies bus.old) (B.bytes bus.old) regs.old).write (λ w. B.denies bus.old Store w.address w.width ≡ None) }
+    ensures permitted { MayWrite (B.denies bus.old) (B.bytes bus.old) regs.old }
 {
     writes_are_permitted();
     let word = match fetch(bus, regs.pc) {

@@ -1,33 +1,14 @@
 //! Turns over a small memory, with values from the RISC-V unprivileged manual.
-ghost use Rattle.std.specs.Prelude.{◌≡◌, ℕ, ◌+◌, ◌<◌, ◌≤◌, length, slice_index};
-ghost use Rattle.tk_base.specs.Access.{width_bytes};
-ghost use Rattle.rv32_step.specs.SmallMemory.{put};
 
 use super::*;
 use crate::operate::operate;
 use rv32_model::Op;
-use tk_base::Width;
+use tk_base::{Width, a_store_is_put, number_in, put_number};
 
 /// 64 bytes from address 0 on: the first 32 may be executed, the others written; all may be read.
 #[derive(Drop)]
 struct SmallMemory {
     bytes: [u8; 64],
-}
-
-fn put_number(bytes: &mut [u8], at: usize, width: Width, value: u32)
-    requires { at + width_bytes width ≤ length bytes.old }
-    ensures { bytes.new ≡ put bytes.old at width value }
-{
-    bytes[at] = (value % 256) as u8;
-    if width == Width::Byte {
-        return;
-    }
-    bytes[at + 1] = (value / 256 % 256) as u8;
-    if width == Width::Half {
-        return;
-    }
-    bytes[at + 2] = (value / 65536 % 256) as u8;
-    bytes[at + 3] = (value / 16777216 % 256) as u8;
 }
 
 impl SmallMemory {
@@ -40,14 +21,6 @@ impl SmallMemory {
             }
         }
         SmallMemory { bytes }
-    }
-
-    fn byte(&self, at: usize) -> u32
-        requires { at < 64 }
-        ensures value { result ≡ slice_index self.now.bytes at }
-        ensures below { result < 256 }
-    {
-        u32::from(self.bytes[at])
     }
 }
 
@@ -68,28 +41,16 @@ impl Bus for SmallMemory {
         if at >= 32 {
             return Err(Rule::NoExecute);
         }
-        let at = at as usize;
-        Ok((self.byte(at) + 256 * self.byte(at + 1)) as u16)
+        Ok(number_in(&self.bytes, at as usize, Width::Half) as u16)
     }
 
     fn load(&self, at: Addr, width: Width) -> Result<u32, Rule> {
         if at > 64 - width.bytes() {
             return Err(Rule::NoRegion);
         }
-        let at = at as usize;
-        match width {
-            Width::Byte => Ok(self.byte(at)),
-            Width::Half => Ok(self.byte(at) + 256 * self.byte(at + 1)),
-            Width::Word => Ok(
-                self.byte(at)
-                    + 256 * self.byte(at + 1)
-                    + 65536 * self.byte(at + 2)
-                    + 16777216 * self.byte(at + 3),
-            ),
-        }
+        Ok(number_in(&self.bytes, at as usize, width))
     }
 
-    #[tactic(auto, using(crate::proofs::Stores::writes))]
     fn store(&mut self, at: Addr, width: Width, value: u32) -> Result<(), Rule> {
         if at > 64 - width.bytes() {
             return Err(Rule::NoRegion);
@@ -97,6 +58,7 @@ impl Bus for SmallMemory {
         if at < 32 {
             return Err(Rule::NoWrite);
         }
+        a_store_is_put();
         put_number(&mut self.bytes, at as usize, width, value);
         Ok(())
     }

@@ -4,7 +4,7 @@ use Rattle.std.proofs.lemmas.List.{drop-drop, length-drop, get_or-drop, take_mor
 use Rattle.std.proofs.lemmas.List.Splits.{length-slice_split}
 use Rattle.std.proofs.lemmas.List.Sums.{count_by-le-length}
 use Rattle.std.specs.List.{enumerate_from, slice_split, cons_option}
-use Rattle.script_text.specs.declared.rule.Script.{Script}
+use Rattle.script_text.specs.Settings.{Settings}
 use Rattle.script_text.specs.declared.rule.ScriptRule.{ScriptRule}
 use Rattle.script_text.specs.Text.{lines, without_return, without_empty_last, is_line_feed, is_empty}
 use Rattle.script_text.specs.Rules.{broken}
@@ -55,7 +55,7 @@ unfolding faults
 no_faults_before all = refl
 
 -- where no line is left there is no fault
-pub settings_read : (script : List ℕ) (n : ℕ) (settled : Script) → drop n (lines script) ≡ [] → filter_map (fault_of (lines script)) (enumerate_from (n + 1) (drop n (lines script))) ≡ faults (lines script) → settled ≡ settings (lines script) → reading script ≡ Ok settled
+pub settings_read : (script : List ℕ) (n : ℕ) (settled : Settings) → drop n (lines script) ≡ [] → filter_map (fault_of (lines script)) (enumerate_from (n + 1) (drop n (lines script))) ≡ faults (lines script) → settled ≡ settings (lines script) → reading script ≡ Ok settled
 unfolding reading
 settings_read script n settled h e s =
     ap (λ fs. unless_bad fs (settings (lines script))) (sym e ∙ ap (λ ls. filter_map (fault_of (lines script)) (enumerate_from (n + 1) ls)) h) ∙ ap Ok (sym s)

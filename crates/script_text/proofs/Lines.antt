@@ -1,16 +1,18 @@
 -- What one more line says.
-use Rattle.std.proofs.Common.{◌≡◌, ◌++◌, ◌==◌, ◌≤◌, IsTrue, unwrap_or, ℕ, true, false, cond, List, [], ◌∷◌, find, Option, Some, None, is_some, option_map, slice_index, slice_index_or, refl, sym, ap, subst, ◌∙◌, arith}
+use Rattle.std.proofs.Common.{◌≡◌, ◌++◌, ◌==◌, IsTrue, unwrap_or, ℕ, true, false, cond, List, [], ◌∷◌, find, Option, Some, None, is_some, option_map, slice_index, slice_index_or, refl, sym, ap, subst, ◌∙◌, arith}
 use Rattle.std.proofs.lemmas.Bool.{eqb-true}
 use Rattle.std.proofs.lemmas.Bool.Decides.{nat_tests}
 use Rattle.std.proofs.lemmas.List.Folds.{find-append}
 use Rattle.std.proofs.lemmas.Slice.Eq.{bytes_eq-Decides}
 use Rattle.std.specs.Option.{option_or, ForSome}
 use Rattle.std.specs.Str.{bytes_eq}
+use Rattle.tk_base.specs.Limits.{IsRamSize}
 use Rattle.script_text.specs.declared.line.Given.{Given}
 use Rattle.script_text.specs.declared.rule.ScriptRule.TheVariants.{Repeated}
 use Rattle.script_text.specs.declared.table.Setting.{Setting}
 use Rattle.script_text.specs.declared.table.Setting.TheVariants.{Ram}
-use Rattle.script_text.specs.Text.{words, number}
+use Rattle.decimal_number.specs.Number.{number}
+use Rattle.script_text.specs.Text.{words}
 use Rattle.script_text.specs.Rules.{Row, ram_row, first_word, second_word, skips, is_skipped, begins_with, broken, permits}
 use Rattle.script_text.specs.Reading.{given}
 use Rattle.script_text.specs.Line.{row, Gives}
@@ -72,20 +74,13 @@ pub in_range : (g : Given) → permits (row g.setting) g.number ≡ true → per
 in_range g h = subst (λ r. permits r g.number ≡ true) (row_is g.setting) h
 
 -- what the range of `ram` says
-least_in : (n : ℕ) → permits ram_row n ≡ true → 4096 ≤ n
-least_in n h = grind (arith, nat_tests)
+size_in : (n : ℕ) → permits ram_row n ≡ true → IsRamSize n
+size_in n h = record { least = grind (arith, nat_tests); most = grind (arith, nat_tests); multiple = grind (arith, nat_tests) }
 
-most_in : (n : ℕ) → permits ram_row n ≡ true → n ≤ 262144
-most_in n h = grind (arith, nat_tests)
-
-pub least_given : (o : Option ℕ) → ForSome o (λ n. IsTrue (permits ram_row n)) → 4096 ≤ unwrap_or o 65536
-least_given None h = omega arith
-least_given (Some n) h = least_in n (h n refl)
-
-pub most_given : (o : Option ℕ) → ForSome o (λ n. IsTrue (permits ram_row n)) → unwrap_or o 65536 ≤ 262144
-most_given None h = omega arith
-most_given (Some n) h = most_in n (h n refl)
+pub size_given : (o : Option ℕ) → ForSome o (λ n. IsTrue (permits ram_row n)) → IsRamSize (unwrap_or o ram_row.default)
+size_given None h = record { least = omega arith; most = omega arith; multiple = refl }
+size_given (Some n) h = size_in n (h n refl)
 
 pub ruleset one_line_more = (adds_given, refuses_again, in_range)
 
-pub ruleset ram_range = (least_given, most_given)
+pub ruleset ram_range = (size_given)

@@ -9,7 +9,8 @@ use Rattle.script_text.specs.declared.rule.ScriptRule.{ScriptRule}
 use Rattle.script_text.specs.declared.rule.ScriptRule.TheVariants.{UnknownWord, Words, BadNumber, BadHex, OutOfRange, Repeated, Order, TooMany}
 use Rattle.script_text.specs.declared.table.Setting.{Setting}
 use Rattle.script_text.specs.declared.table.Setting.TheVariants.{Ram}
-use Rattle.script_text.specs.Text.{words, is_number, number}
+use Rattle.decimal_number.specs.Number.{is_number, number}
+use Rattle.script_text.specs.Text.{words}
 use Rattle.script_text.specs.Rules.{ram_row, row_of, permits, first_word, second_word, skips, is_skipped, begins_with, breaks_rule, broken}
 use Rattle.script_text.specs.Line.{row, Gives}
 

@@ -3,3 +3,4 @@ pub mod Rules
 pub mod Reading
 pub mod Line
 pub mod Drafted
+pub mod Settings

@@ -5,7 +5,7 @@ use Rattle.script_text.specs.declared.rule.ScriptRule.{ScriptRule}
 use Rattle.script_text.specs.declared.rule.ScriptRule.TheVariants.{Repeated}
 use Rattle.script_text.specs.declared.table.Setting.{Setting}
 use Rattle.script_text.specs.declared.table.Setting.TheVariants.{Ram}
-use Rattle.script_text.specs.Text.{number}
+use Rattle.decimal_number.specs.Number.{number}
 use Rattle.script_text.specs.Rules.{Row, ram_row, permits, first_word, second_word, is_skipped, begins_with, broken}
 
 -- the row of a setting

@@ -1,11 +1,12 @@
 -- The reading of a script: what it says, or its first bad line.
 use Rattle.std.specs.Prelude.{◌≡◌, ℕ, ◌-◌, List, [], ◌∷◌, take, find, filter_map, Option, option_map, unwrap_or, Result, Ok, Err}
 use Rattle.std.specs.List.{enumerate_from}
-use Rattle.script_text.specs.declared.rule.Script.{Script}
 use Rattle.script_text.specs.declared.rule.ScriptError.{ScriptError}
 use Rattle.script_text.specs.declared.rule.ScriptError.TheVariants.{Bad, Memory}
 use Rattle.script_text.specs.declared.rule.ScriptRule.{ScriptRule}
-use Rattle.script_text.specs.Text.{lines, number}
+use Rattle.decimal_number.specs.Number.{number}
+use Rattle.script_text.specs.Settings.{Settings}
+use Rattle.script_text.specs.Text.{lines}
 use Rattle.script_text.specs.Rules.{Row, ram_row, second_word, begins_with, broken}
 
 -- a line's number, from 1, and the first rule that it breaks
@@ -26,20 +27,20 @@ abbrev pub given : Row → List (List ℕ) → Option ℕ
 given row all = option_map (λ line. number (second_word line)) (find (begins_with row.name) all)
 
 -- what lines say that have no fault
-abbrev pub settings : List (List ℕ) → Script
+abbrev pub settings : List (List ℕ) → Settings
 settings all = record { ram = unwrap_or (given ram_row all) ram_row.default }
 
 -- the settings, unless there is a fault: then the first one
-abbrev pub unless_bad : List Fault → Script → Result Script Fault
-unless_bad [] script = Ok script
-unless_bad (fault ∷ more) script = Err fault
+abbrev pub unless_bad : List Fault → Settings → Result Settings Fault
+unless_bad [] said = Ok said
+unless_bad (fault ∷ more) said = Err fault
 
 -- the reading of a script's bytes
-unfoldable pub reading : List ℕ → Result Script Fault
+unfoldable pub reading : List ℕ → Result Settings Fault
 reading script = unless_bad (faults (lines script)) (settings (lines script))
 
 -- what was read is the reading; memory never runs out yet
-abbrev pub Reads : Result Script ScriptError → Result Script Fault → Type 0
-Reads (Ok script) read = read ≡ Ok script
+abbrev pub Reads : Result Settings ScriptError → Result Settings Fault → Type 0
+Reads (Ok said) read = read ≡ Ok said
 Reads (Err (Bad line rule)) read = read ≡ Err (record { line = line; rule = rule })
 Reads (Err Memory) read = ⊥

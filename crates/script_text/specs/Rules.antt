@@ -2,9 +2,11 @@
 use Rattle.std.specs.Prelude.{ℕ, ◌%◌, ◌==◌, Bool, true, false, not, ◌&&◌, nat_le, List, [], ◌∷◌, length, find, slice_index, slice_index_or, codes, Option, is_some, is_none}
 use Rattle.std.specs.Option.{option_map_or}
 use Rattle.std.specs.Str.{bytes_eq}
+use Rattle.tk_base.specs.declared.limits.TheConstants.{RAM_LEAST, RAM_LIMIT, RAM_UNIT}
 use Rattle.script_text.specs.declared.rule.ScriptRule.{ScriptRule}
 use Rattle.script_text.specs.declared.rule.ScriptRule.TheVariants.{UnknownWord, Words, BadNumber, BadHex, OutOfRange, Repeated, Order, TooMany}
-use Rattle.script_text.specs.Text.{words, is_number, number}
+use Rattle.decimal_number.specs.Number.{is_number, number}
+use Rattle.script_text.specs.Text.{words}
 
 -- a line of a name and a number: the numbers that it may have, and the one that holds where no line gives it
 pub record Row : Type 0 where
@@ -15,7 +17,7 @@ pub record Row : Type 0 where
   pub default : ℕ
 
 abbrev pub ram_row : Row
-ram_row = record { name = codes "ram"; least = 4096; most = 262144; multiple = 1024; default = 65536 }
+ram_row = record { name = codes "ram"; least = RAM_LEAST; most = RAM_LIMIT; multiple = RAM_UNIT; default = 65536 }
 
 -- the table of lines
 abbrev pub rows : List Row

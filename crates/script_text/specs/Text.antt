@@ -1,8 +1,6 @@
--- The bytes of a script: its lines, the words of a line, and numbers.
-use Rattle.std.specs.Prelude.{ℕ, ◌-◌, ◌==◌, Bool, not, ◌||◌, ◌&&◌, nat_le, if◌then◌else◌, List, [], ◌∷◌, map, filter, length, take, slice_index}
+-- The bytes of a script: its lines, and the words of a line.
+use Rattle.std.specs.Prelude.{ℕ, ◌-◌, ◌==◌, Bool, not, ◌||◌, if◌then◌else◌, List, [], ◌∷◌, map, filter, length, take, slice_index}
 use Rattle.std.specs.List.{slice_split}
-use Rattle.std.specs.Str.{all_ascii_digits}
-use Rattle.std.specs.Str.Parse.{digits_value}
 
 abbrev pub is_line_feed : ℕ → Bool
 is_line_feed byte = byte == 10
@@ -31,11 +29,3 @@ lines script = map without_return (without_empty_last (slice_split is_line_feed 
 -- the words of a line: what stands between blanks
 unfoldable pub words : List ℕ → List (List ℕ)
 words line = filter (λ word. not (is_empty word)) (slice_split is_blank line)
-
--- a number has 1 to 10 decimal digits
-abbrev pub is_number : List ℕ → Bool
-is_number word = all_ascii_digits word && (nat_le 1 (length word) && nat_le (length word) 10)
-
--- the number that digits write
-abbrev pub number : List ℕ → ℕ
-number word = digits_value 10 word

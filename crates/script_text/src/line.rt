@@ -2,10 +2,10 @@
 ghost use Rattle.std.specs.Prelude.{◌≡◌, ◌==◌, slice_index};
 ghost use Rattle.script_text.specs.Line.{Says};
 
-use crate::number::number_in;
 use crate::rule::ScriptRule;
 use crate::table::Setting;
 use crate::text::Words;
+use decimal_number::number_in;
 
 /// A number for a setting, as a line gives it.
 #[derive(Clone, Copy, Debug, PartialEq, Eq)]

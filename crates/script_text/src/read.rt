@@ -1,13 +1,14 @@
 //! Reading a whole script.
-ghost use Rattle.std.specs.Prelude.{◌≡◌, ◌≤◌, ◌%◌, length, IfOk};
+ghost use Rattle.std.specs.Prelude.{◌≤◌, length};
 ghost use Rattle.script_text.specs.Reading.{reading, Reads};
 
 use crate::draft::Draft;
 use crate::rule::{Script, ScriptError};
 use crate::text::Lines;
 use std::alloc::Global;
+use tk_base::SCRIPT_LIMIT;
 
-/// What a script says, of at most 262144 bytes.
+/// What a script says, of at most [`SCRIPT_LIMIT`] bytes.
 ///
 /// The lines end at line feeds, one carriage return at a line's end is dropped, and spaces and tabs
 /// stand between words. A line without words, or whose first word begins with `#`, is skipped and
@@ -22,13 +23,9 @@ use std::alloc::Global;
 /// [`ScriptError::Memory`] does not come.
 #[tactic(auto, using(crate::proofs::Faults::going_on))]
 pub fn read_script(alloc: Global, script: &[u8]) -> Result<Script, ScriptError>
-    requires { length script.now ≤ 262144 }
+    requires { length script.now ≤ SCRIPT_LIMIT }
     // What is read is the script's reading, an error its first bad line.
-    ensures read { Reads result (reading script.now) }
-    // The RAM is within its range.
-    ensures least { IfOk result (λ s. 4096 ≤ s.ram) }
-    ensures most { IfOk result (λ s. s.ram ≤ 262144) }
-    ensures multiple { IfOk result (λ s. s.ram % 1024 ≡ 0) }
+    ensures { Reads result (reading script.now) }
 {
     let mut draft = Draft::new();
     let mut number = 0;

@@ -2,13 +2,29 @@
 ghost use Rattle.std.specs.Prelude.{◌≡◌};
 ghost use Rattle.script_text.specs.Rules.{word_of};
 
+use std::marker::Model;
 use thiserror::Error;
 
-/// What a script says.
+/// What a script says. Contracts see the settings.
+///
+/// Always `RAM_LEAST <= ram <= RAM_LIMIT`, and `ram` is a multiple of `RAM_UNIT`.
 #[derive(Debug, PartialEq, Eq, Drop)]
 pub struct Script {
     /// The bytes of RAM that the board has.
     pub ram: u32,
+}
+
+impl Model for Script {
+    ghost use Rattle.tk_base.specs.Limits.{IsRamSize};
+    ghost use Rattle.script_text.specs.Settings.{Settings};
+
+    ghost Value = { Settings };
+
+    ghost view = { λ s. record { ram = s.ram } };
+
+    ghost invariant = { λ s. IsRamSize s.ram };
+
+    ghost inverse = { λ s. record { ram = s.ram } };
 }
 
 /// A rule that a line of a script may break, in the order in which they count.

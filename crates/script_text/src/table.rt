@@ -3,6 +3,8 @@ ghost use Rattle.std.specs.Prelude.{◌≡◌, ◌<◌, option_map};
 ghost use Rattle.script_text.specs.Rules.{row_of, permits};
 ghost use Rattle.script_text.specs.Line.{row};
 
+use tk_base::{RAM_LEAST, RAM_LIMIT, RAM_UNIT};
+
 /// What a line of a name and a number is about.
 #[derive(Clone, Copy, Debug, PartialEq, Eq)]
 pub enum Setting {
@@ -39,9 +41,9 @@ impl Setting {
     {
         match self {
             Setting::Ram => Range {
-                least: 4096,
-                most: 262_144,
-                multiple: 1024,
+                least: u64::from(RAM_LEAST),
+                most: u64::from(RAM_LIMIT),
+                multiple: u64::from(RAM_UNIT),
             },
         }
     }

@@ -3,10 +3,11 @@ ghost use Rattle.std.specs.Prelude.{◌≤◌, length};
 use super::*;
 use std::alloc::Global;
 use std::test::Fail;
+use tk_base::SCRIPT_LIMIT;
 
 /// The RAM that a script gives.
 fn ram(alloc: Global, script: &[u8]) -> Option<u32>
-    requires { length script.now ≤ 262144 }
+    requires { length script.now ≤ SCRIPT_LIMIT }
 {
     match read_script(alloc, script) {
         Ok(script) => Some(script.ram),
@@ -16,7 +17,7 @@ fn ram(alloc: Global, script: &[u8]) -> Option<u32>
 
 /// The line and the rule for which a script is refused.
 fn refusal(alloc: Global, script: &[u8]) -> Option<(u32, &'static [u8])>
-    requires { length script.now ≤ 262144 }
+    requires { length script.now ≤ SCRIPT_LIMIT }
 {
     match read_script(alloc, script) {
         Err(ScriptError::Bad { line, rule }) => Some((line, rule.word())),

@@ -1,4 +1,4 @@
-//! The lines of a script, the words of a line, and numbers.
+//! The lines of a script, and the words of a line.
 ghost use Rattle.std.specs.Prelude.{◌≡◌, [], ◌∷◌, not, position, MatchOption};
 ghost use Rattle.std.specs.Iterator.{YieldsFirstRef, item_count};
 ghost use Rattle.script_text.specs.Text.{is_line_feed, is_blank, lines, words, without_return};
@@ -36,7 +36,8 @@ impl<'a> Iterator for Lines<'a> {
 /// The first line, and the bytes after its line feed. None where there are no bytes.
 #[tactic(auto, using(crate::proofs::TextLemmas::first_lines))]
 fn first_line(bytes: &[u8]) -> Option<(&[u8], &[u8])>
-    ensures { MatchOption result (lines bytes.now ≡ []) (λ found. lines bytes.now ≡ found.0.now ∷ lines found.1.now) }
+    ensures { MatchOption result (lines bytes.now ≡ [])
+        (λ found. lines bytes.now ≡ found.0.now ∷ lines found.1.now) }
 {
     if bytes.is_empty() {
         return None;
@@ -96,7 +97,8 @@ impl<'a> Iterator for Words<'a> {
 /// The first word, and what stands after it. None where there are blanks alone.
 #[tactic(auto, using(crate::proofs::TextLemmas::first_words))]
 fn first_word(line: &[u8]) -> Option<(&[u8], &[u8])>
-    ensures { MatchOption result (words line.now ≡ []) (λ found. words line.now ≡ found.0.now ∷ words found.1.now) }
+    ensures { MatchOption result (words line.now ≡ [])
+        (λ found. words line.now ≡ found.0.now ∷ words found.1.now) }
 {
     let text = line.split_at(word_in(line)?).1;
     match blank_in(text) {

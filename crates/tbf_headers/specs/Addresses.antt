@@ -2,7 +2,7 @@
 -- offsets in a header count from the object's start, the init offset and the protected size from the header's end.
 use Rattle.std.specs.Prelude.{ℕ, ◌+◌, Option, Some, None}
 use Rattle.tbf_headers.specs.declared.program.Main.{Main}
-use Rattle.tbf_headers.specs.Numbers.{rounded}
+use Rattle.tk_base.specs.Numbers.{rounded_up}
 use Rattle.tbf_headers.specs.Meaning.{Meaning}
 
 -- the first address after the header and the protected bytes
@@ -15,9 +15,13 @@ entry_of start h m = start + h.header_size + m.init
 
 -- the start of accessible flash: after the protected bytes, rounded up to 4
 abbrev pub accessible_start : ℕ → Meaning → Main → ℕ
-accessible_start start h m = rounded (after_protected start h m)
+accessible_start start h m = rounded_up (after_protected start h m)
 
 -- the end of accessible flash: the object's, or with a Program header the binary's rounded up to 4
 abbrev pub accessible_end : ℕ → ℕ → Option ℕ → ℕ
 accessible_end start total None = start + total
-accessible_end start total (Some binary_end) = rounded (start + binary_end)
+accessible_end start total (Some binary_end) = rounded_up (start + binary_end)
+
+-- the same by what the header means
+abbrev pub accessible_end_of : ℕ → Meaning → Main → ℕ
+accessible_end_of start h m = accessible_end start h.total_size m.binary_end

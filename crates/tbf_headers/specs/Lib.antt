@@ -4,3 +4,4 @@ pub mod Permissions
 pub mod Meaning
 pub mod Shown
 pub mod Addresses
+pub mod Objects

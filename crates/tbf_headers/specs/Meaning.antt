@@ -19,13 +19,13 @@ pub record Meaning : Type 0 where
   pub regions : Option (List ℕ)
   pub permissions : Option (List ℕ)
 
--- the content of Program
-abbrev pub program_of : List ℕ → Main
-program_of c = record { init = word c 0; protected = word c 4; minimum_ram = word c 8; binary_end = Some (word c 12) }
-
 -- the content of Main
 abbrev pub main_of : List ℕ → Main
 main_of c = record { init = word c 0; protected = word c 4; minimum_ram = word c 8; binary_end = None }
+
+-- the content of Program: the same, and then the binary's end
+abbrev pub program_of : List ℕ → Main
+program_of c = record (main_of c) { binary_end = Some (word c 12) }
 
 -- Program takes precedence over Main
 abbrev pub program_or_main : Option (List ℕ) → Option (List ℕ) → Option Main

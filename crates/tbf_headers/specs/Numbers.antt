@@ -1,21 +1,19 @@
--- Numbers in bytes. All numbers of the Tock Binary Format are little endian.
+-- Numbers in bytes. All numbers of the Tock Binary Format are little endian ("TBF Header").
 use Rattle.std.specs.Prelude.{ℕ, zero, suc, ◌+◌, ◌*◌, ◌/◌, ◌==◌, if◌then◌else◌, List, length, slice_index, bit_xor}
+use Rattle.tk_base.specs.declared.access.Width.TheVariants.{Half, Word}
+use Rattle.tk_base.specs.Bus.{number_at}
 
 -- the number of two bytes at a place
 abbrev pub half : List ℕ → ℕ → ℕ
-half bytes at = slice_index bytes at + 256 * slice_index bytes (at + 1)
+half bytes at = number_at (slice_index bytes) at Half
 
 -- the number of four bytes at a place
 abbrev pub word : List ℕ → ℕ → ℕ
-word bytes at = slice_index bytes at + 256 * slice_index bytes (at + 1) + 65536 * slice_index bytes (at + 2) + 16777216 * slice_index bytes (at + 3)
+word bytes at = number_at (slice_index bytes) at Word
 
 -- the number of eight bytes at a place
 abbrev pub double : List ℕ → ℕ → ℕ
 double bytes at = word bytes at + 4294967296 * word bytes (at + 4)
-
--- a length rounded up to a multiple of 4, as the content of a TLV is padded
-abbrev pub rounded : ℕ → ℕ
-rounded size = (size + 3) / 4 * 4
 
 -- the exclusive or of the first words of a header, but for word 3, which is the checksum itself
 abbrev pub xor_of_words : ℕ → List ℕ → ℕ

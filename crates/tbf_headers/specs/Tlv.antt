@@ -1,7 +1,8 @@
 -- The TLVs of a header (Tock Binary Format, "TLV Elements"): type u16, length u16, content padded to a
 -- multiple of 4. They stand from place 16 to the header's end. Places are counted from the header's start.
 use Rattle.std.specs.Prelude.{ℕ, zero, suc, ◌+◌, ◌-◌, ◌*◌, ◌==◌, Bool, ◌||◌, ◌&&◌, nat_lt, nat_le, if◌then◌else◌, List, [], ◌∷◌, length, find, slice_range, Option, option_map}
-use Rattle.tbf_headers.specs.Numbers.{half, rounded}
+use Rattle.tk_base.specs.Numbers.{rounded_up}
+use Rattle.tbf_headers.specs.Numbers.{half}
 
 -- the type of the TLV at a place, and the length of its content
 abbrev pub type_at : List ℕ → ℕ → ℕ
@@ -12,7 +13,7 @@ length_at header at = half header (at + 2)
 
 -- where the TLV after the one at a place stands
 abbrev pub place_after : List ℕ → ℕ → ℕ
-place_after header at = at + 4 + rounded (length_at header at)
+place_after header at = at + 4 + rounded_up (length_at header at)
 
 -- the places of the TLVs from a place on: none at the header's end, of which there are no more than the number
 unfoldable pub places_from : ℕ → List ℕ → ℕ → List ℕ

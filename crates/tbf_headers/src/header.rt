@@ -1,19 +1,18 @@
 //! The header of an object.
-ghost use Rattle.std.specs.Prelude.{◌≡◌, ◌+◌, ◌*◌, ◌%◌, ◌/◌, ◌<◌, ◌≤◌, length, Err, None, IsSome, IfSome, IfOk, option_map, option_and_then, MatchResult};
+ghost use Rattle.std.specs.Prelude.{◌≡◌, ◌+◌, ◌*◌, ◌%◌, ◌/◌, ◌<◌, ◌≤◌, length, Err, None, IfSome, IfOk, option_map, option_and_then, MatchResult};
 ghost use Rattle.std.specs.Option.{option_copied};
-ghost use Rattle.tbf_headers.specs.Numbers.{half, word, rounded};
+ghost use Rattle.tbf_headers.specs.Numbers.{half, word};
 ghost use Rattle.tbf_headers.specs.Tlv.{first_bad, content};
 ghost use Rattle.tbf_headers.specs.Meaning.{reading, meaning_of, unless_bad, header_of, region_in, region_count, program_of, main_of, program_or_main, fixed_of};
-ghost use Rattle.tbf_headers.specs.Addresses.{after_protected, entry_of, accessible_start, accessible_end};
 ghost use Rattle.tbf_headers.specs.Shown.{shown, shown_result, permissions_of, regions_of, IsChecked, IsSized};
 
+use crate::app::AppHeader;
 use crate::fault::HeaderFault;
 use crate::numbers::{checksum_of, half_at, word_at};
 use crate::perms::Perms;
 use crate::program::Main;
 use crate::regions::Regions;
 use crate::tlv::{FIXED, MAIN, NAME, PERMISSIONS, PROGRAM, REGIONS, content_of, first_bad_tlv};
-use tk_base::Addr;
 
 /// The header of an object. It borrows the object's bytes. Of a type that stands there more than
 /// once the first TLV counts.
@@ -35,56 +34,17 @@ pub struct Header<'a> {
 }
 
 impl<'a> Header<'a> {
-    /// The address of the application's first instruction, for an object at an address: the sum of
-    /// it, the header's size and the init offset, which does not wrap.
-    pub fn entry(&self, object: Addr) -> u64
-        requires { IsSome self.now.main }
-        ensures { IfSome self.now.main (λ m. result ≡ entry_of object (shown self.now) m) }
+    /// The header as that of an application. None where it has neither a Program nor a Main TLV, as
+    /// that of padding.
+    pub fn app(&self) -> Option<AppHeader<'a>>
+        ensures main { option_map (λ a. a.main) result ≡ self.now.main }
+        ensures header { IfSome result (λ a. shown a.header ≡ shown self.now) }
     {
-        let Some(main) = self.main else {
-            unreachable!()
-        };
-        sum(object, self.header_size, main.init)
-    }
-
-    /// The first address after the header and the protected bytes, for an object at an address: the
-    /// sum of it, the header's size and the protected size, which does not wrap.
-    pub fn after_protected(&self, object: Addr) -> u64
-        requires { IsSome self.now.main }
-        ensures { IfSome self.now.main (λ m. result ≡ after_protected object (shown self.now) m) }
-    {
-        let Some(main) = self.main else {
-            unreachable!()
-        };
-        sum(object, self.header_size, main.protected)
-    }
-
-    /// The start of accessible flash, for an object at an address: the first address after the
-    /// header and the protected bytes, rounded up to a multiple of 4. It does not wrap.
-    pub fn accessible_start(&self, object: Addr) -> u64
-        requires { IsSome self.now.main }
-        ensures { IfSome self.now.main (λ m. result ≡ accessible_start object (shown self.now) m) }
-    {
-        let Some(main) = self.main else {
-            unreachable!()
-        };
-        rounded_sum(object, self.header_size, main.protected)
-    }
-
-    /// The end of accessible flash, for an object at an address: the object's end, or with a Program
-    /// TLV the binary's end rounded up to a multiple of 4. It does not wrap.
-    pub fn accessible_end(&self, object: Addr) -> u64
-        requires { IsSome self.now.main }
-        ensures { IfSome self.now.main
-            (λ m. result ≡ accessible_end object self.now.total_size m.binary_end) }
-    {
-        let Some(main) = self.main else {
-            unreachable!()
-        };
-        match main.binary_end {
-            None => sum(object, self.total_size, 0),
-            Some(binary_end) => rounded_sum(object, binary_end, 0),
-        }
+        let main = self.main?;
+        Some(AppHeader {
+            header: *self,
+            main,
+        })
     }
 
     /// The bytes of the package's name. None where there is no such TLV.
@@ -122,30 +82,14 @@ impl<'a> Header<'a> {
     }
 }
 
-/// The sum of three numbers, which does not wrap.
-fn sum(a: u32, b: u32, c: u32) -> u64
-    ensures { result ≡ a + b + c }
-{
-    u64::from(a) + u64::from(b) + u64::from(c)
-}
-
-/// The sum of three numbers, which does not wrap, rounded up to a multiple of 4.
-fn rounded_sum(a: u32, b: u32, c: u32) -> u64
-    ensures { result ≡ rounded (a + b + c) }
-{
-    sum(a, b, c).next_multiple_of(4)
-}
-
-/// What the content of a Program TLV says.
+/// What the content of a Program TLV says: that of a Main TLV, and the binary's end.
 fn program_from(c: &[u8]) -> Main
     requires { 20 ≤ length c.now }
     ensures { result ≡ program_of c.now }
 {
     Main {
-        init: word_at(c, 0),
-        protected: word_at(c, 4),
-        minimum_ram: word_at(c, 8),
         binary_end: Some(word_at(c, 12)),
+        ..main_from(c)
     }
 }
 
@@ -212,7 +156,8 @@ fn perms_in(header: &[u8]) -> Option<Perms<'_>>
 /// The bytes of a header whose sizes and checksum are right.
 #[tactic(auto, unfolding(crate::specs::Meaning::reading))]
 fn checked_header(object: &[u8]) -> Result<&[u8], HeaderFault>
-    ensures { MatchResult result (λ h. IsChecked object.now h.now) (λ fault. reading object.now ≡ Err fault) }
+    ensures { MatchResult result (λ h. IsChecked object.now h.now)
+        (λ fault. reading object.now ≡ Err fault) }
 {
     if object.len() < 16 {
         return Err(HeaderFault::Short);

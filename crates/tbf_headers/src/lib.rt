@@ -1,17 +1,21 @@
 //! Reads the header of an application's object in flash, in the Tock Binary Format, version 2.
 #![tactic(auto)]
 
+mod app;
 mod fault;
 mod header;
 mod numbers;
+mod object;
 mod perms;
 mod program;
 mod regions;
 mod tlv;
 
+pub use app::AppHeader;
 pub use fault::HeaderFault;
 pub use header::{Header, read_header};
 pub use numbers::{half_at, word_at};
+pub use object::object_at;
 pub use perms::Perms;
 pub use program::Main;
 

@@ -2,14 +2,14 @@
 ghost use Rattle.std.specs.Prelude.{◌≡◌, ◌+◌, ◌≤◌, length};
 ghost use Rattle.tbf_headers.specs.Numbers.{half, word, double, checksum};
 
-use byteorder::{ByteOrder, LittleEndian};
+use tk_base::{Width, number_in};
 
 /// The little-endian number of the two bytes at a place.
 pub fn half_at(bytes: &[u8], at: usize) -> u16
     requires { at + 2 ≤ length bytes.now }
     ensures { result ≡ half bytes.now at }
 {
-    LittleEndian::read_u16(&bytes[at..])
+    number_in(bytes, at, Width::Half) as u16
 }
 
 /// The little-endian number of the four bytes at a place.
@@ -17,7 +17,7 @@ pub fn word_at(bytes: &[u8], at: usize) -> u32
     requires { at + 4 ≤ length bytes.now }
     ensures { result ≡ word bytes.now at }
 {
-    LittleEndian::read_u32(&bytes[at..])
+    number_in(bytes, at, Width::Word)
 }
 
 /// The little-endian number of the eight bytes at a place.

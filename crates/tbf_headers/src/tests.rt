@@ -1,15 +1,23 @@
 use super::*;
 use std::test::Fail;
+use test_objects::{Tlv, object};
 
-/// An enabled object of 64 bytes with a Main TLV: init 0, protected 0, minimum RAM 256.
-const OBJECT: [u8; 64] = [
-    0x02, 0x00, 0x20, 0x00, 0x40, 0x00, 0x00, 0x00, 0x01, 0x00, 0x00, 0x00, 0x42, 0x01, 0x2c, 0x00,
-    0x01, 0x00, 0x0c, 0x00, 0x00, 0x00, 0x00, 0x00, 0x00, 0x00, 0x00, 0x00, 0x00, 0x01, 0x00, 0x00,
-    0x13, 0x07, 0x60, 0x00, 0x13, 0x05, 0x00, 0x00, 0x93, 0x05, 0x70, 0x00, 0x73, 0x00, 0x00, 0x00,
-    0x00, 0x00, 0x00, 0x00, 0x00, 0x00, 0x00, 0x00, 0x00, 0x00, 0x00, 0x00, 0x00, 0x00, 0x00, 0x00,
-];
+const MAIN: Tlv<'_> = Tlv::Main {
+    init: 0,
+    protected: 0,
+    minimum_ram: 256,
+};
 
-/// An object of 96 bytes as elf2tab orders its header: Main, Program, and the name `blink`.
+/// Asks to exit with 7.
+const CODE: [u32; 4] = [0x0060_0713, 0x0000_0513, 0x0070_0593, 0x0000_0073];
+
+/// An enabled object with a Main TLV.
+fn plain() -> [u8; 64] {
+    object(1, &[MAIN], &CODE)
+}
+
+/// An object of 96 bytes as elf2tab orders its header: Main, Program, and the name `blink`. These
+/// bytes were written by hand from the format.
 const BLINK: [u8; 96] = [
     0x02, 0x00, 0x44, 0x00, 0x60, 0x00, 0x00, 0x00, 0x01, 0x00, 0x00, 0x00, 0x34, 0x6c, 0x30, 0x6e,
     0x01, 0x00, 0x0c, 0x00, 0x00, 0x00, 0x00, 0x00, 0x00, 0x00, 0x00, 0x00, 0x00, 0x01, 0x00, 0x00,
@@ -19,30 +27,10 @@ const BLINK: [u8; 96] = [
     0x73, 0x00, 0x00, 0x00, 0x00, 0x00, 0x00, 0x00, 0x00, 0x00, 0x00, 0x00, 0x00, 0x00, 0x00, 0x00,
 ];
 
-/// A header of 56 bytes whose Permissions allow command 1 of driver 1 alone.
-const PERMITTED: [u8; 128] = [
-    0x02, 0x00, 0x38, 0x00, 0x80, 0x00, 0x00, 0x00, 0x01, 0x00, 0x00, 0x00, 0x85, 0x01, 0x25, 0x00,
-    0x01, 0x00, 0x0c, 0x00, 0x00, 0x00, 0x00, 0x00, 0x00, 0x00, 0x00, 0x00, 0x00, 0x01, 0x00, 0x00,
-    0x06, 0x00, 0x12, 0x00, 0x01, 0x00, 0x01, 0x00, 0x00, 0x00, 0x00, 0x00, 0x00, 0x00, 0x02, 0x00,
-    0x00, 0x00, 0x00, 0x00, 0x00, 0x00, 0x00, 0x00, 0x00, 0x00, 0x00, 0x00, 0x00, 0x00, 0x00, 0x00,
-    0x00, 0x00, 0x00, 0x00, 0x00, 0x00, 0x00, 0x00, 0x00, 0x00, 0x00, 0x00, 0x00, 0x00, 0x00, 0x00,
-    0x00, 0x00, 0x00, 0x00, 0x00, 0x00, 0x00, 0x00, 0x00, 0x00, 0x00, 0x00, 0x00, 0x00, 0x00, 0x00,
-    0x00, 0x00, 0x00, 0x00, 0x00, 0x00, 0x00, 0x00, 0x00, 0x00, 0x00, 0x00, 0x00, 0x00, 0x00, 0x00,
-    0x00, 0x00, 0x00, 0x00, 0x00, 0x00, 0x00, 0x00, 0x00, 0x00, 0x00, 0x00, 0x00, 0x00, 0x00, 0x00,
-];
-
-/// A header of 56 bytes with the flash regions (0x1000, 0x200) and (0x2000, 0x400), and the fixed
-/// addresses 0x80000400 and 0x20000038.
-const REGIONS: [u8; 56] = [
-    0x02, 0x00, 0x38, 0x00, 0x38, 0x00, 0x00, 0x00, 0x01, 0x00, 0x00, 0x00, 0x06, 0x32, 0x20, 0xa0,
-    0x02, 0x00, 0x10, 0x00, 0x00, 0x10, 0x00, 0x00, 0x00, 0x02, 0x00, 0x00, 0x00, 0x20, 0x00, 0x00,
-    0x00, 0x04, 0x00, 0x00, 0x05, 0x00, 0x08, 0x00, 0x00, 0x04, 0x00, 0x80, 0x38, 0x00, 0x00, 0x20,
-    0x02, 0x00, 0x00, 0x00, 0x00, 0x00, 0x00, 0x00,
-];
-
 #[test]
 fn plain_object(rt: HostRuntime) -> Result<(), Fail> {
-    let header = read_header(&OBJECT).ok().ok_or("the header has no fault")?;
+    let object = plain();
+    let header = read_header(&object).ok().ok_or("the header has no fault")?;
     assert_eq!(rt; header.header_size, 32);
     assert_eq!(rt; header.total_size, 64);
     assert_eq!(rt; header.flags, 1);
@@ -61,12 +49,24 @@ fn plain_object(rt: HostRuntime) -> Result<(), Fail> {
 
 #[test]
 fn entry_after_the_header(rt: HostRuntime) -> Result<(), Fail> {
-    let header = read_header(&OBJECT).ok().ok_or("the header has no fault")?;
-    if header.main.is_some() {
-        assert_eq!(rt; header.entry(0x2000_0000), 0x2000_0020);
-        assert_eq!(rt; header.entry(0xffff_fff0), 0x1_0000_0010);
-    }
+    let object = plain();
+    let header = read_header(&object).ok().ok_or("the header has no fault")?;
+    let app = header.app().ok_or("it is an application")?;
+    assert_eq!(rt; app.entry(0x2000_0000), 0x2000_0020);
+    assert_eq!(rt; app.entry(0xffff_fff0), 0x1_0000_0010);
     Ok(())
+}
+
+#[test]
+fn built_as_written_by_hand(rt: HostRuntime) {
+    let program = Tlv::Program {
+        init: 0,
+        protected: 0,
+        minimum_ram: 256,
+        binary_end: 0x54,
+    };
+    let built: [u8; 96] = object(1, &[MAIN, program, Tlv::Name(b"blink")], &CODE);
+    assert_eq!(rt; built.as_slice(), BLINK.as_slice());
 }
 
 #[test]
@@ -83,18 +83,17 @@ fn program_before_main_and_name(rt: HostRuntime) -> Result<(), Fail> {
 
 #[test]
 fn padding_object(rt: HostRuntime) -> Result<(), Fail> {
-    let padding: [u8; 16] = [
-        0x02, 0x00, 0x10, 0x00, 0x10, 0x00, 0x00, 0x00, 0x00, 0x00, 0x00, 0x00, 0x12, 0x00, 0x10,
-        0x00,
-    ];
+    let padding: [u8; 16] = object(0, &[], &[]);
     let header = read_header(&padding).ok().ok_or("the header has no fault")?;
-    assert!(rt; header.main.is_none());
+    assert!(rt; header.app().is_none());
     Ok(())
 }
 
 #[test]
 fn one_command_permitted(rt: HostRuntime) -> Result<(), Fail> {
-    let header = read_header(&PERMITTED)
+    // Command 1 of driver 1 alone.
+    let permitted: [u8; 128] = object(1, &[MAIN, Tlv::Permission(1, 0, 2, 0)], &[]);
+    let header = read_header(&permitted)
         .ok()
         .ok_or("the header has no fault")?;
     let perms = header.perms().ok_or("there are permissions")?;
@@ -109,7 +108,10 @@ fn one_command_permitted(rt: HostRuntime) -> Result<(), Fail> {
 
 #[test]
 fn two_regions_and_fixed_addresses(rt: HostRuntime) -> Result<(), Fail> {
-    let header = read_header(&REGIONS).ok().ok_or("the header has no fault")?;
+    let regions = Tlv::Regions(&[0x1000, 0x200, 0x2000, 0x400]);
+    let fixed = Tlv::Fixed(0x8000_0400, 0x2000_0038);
+    let object: [u8; 52] = object(1, &[regions, fixed, Tlv::Regions(&[])], &[]);
+    let header = read_header(&object).ok().ok_or("the header has no fault")?;
     assert_eq!(rt; header.region(0), Some((0x1000, 0x200)));
     assert_eq!(rt; header.region(1), Some((0x2000, 0x400)));
     assert_eq!(rt; header.region(2), None);
@@ -120,9 +122,9 @@ fn two_regions_and_fixed_addresses(rt: HostRuntime) -> Result<(), Fail> {
 
 #[test]
 fn cut_off_and_other_sizes(rt: HostRuntime) {
-    assert_eq!(rt; read_header(&OBJECT[..15]).err(), Some(HeaderFault::Short));
-    assert_eq!(rt; read_header(&OBJECT[..16]).err(), Some(HeaderFault::Sizes));
-    let mut object = OBJECT;
+    let mut object = plain();
+    assert_eq!(rt; read_header(&object[..15]).err(), Some(HeaderFault::Short));
+    assert_eq!(rt; read_header(&object[..16]).err(), Some(HeaderFault::Sizes));
     object[4] = 62;
     assert_eq!(rt; read_header(&object).err(), Some(HeaderFault::Sizes));
     object[4] = 64;
@@ -136,7 +138,7 @@ fn cut_off_and_other_sizes(rt: HostRuntime) {
 
 #[test]
 fn checksum_and_main_length(rt: HostRuntime) {
-    let mut object = OBJECT;
+    let mut object = plain();
     object[12] = 0x43;
     assert_eq!(rt; read_header(&object).err(), Some(HeaderFault::Checksum));
     object[12] = 0x42;

@@ -1,3 +1,4 @@
+-- Numbers in memory, which are little endian (RISC-V unprivileged manual, "Load and Store Instructions").
 use Rattle.std.specs.Prelude.{ℕ, ◌+◌, ◌-◌, ◌*◌, ◌/◌, ◌%◌, ◌^◌, ◌&&◌, nat_le, nat_lt, if◌then◌else◌, List, slice_set, Option, None, Some, Result, Ok, Err}
 use Rattle.tk_base.specs.declared.access.Width.{Width}
 use Rattle.tk_base.specs.declared.access.Width.TheVariants.{Byte, Half, Word}

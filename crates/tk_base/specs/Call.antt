@@ -1,3 +1,4 @@
+-- How a system call is refused (TRD 104, "Error codes").
 use Rattle.std.specs.Prelude.{ℕ}
 use Rattle.tk_base.specs.declared.call.ErrorCode.{ErrorCode}
 use Rattle.tk_base.specs.declared.call.ErrorCode.TheVariants as codes

@@ -1,4 +1,7 @@
 pub mod Access
 pub mod Bus
 pub mod Call
+pub mod Laws
+pub mod Limits
+pub mod Numbers
 pub mod Regs

@@ -1,3 +1,4 @@
+-- The integer registers (RISC-V unprivileged manual, "Programmers' Model for Base Integer ISA").
 use Rattle.std.specs.Prelude.{ℕ, ◌==◌, if◌then◌else◌, slice_index, slice_set}
 use Rattle.tk_base.specs.declared.regs.Regs.{Regs}
 

@@ -11,12 +11,13 @@ pub struct Slot {
 
 impl Model for Slot {
     ghost use Rattle.std.specs.Prelude.{ℕ, ◌<◌};
+    ghost use Rattle.tk_base.specs.declared.process.TheConstants.Slot.{COUNT};
 
     ghost Value = { ℕ };
 
     ghost view = { λ s. s.number };
 
-    ghost invariant = { λ s. s.number < 8 };
+    ghost invariant = { λ s. s.number < COUNT };
 
     ghost inverse = { λ n. record { number = n } };
 }
@@ -27,7 +28,7 @@ impl Slot {
 
     /// The slot of that number.
     pub fn new(number: usize) -> Slot
-        requires { number < 8 }
+        requires { number < Slot.COUNT }
         ensures { result ≡ number }
     {
         Slot {
@@ -38,7 +39,7 @@ impl Slot {
     /// The slot's place in a table of all slots, below [`Slot::COUNT`].
     pub fn index(self) -> usize
         ensures value { result ≡ self }
-        ensures below { result < 8 }
+        ensures below { result < Slot.COUNT }
     {
         self.number as usize
     }
@@ -52,11 +53,32 @@ pub struct ProcessId {
     pub life: u32,
 }
 
+/// A device of the board that acts by itself, in the order in which the round robin asks them.
+#[derive(Clone, Copy, Debug, PartialEq, Eq)]
+pub enum Dev {
+    /// The script's next event.
+    Event,
+    /// The alarm.
+    Alarm,
+    /// The UART's sending half.
+    Uart,
+    /// The UART's receiving half.
+    Receive,
+    /// The source of random words.
+    Random,
+    /// The storage of the slots.
+    Store,
+}
+
 /// What the board is to do in one step.
 #[derive(Clone, Copy, Debug, PartialEq, Eq)]
 pub enum Choice {
-    /// The process in the slot has a turn: one instruction.
+    /// The process in the slot has a turn: one instruction, or the delivery of an upcall.
     Run(Slot),
+    /// A device acts.
+    Device(Dev),
+    /// So many ticks pass, in which nothing acts.
+    Pass(u32),
 }
 
 /// Why an application was not placed.

@@ -3,7 +3,7 @@
 
 ghost use Rattle.std.specs.Prelude.{◌≡◌, ◌≤◌, ◌<◌, ℕ, List, length, vec_len, Err, IfOk, IfSome, IsOkUnless};
 ghost use Rattle.tk_outside.specs.Count.{Rose};
-ghost use Rattle.tk_intake.specs.Intake.{IsErrUnless};
+ghost use Rattle.tk_intake.specs.Intake.{IfLonger, IfWithin, IsTooLong};
 
 use std::alloc::Global;
 use thiserror::Error;
@@ -49,12 +49,12 @@ pub fn read_whole<H: Shelf>(
         → IfSome (H.bytes shelf.old name.now) (λ b. limit < length b) }
 
     // Want of memory aside, a longer file is refused as too long, and a file within the limit is read.
-    ensures longer { IfSome (H.bytes shelf.old name.now) (λ b. limit < length b
-        → H.is_sound shelf.old name.now → IsErrUnless result IntakeError.TooLong IntakeError.Memory) }
-    ensures longer_unfailed { IfSome (H.bytes shelf.old name.now) (λ b. limit < length b
-        → ¬ Rose (H.faults shelf.old) (H.faults shelf.new) → IsErrUnless result IntakeError.TooLong IntakeError.Memory) }
-    ensures read { IfSome (H.bytes shelf.old name.now) (λ b. length b ≤ limit
-        → H.is_sound shelf.old name.now → IsOkUnless result IntakeError.Memory) }
+    ensures longer { IfLonger (H.bytes shelf.old name.now) limit
+        (H.is_sound shelf.old name.now → IsTooLong result) }
+    ensures longer_unfailed { IfLonger (H.bytes shelf.old name.now) limit
+        (¬ Rose (H.faults shelf.old) (H.faults shelf.new) → IsTooLong result) }
+    ensures read { IfWithin (H.bytes shelf.old name.now) limit
+        (H.is_sound shelf.old name.now → IsOkUnless result IntakeError.Memory) }
 
     // What stays.
     ensures bytes { H.bytes shelf.new ≡ H.bytes shelf.old }

@@ -90,8 +90,10 @@ impl MemShelf {
         requires as_many { vec_len names ≡ vec_len files }
         requires some { 1 ≤ most }
         ensures made { IsOk result }
-        ensures bytes { IfOk result (λ s. (name : List ℕ) → bytes_of s name ≡ file_of names.items files.items name) }
-        ensures names { IfOk result (λ s. (name : List ℕ) → holds s name ≡ is_some (place_of names.items name)) }
+        ensures bytes { IfOk result (λ s. (name : List ℕ)
+            → bytes_of s name ≡ file_of names.items files.items name) }
+        ensures names { IfOk result (λ s. (name : List ℕ)
+            → holds s name ≡ is_some (place_of names.items name)) }
         ensures sound { IfOk result (λ s. (name : List ℕ) → IsSome (place_of names.items name)
             → fails_after 0 failing.items ≡ false → IsSoundName s name) }
         ensures rest { IfOk result (λ s. rest_of s ≡ []) }
@@ -164,7 +166,8 @@ impl Shelf for MemShelf {
     /// Gives as many bytes as `most`, the rest and the slice allow. Fails where the call is one of
     /// those that are to fail.
     fn read(&mut self, into: &mut [u8]) -> Result<usize, Failed>
-        ensures ok { IfOk result (λ n. Moves (Some (rest_of self.old)) (Some (rest_of self.new)) into.old into.new n) }
+        ensures ok { IfOk result (λ n. Moves (Some (rest_of self.old)) (Some (rest_of self.new))
+            into.old into.new n) }
         ensures err { OnErr result (Keeps (Some (rest_of self.old)) (Some (rest_of self.new))) }
         ensures failed { OnErr result (Rose (faults_of self.old) (faults_of self.new)) }
         ensures count { faults_of self.old ≤ faults_of self.new }

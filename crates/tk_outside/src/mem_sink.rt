@@ -77,7 +77,8 @@ impl Sink for MemSink {
     fn write(&mut self, piece: &[u8]) -> Result<usize, Failed>
         ensures within { IfOk result (λ n. n ≤ length piece.now) }
         ensures some { IfOk result (λ n. 0 < length piece.now → 0 < n) }
-        ensures bytes { WriteAppends (Some (written_of self.old)) (Some (written_of self.new)) result piece.now }
+        ensures bytes { WriteAppends (Some (written_of self.old)) (Some (written_of self.new))
+            result piece.now }
         ensures failed { OnErr result (Rose (faults_of self.old) (faults_of self.new)) }
         ensures count { faults_of self.old ≤ faults_of self.new }
 

@@ -1,11 +1,12 @@
 -- A run on its way.
-use Rattle.std.proofs.Common.{◌≡◌, ℕ, zero, suc, ◌+◌, ◌-◌, ◌<◌, ◌≤◌, List, [], ◌++◌, Option, None, Some, refl, sym, ap, subst, ◌∙◌, arith, append_assoc}
+use Rattle.std.proofs.Common.{◌≡◌, ℕ, zero, suc, ◌+◌, ◌-◌, ◌<◌, ◌≤◌, List, [], ◌++◌, slice_get, Option, None, Some, refl, sym, ap, subst, ◌∙◌, arith, append_assoc}
 use Rattle.std.proofs.lemmas.List.{append-nil}
 use Rattle.tk_base.specs.declared.process.Choice.{Choice}
-use Rattle.tk_base.specs.declared.process.Choice.TheVariants.{Run}
+use Rattle.tk_base.specs.declared.process.Choice.TheVariants.{Run, Device, Pass}
 use Rattle.tk_outside.specs.Writes.{WroteAll, WrotePart}
 use Rattle.tk_outside.specs.Laws.{WritesCompose}
-use Rattle.kernel_model.specs.World.{World, after, labels}
+use Rattle.kernel_model.specs.Record.{Record}
+use Rattle.kernel_model.specs.World.{World, after, labels, ran, stepped}
 use Rattle.kernel_model.specs.Run.{Ran, next, round, printed, stays, told_first}
 use Rattle.tock_cli.proofs.Runs.{round-stop, round-step, round-zero, round-more, printed-append}
 use Rattle.tock_cli.specs.declared.run.Mode.{Mode}
@@ -20,11 +21,18 @@ pub record RunsOn {K : Type 0} (told : K → Option (List ℕ)) (faults : K → 
   pub prints : printed (round n from).labels ≡ done ++ printed (round (n - i) here).labels
   pub leads : (round n from).world ≡ (round (n - i) here).world
   pub came : here ≡ (round i from).world
-  pub steps : here.steps ≡ from.steps + i
+  pub steps : here.clock.steps ≤ from.clock.steps + i
 
-steps-after : (w : World) (c : Choice) → (after w c).steps ≡ w.steps + 1
-unfolding after
-steps-after w (Run slot) = refl
+-- a step counts once at most
+steps-after : (w : World) (c : Choice) → (after w c).clock.steps ≤ w.clock.steps + 1
+unfolding stepped
+steps-after w (Run slot) = of_record (slice_get w.records slot)
+  where
+    of_record : (o : Option Record) → (ran w slot o).after.clock.steps ≤ w.clock.steps + 1
+    of_record None = omega arith
+    of_record (Some r) = omega arith
+steps-after w (Device device) = omega arith
+steps-after w (Pass ticks) = omega arith
 
 module _ {K : Type 0} {told : K → Option (List ℕ)} {faults : K → ℕ} {n i : ℕ} {from here : World} {old now : K} (r : RunsOn told faults n i from here old now) where
   -- what the run does from here with one more choice
@@ -53,14 +61,14 @@ module _ {K : Type 0} {told : K → Option (List ℕ)} {faults : K → ℕ} {n i
     prints = around c h e ∙ sym (append_assoc r.done (printed (labels here c)) (printed (round (n - (i + 1)) (after here c)).labels)) ∙ ap (λ (v : World). (r.done ++ printed (labels here c)) ++ printed (round (n - (i + 1)) v).labels) (sym f);
     leads = r.leads ∙ ap (λ (q : Ran). q.world) (goes c h e) ∙ ap (λ (v : World). (round (n - (i + 1)) v).world) (sym f);
     came = f ∙ came_on c e ∙ ap (λ (k : ℕ). (round k from).world) (number i);
-    steps = ap (λ (v : World). v.steps) f ∙ steps-after here c ∙ counted;
+    steps = counted;
   }
     where
       number : (i : ℕ) → suc i ≡ i + 1
       number i = omega arith
 
-      counted : here.steps + 1 ≡ from.steps + (i + 1)
-      counted = omega (arith, r.steps)
+      counted : then.clock.steps ≤ from.clock.steps + (i + 1)
+      counted = omega (arith, r.steps, ap (λ (v : World). v.clock.steps) f, steps-after here c)
 
   -- a write that failed in a step
   pub part : WritesCompose told faults → (c : Choice) (later : K) → i < n → next here ≡ Some c → WrotePart told faults now later (printed (labels here c)) → WrotePart told faults old later (printed (round n from).labels)
@@ -93,13 +101,13 @@ begins told faults n from old law = record {
   prints = ap (λ (k : ℕ). printed (round k from).labels) (whole n);
   leads = ap (λ (k : ℕ). (round k from).world) (whole n);
   came = sym (ap (λ (q : Ran). q.world) (round-zero from));
-  steps = zero_more from.steps;
+  steps = zero_more from.clock.steps;
 }
   where
     whole : (n : ℕ) → n ≡ n - 0
     whole n = omega arith
 
-    zero_more : (n : ℕ) → n ≡ n + 0
+    zero_more : (n : ℕ) → n ≤ n + 0
     zero_more n = omega arith
 
 -- the text of a run in the one mode that there is

@@ -2,20 +2,20 @@
 use Rattle.std.proofs.Common.{◌≡◌, ℕ, zero, suc, List, [], ◌∷◌, ◌++◌, Option, None, Some, refl, sym, ap, ◌∙◌}
 use Rattle.std.proofs.lemmas.Grind.{flat_map-append}
 use Rattle.tk_base.specs.declared.process.Choice.{Choice}
-use Rattle.kernel_model.specs.World.{World, Label, TurnOf, Printed, after, labels}
-use Rattle.kernel_model.specs.Run.{Ran, next, round, stays, told_first, on_choice, printed}
+use Rattle.kernel_model.specs.World.{World, Label, TurnOf, Printed, after, labels, stepped}
+use Rattle.kernel_model.specs.Run.{Ran, next, round, stays, told_first, goes_on, on_choice, printed}
 use Rattle.kernel_model.specs.Shown.{shown_by}
 
 -- a run that stops at once
 pub round-stop : (n : ℕ) (w : World) → next w ≡ None → round n w ≡ stays w
 unfolding round
 round-stop zero w e = refl
-round-stop (suc n) w e = ap (on_choice (stays w) (λ choice. told_first (labels w choice) (round n (after w choice)))) e
+round-stop (suc n) w e = ap (on_choice (stays w) (λ choice. goes_on (round n) (stepped w choice))) e
 
 -- a run that makes a step
 pub round-step : (n : ℕ) (w : World) (c : Choice) → next w ≡ Some c → round (suc n) w ≡ told_first (labels w c) (round n (after w c))
 unfolding round
-round-step n w c e = ap (on_choice (stays w) (λ choice. told_first (labels w choice) (round n (after w choice)))) e
+round-step n w c e = ap (on_choice (stays w) (λ choice. goes_on (round n) (stepped w choice))) e
 
 pub round-zero : (w : World) → round zero w ≡ stays w
 unfolding round
@@ -47,5 +47,5 @@ printed-append xs ys = flat_map-append _ xs ys
 pub shown_by-printed : (ls : List Label) → (shown_by ls).printed.items ≡ printed ls
 unfolding shown_by
 shown_by-printed [] = refl
-shown_by-printed (TurnOf slot time accesses call denial ∷ ls) = shown_by-printed ls
+shown_by-printed (TurnOf slot time told ∷ ls) = shown_by-printed ls
 shown_by-printed (Printed slot bytes ∷ ls) = ap (λ (xs : List ℕ). bytes ++ xs) (shown_by-printed ls)

@@ -1,7 +1,8 @@
 -- From what happened to what the program's answer says.
 use Rattle.std.proofs.Common.{◌≡◌, ℕ, ◌<◌, ◌≤◌, List, length, Option, None, Some, IfSome, IsSome, IsSomeAnd, IsOk, IsErr, Result, Ok, Err, ◌⊎◌, ◌↔◌, inl, inr, refl, sym, subst, arith}
 use Rattle.std.specs.Option.{option_and_then}
-use Rattle.script_text.specs.declared.rule.Script.{Script as Settings}
+use Rattle.tk_base.specs.declared.limits.TheConstants.{FLASH_LIMIT, SCRIPT_LIMIT}
+use Rattle.script_text.specs.Settings.{Settings}
 use Rattle.script_text.specs.Reading.{Fault as BadLine, reading}
 use Rattle.kernel_model.specs.World.{World}
 use Rattle.tock_cli.specs.declared.refusal.File.{File}
@@ -12,7 +13,7 @@ use Rattle.tock_cli.specs.declared.serve.Outcome.{Outcome}
 use Rattle.tock_cli.specs.declared.serve.Outcome.TheVariants.{Done, Refused, SinkFailed}
 use Rattle.tock_cli.specs.Words.{Command, Boots, Lists, script_of}
 use Rattle.tock_cli.specs.Refusals.{Told, Cause, IsWithin, bytes_in, line_of, name_in}
-use Rattle.tock_cli.specs.Ready.{Task, Running, Listing, IsFlash, IsTask, IsTaskOf, left_by}
+use Rattle.tock_cli.specs.Ready.{Task, Running, Listing, IsRead, IsTask, IsTaskOf, left_by}
 use Rattle.tock_cli.specs.Served.{Sent, All, Happens, answer_of, RefusalIs, TaskIs, IsUnhindered, IsWritten, HasReading, LeavesBoard, Decided, Serves}
 
 any : {X : Type 0} (o : Option X) (R : X → Type 0) → ((x : X) → R x) → IfSome o R
@@ -42,8 +43,8 @@ read_is_error (Err f) o e = cc
 
 -- what is known of the files once a task is given
 module _ (told : Told) where
-  flash_within : (name flash : List ℕ) → IsFlash told.bytes name flash → IfSome (told.bytes name) (λ f. length f ≤ 1048576)
-  flash_within name flash h = given (told.bytes name) _ _ h.read (λ f e. subst (λ (b : List ℕ). length b ≤ 1048576) e h.within)
+  flash_within : (name flash : List ℕ) → IsRead told.bytes Flash name flash → IfSome (told.bytes name) (λ f. length f ≤ FLASH_LIMIT)
+  flash_within name flash h = given (told.bytes name) _ _ h.whole (λ f e. subst (λ (b : List ℕ). length b ≤ FLASH_LIMIT) e h.within)
 
   task_flash : (command : Command) (task : Task) → IsTaskOf told.bytes command task → IsWithin told command Flash
   task_flash (Boots words) (Running n world) h = flash_within words.flash h.1.flash h.1.is_flash
@@ -51,8 +52,8 @@ module _ (told : Told) where
   task_flash (Lists name) (Running n world) h = absurd h
   task_flash (Lists name) (Listing flash) h = flash_within name flash h
 
-  task_script : (command : Command) (task : Task) → IsTaskOf told.bytes command task → IfSome (bytes_in told command ScriptFile) (λ s. (length s ≤ 262144) × IsOk (reading s))
-  task_script (Boots words) (Running n world) h = given (told.bytes words.script) _ _ h.1.read (λ s q. (q.0, subst (λ (r : Result Settings BadLine). IsOk r) (sym q.1) refl))
+  task_script : (command : Command) (task : Task) → IsTaskOf told.bytes command task → IfSome (bytes_in told command ScriptFile) (λ s. (length s ≤ SCRIPT_LIMIT) × IsOk (reading s))
+  task_script (Boots words) (Running n world) h = given (told.bytes words.script) _ _ h.1.is_script.whole (λ s e. subst (λ (b : List ℕ). (length b ≤ SCRIPT_LIMIT) × IsOk (reading b)) e (h.1.is_script.within, subst (λ (r : Result Settings BadLine). IsOk r) (sym h.1.said) refl))
   task_script (Boots words) (Listing flash) h = absurd h
   task_script (Lists name) task h = tt
 
@@ -63,7 +64,7 @@ module _ (told : Told) (sent : Sent) (command : Command) where
   no_fault file (inr calm) rose unsound = calm rose
 
   -- a flash file that is too long leaves no other cause
-  long_flash : (last : Option World) (o : Outcome) → Happens told sent (Some command) last o → IfSome (bytes_in told command Flash) (λ f. 1048576 < length f → IsUnhindered told command Flash → IsWritten sent → (answer_of o ≡ 4) ⊎ (answer_of o ≡ 7))
+  long_flash : (last : Option World) (o : Outcome) → Happens told sent (Some command) last o → IfSome (bytes_in told command Flash) (λ f. FLASH_LIMIT < length f → IsUnhindered told command Flash → IsWritten sent → (answer_of o ≡ 4) ⊎ (answer_of o ≡ 7))
   long_flash last Done h = given (bytes_in told command Flash) _ _ (task_flash told command h.task h.given) (λ f q l u w. absurd (omega arith))
   long_flash last (Refused Usage) h = absurd h.0.cause
   long_flash last (Refused (Fault Flash)) h = any (bytes_in told command Flash) _ (λ f l u w. absurd (no_fault Flash u h.0.cause.0 h.0.cause.1))
@@ -81,10 +82,10 @@ module _ (told : Told) (sent : Sent) (command : Command) where
     each R r = any (bytes_in told command Flash) (λ f. IfSome (bytes_in told command ScriptFile) (R f)) r
 
     -- a refusal of the flash file's length
-    not_too_long : (R : List ℕ → Type 0) → IfSome (bytes_in told command Flash) (λ b. 1048576 < length b) → IfSome (bytes_in told command Flash) R
-    not_too_long R l = both (bytes_in told command Flash) (λ b. length b ≤ 1048576) (λ b. 1048576 < length b) R within l (λ f x y. absurd (omega arith))
+    not_too_long : (R : List ℕ → Type 0) → IfSome (bytes_in told command Flash) (λ b. FLASH_LIMIT < length b) → IfSome (bytes_in told command Flash) R
+    not_too_long R l = both (bytes_in told command Flash) (λ b. length b ≤ FLASH_LIMIT) (λ b. FLASH_LIMIT < length b) R within l (λ f x y. absurd (omega arith))
 
-    long_script : (last : Option World) (o : Outcome) → Happens told sent (Some command) last o → IfSome (bytes_in told command Flash) (λ f. IfSome (bytes_in told command ScriptFile) (λ s. 262144 < length s → (answer_of o ≡ 4) ⊎ (answer_of o ≡ 7)))
+    long_script : (last : Option World) (o : Outcome) → Happens told sent (Some command) last o → IfSome (bytes_in told command Flash) (λ f. IfSome (bytes_in told command ScriptFile) (λ s. SCRIPT_LIMIT < length s → (answer_of o ≡ 4) ⊎ (answer_of o ≡ 7)))
     long_script last Done h = each _ (λ f. given (bytes_in told command ScriptFile) _ _ (task_script told command h.task h.given) (λ s q l. absurd (omega (arith, q.0))))
     long_script last (Refused Usage) h = absurd h.0.cause
     long_script last (Refused (Fault Flash)) h = absurd (no_fault Flash flash h.0.cause.0 h.0.cause.1)
@@ -94,7 +95,7 @@ module _ (told : Told) (sent : Sent) (command : Command) where
     long_script last (Refused Memory) h = each _ (λ f. any (bytes_in told command ScriptFile) _ (λ s l. inr refl))
     long_script last SinkFailed h = absurd (written h.0.rose)
 
-    bad_script : (last : Option World) (o : Outcome) → Happens told sent (Some command) last o → IfSome (bytes_in told command Flash) (λ f. IfSome (bytes_in told command ScriptFile) (λ s. length s ≤ 262144 → IsErr (reading s) → (answer_of o ≡ 5) ⊎ (answer_of o ≡ 7)))
+    bad_script : (last : Option World) (o : Outcome) → Happens told sent (Some command) last o → IfSome (bytes_in told command Flash) (λ f. IfSome (bytes_in told command ScriptFile) (λ s. length s ≤ SCRIPT_LIMIT → IsErr (reading s) → (answer_of o ≡ 5) ⊎ (answer_of o ≡ 7)))
     bad_script last Done h = each _ (λ f. given (bytes_in told command ScriptFile) _ _ (task_script told command h.task h.given) (λ s q l e. absurd (read_is_error (reading s) q.1 e)))
     bad_script last (Refused Usage) h = absurd h.0.cause
     bad_script last (Refused (Fault Flash)) h = absurd (no_fault Flash flash h.0.cause.0 h.0.cause.1)
@@ -106,9 +107,9 @@ module _ (told : Told) (sent : Sent) (command : Command) where
     bad_script last SinkFailed h = absurd (written h.0.rose)
 
     -- a script that has a reading is not refused
-    no_refusal : (o : Option (List ℕ)) (P : List ℕ → Type 0) → IfSome o (λ name. IsSomeAnd (told.bytes name) (λ s. (length s ≤ 262144) × IsOk (reading s))) → IsSome o → IfSome (option_and_then told.bytes o) P → ((s : List ℕ) → (length s ≤ 262144) × IsOk (reading s) → P s → ⊥) → ⊥
+    no_refusal : (o : Option (List ℕ)) (P : List ℕ → Type 0) → IfSome o (λ name. IsSomeAnd (told.bytes name) (λ s. (length s ≤ SCRIPT_LIMIT) × IsOk (reading s))) → IsSome o → IfSome (option_and_then told.bytes o) P → ((s : List ℕ) → (length s ≤ SCRIPT_LIMIT) × IsOk (reading s) → P s → ⊥) → ⊥
     no_refusal None P r i p f = cc
-    no_refusal (Some name) P r i p f = clash (told.bytes name) (λ s. (length s ≤ 262144) × IsOk (reading s)) P r p f
+    no_refusal (Some name) P r i p f = clash (told.bytes name) (λ s. (length s ≤ SCRIPT_LIMIT) × IsOk (reading s)) P r p f
 
     complete : (last : Option World) (o : Outcome) → Happens told sent (Some command) last o → IfSome (bytes_in told command Flash) (λ f. HasReading told command → (answer_of o ≡ 0) ⊎ (answer_of o ≡ 7))
     complete last Done h = any (bytes_in told command Flash) _ (λ f r. inl refl)

@@ -1,6 +1,7 @@
 -- Why a command is refused.
 use Rattle.std.specs.Prelude.{◌≡◌, ℕ, ◌<◌, ◌≤◌, List, ◌++◌, length, codes, decimal, Option, None, Some, IfSome, IsSome, IsSomeAnd, Err}
 use Rattle.std.specs.Option.{option_and_then}
+use Rattle.tk_base.specs.declared.limits.TheConstants.{FLASH_LIMIT, SCRIPT_LIMIT}
 use Rattle.script_text.specs.Rules.{word_of}
 use Rattle.script_text.specs.Reading.{reading}
 use Rattle.tk_outside.specs.Count.{Rose}
@@ -35,8 +36,8 @@ line_of Memory = codes "memory\n"
 
 -- the greatest number of bytes of a file
 abbrev pub limit_of : File → ℕ
-limit_of Flash = 1048576
-limit_of ScriptFile = 262144
+limit_of Flash = FLASH_LIMIT
+limit_of ScriptFile = SCRIPT_LIMIT
 
 -- the name of a file, where the words name it
 abbrev pub name_in : Command → File → Option (List ℕ)
@@ -84,6 +85,6 @@ abbrev pub Cause : Told → Option Command → Refusal → Type 0
 Cause told None refusal = CauseWithout refusal
 Cause told (Some command) refusal = CauseOf told command refusal
 
--- what a shelf tells whose count of faults was one number and is now another
-abbrev pub told_by : (List ℕ → Option (List ℕ)) → (List ℕ → Type 0) → ℕ → ℕ → Told
-told_by bytes is_sound before now = record { bytes = bytes; is_sound = is_sound; rose = Rose before now }
+-- what a shelf tells that was one and is now another
+abbrev pub told_by : {H : Type 0} → (H → List ℕ → Option (List ℕ)) → (H → List ℕ → Type 0) → (H → ℕ) → H → H → Told
+told_by bytes is_sound faults old new = record { bytes = bytes old; is_sound = is_sound old; rose = Rose (faults old) (faults new) }

@@ -23,6 +23,9 @@ pub record Sent : Type 1 where
   pub old : Sink
   pub new : Sink
 
+abbrev pub sent_by : {K : Type 0} → (K → Option (List ℕ)) → (K → ℕ) → K → K → Sent
+sent_by told faults old new = record { Sink = _; told = told; faults = faults; old = old; new = new }
+
 -- all of a text was written, or a part of it that lacks at least one byte
 abbrev pub All : Sent → List ℕ → Type 0
 All sent text = WroteAll sent.told sent.faults sent.old sent.new text

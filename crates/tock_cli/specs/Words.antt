@@ -1,8 +1,8 @@
 -- The words of the command line.
-use Rattle.std.specs.Prelude.{ℕ, ◌≤◌, ◌&&◌, nat_le, if◌then◌else◌, List, [], ◌∷◌, length, codes, Option, None, Some}
+use Rattle.std.specs.Prelude.{ℕ, ◌≤◌, ◌&&◌, if◌then◌else◌, List, [], ◌∷◌, map, codes, String, string_bytes, Option, None, Some}
 use Rattle.std.specs.Option.{option_map}
-use Rattle.std.specs.Str.{all_ascii_digits, bytes_eq}
-use Rattle.std.specs.Str.Parse.{digits_value}
+use Rattle.std.specs.Str.{bytes_eq}
+use Rattle.decimal_number.specs.Number.{number_up_to}
 use Rattle.tock_cli.specs.declared.words.BootCommand.{BootCommand}
 use Rattle.tock_cli.specs.declared.words.Command.{Command as Given}
 use Rattle.tock_cli.specs.declared.words.Command.TheVariants as given
@@ -28,12 +28,7 @@ abbrev pub script_of : Command → Option (List ℕ)
 script_of (Boots words) = Some words.script
 script_of (Lists flash) = None
 
--- A number has 1 to 10 decimal digits; it is accepted up to a limit.
-abbrev pub number_of : ℕ → List ℕ → Option ℕ
-number_of limit text =
-    if all_ascii_digits text && (nat_le 1 (length text) && (nat_le (length text) 10 && nat_le (digits_value 10 text) limit)) then Some (digits_value 10 text)
-    else None
-
+-- the greatest number of turns
 abbrev pub most_turns : ℕ
 most_turns = 1000000000
 
@@ -42,9 +37,13 @@ most_turns = 1000000000
 abbrev pub accepted : List (List ℕ) → Option Command
 accepted (program ∷ name ∷ flash ∷ []) = if bytes_eq name (codes "list") then Some (Lists flash) else None
 accepted (program ∷ name ∷ flash ∷ script ∷ flag ∷ turns ∷ []) =
-    if bytes_eq name (codes "boot") && bytes_eq flag (codes "--turns") then option_map (λ n. Boots (record { flash = flash; script = script; turns = n })) (number_of most_turns turns)
+    if bytes_eq name (codes "boot") && bytes_eq flag (codes "--turns") then option_map (λ n. Boots (record { flash = flash; script = script; turns = n })) (number_up_to most_turns turns)
     else None
 accepted words = None
+
+-- the command that the words of the command line are
+abbrev pub command_of : {Z : Type 0} → List (String Z) → Option Command
+command_of words = accepted (map string_bytes words)
 
 -- what the words of a command say
 abbrev pub shown_words : BootCommand → BootWords

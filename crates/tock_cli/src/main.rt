@@ -9,16 +9,20 @@ mod serve;
 mod words;
 
 use std::env;
+use std::io::ErrorKind;
 use std::process::ExitCode;
 use tk_outside::{FileShelf, OutSink};
 
 /// Takes the arguments, and ends with the answer of [`serve::serve`]; 7 where there was no memory for
-/// the arguments.
+/// the arguments. Where one of them is not UTF-8 the words are none at all, and no command has none: so
+/// that command line is answered by 2 and the usage line.
 fn main(rt: HostRuntime) -> ExitCode {
-    let Ok(arguments) = env::args(&rt) else {
-        return ExitCode::from(7);
+    let collected = match env::args(&rt) {
+        Ok(arguments) => arguments.collect::<Vec<String>>(rt.alloc()),
+        Err(error) if error.kind() == ErrorKind::InvalidData => Ok(Vec::new(rt.alloc())),
+        Err(_) => return ExitCode::from(7),
     };
-    let Ok(words) = arguments.collect::<Vec<String>>(rt.alloc()) else {
+    let Ok(words) = collected else {
         return ExitCode::from(7);
     };
     let mut shelf = FileShelf::new(&rt);

@@ -1,6 +1,6 @@
 //! What is done before any text is written: the words, the files, the script's reading, the board.
-ghost use Rattle.std.specs.Prelude.{◌≡◌, ◌≤◌, map, string_bytes, IfOk, IfErr};
-ghost use Rattle.tock_cli.specs.Words.{accepted, most_turns, shown_words, Boots, Lists};
+ghost use Rattle.std.specs.Prelude.{◌≡◌, ◌≤◌, IfOk, IfErr};
+ghost use Rattle.tock_cli.specs.Words.{command_of, most_turns, shown_words, Boots, Lists};
 ghost use Rattle.tock_cli.specs.Refusals.{Cause, CauseOf, told_by};
 ghost use Rattle.tock_cli.specs.Ready.{IsFresh, IsTask, IsTaskOf, refusal_of, task_of};
 
@@ -9,13 +9,9 @@ use crate::words::{BootCommand, Command};
 use board_core::Board;
 use script_text::{ScriptError, read_script};
 use std::alloc::Global;
+use tk_base::{FLASH_LIMIT, SCRIPT_LIMIT};
 use tk_intake::{IntakeError, read_whole};
 use tk_outside::Shelf;
-
-/// The greatest numbers of bytes of the two files.
-const FLASH_LIMIT: usize = 1_048_576;
-
-const SCRIPT_LIMIT: usize = 262_144;
 
 /// What is left to do once the files are read.
 #[derive(Drop)]
@@ -47,7 +43,7 @@ fn load_run<H: Shelf>(
     requires { words.turns ≤ most_turns }
     ensures task { IfOk result (λ ready. IsTaskOf (H.bytes shelf.old) (Boots (shown_words words.entry)) (task_of ready)) }
     ensures fresh { IfOk result IsFresh }
-    ensures refused { IfErr result (CauseOf (told_by (H.bytes shelf.old) (H.is_sound shelf.old) (H.faults shelf.old) (H.faults shelf.new)) (Boots (shown_words words.entry))) }
+    ensures refused { IfErr result (CauseOf (told_by H.bytes H.is_sound H.faults shelf.old shelf.new) (Boots (shown_words words.entry))) }
 {
     let flash = match read_whole(alloc, shelf, words.flash, FLASH_LIMIT) {
         Ok(bytes) => bytes,
@@ -75,7 +71,7 @@ fn load_run<H: Shelf>(
 fn load_list<H: Shelf>(alloc: Global, name: &str, shelf: &mut H) -> Result<Ready, Refusal>
     ensures task { IfOk result (λ ready. IsTaskOf (H.bytes shelf.old) (Lists name.now) (task_of ready)) }
     ensures fresh { IfOk result IsFresh }
-    ensures refused { IfErr result (CauseOf (told_by (H.bytes shelf.old) (H.is_sound shelf.old) (H.faults shelf.old) (H.faults shelf.new)) (Lists name.now)) }
+    ensures refused { IfErr result (CauseOf (told_by H.bytes H.is_sound H.faults shelf.old shelf.new) (Lists name.now)) }
 {
     match read_whole(alloc, shelf, name, FLASH_LIMIT) {
         Ok(flash) => Ok(Ready::List { flash }),
@@ -86,9 +82,9 @@ fn load_list<H: Shelf>(alloc: Global, name: &str, shelf: &mut H) -> Result<Ready
 /// Does all that comes before any text: the words, the flash file, and for a run the script file, the
 /// script's reading and the board. A refusal names the first cause in this order.
 pub fn prepare<H: Shelf>(alloc: Global, words: &[String], shelf: &mut H) -> Result<Ready, Refusal>
-    ensures task { IfOk result (λ ready. IsTask (H.bytes shelf.old) (accepted (map string_bytes words.now)) (task_of ready)) }
+    ensures task { IfOk result (λ ready. IsTask (H.bytes shelf.old) (command_of words.now) (task_of ready)) }
     ensures fresh { IfOk result IsFresh }
-    ensures refused { IfErr result (Cause (told_by (H.bytes shelf.old) (H.is_sound shelf.old) (H.faults shelf.old) (H.faults shelf.new)) (accepted (map string_bytes words.now))) }
+    ensures refused { IfErr result (Cause (told_by H.bytes H.is_sound H.faults shelf.old shelf.new) (command_of words.now)) }
 {
     match Command::of(words) {
         Some(Command::Boot(words)) => load_run(alloc, words, shelf),

@@ -1,5 +1,6 @@
 //! A run of a board, and its text.
 ghost use Rattle.std.specs.Prelude.{◌≡◌, ◌+◌, ◌≤◌, ℕ, OnOk, OnErr};
+ghost use Rattle.tk_base.specs.declared.limits.TheConstants.{STEP_LIMIT};
 ghost use Rattle.tk_outside.specs.Writes.{Writes};
 ghost use Rattle.kernel_model.specs.Run.{round, printed};
 ghost use Rattle.tock_cli.specs.RunText.{mode_text, end_of, end_text, IsWorldOf};
@@ -18,7 +19,7 @@ pub enum Mode {
 
 /// Makes the run, and writes what it prints.
 fn run_steps<K: Sink>(board: &mut Board, turns: u32, out: &mut K) -> Result<(), Failed>
-    requires { board.old.steps + turns ≤ 4000000000 }
+    requires { board.old.clock.steps + turns ≤ STEP_LIMIT }
     ensures prints { Writes K.told K.faults out.old out.new (printed (round turns board.old).labels) result }
     ensures last { OnOk result (board.new ≡ (round turns board.old).world) }
     ensures some { OnErr result (IsWorldOf turns board.old board.new) }
@@ -68,7 +69,7 @@ pub fn run_out<K: Sink>(
     turns: u32,
     out: &mut K,
 ) -> Result<(), Failed>
-    requires { board.old.steps + turns ≤ 4000000000 }
+    requires { board.old.clock.steps + turns ≤ STEP_LIMIT }
     ensures text { Writes K.told K.faults out.old out.new (mode_text mode turns board.old) result }
     ensures last { OnOk result (board.new ≡ (round turns board.old).world) }
     ensures some { OnErr result (IsWorldOf turns board.old board.new) }

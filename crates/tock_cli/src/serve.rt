@@ -1,9 +1,9 @@
 //! The whole program over a shelf and a sink.
-ghost use Rattle.std.specs.Prelude.{◌≡◌, None, map, string_bytes};
-ghost use Rattle.tock_cli.specs.Words.{accepted};
+ghost use Rattle.std.specs.Prelude.{◌≡◌, None};
+ghost use Rattle.tock_cli.specs.Words.{command_of};
 ghost use Rattle.tock_cli.specs.Refusals.{told_by};
 ghost use Rattle.tock_cli.specs.Ready.{IsFresh, task_of};
-ghost use Rattle.tock_cli.specs.Served.{Happens, RefusalIs, TaskIs, Serves, answer_of};
+ghost use Rattle.tock_cli.specs.Served.{Happens, RefusalIs, TaskIs, Serves, answer_of, sent_by};
 
 use crate::list::list_out;
 use crate::prepare::{Ready, prepare};
@@ -39,7 +39,7 @@ impl Outcome {
 
 /// Writes the line of a refusal.
 fn refuse<K: Sink>(refusal: Refusal, out: &mut K) -> Outcome
-    ensures { RefusalIs (record { Sink = _; told = K.told; faults = K.faults; old = out.old; new = out.new }) refusal result }
+    ensures { RefusalIs (sent_by K.told K.faults out.old out.new) refusal result }
 {
     match refusal.write_line(out) {
         Ok(()) => Outcome::Refused(refusal),
@@ -51,7 +51,7 @@ fn refuse<K: Sink>(refusal: Refusal, out: &mut K) -> Outcome
 fn finish<K: Sink>(ready: Ready, out: &mut K, last: &mut Option<Board>) -> Outcome
     requires fresh { IsFresh ready }
     requires none { last.old ≡ None }
-    ensures { TaskIs (record { Sink = _; told = K.told; faults = K.faults; old = out.old; new = out.new }) (task_of ready) last.new result }
+    ensures { TaskIs (sent_by K.told K.faults out.old out.new) (task_of ready) last.new result }
 {
     let written = match ready {
         Ready::Run { mut board, turns } => {
@@ -77,9 +77,8 @@ fn act<H: Shelf, K: Sink>(
     out: &mut K,
     last: &mut Option<Board>,
 ) -> Outcome
-    ensures { Happens (told_by (H.bytes shelf.old) (H.is_sound shelf.old) (H.faults shelf.old) (H.faults shelf.new))
-        (record { Sink = _; told = K.told; faults = K.faults; old = out.old; new = out.new })
-        (accepted (map string_bytes words.now)) last.new result }
+    ensures { Happens (told_by H.bytes H.is_sound H.faults shelf.old shelf.new) (sent_by K.told K.faults out.old out.new)
+        (command_of words.now) last.new result }
 {
     *last = None;
     match prepare(alloc, words, shelf) {
@@ -110,9 +109,8 @@ pub fn serve<H: Shelf, K: Sink>(
     out: &mut K,
     last: &mut Option<Board>,
 ) -> u8
-    ensures { Serves (told_by (H.bytes shelf.old) (H.is_sound shelf.old) (H.faults shelf.old) (H.faults shelf.new))
-        (record { Sink = _; told = K.told; faults = K.faults; old = out.old; new = out.new })
-        (accepted (map string_bytes words.now)) last.new result }
+    ensures { Serves (told_by H.bytes H.is_sound H.faults shelf.old shelf.new) (sent_by K.told K.faults out.old out.new)
+        (command_of words.now) last.new result }
 {
     act(alloc, words, shelf, out, last).answer()
 }

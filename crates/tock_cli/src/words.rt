@@ -1,7 +1,8 @@
 //! The words of the command line.
-ghost use Rattle.std.specs.Prelude.{◌≡◌, map, string_bytes, IfSome};
-ghost use Rattle.std.specs.Str.{all_ascii_digits};
-ghost use Rattle.tock_cli.specs.Words.{accepted, number_of, shown, HasTurnsWithin};
+ghost use Rattle.std.specs.Prelude.{◌≡◌, IfSome};
+ghost use Rattle.tock_cli.specs.Words.{command_of, shown, HasTurnsWithin};
+
+use decimal_number::number_up_to;
 
 /// The words of `tock boot FLASH SCRIPT --turns N`.
 #[derive(Clone, Copy)]
@@ -23,35 +24,10 @@ pub enum Command<'a> {
 /// The greatest number of turns that is accepted.
 const MOST_TURNS: u64 = 1_000_000_000;
 
-/// Whether a text has decimal digits alone.
-fn has_only_digits(text: &[u8]) -> bool
-    ensures { result ≡ all_ascii_digits text.now }
-{
-    for byte in text {
-        if !byte.is_ascii_digit() {
-            return false;
-        }
-    }
-    true
-}
-
-/// A number of 1 to 10 decimal digits that is at most `limit`.
-fn number(text: &str, limit: u64) -> Option<u64>
-    ensures { result ≡ number_of limit text.now }
-{
-    if text.is_empty() || text.len() > 10 || !has_only_digits(text.as_bytes()) {
-        return None;
-    }
-    match text.parse::<u64>() {
-        Ok(n) if n <= limit => Some(n),
-        _ => None,
-    }
-}
-
 impl<'a> Command<'a> {
     /// The command that the words are; None where they are none. The first word is the program's name.
     pub fn of(words: &'a [String]) -> Option<Command<'a>>
-        ensures words { shown result ≡ accepted (map string_bytes words.now) }
+        ensures words { shown result ≡ command_of words.now }
         ensures turns { IfSome result HasTurnsWithin }
     {
         match words {
@@ -60,7 +36,7 @@ impl<'a> Command<'a> {
             }),
             [_, name, flash, script, flag, turns]
                 if name.as_str() == "boot" && flag.as_str() == "--turns" => {
-                let turns = number(turns.as_str(), MOST_TURNS)?;
+                let turns = number_up_to(turns.as_bytes(), MOST_TURNS)?;
                 Some(Command::Boot(BootCommand {
                     flash: flash.as_str(),
                     script: script.as_str(),

@@ -1,6 +1,7 @@
 use Rattle.std.proofs.Common.{◌≡◌, map, take}
-use Rattle.board_core.specs.Seated.{seat_line}
+use Rattle.std.specs.List.{zip}
+use Rattle.board_core.specs.Residents.{line_in}
 use Rattle.board_core.proofs.board.slot_lines.Given as goal
 
-abbrev pub invariant-loop-seat : goal.invariant-loop-seat
-invariant-loop-seat l = l.lines.items ≡ map (seat_line l.flash) (take l.seat-index l.seats)
+abbrev pub invariant-loop-slot : goal.invariant-loop-slot
+invariant-loop-slot l = l.lines.items ≡ map (line_in l.home.flash) (take l.slot (zip l.processes l.home.owns))

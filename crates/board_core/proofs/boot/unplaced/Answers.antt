@@ -1,6 +1,6 @@
 use Rattle.std.proofs.Common.{sym, ap, ◌∙◌, arith}
 use Rattle.board_core.specs.Opening.{unplaced_at, unplaced_in}
-use Rattle.board_core.proofs.Opening.{pass_none, pass_some}
+use Rattle.board_core.proofs.Crews.{pass_none, pass_some}
 use Rattle.board_core.proofs.boot.unplaced.Goals as goal
 
 pub loop-application-preserved-in_default : goal.loop-application-preserved-in_default

@@ -1,11 +1,14 @@
-use Rattle.std.proofs.Common.{ap, arith}
+use Rattle.std.proofs.Common.{ap, ◌∙◌, arith}
 use Rattle.process_record.specs.declared.process.Process.{Process}
-use Rattle.kernel_calls.specs.Own.{record_in}
-use Rattle.board_memory.specs.Memory.{block_of}
-use Rattle.kernel_calls.proofs.Told.{exit_told}
+use Rattle.grant_enter.specs.Homes.{own_of}
+use Rattle.kernel_model.specs.Calls.{served}
+use Rattle.kernel_calls.specs.Outcomes.{record_at}
+use Rattle.kernel_calls.proofs.Starts.{of_object, no_exit}
 use Rattle.kernel_calls.proofs.exits.leave.Goals as goal
 
-pub returns-in_default-clause-answer : goal.returns-in_default-clause-answer
-returns-in_default-clause-answer c = λ dropped.
-    exit_told c.args.memory.now.flash (block_of c.args.memory.now c.args.slot) c.args.process.now c.give.new.process c.args.layout.now dropped c.args.kind c.args.code c.give.result (omega arith) (omega arith) (ap (λ (p : Process). p.object) c.give.ensures.stays)
-    (c.give.ensures.tells (record_in c.args.memory.now.flash (block_of c.args.memory.now c.args.slot) c.args.process.now c.args.layout.now dropped))
+pub returns-in_default-clause-serves : goal.returns-in_default-clause-serves
+unfolding served
+returns-in_default-clause-serves c = λ storage.
+    let r = record_at c.args.home.now c.args.slot c.args.process.now storage in
+    no_exit r c.args.kind c.args.code (omega arith) (omega arith) ∙ c.give.ensures.gives r
+    ∙ ap (λ s. record { after = s; outcome = c.give.result }) (of_object c.args.home.now.flash c.args.process.now c.give.new.process (own_of c.args.home.now c.args.slot) storage (ap (λ (p : Process). p.object) c.give.ensures.stays))

@@ -1,10 +1,14 @@
-use Rattle.std.proofs.Common.{ap}
+use Rattle.std.proofs.Common.{ap, sym, ◌∙◌}
 use Rattle.process_record.specs.declared.process.Process.{Process}
-use Rattle.kernel_calls.specs.Own.{record_in}
-use Rattle.kernel_calls.proofs.Told.{memop_told}
+use Rattle.grant_enter.specs.Homes.{own_of}
+use Rattle.kernel_model.specs.Calls.{served}
+use Rattle.kernel_calls.specs.Outcomes.{record_at}
+use Rattle.kernel_calls.proofs.Starts.{given}
 use Rattle.kernel_calls.proofs.serving.serve_memop.Goals as goal
 
-pub returns-clause-answer : goal.returns-clause-answer
-returns-clause-answer c = λ b dropped.
-    memop_told c.args.flash.now b c.args.process.now c.give.new.process c.args.layout.now c.operate-answer.new.layout dropped c.args.operation c.args.argument c.operate-answer.result c.give.result (ap (λ (p : Process). p.object) c.give.ensures.stays) (c.operate-answer.ensures.answer b dropped)
-    (c.give.ensures.tells (record_in c.args.flash.now b c.args.process.now c.operate-answer.new.layout dropped))
+pub returns-clause-serves : goal.returns-clause-serves
+unfolding served
+returns-clause-serves c = λ storage.
+    let home = c.operate-answer.new.home in
+    sym (c.operate-answer.ensures.answer storage)
+    ∙ given home.flash c.args.process.now c.give.new.process (own_of home c.args.slot) storage c.operate-answer.result c.give.result (ap (λ (p : Process). p.object) c.give.ensures.stays) (c.give.ensures.gives (record_at home c.args.slot c.args.process.now storage))

@@ -1,36 +1,73 @@
-use Rattle.std.proofs.Common.{◌≡◌, ◌≤◌, List, ℕ, All, ap, map, sym, subst, ◌∙◌, arith}
-use Rattle.std.specs.List.{zip, filter_map, count_by}
+use Rattle.std.proofs.Common.{◌≡◌, ◌≤◌, List, ℕ, None, Some, All, ap, length, map, sym, subst, ◌∙◌, arith}
+use Rattle.std.specs.List.{AllPairs, filter_map, count_by, zip}
+use Rattle.std.specs.Prelude.{vec_len}
+use Rattle.std.proofs.lemmas.List.{length-map}
+use Rattle.process_layout.specs.Extents.{Extents}
+use Rattle.process_layout.specs.Ordered.{IsOrdered}
+use Rattle.process_own.specs.Own.{opened}
 use Rattle.app_placement.specs.declared.placed.Placed.{Placed}
-use Rattle.app_placement.specs.Placement.{is_placed}
-use Rattle.board_memory.specs.Memory.{MemoryBytes}
-use Rattle.board_core.specs.Opening.{places, record_at, unplaced_at}
-use Rattle.board_core.specs.Seated.{IsSeated, record_of}
-use Rattle.board_core.proofs.Opening.{few_seats, opening_shown}
+use Rattle.app_placement.specs.Placement.{is_placed, LiesInFlash}
+use Rattle.grant_enter.specs.Homes.{Homes, EndsBefore, IsSettled}
+use Rattle.board_core.specs.Boot.{layout_at}
+use Rattle.board_core.specs.Opening.{opening, places, record_at, unplaced_at}
+use Rattle.board_core.specs.Residents.{IsSeated, record_of}
+use Rattle.board_core.proofs.Crews.{all_apart, all_settled, few_processes, opening_shown}
 use Rattle.board_core.proofs.board.Board.boot.Goals as goal
+use Rattle.board_core.proofs.board.Board.boot.Goals.{After-deref-4, After-new}
+
+-- the layouts are those of the applications that are placed
+layouts : (c : After-deref-4) → c.deref-4.result.now ≡ filter_map layout_at c.placed_in-placed.result.items
+layouts c = c.deref-4.ensures.value ∙ c.in_ok-processes.ensures.layouts ∙ ap (filter_map layout_at) c.deref-3.ensures.0
+
+pub new-requires-clause-settled : goal.new-requires-clause-settled
+new-requires-clause-settled c =
+    let flash = c.args.flash.items in
+    let ram = c.script.inside.ram in
+    let placed = c.placed_in-placed.result.items in
+    let crew = c.in_ok-processes.ensures in
+    let n : vec_len c.args.flash ≡ length flash = omega (arith, c.args.flash.ok.0) in
+    let in_flash : All (LiesInFlash flash) placed = subst (λ (f : List ℕ). All (LiesInFlash f) placed) c.deref.ensures.value c.placed_in-placed.ensures.flash in
+    let ordered : All IsOrdered (filter_map layout_at placed) = subst (All IsOrdered) (crew.layouts ∙ ap (filter_map layout_at) c.deref-3.ensures.0) crew.ordered in
+    let settled = all_settled flash ram placed in_flash c.placed_in-placed.ensures.ram ordered in
+    subst (λ (es : List Extents). All (IsSettled (vec_len c.args.flash) ram) es) (sym (layouts (goal.at.new-requires-clause-settled c).After-deref-4))
+    (subst (λ (k : ℕ). All (IsSettled k ram) (filter_map layout_at placed)) (sym n) settled)
+
+pub new-requires-clause-apart : goal.new-requires-clause-apart
+new-requires-clause-apart c = subst (AllPairs EndsBefore) (sym (layouts (goal.at.new-requires-clause-apart c).After-deref-4)) (all_apart c.placed_in-placed.result.items c.placed_in-placed.ensures.apart)
 
 pub invariant_of-result : goal.invariant_of-result
 invariant_of-result c =
-    let m = c.first_seats.new.memory in
-    let seats = c.in_ok-seats.seats.items in
-    let e = c.in_ok-seats.ensures in
-    let few = subst (λ (xs : List Placed). count_by is_placed xs ≤ 8) (sym c.deref-2.ensures.0) c.placed_in-placed.ensures.few in
+    let crew = c.in_ok-processes.ensures in
+    let processes = c.in_ok-processes.field-0.processes.items in
+    let es = c.in_ok-processes.field-0.layouts.items in
+    let home_is : c.in-Ok.home ≡ record { flash = c.deref-2.result.now; owns = map opened es }
+    = c.in-Ok.ensures ∙ ap (λ (xs : List Extents). record { flash = c.args.flash.items; owns = map opened xs }) c.deref-4.ensures.value ∙ ap (λ (f : List ℕ). record { flash = f; owns = map opened es }) (sym c.deref-2.ensures.value) in
+    let few : count_by is_placed c.deref-3.result.now ≤ 8 = subst (λ (xs : List Placed). count_by is_placed xs ≤ 8) (sym c.deref-3.ensures.0) c.placed_in-placed.ensures.few in
+    let owns : length (map opened es) ≡ length processes = length-map es opened ∙ sym crew.count in
     record {
-      seated = subst (λ (f : List ℕ). All (IsSeated f 0) (zip seats m.blocks)) (sym e.flash) e.seated;
-      blocks = e.blocks;
-      few = few_seats c.new-memory.result.flash c.deref-2.result.now seats m.blocks e.blocks e.shown few;
+      seated = subst (λ (h : Homes). All (IsSeated h.flash 0) (zip processes h.owns)) (sym home_is) crew.seated;
+      owns = ap (λ (h : Homes). length h.owns) home_is ∙ owns;
+      few = few_processes c.deref-2.result.now c.deref-3.result.now processes (map opened es) owns crew.shown few;
+      guard = record { protects = λ slot is. absurd (nobody_set slot (sym c.new-2.ensures ∙ is)) };
       steps = omega arith;
       time = omega arith;
       used = omega arith;
     }
+  where
+    nobody_set : (slot : ℕ) → None ≡ Some slot → ⊥
+    nobody_set slot e = cc
 
 pub returns : goal.returns
 returns c =
-    let m = c.first_seats.new.memory in
-    let seats = c.in_ok-seats.seats.items in
-    let e = c.in_ok-seats.ensures in
-    let flash : c.new-memory.result.flash ≡ c.args.flash.items = ap (λ (x : MemoryBytes). x.flash) c.new-memory.ensures in
-    let placed : c.placed_in-placed.result.items ≡ places c.args.script.ram c.args.flash.items = c.placed_in-placed.ensures.places ∙ ap (places c.args.script.ram) c.deref.ensures.value in
-    let shown = subst (λ (f : List ℕ). map (record_of f) (zip seats m.blocks) ≡ filter_map (record_at f) c.deref-2.result.now) flash e.shown in
-    opening_shown c.args.script c.args.flash.items m seats c.unplaced.result (e.flash ∙ flash)
-    (shown ∙ ap (filter_map (record_at c.args.flash.items)) (c.deref-2.ensures.0 ∙ placed))
-    (c.unplaced.ensures ∙ ap (filter_map unplaced_at) (c.deref-3.ensures.0 ∙ placed))
+    let crew = c.in_ok-processes.ensures in
+    let flash = c.args.flash.items in
+    let ram = c.script.inside.ram in
+    let processes = c.in_ok-processes.field-0.processes.items in
+    let es = c.in_ok-processes.field-0.layouts.items in
+    let placed : c.placed_in-placed.result.items ≡ places ram flash = c.placed_in-placed.ensures.places ∙ ap (places ram) c.deref.ensures.value in
+    let shown = subst (λ (f : List ℕ). map (record_of f) (zip processes (map opened es)) ≡ filter_map (record_at f) c.deref-3.result.now) c.deref-2.ensures.value crew.shown in
+    opening_shown (record { ram = ram }) flash c.in-Ok.home es processes c.unplaced.result
+    (c.in-Ok.ensures ∙ ap (λ (xs : List Extents). record { flash = flash; owns = map opened xs }) c.deref-4.ensures.value)
+    (shown ∙ ap (filter_map (record_at flash)) (c.deref-3.ensures.0 ∙ placed))
+    (c.unplaced.ensures ∙ ap (filter_map unplaced_at) (c.deref-5.ensures.0 ∙ placed))
+    ∙ ap (λ (s : _). opening s flash) c.script.view_is

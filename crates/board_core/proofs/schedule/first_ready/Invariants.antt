@@ -1,8 +1,0 @@
-use Rattle.std.proofs.Common.{◌≡◌, ◌-◌, find}
-use Rattle.std.specs.List.{range_with_len}
-use Rattle.kernel_model.specs.RoundRobin.{is_ready_at}
-use Rattle.board_core.proofs.schedule.first_ready.Given as goal
-
--- what is first among the slots that are left is first among all
-abbrev pub invariant-loop-slot : goal.invariant-loop-slot
-invariant-loop-slot l = find (is_ready_at l.ready) (range_with_len l.slot (l.to - l.slot)) ≡ find (is_ready_at l.ready) (range_with_len l.from (l.to - l.from))

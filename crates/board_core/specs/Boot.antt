@@ -1,0 +1,36 @@
+-- The processes and layouts of a board before its first step. Only proofs use this.
+use Rattle.std.specs.Prelude.{◌≡◌, ◌≤◌, ℕ, List, length, map, filter_map, All, IfOk, Option, None, Some, Result, Ok, Err}
+use Rattle.std.specs.List.{zip}
+use Rattle.tk_base.specs.declared.access.TheConstants.{RAM_START}
+use Rattle.tk_base.specs.declared.process.PlaceFault.{PlaceFault}
+use Rattle.process_layout.specs.Extents.{Extents}
+use Rattle.process_layout.specs.Ordered.{IsOrdered}
+use Rattle.process_own.specs.Own.{opened}
+use Rattle.app_placement.specs.declared.placed.Place.{Place}
+use Rattle.app_placement.specs.declared.placed.Placed.{Placed}
+use Rattle.board_core.specs.declared.boot.Crew.{Crew}
+use Rattle.board_core.specs.Opening.{record_at}
+use Rattle.board_core.specs.Residents.{IsSeated, record_of}
+
+-- the application at an offset has this place
+abbrev pub at_offset : ℕ → Place → Placed
+at_offset offset place = record { offset = offset; place = Ok place }
+
+-- a block that is placed starts in RAM
+abbrev pub StartsInRam : Placed → Type 0
+StartsInRam p = IfOk p.place (λ place. RAM_START ≤ place.layout.start)
+
+abbrev pub layout_in : Result Place PlaceFault → Option Extents
+layout_in (Ok place) = Some place.layout
+layout_in (Err fault) = None
+
+abbrev pub layout_at : Placed → Option Extents
+layout_at p = layout_in p.place
+
+-- a process for each application that is placed, at its start, with its layout
+pub record IsCrew (flash : List ℕ) (placed : List Placed) (crew : Crew) : Type 0 where
+  pub layouts : crew.layouts.items ≡ filter_map layout_at placed
+  pub ordered : All IsOrdered crew.layouts.items
+  pub count : length crew.processes.items ≡ length crew.layouts.items
+  pub shown : map (record_of flash) (zip crew.processes.items (map opened crew.layouts.items)) ≡ filter_map (record_at flash) placed
+  pub seated : All (IsSeated flash 0) (zip crew.processes.items (map opened crew.layouts.items))

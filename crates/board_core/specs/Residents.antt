@@ -1,0 +1,92 @@
+-- A process with what is its own: the record that it shows, and its turns. Only proofs use this.
+use Rattle.std.specs.Prelude.{◌≡◌, ℕ, ◌+◌, ◌≤◌, Bool, false, List, [], length, slice_get, slice_set, Option, None, Some}
+use Rattle.tk_base.specs.declared.access.TheConstants.{FLASH_START}
+use Rattle.rv32_model.specs.UserTurn.{Touch, UserTurn}
+use Rattle.syscall_abi.specs.Call.{call_of}
+use Rattle.process_own.specs.Own.{Own}
+use Rattle.process_own.specs.Instruction.{with_write}
+use Rattle.process_record.specs.Process.{after_turn}
+use Rattle.process_record.specs.Name.{name_of}
+use Rattle.process_record.specs.declared.process.Process.{Process}
+use Rattle.process_record.specs.declared.summary.SlotLine.{SlotLine}
+use Rattle.grant_enter.specs.Homes.{Homes, own_of}
+use Rattle.kernel_model.specs.Record.{Record}
+use Rattle.kernel_model.specs.Turn.{Turned, calls, turned, runs}
+use Rattle.kernel_calls.specs.Own.{IsOwn, object_in, record_in}
+use Rattle.board_core.specs.declared.turn.Shown.{Shown}
+use Rattle.board_core.specs.Settings.{settings, fresh_storage}
+
+-- a process with what is its own
+abbrev pub Resident : Type 0
+Resident = Process × Own
+
+abbrev pub record_of : List ℕ → Resident → Record
+record_of flash r = record_in flash r.0 r.1 fresh_storage
+
+-- the process in a slot, with what is its own
+abbrev pub resident : Homes → ℕ → Process → Resident
+resident home slot process = (process, own_of home slot)
+
+-- what an instruction leaves of both, and that it counts as a turn
+abbrev pub after_instruction : Resident → UserTurn → Resident
+after_instruction r t = (record (after_turn r.0) { regs = t.regs }, with_write r.1 t)
+
+-- what a turn shows; it asks the board for nothing
+pub record Shows (t : Turned) (shown : Shown) : Type 0 where
+  pub call : t.told.call ≡ shown.call
+  pub denial : t.told.denial ≡ shown.denial
+  pub acts : t.acts ≡ []
+
+-- what serving the call of a process leaves and shows
+abbrev pub Serves : List ℕ → Resident → Resident → Shown → Type 0
+Serves flash old new shown = (accesses : List Touch) →
+    let t = calls settings (record_of flash old) accesses (call_of old.0.regs) in
+    (t.after ≡ record_of flash new) × Shows t shown
+
+-- what a turn of a process leaves and shows
+abbrev pub Turns : List ℕ → Resident → Resident → Shown → Type 0
+Turns flash old new shown = (time : ℕ) →
+    let t = turned settings time (record_of flash old) in
+    (t.after ≡ record_of flash new) × Shows t shown
+
+-- a process's object lies in flash
+pub record HasObject (flash : List ℕ) (process : Process) : Type 0 where
+  pub from_base : FLASH_START ≤ process.object.address
+  pub in_flash : process.object.address + process.object.size ≤ FLASH_START + length flash
+
+-- A process has its own object and what is kept of it; it had at most as many turns, and was started again at most as
+-- often, as there were steps.
+pub record IsSeated (flash : List ℕ) (steps : ℕ) (r : Resident) : Type 0 where
+  pub own : IsOwn flash r.0 r.1
+  pub turns : r.0.turns ≤ steps
+  pub restarts : r.0.restarts ≤ steps
+
+-- one turn of the process in a slot, and of no other
+pub record TurnsAt (slot steps : ℕ) (home home_after : Homes) (processes processes_after : List Process) (shown : Shown) : Type 0 where
+  pub before : Resident
+  pub after : Resident
+  pub was : slice_get processes slot ≡ Some before.0
+  pub own_was : slice_get home.owns slot ≡ Some before.1
+  pub is : processes_after ≡ slice_set processes slot after.0
+  pub own_is : home_after ≡ record home { owns = slice_set home.owns slot after.1 }
+  pub turns : Turns home.flash before after shown
+  pub seated : IsSeated home.flash (steps + 1) after
+
+-- whether the process in a slot, if there is one, can have a turn
+abbrev pub process_runs : Process → Bool
+process_runs process = runs process.state
+
+abbrev pub can_turn : Option Process → Bool
+can_turn None = false
+can_turn (Some process) = process_runs process
+
+-- the line of the process in a slot
+abbrev pub line_in : List ℕ → Resident → SlotLine
+line_in flash r = record {
+  name = record { items = name_of (object_in flash r.0.object) };
+  state = r.0.state;
+  denial = r.0.denial;
+  turns = r.0.turns;
+  restarts = r.0.restarts;
+  dropped = r.1.dropped;
+}

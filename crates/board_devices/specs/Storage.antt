@@ -1,0 +1,36 @@
+-- The storage of the slots, each of which reads and writes its own bytes alone.
+use Rattle.std.specs.Prelude.{◌≡◌, ℕ, ◌+◌, ◌-◌, ◌^◌, ◌==◌, ◌<◌, Bool, List, [], ◌++◌, All, drop, length, min, replicate, slice_index_or, take}
+use Rattle.std.specs.List.{list_any}
+
+-- the bytes of each slot, slot 0 first; how many each has; how many requests were served; and the numbers of those that
+-- fail, counted from 1
+pub record Storage : Type 0 where
+  pub slots : List (List ℕ)
+  pub size : ℕ
+  pub served : ℕ
+  pub faults : List ℕ
+
+-- there are eight slots, and each has so many bytes
+pub record AreSized (size : ℕ) (slots : List (List ℕ)) : Type 0 where
+  pub fits : size < 2 ^ 32
+  pub eight : length slots ≡ 8
+  pub sizes : All (λ bytes. length bytes ≡ size) slots
+
+-- bytes that were never written
+abbrev pub fresh_slots : ℕ → List (List ℕ)
+fresh_slots size = replicate 8 (replicate size 0xFF)
+
+abbrev pub slot_bytes : Storage → ℕ → List ℕ
+slot_bytes s slot = slice_index_or s.slots slot []
+
+-- bytes with others put over them from an offset on
+abbrev pub overwritten : List ℕ → ℕ → List ℕ → List ℕ
+overwritten bytes offset written = take offset bytes ++ written ++ drop (offset + length written) bytes
+
+-- one request more; the count stands still at its greatest value
+abbrev pub counted : ℕ → ℕ
+counted served = min (served + 1) (2 ^ 64 - 1)
+
+-- whether the request of a number fails
+abbrev pub is_fault : List ℕ → ℕ → Bool
+is_fault faults number = list_any (λ fault. fault == number) faults

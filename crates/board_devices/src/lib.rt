@@ -1,0 +1,20 @@
+//! The devices of the board, and what they answer a process. What a device holds are numbers and lists,
+//! and each changes by the call that is named for it alone.
+#![tactic(auto)]
+
+mod answer;
+mod clock;
+mod leds;
+mod stores;
+mod uart;
+mod words;
+
+pub use answer::{Answer, Kind};
+pub use clock::Clock;
+pub use leds::Leds;
+pub use stores::Stores;
+pub use uart::Uart;
+pub use words::Words;
+
+#[cfg(test)]
+mod tests;

@@ -1,0 +1,18 @@
+use Rattle.std.proofs.Common.{length, arith, rules}
+use Rattle.grant_enter.specs.Homes.{IsSettled}
+use Rattle.grant_enter.proofs.Moves.{settled_is}
+use Rattle.grant_enter.proofs.home.Home.protect.Goals as goal
+use Rattle.grant_enter.proofs.home.Home.protect.Goals.{After-index-2}
+
+-- the layout is settled
+settled : (c : After-index-2) → IsSettled (length c.self.inside.memory.flash) (length c.self.inside.memory.ram) c.index-2.result.now.layout
+settled c = settled_is c.self.inside c.args.slot c.index.result c.index-2.result.now c.index.ensures.value c.index-2.ensures (search rules) c.self.invariant
+
+pub set_process-requires-clause-flash_start : goal.set_process-requires-clause-flash_start
+set_process-requires-clause-flash_start c = (settled c).flash_start_aligned
+
+pub set_process-requires-clause-flash_end : goal.set_process-requires-clause-flash_end
+set_process-requires-clause-flash_end c = (settled c).flash_end_aligned
+
+pub set_process-requires-clause-apart : goal.set_process-requires-clause-apart
+set_process-requires-clause-apart c = omega (arith, (settled c).below, (settled c).from)

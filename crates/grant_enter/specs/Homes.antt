@@ -1,0 +1,68 @@
+-- What contracts see of the memory of all processes: flash, and by slot what is a process's own.
+use Rattle.std.specs.Prelude.{◌≡◌, ◌≤◌, ℕ, ◌+◌, ◌-◌, ◌%◌, true, List, [], length, slice_index_or, slice_set}
+use Rattle.tk_base.specs.declared.access.TheConstants.{FLASH_START, RAM_START}
+use Rattle.tk_base.specs.declared.regs.Regs.{Regs}
+use Rattle.rv32_model.specs.declared.turn_end.TurnEnd.{TurnEnd}
+use Rattle.process_layout.specs.Extents.{Extents}
+use Rattle.process_layout.specs.Ordered.{IsOrdered}
+use Rattle.process_own.specs.Own.{Own}
+use Rattle.process_own.specs.Instruction.{Sees, instruction_of, with_write}
+
+pub record Homes : Type 0 where
+  pub flash : List ℕ
+  pub owns : List Own
+
+-- what stands for a slot that there is not
+abbrev pub nobody : Own
+nobody = record {
+  layout = record { flash_start = 0; flash_end = 0; start = 0; end = 0; brk = 0; kernel_break = 0; mark = 0 };
+  ram = [];
+  kernel = [];
+  life = 0;
+  lives = true;
+  dropped = 0;
+}
+
+-- what is the own of the process in a slot
+abbrev pub own_of : Homes → ℕ → Own
+own_of home slot = slice_index_or home.owns slot nobody
+
+-- the same with another own in a slot
+abbrev pub with_own : Homes → ℕ → Own → Homes
+with_own home slot own = record home { owns = slice_set home.owns slot own }
+
+-- nothing but what is in one slot may differ
+abbrev pub ChangesOnly : ℕ → Homes → Homes → Type 0
+ChangesOnly slot old new = new ≡ with_own old slot (own_of new slot)
+
+-- Where a process's memory may lie in so many bytes of flash and of RAM: the accessible flash in flash, in whole words
+-- and below RAM, the block in RAM.
+pub record IsSettled (flash ram : ℕ) (e : Extents) : Type 0 where
+  pub ordered : IsOrdered e
+  pub flash_from : FLASH_START ≤ e.flash_start
+  pub flash_to : e.flash_end ≤ FLASH_START + flash
+  pub flash_start_aligned : e.flash_start % 4 ≡ 0
+  pub flash_end_aligned : e.flash_end % 4 ≡ 0
+  pub below : e.flash_end ≤ RAM_START
+  pub from : RAM_START ≤ e.start
+  pub to : e.end ≤ RAM_START + ram
+
+-- A process's own memory as it always lies: its parts in their order, the bytes below the kernel break and those from it
+-- on as many as the layout says, its accessible flash below its block.
+pub record IsInPlace (own : Own) : Type 0 where
+  pub ordered : IsOrdered own.layout
+  pub apart : own.layout.flash_end ≤ own.layout.start
+  pub ram : length own.ram ≡ own.layout.kernel_break - own.layout.start
+  pub kernel : length own.kernel ≡ own.layout.end - own.layout.kernel_break
+
+-- one block ends before another begins
+abbrev pub EndsBefore : Extents → Extents → Type 0
+EndsBefore a b = a.end ≤ b.start
+
+-- An instruction of a process: whatever bytes stand where it may not look, it is the one that its own bytes give, and
+-- of memory it leaves what it writes to its own RAM.
+abbrev pub Makes : List ℕ → Own → Regs → Own → Regs → TurnEnd → Type 0
+Makes flash own regs own_after regs_after end =
+    (seen : ℕ → ℕ) → Sees flash own seen →
+    let t = instruction_of own seen regs in
+    (own_after ≡ with_write own t) × (regs_after ≡ t.regs) × (end ≡ t.end)

@@ -1,0 +1,3 @@
+pub mod Homes
+pub mod Reach
+pub mod Seats

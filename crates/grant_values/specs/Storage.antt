@@ -1,0 +1,33 @@
+-- The storage's value in words (this kernel's own form): 0 for no request, 1 for a read, 2 for a write; its offset,
+-- its length; three zeros.
+use Rattle.std.specs.Prelude.{ℕ, ◌==◌, if◌then◌else◌, List, [], ◌∷◌, slice_index}
+use Rattle.grant_values.specs.declared.storage.StorageKind.{StorageKind}
+use Rattle.grant_values.specs.declared.storage.StorageKind.TheVariants.{Read, Write}
+use Rattle.grant_values.specs.declared.storage.Storage.{Storage}
+use Rattle.grant_values.specs.declared.storage.StorageRequest.{StorageRequest}
+use Rattle.grant_values.specs.Requests.{word_of, waiting}
+
+abbrev pub kind_word : StorageKind → ℕ
+kind_word Read = 1
+kind_word Write = 2
+
+-- any word above 1 is a write
+abbrev pub kind_of : ℕ → StorageKind
+kind_of word = if word == 1 then Read else Write
+
+abbrev pub storage_words : Storage → List ℕ
+storage_words storage =
+    word_of (λ request. kind_word request.kind) storage.request
+    ∷ word_of (λ request. request.offset) storage.request
+    ∷ word_of (λ request. request.length) storage.request
+    ∷ 0 ∷ 0 ∷ 0 ∷ []
+
+abbrev pub request_of : List ℕ → StorageRequest
+request_of words = record {
+  kind = kind_of (slice_index words 0);
+  offset = slice_index words 1;
+  length = slice_index words 2;
+}
+
+abbrev pub storage_of : List ℕ → Storage
+storage_of words = record { request = waiting (slice_index words 0) (request_of words) }

@@ -1,0 +1,28 @@
+-- Words of four bytes, the lowest byte first, as the processor keeps them (RISC-V unprivileged manual, "Load and
+-- Store Instructions").
+use Rattle.std.specs.Prelude.{ℕ, ◌≡◌, ◌*◌, ◌/◌, ◌<◌, ◌^◌, List, [], ◌∷◌, length}
+use Rattle.std.specs.List.{AllByRecursion, flat_map}
+use Rattle.std.specs.Int.{w32, to_le_bytes, from_le_bytes}
+
+abbrev pub IsWord : ℕ → Type 0
+IsWord w = w < 2 ^ 32
+
+-- the bytes of words
+abbrev pub bytes_of : List ℕ → List ℕ
+bytes_of words = flat_map (to_le_bytes w32) words
+
+-- the words of bytes; up to three bytes at the end are in none
+unfoldable pub words_of : List ℕ → List ℕ
+words_of (a ∷ b ∷ c ∷ d ∷ rest) = from_le_bytes w32 (a ∷ b ∷ c ∷ d ∷ []) ∷ words_of rest
+words_of (a ∷ b ∷ c ∷ []) = []
+words_of (a ∷ b ∷ []) = []
+words_of (a ∷ []) = []
+words_of [] = []
+
+-- how words stand in bytes
+pub record WordsInBytes : Type 0 where
+  -- the words that were written are read back
+  pub back : (words : List ℕ) → AllByRecursion IsWord words → words_of (bytes_of words) ≡ words
+  -- each word takes four bytes
+  pub size : (words : List ℕ) → length (bytes_of words) ≡ 4 * length words
+  pub count : (bytes : List ℕ) → length (words_of bytes) ≡ length bytes / 4

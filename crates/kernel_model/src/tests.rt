@@ -1,0 +1,42 @@
+//! Worked cases of the definitions, computed from them alone: the code here does nothing. The numbers
+//! were put together by hand from TRD 104, "System Call API", "Memop" and "Return Values".
+ghost use Rattle.std.specs.Prelude.{◌≡◌, ◌+◌, ◌-◌, ◌^◌, Some, [], ◌∷◌, slice_get};
+ghost use Rattle.tk_base.specs.declared.access.TheConstants.{FLASH_START, RAM_START};
+ghost use Rattle.tk_base.specs.declared.call.CallRule.TheVariants.{Break};
+ghost use Rattle.tk_base.specs.declared.process.Choice.TheVariants.{Run};
+ghost use Rattle.syscall_abi.specs.Call.{a0, a1};
+ghost use Rattle.kernel_model.specs.World.{after};
+ghost use Rattle.kernel_model.specs.Run.{next};
+ghost use Rattle.kernel_model.specs.Worked.{asks, turn_of, board};
+
+/// Memop 2 is answered by a success with one word, where the block starts; pc goes past the `ecall`. A
+/// break 4 bytes below the block is refused by a failure of no memory, and recorded; the break stays.
+#[tactic(auto, unfolding(rv32_model::specs::UserTurn::user_turn, rv32_model::specs::UserTurn::on_word, rv32_model::specs::UserTurn::executed, rv32_model::specs::UserTurn::fetched, rv32_model::specs::UserTurn::instr_of, rv32_model::specs::Instructions::decoding, rv32_model::specs::Instructions::table, process_own::specs::Permission::denied, process_own::specs::Instruction::ram_after, syscall_abi::specs::Call::call_of, syscall_abi::specs::Call::table, crate::specs::Calls::served, crate::specs::Calls::memop, crate::specs::Calls::memops, crate::specs::Turn::turned))]
+fn turns()
+    ensures start { (a0 (turn_of (asks 2 0)).after.process.regs ≡ 129)
+        × (a1 (turn_of (asks 2 0)).after.process.regs ≡ RAM_START) }
+    ensures pc { (turn_of (asks 2 0)).after.process.regs.pc ≡ FLASH_START + 4 }
+    ensures failure { (a0 (turn_of (asks 1 (2 ^ 32 - 12))).after.process.regs ≡ 0)
+        × (a1 (turn_of (asks 1 (2 ^ 32 - 12))).after.process.regs ≡ 9) }
+    ensures own { (turn_of (asks 1 (2 ^ 32 - 12))).after.own ≡ (asks 1 (2 ^ 32 - 12)).own }
+    ensures recorded { (turn_of (asks 1 (2 ^ 32 - 12))).after.process.refusal ≡ Some (record {
+      address = FLASH_START;
+      rule = Break;
+    }) }
+{}
+
+/// A turn of slot 0 leaves the record of slot 1 as it was. In slices of one turn slot 1 is next; in slices
+/// of two slot 0 goes on.
+#[tactic(auto, unfolding(rv32_model::specs::UserTurn::user_turn, rv32_model::specs::UserTurn::on_word, rv32_model::specs::UserTurn::executed, rv32_model::specs::UserTurn::fetched, rv32_model::specs::UserTurn::instr_of, rv32_model::specs::Instructions::decoding, rv32_model::specs::Instructions::table, process_own::specs::Permission::denied, process_own::specs::Instruction::ram_after, syscall_abi::specs::Call::call_of, syscall_abi::specs::Call::table, crate::specs::Calls::served, crate::specs::Calls::memop, crate::specs::Calls::memops, crate::specs::Turn::turned, crate::specs::World::stepped, crate::specs::Run::next, turn_scheduler::specs::RoundRobin::choice, turn_scheduler::specs::RoundRobin::ready_device, turn_scheduler::specs::RoundRobin::next_slot))]
+fn steps()
+    ensures other { slice_get (after (board 1 (asks 2 0 ∷ asks 3 0 ∷ [])) (Run 0)).records 1
+        ≡ Some (asks 3 0) }
+    ensures one { next (after (board 1 (asks 2 0 ∷ asks 3 0 ∷ [])) (Run 0)) ≡ Some (Run 1) }
+    ensures two { next (after (board 2 (asks 2 0 ∷ asks 3 0 ∷ [])) (Run 0)) ≡ Some (Run 0) }
+{}
+
+#[test]
+fn the_definitions_give_the_worked_cases() {
+    turns();
+    steps();
+}

@@ -1,0 +1,4 @@
+pub mod Own
+pub mod Permission
+pub mod Instruction
+pub mod Laws

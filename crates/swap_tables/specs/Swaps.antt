@@ -1,0 +1,40 @@
+-- Swaps of the pairs that a process hands to a driver (TRD 104, "Subscribe", "Read-Only Allow", "Read-Write Allow").
+use Rattle.std.specs.Prelude.{ℕ, ◌≡◌, ◌<◌, List, Bool, Some}
+use Rattle.tk_base.specs.declared.upcall.Counts.{Counts}
+use Rattle.process_layout.specs.Extents.{Extents}
+use Rattle.grant_values.specs.Drivers.{counts_of}
+use Rattle.grant_areas.specs.declared.kinds.PairKind.{PairKind}
+use Rattle.grant_areas.specs.Kinds.{count_of}
+use Rattle.grant_areas.specs.Grants.{Grant, grant_of, with_grant, entered, pair_of, with_pair}
+use Rattle.grant_areas.specs.Laid.{Tells, read_back}
+use Rattle.grant_region.specs.Region.{fits, roomed, Leaves}
+
+-- a pair of a driver: these are the driver's counts, and the number is below that of the kind
+pub record IsPair (kind : PairKind) (driver : ℕ) (counts : Counts) (number : ℕ) : Type 0 where
+  pub counts_are : counts_of driver ≡ Some counts
+  pub below : number < count_of kind counts
+
+-- the pair that a process's bytes hold; (0, 0) where it has not entered the driver
+abbrev pub held_pair : PairKind → ℕ → ℕ → List ℕ → ℕ × ℕ
+held_pair kind driver number kernel = pair_of kind number (grant_of driver (read_back kernel))
+
+-- whether a driver is entered, or its area fits
+abbrev pub has_place : Extents → ℕ → List ℕ → Bool
+has_place e driver kernel = fits e driver (grant_of driver (read_back kernel))
+
+-- a process's grants once the driver is entered and its pair is another
+abbrev pub swapped : PairKind → ℕ → ℕ → ℕ × ℕ → List ℕ → List Grant
+swapped kind driver number pair kernel = with_grant driver (with_pair kind number pair) (entered driver (read_back kernel))
+
+-- a swap gives the former pair and stores the new one; all else is as it was
+pub record Swaps (kind : PairKind) (driver number : ℕ) (pair : ℕ × ℕ) (e e' : Extents) (app app' kernel kernel' : List ℕ) (answer : ℕ × ℕ) : Type 0 where
+  pub former : answer ≡ held_pair kind driver number kernel
+  pub layout : e' ≡ roomed driver e (grant_of driver (read_back kernel))
+  pub grants : Leaves e' app app' kernel' (swapped kind driver number pair kernel)
+
+-- the same where the driver is entered, of the kernel's bytes alone
+pub record SwapsHeld (kind : PairKind) (driver number : ℕ) (pair : ℕ × ℕ) (kernel kernel' : List ℕ) (answer : ℕ × ℕ) : Type 0 where
+  pub grant : Grant
+  pub is : grant_of driver (read_back kernel) ≡ Some grant
+  pub former : answer ≡ held_pair kind driver number kernel
+  pub tells : Tells kernel' (with_grant driver (with_pair kind number pair) (read_back kernel))

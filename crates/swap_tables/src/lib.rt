@@ -1,0 +1,10 @@
+//! What a process has handed to its drivers: the upcalls that it subscribed and the buffers that it
+//! allowed, as pairs of words in its own block (TRD 104, "Subscribe", "Read-Only Allow", "Read-Write
+//! Allow"; Levy et al., SOSP 2017, section 4).
+#![tactic(auto)]
+
+mod pairs;
+mod swaps;
+
+pub use pairs::{buffer_ro, buffer_rw, upcall};
+pub use swaps::{swap_ro, swap_rw, swap_upcall};

@@ -1,0 +1,184 @@
+//! Swaps of the pairs that a process holds.
+ghost use Rattle.std.specs.Prelude.{◌≡◌, ◌<◌, ◌^◌, length, is_ok, IfOk, IfErr, OnErr, IfSome, IfNone, None};
+ghost use Rattle.grant_areas.specs.declared.kinds.PairKind.TheVariants.{Upcall, ReadOnly, ReadWrite};
+ghost use Rattle.grant_areas.specs.Grants.{grant_of};
+ghost use Rattle.grant_areas.specs.Laid.{IsLaid, read_back};
+ghost use Rattle.grant_region.specs.Region.{AreParts, Refuses};
+ghost use Rattle.swap_tables.specs.Swaps.{IsPair, Swaps, SwapsHeld, has_place};
+
+use crate::pairs::{first_word, pair_at, put_pair};
+use grant_areas::{PairKind, areas_are_found, pairs_are_found};
+use grant_region::{NoRoom, area, make_area, parts_join};
+use grant_values::{cost_of, words_in_bytes};
+use process_layout::Layout;
+use tk_base::Counts;
+
+/// Swaps the read-only buffer of a number that the process has allowed the driver (TRD 104,
+/// "Read-Only Allow"): the new one's address, and its size in bytes. The answer is the former one,
+/// at first (0, 0), and the driver is entered. `app` and `kernel` are the block, cut at the kernel
+/// break, and `counts` are the driver's; all that they hold beside this pair is as it was.
+///
+/// There is [`NoRoom`], and nothing changes, exactly where the driver is not entered and the kernel
+/// break less the cost of its grant is below the break.
+pub fn swap_ro(
+    layout: &mut Layout,
+    app: &mut [u8],
+    kernel: &mut [u8],
+    driver: u32,
+    counts: &Counts,
+    number: u32,
+    pair: (u32, u32),
+) -> Result<(u32, u32), NoRoom>
+    requires parts { AreParts layout.old app.old kernel.old }
+    requires small { length kernel.old < 2 ^ 32 }
+    requires pair { IsPair ReadOnly driver counts.now number }
+    ensures room { is_ok result ≡ has_place layout.old driver kernel.old }
+    ensures swapped { IfOk result (Swaps ReadOnly driver number pair
+        layout.old layout.new app.old app.new kernel.old kernel.new) }
+    ensures refused { IfErr result (Refuses layout.old layout.new app.old app.new) }
+    ensures kept { OnErr result (kernel.new ≡ kernel.old) }
+{
+    swap_pair(
+        layout,
+        app,
+        kernel,
+        driver,
+        counts,
+        PairKind::ReadOnly,
+        number,
+        pair,
+    )
+}
+
+/// Swaps the read-write buffer of a number that the process has allowed the driver (TRD 104,
+/// "Read-Write Allow"): the new one's address, and its size in bytes. The answer is the former one,
+/// at first (0, 0), and the driver is entered. `app` and `kernel` are the block, cut at the kernel
+/// break, and `counts` are the driver's; all that they hold beside this pair is as it was.
+///
+/// There is [`NoRoom`], and nothing changes, exactly where the driver is not entered and the kernel
+/// break less the cost of its grant is below the break.
+pub fn swap_rw(
+    layout: &mut Layout,
+    app: &mut [u8],
+    kernel: &mut [u8],
+    driver: u32,
+    counts: &Counts,
+    number: u32,
+    pair: (u32, u32),
+) -> Result<(u32, u32), NoRoom>
+    requires parts { AreParts layout.old app.old kernel.old }
+    requires small { length kernel.old < 2 ^ 32 }
+    requires pair { IsPair ReadWrite driver counts.now number }
+    ensures room { is_ok result ≡ has_place layout.old driver kernel.old }
+    ensures swapped { IfOk result (Swaps ReadWrite driver number pair
+        layout.old layout.new app.old app.new kernel.old kernel.new) }
+    ensures refused { IfErr result (Refuses layout.old layout.new app.old app.new) }
+    ensures kept { OnErr result (kernel.new ≡ kernel.old) }
+{
+    swap_pair(
+        layout,
+        app,
+        kernel,
+        driver,
+        counts,
+        PairKind::ReadWrite,
+        number,
+        pair,
+    )
+}
+
+/// Swaps the upcall of a number that the process has subscribed with the driver (TRD 104,
+/// "Subscribe"): the new one's function, and the application data. The answer is the former one, at
+/// first (0, 0), the null upcall, and the driver is entered. `app` and `kernel` are the block, cut
+/// at the kernel break, and `counts` are the driver's; all that they hold beside this pair is as it
+/// was.
+///
+/// There is [`NoRoom`], and nothing changes, exactly where the driver is not entered and the kernel
+/// break less the cost of its grant is below the break.
+pub fn swap_upcall(
+    layout: &mut Layout,
+    app: &mut [u8],
+    kernel: &mut [u8],
+    driver: u32,
+    counts: &Counts,
+    number: u32,
+    pair: (u32, u32),
+) -> Result<(u32, u32), NoRoom>
+    requires parts { AreParts layout.old app.old kernel.old }
+    requires small { length kernel.old < 2 ^ 32 }
+    requires pair { IsPair Upcall driver counts.now number }
+    ensures room { is_ok result ≡ has_place layout.old driver kernel.old }
+    ensures swapped { IfOk result (Swaps Upcall driver number pair
+        layout.old layout.new app.old app.new kernel.old kernel.new) }
+    ensures refused { IfErr result (Refuses layout.old layout.new app.old app.new) }
+    ensures kept { OnErr result (kernel.new ≡ kernel.old) }
+{
+    swap_pair(
+        layout,
+        app,
+        kernel,
+        driver,
+        counts,
+        PairKind::Upcall,
+        number,
+        pair,
+    )
+}
+
+/// Swaps the pair of a kind and a number that the process holds with the driver.
+fn swap_pair(
+    layout: &mut Layout,
+    app: &mut [u8],
+    kernel: &mut [u8],
+    driver: u32,
+    counts: &Counts,
+    kind: PairKind,
+    number: u32,
+    pair: (u32, u32),
+) -> Result<(u32, u32), NoRoom>
+    requires parts { AreParts layout.old app.old kernel.old }
+    requires small { length kernel.old < 2 ^ 32 }
+    requires pair { IsPair kind driver counts.now number }
+    ensures room { is_ok result ≡ has_place layout.old driver kernel.old }
+    ensures swapped { IfOk result (Swaps kind driver number pair
+        layout.old layout.new app.old app.new kernel.old kernel.new) }
+    ensures refused { IfErr result (Refuses layout.old layout.new app.old app.new) }
+    ensures kept { OnErr result (kernel.new ≡ kernel.old) }
+{
+    parts_join();
+    if let Some(held) = swap_held(kernel, driver, counts, kind, number, pair) {
+        return Ok(held);
+    }
+    make_area(layout, app, driver, cost_of(counts))?;
+    let (_, area) = app.split_at_mut((layout.kernel_break - layout.start) as usize);
+    // The area is new, and all of its pairs are zero.
+    let _ = swap_held(area, driver, counts, kind, number, pair);
+    Ok((0, 0))
+}
+
+/// Swaps the pair where the process has entered the driver; where it has not, nothing changes.
+fn swap_held(
+    kernel: &mut [u8],
+    driver: u32,
+    counts: &Counts,
+    kind: PairKind,
+    number: u32,
+    pair: (u32, u32),
+) -> Option<(u32, u32)>
+    requires laid { IsLaid kernel.old }
+    requires small { length kernel.old < 2 ^ 32 }
+    requires pair { IsPair kind driver counts.now number }
+    ensures some { IfSome result (SwapsHeld kind driver number pair kernel.old kernel.new) }
+    ensures none { IfNone result (grant_of driver (read_back kernel.old) ≡ None) }
+    ensures unchanged { IfNone result (kernel.new ≡ kernel.old) }
+    ensures length { length kernel.new ≡ length kernel.old }
+{
+    words_in_bytes();
+    areas_are_found();
+    pairs_are_found();
+    let found = area(kernel, driver)?;
+    let at = first_word(&found, counts, kind, number);
+    let former = pair_at(kernel, at);
+    put_pair(kernel, at, pair);
+    Some(former)
+}

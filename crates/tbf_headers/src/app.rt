@@ -1,0 +1,72 @@
+//! The header of an application.
+ghost use Rattle.std.specs.Prelude.{◌≡◌, ◌+◌, Some};
+ghost use Rattle.tk_base.specs.Numbers.{rounded_up};
+ghost use Rattle.tbf_headers.specs.Addresses.{after_protected, entry_of, accessible_start, accessible_end_of};
+ghost use Rattle.tbf_headers.specs.Shown.{shown};
+
+use crate::header::Header;
+use crate::program::Main;
+use tk_base::Addr;
+
+/// The header of an application: one that has a Program or a Main TLV. [`Header::app`] makes it.
+#[derive(Clone, Copy, Debug)]
+pub struct AppHeader<'a> {
+    /// The whole header.
+    pub header: Header<'a>,
+    /// What its Program TLV says, or else its Main TLV.
+    pub main: Main,
+    pub ghost has_main: { header.main ≡ Some main },
+}
+
+impl AppHeader<'_> {
+    /// The address of the application's first instruction, for an object at an address: the sum of
+    /// it, the header's size and the init offset, which does not wrap (Tock Binary Format, "Main").
+    pub fn entry(&self, object: Addr) -> u64
+        ensures { result ≡ entry_of object (shown self.now.header) self.now.main }
+    {
+        sum(object, self.header.header_size, self.main.init)
+    }
+
+    /// The first address after the header and the protected bytes, for an object at an address: the
+    /// sum of it, the header's size and the protected size, which does not wrap (Tock Binary Format,
+    /// "Main").
+    pub fn after_protected(&self, object: Addr) -> u64
+        ensures { result ≡ after_protected object (shown self.now.header) self.now.main }
+    {
+        sum(object, self.header.header_size, self.main.protected)
+    }
+
+    /// The start of accessible flash, for an object at an address: the first address after the
+    /// header and the protected bytes, rounded up to a multiple of 4. It does not wrap.
+    pub fn accessible_start(&self, object: Addr) -> u64
+        ensures { result ≡ accessible_start object (shown self.now.header) self.now.main }
+    {
+        rounded_sum(object, self.header.header_size, self.main.protected)
+    }
+
+    /// The end of accessible flash, for an object at an address: the object's end, or with a Program
+    /// TLV the binary's end rounded up to a multiple of 4 (Tock Binary Format, "Program"). It does
+    /// not wrap.
+    pub fn accessible_end(&self, object: Addr) -> u64
+        ensures { result ≡ accessible_end_of object (shown self.now.header) self.now.main }
+    {
+        match self.main.binary_end {
+            None => sum(object, self.header.total_size, 0),
+            Some(binary_end) => rounded_sum(object, binary_end, 0),
+        }
+    }
+}
+
+/// The sum of three numbers, which does not wrap.
+fn sum(a: u32, b: u32, c: u32) -> u64
+    ensures { result ≡ a + b + c }
+{
+    u64::from(a) + u64::from(b) + u64::from(c)
+}
+
+/// The sum of three numbers, which does not wrap, rounded up to a multiple of 4.
+fn rounded_sum(a: u32, b: u32, c: u32) -> u64
+    ensures { result ≡ rounded_up (a + b + c) }
+{
+    sum(a, b, c).next_multiple_of(4)
+}

@@ -1,0 +1,5 @@
+pub mod Situation
+pub mod Status
+pub mod RoundRobin
+pub mod Laws
+pub mod Turns

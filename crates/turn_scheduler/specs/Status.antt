@@ -1,0 +1,14 @@
+-- The situation that a status tells.
+use Rattle.turn_scheduler.specs.declared.status.Status.{Status}
+use Rattle.turn_scheduler.specs.Situation.{Situation}
+
+abbrev pub situation_of : Status → Situation
+situation_of s = record {
+  ready = s.ready.items;
+  devices = s.devices.items;
+  next = s.next;
+  time = s.time;
+  present = s.present;
+  used = s.used;
+  slice = s.slice;
+}

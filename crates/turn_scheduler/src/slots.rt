@@ -1,0 +1,69 @@
+//! Which process has the next turn.
+ghost use Rattle.std.specs.Prelude.{◌≡◌, ◌-◌, ◌≤◌, find};
+ghost use Rattle.std.specs.List.{range_with_len};
+ghost use Rattle.turn_scheduler.specs.RoundRobin.{is_ready, slots_after, next_slot, used_after};
+
+use tk_base::Slot;
+
+/// What a table of flags says of a place; false past its end.
+pub(crate) fn is_ready(table: &[bool], place: usize) -> bool
+    ensures { result ≡ is_ready table.now place }
+{
+    place < table.len() && table[place]
+}
+
+/// The first slot that is ready, from one on and below another.
+fn first_ready(ready: &[bool], from: usize, to: usize) -> Option<Slot>
+    requires { to ≤ 8 }
+    ensures { result ≡ find (is_ready ready.now) (range_with_len from (to - from)) }
+{
+    for slot in from..to {
+        if is_ready(ready, slot) {
+            return Some(Slot::new(slot));
+        }
+    }
+    None
+}
+
+/// The next ready slot after the present one in cyclic order, the present one last; with none present,
+/// the first from slot 0.
+fn next_in_order(ready: &[bool], present: Option<Slot>) -> Option<Slot>
+    ensures { result ≡ find (is_ready ready.now) (slots_after present) }
+{
+    let Some(present) = present else {
+        return first_ready(ready, 0, Slot::COUNT);
+    };
+    let after = present.index() + 1;
+    match first_ready(ready, after, Slot::COUNT) {
+        Some(slot) => Some(slot),
+        None => first_ready(ready, 0, after),
+    }
+}
+
+/// The slot that has the next turn of a process: the present one, if it is ready and has used fewer
+/// turns than its slice; else the next ready one after it in cyclic order, the present one last (with
+/// none present, from slot 0). None exactly where no slot is ready. `ready` says of each slot whether it
+/// is ready, slot 0 first; those past its end are not.
+#[tactic(auto, unfolding(crate::specs::RoundRobin::next_slot))]
+pub fn next_slot(ready: &[bool], present: Option<Slot>, used: u32, slice: u32) -> Option<Slot>
+    ensures { result ≡ next_slot ready.now present used slice }
+{
+    if let Some(slot) = present
+        && used < slice
+        && is_ready(ready, slot.index())
+    {
+        return Some(slot);
+    }
+    next_in_order(ready, present)
+}
+
+/// How many turns of its slice a slot has used after one more turn, after which it is the present one:
+/// one more, if it was the present one and its slice was not used up; else 1.
+pub fn used_after(present: Option<Slot>, used: u32, slice: u32, slot: Slot) -> u32
+    ensures { result ≡ used_after present used slice slot }
+{
+    match present {
+        Some(present) if present == slot && used < slice => used + 1,
+        _ => 1,
+    }
+}
