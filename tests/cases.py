@@ -59,9 +59,26 @@ def memop(operation, argument=None):
     return li(A4, 5) + li(A0, operation) + (b"" if argument is None else li(A1, argument)) + ecall
 
 
+def swap(kind, driver, number, first, second):
+    """Subscribe (class 1) or an allow (3 for read-write, 4 for read-only) of a pair."""
+    pair = li(A2, first) + li(A3, second)
+    return li(A4, kind) + li(A0, driver) + li(A1, number) + pair + ecall
+
+
+def yields(number):
+    """The system call yield; the flag's address is what a1 holds."""
+    return li(A4, 0) + li(A0, number) + ecall
+
+
 def counts_down(rounds):
     """One turn, and two more a round."""
     return [li(T0, rounds), "again", addi(T0, T0, -1), bne(T0, ZERO, "again")]
+
+
+def fixed_at(ram, object):
+    """An application that exits with 7, linked for a RAM start and for an object at an address of flash; its
+    header has 44 bytes."""
+    return app(CODE_7, elements=[fixed_addresses_tlv(ram, object + 44)])
 
 
 # The class 6 is exit; variant 0 ends the process with the code in a1.
@@ -233,13 +250,6 @@ CALLS = [
         leds 0000
         end done steps 11 time 11
     """),
-    boot("yield-is-unknown-yet", "class 0 is denied, and the call is told as a fetch",
-         app(li(A4, 0), li(A0, 1), ecall), """
-        ==
-        slot 0 - faulted fetch 20000028 unknown-class turns 3 restarts 0
-        leds 0000
-        end done steps 3 time 3
-    """),
     boot("class-7-is-unknown", "the classes end at 6", app(li(A4, 7), ecall), """
         ==
         slot 0 - faulted fetch 20000024 unknown-class turns 2 restarts 0
@@ -248,10 +258,118 @@ CALLS = [
     """),
 ]
 
+# What a process hands to drivers. The object starts at FLASH, so its code at FLASH + 32; its block of 1024 bytes
+# starts at RAM, and its break is RAM + 256. After a swap a0 is 130, and a1 and a2 the former pair; after its
+# refusal a0 is 2, a1 the error's code, and a2 and a3 the passed pair.
+SUBSCRIBE, READ_WRITE, READ_ONLY = 1, 3, 4
+ALARM, CONSOLE, NO_DRIVER = 0, 1, 3
+CODE, BREAK, TOP = FLASH + 32, RAM + 256, RAM + 1024
+# Three subscribes, of seven, seven and six turns.
+FIRST = swap(SUBSCRIBE, ALARM, 0, CODE, 1)
+SECOND = swap(SUBSCRIBE, ALARM, 0, CODE + 4, 2)
+NULL = swap(SUBSCRIBE, ALARM, 0, 0, 3)
+
+
+def tells(name, shows, code, *parts, script=b"", **of_app):
+    """A run of an application that makes the parts and exits with what a1 holds then; each instruction has
+    four bytes and is one turn."""
+    program = assemble([*parts, exits()])
+    turns = len(program) // 4
+    return boot(name, shows, app(program, **of_app), script=script, text="""
+        ==
+        slot 0 - terminated %d turns %d restarts 0
+        leds 0000
+        end done steps %d time %d
+    """ % (code, turns, turns, turns))
+
+
+SWAPS = [
+    tells("first-subscribe", "nothing was subscribed before", 0, FIRST),
+    tells("first-subscribe-data", "nor any data", 0, FIRST, mv(A1, A2)),
+    tells("second-subscribe", "the former function comes back", CODE, FIRST, SECOND),
+    tells("second-subscribe-data", "and the former data", 1, FIRST, SECOND, mv(A1, A2)),
+    tells("null-subscribe", "a null upcall is subscribed as any other", CODE + 4, FIRST, SECOND, NULL),
+    tells("after-a-null-subscribe", "and comes back with its data", 3, NULL, FIRST, mv(A1, A2)),
+    tells("function-that-is-odd", "the last bit of a function counts for nothing", 130,
+          swap(SUBSCRIBE, ALARM, 0, CODE + 44 - 4 + 1, 0), mv(A1, A0)),
+    tells("function-in-ram", "a function may lie in RAM, with four bytes below the break", 130,
+          swap(SUBSCRIBE, ALARM, 0, BREAK - 4, 0), mv(A1, A0)),
+    tells("function-past-the-break", "which this one has not", 6, swap(SUBSCRIBE, ALARM, 0, BREAK - 2, 0)),
+    tells("subscribe-of-no-driver", "a number without a driver", 11, swap(SUBSCRIBE, NO_DRIVER, 0, CODE, 0)),
+    tells("subscribe-of-no-number", "the alarm has one upcall", 10, swap(SUBSCRIBE, ALARM, 1, CODE, 0)),
+    tells("allow-of-no-number", "the alarm takes no buffer", 10, swap(READ_WRITE, ALARM, 0, 0, 0)),
+    tells("no-number-before-outside", "of two rules the first counts", 10, swap(READ_WRITE, CONSOLE, 2, FLASH, 4)),
+    tells("refused-pair", "a refusal gives the passed pair", 99,
+          swap(READ_WRITE, CONSOLE, 1, FLASH, 99), mv(A1, A3)),
+    tells("buffer-to-the-break", "a buffer may end at the break", 130,
+          swap(READ_WRITE, CONSOLE, 1, BREAK - 16, 16), mv(A1, A0)),
+    tells("buffer-past-the-break", "and not a byte after it", 6, swap(READ_WRITE, CONSOLE, 1, BREAK - 16, 17)),
+    tells("buffer-of-any-length", "a buffer's length may not pass the block", 6,
+          swap(READ_WRITE, CONSOLE, 1, RAM, -1)),
+    tells("buffer-past-the-block", "nor may it lie behind it", 6, swap(READ_WRITE, CONSOLE, 1, TOP, 4)),
+    tells("buffer-past-the-last-address", "addresses end at 2^32", 6, swap(READ_WRITE, CONSOLE, 1, RAM + 1, -RAM)),
+    tells("buffer-without-bytes", "a buffer without bytes lies anywhere", 130,
+          swap(READ_WRITE, CONSOLE, 1, -1, 0), mv(A1, A0)),
+    tells("read-only-in-flash", "a driver may read the application", 130,
+          swap(READ_ONLY, CONSOLE, 1, CODE, 44), mv(A1, A0)),
+    tells("read-only-past-the-object", "and nothing after it", 6, swap(READ_ONLY, CONSOLE, 1, CODE, 41)),
+    tells("read-only-of-the-header", "nor the header", 6, swap(READ_ONLY, CONSOLE, 1, CODE - 1, 4)),
+    tells("read-write-in-flash", "and not write it", 6, swap(READ_WRITE, CONSOLE, 1, CODE, 4)),
+    tells("buffers-of-two-kinds", "read-only and read-write buffers are kept apart", 0,
+          swap(READ_WRITE, CONSOLE, 1, RAM, 4), swap(READ_ONLY, CONSOLE, 1, RAM, 4)),
+    tells("buffers-of-two-numbers", "and so are the numbers", 0,
+          swap(READ_WRITE, CONSOLE, 0, RAM, 4), swap(READ_WRITE, CONSOLE, 1, RAM, 4)),
+    tells("break-below-a-buffer", "the break stays above an allowed buffer", 9,
+          swap(READ_WRITE, CONSOLE, 1, BREAK - 16, 16), memop(0, BREAK - 4)),
+    tells("break-at-the-buffers-end", "and may come down to it", 128,
+          swap(READ_WRITE, CONSOLE, 1, RAM, 16), memop(0, RAM + 16), mv(A1, A0)),
+    tells("no-room-for-a-grant", "a grant lies above the break", 9, memop(0, TOP), FIRST),
+    tells("room-for-a-grant", "the alarm's has 40 bytes, which may begin at the break", 0, memop(0, TOP - 40), FIRST),
+    tells("room-for-all-but-4-bytes", "and not below it", 9, memop(0, TOP - 36), FIRST),
+    tells("outside-before-no-room", "a function that is not the process's is told first", 6, memop(0, TOP),
+          swap(SUBSCRIBE, ALARM, 0, FLASH, 0)),
+    tells("break-to-a-grant", "the break may come up to the grants", 128, FIRST, memop(0, TOP - 40), mv(A1, A0)),
+    tells("break-into-a-grant", "and not past their start", 9, FIRST, memop(0, TOP - 36)),
+    boot("a-restart-drops-the-grants", "each life finds nothing subscribed, and starts the next", turns=1000,
+         flash=app(FIRST, bne(A1, ZERO, "kept"), exits(1), "kept", exits()), text="""
+        ==
+        slot 0 - running turns 1000 restarts 90
+        leds 0000
+        end turns steps 1000 time 1000
+    """),
+    boot("store-at-the-grants", "a process cannot store where its grants lie", 
+         app(mv(S0, A1), FIRST, sw(ZERO, S0, 1020)), """
+        ==
+        slot 0 - faulted store 800003fc no-region turns 9 restarts 0
+        leds 0000
+        end done steps 9 time 9
+    """),
+]
+
+YIELDS = [
+    boot("yield-without-an-upcall", "a process waits, and nothing can come any more", app(yields(1)) + EXIT_7, """
+        ==
+        slot 0 - yielded turns 3 restarts 0
+        slot 1 - terminated 7 turns 4 restarts 0
+        leds 0000
+        end done steps 7 time 7
+    """),
+    tells("yield-at-once", "where no upcall waits the flag is 0, and the process goes on", 0,
+          li(T0, 5), sb(T0, A1), yields(0), lbu(A1, A1)),
+    tells("yield-leaves-a0", "a yield has no reply", 2, yields(2), mv(A1, A0)),
+    tells("flag-at-the-last-byte", "the flag may lie below the break", 0,
+          addi(A1, A3, -1), li(T0, 5), sb(T0, A1), yields(0), lbu(A1, A1)),
+    tells("flag-above-the-break", "elsewhere no flag is written", 7, mv(A1, A3), yields(0), li(A1, 7)),
+    tells("flag-in-flash", "nor in flash", 5, mv(S0, A0), li(T0, 5), mv(A1, A0), yields(0), mv(A1, T0)),
+    tells("yield-of-another-number", "any other number changes nothing", 5, li(A1, 5), yields(3)),
+]
+
 # The first process keeps a word that it exits with; the second strays to where that word is. The store is the
 # 123rd turn of the second, so in its second slice of 100, and the first looks at its word in its third.
 KEEPS_ITS_WORD = app(li(A2, 1445), sw(A2, A1), *counts_down(100), lw(A1, A1), exits())
 STRAYS_TO_THE_FIRST = app(*counts_down(60), li(T1, RAM), sw(ZERO, T1))
+# `ebreak`
+BREAKPOINT = app(word(0x00100073))
 FOREVER = app("again", jal(ZERO, "again"))
 
 SEVERAL = [
@@ -272,6 +390,14 @@ SEVERAL = [
     """),
     boot("store-into-the-block-before", "a store between two slices of the block's owner changes nothing",
          KEEPS_ITS_WORD + STRAYS_TO_THE_FIRST, """
+        ==
+        slot 0 - terminated 1445 turns 207 restarts 0
+        slot 1 - faulted store 80000000 no-region turns 123 restarts 0
+        leds 0000
+        end done steps 330 time 330
+    """),
+    boot("slices-of-one-turn", "in turns of one instruction neither strays into the other's block",
+         KEEPS_ITS_WORD + STRAYS_TO_THE_FIRST, script=b"slice 1", text="""
         ==
         slot 0 - terminated 1445 turns 207 restarts 0
         slot 1 - faulted store 80000000 no-region turns 123 restarts 0
@@ -334,6 +460,23 @@ SEVERAL = [
         unplaced 256 no-room
         leds 0000
         end done steps 16 time 16
+    """),
+    boot("fixed-ram-start-that-is-no-multiple-of-8", "a block begins at a multiple of 8",
+         fixed_at(RAM + 0x404, FLASH), """
+        ==
+        unplaced 0 fixed-taken
+        leds 0000
+        end done steps 0 time 0
+    """),
+    boot("fixed-ram-start-below-the-last-end", "blocks do not overlap, and the next application is placed",
+         EXIT_7 * 2 + fixed_at(RAM + 0x400, FLASH + 128) + EXIT_7, """
+        ==
+        slot 0 - terminated 7 turns 4 restarts 0
+        slot 1 - terminated 7 turns 4 restarts 0
+        slot 2 - terminated 7 turns 4 restarts 0
+        unplaced 128 fixed-taken
+        leds 0000
+        end done steps 12 time 12
     """),
     boot("ram-that-is-too-much", "one that asks for more than there is has no room",
          app(CODE_7, minimum_ram=0xFFFFFFFF, size=64), """
@@ -422,6 +565,15 @@ IMAGES = [
         object 0 64 disabled -
         objects 1
     """),
+    listing("flash-start-that-is-its-own", "a fixed flash start is the address after the header",
+            fixed_at(NO_FIXED_ADDRESS, FLASH), """
+        object 0 60 app -
+        objects 1
+    """),
+    listing("flash-start-of-another-place", "a flash start elsewhere is wrong", fixed_at(RAM, FLASH + 4), """
+        object 0 60 wrong-flash -
+        objects 1
+    """),
     listing("entry-that-is-odd", "an entry is even", app(CODE_7, entry=1, size=64), """
         object 0 64 bad-entry -
         objects 1
@@ -461,12 +613,48 @@ SCRIPTS = [
          script=b"ram 8192\nram 8192", text="script 2 repeated"),
     boot("unknown-event", "an event has a name", EXIT_7, status=5,
          script=b"at 5 output 00", text="script 1 unknown-word"),
-    boot("leds-is-no-line-yet", "the line comes with the LEDs", EXIT_7, status=5,
-         script=b"# c\nleds 4", text="script 2 unknown-word"),
     boot("at-is-no-line-yet", "the line comes with the events", EXIT_7, status=5,
          script=b"# c\nat 1 input 00", text="script 2 unknown-word"),
-    boot("policy-is-no-line-yet", "the line comes with the fault policies", EXIT_7, status=5,
-         script=b"# c\npolicy stop", text="script 2 unknown-word"),
+    boot("start-is-no-line-yet", "the line comes with the alarm", EXIT_7, status=5,
+         script=b"# c\nstart 4", text="script 2 unknown-word"),
+    boot("policy-by-itself", "a policy is named", EXIT_7, status=5,
+         script=b"policy", text="script 1 words"),
+    boot("slice-of-0", "a slice has one turn at least", EXIT_7, status=5,
+         script=b"slice 0", text="script 1 out-of-range"),
+    boot("leds-of-a-script", "a script says how many LEDs there are", b"", script=b"leds 6\n", text="""
+        ==
+        leds 000000
+        end done steps 0 time 0
+    """),
+    boot("no-leds", "there may be none", b"", script=b"leds 0\n", text="""
+        ==
+        leds -
+        end done steps 0 time 0
+    """),
+    boot("threshold-of-2", "a process that faults starts again twice; a slice of two turns beside one that spins",
+         app("here", jal(ZERO, "here"), size=40) + BREAKPOINT + EXIT_7, turns=14,
+         script=b"slice 2\npolicy threshold 2\n", text="""
+        ==
+        slot 0 - running turns 7 restarts 0
+        slot 1 - faulted fetch 20000048 breakpoint turns 3 restarts 2
+        slot 2 - terminated 7 turns 4 restarts 0
+        leds 0000
+        end turns steps 14 time 14
+    """),
+    boot("policy-restart", "and without an end under restart", BREAKPOINT, turns=5,
+         script=b"policy restart", text="""
+        ==
+        slot 0 - running turns 5 restarts 5
+        leds 0000
+        end turns steps 5 time 5
+    """),
+    boot("threshold-of-0", "no restart at all under a threshold of 0", BREAKPOINT,
+         script=b"policy threshold 0", text="""
+        ==
+        slot 0 - faulted fetch 20000020 breakpoint turns 1 restarts 0
+        leds 0000
+        end done steps 1 time 1
+    """),
 ]
 
 FILES = [
@@ -502,4 +690,4 @@ COMMAND_LINES = [
                "boot", "flash", "script", "--turns", b"\xff"),
 ]
 
-CASES = RUNS + DENIALS + INSTRUCTIONS + CALLS + SEVERAL + IMAGES + SCRIPTS + FILES + COMMAND_LINES
+CASES = RUNS + DENIALS + INSTRUCTIONS + CALLS + SWAPS + YIELDS + SEVERAL + IMAGES + SCRIPTS + FILES + COMMAND_LINES

@@ -9,6 +9,3 @@ mod placing;
 pub use application::Application;
 pub use placed::{Filled, Place, Placed};
 pub use placing::place;
-
-#[cfg(test)]
-mod tests;

@@ -5,13 +5,13 @@ use Rattle.std.specs.Option.{option_map}
 use Rattle.std.proofs.Math.Seq.{take-suc}
 use Rattle.std.proofs.lemmas.Bool.Decides.{nat_tests}
 use Rattle.std.proofs.lemmas.Grind.{common_steps}
-use Rattle.std.proofs.lemmas.List.{get_or-take, get_or-drop, length-map, map-append, append-nil}
+use Rattle.std.proofs.lemmas.List.{get_or-take, get_or-drop, get_or-map, length-map, map-append, append-nil}
 use Rattle.std.proofs.lemmas.List.Elements.{filter_map-append, All-push}
 use Rattle.std.proofs.lemmas.List.Kept.{AllPairs-cons}
 use Rattle.std.proofs.lemmas.List.Sums.{sum_by-cons}
 use Rattle.arrayvec.specs.ArrayVec.{ArrayVec}
 use Rattle.tk_base.specs.declared.access.TheConstants.{FLASH_START, RAM_START}
-use Rattle.tk_base.specs.declared.limits.TheConstants.{FLASH_LIMIT}
+use Rattle.tk_base.specs.declared.limits.TheConstants.{FLASH_LIMIT, RAM_LIMIT}
 use Rattle.tk_base.specs.declared.process.PlaceFault.{PlaceFault}
 use Rattle.tbf_headers.specs.declared.fault.HeaderFault.{HeaderFault}
 use Rattle.tbf_headers.specs.declared.fault.HeaderFault.TheVariants.{Short, Version, Sizes, Checksum}
@@ -21,6 +21,7 @@ use Rattle.tbf_headers.specs.Meaning.{Meaning, reading, meaning_of, unless_bad}
 use Rattle.tbf_headers.specs.Objects.{object_at}
 use Rattle.process_layout.specs.Extents.{Extents, first_break}
 use Rattle.process_layout.specs.Ordered.{IsOrdered}
+use Rattle.process_own.specs.declared.place.Footprint.{Footprint}
 use Rattle.process_own.specs.Own.{Own, opened as own_opened}
 use Rattle.flash_walk.specs.declared.found.Verdict.TheVariants.{Disabled, BadEntry, WrongFlash, App}
 use Rattle.flash_walk.specs.Image.{object_bytes, size_at, verdict_of, object_verdict, app_verdict, has_bad_entry, is_bad_binary_end, is_wrong_flash, is_outside}
@@ -32,12 +33,12 @@ use Rattle.process_record.specs.declared.process.Process.{Process}
 use Rattle.process_record.specs.declared.summary.Unplaced.{Unplaced}
 use Rattle.process_record.specs.Process.{started}
 use Rattle.script_text.specs.Settings.{Settings as Script}
-use Rattle.grant_enter.specs.Homes.{Homes, IsSettled, EndsBefore}
+use Rattle.grant_enter.specs.Homes.{Homes, CanMoveIn, IsSettled, EndsBefore, LiesBefore as StandsBefore}
 use Rattle.kernel_calls.specs.Own.{object_in, CanStart, HasStart, IsApplication}
 use Rattle.kernel_model.specs.Record.{Record}
 use Rattle.kernel_model.specs.World.{World}
 use Rattle.board_core.specs.declared.boot.Crew.{Crew}
-use Rattle.board_core.specs.Boot.{IsCrew, layout_at, layout_in}
+use Rattle.board_core.specs.Boot.{IsCrew, IsFirst, footprint_of, layout_at, layout_in}
 use Rattle.board_core.specs.Opening.{opened, opened_by, record_at, record_in, unplaced_at, places, opening}
 use Rattle.board_core.specs.Residents.{IsSeated, record_of}
 use Rattle.board_core.specs.Settings.{settings, pace, fresh_storage}
@@ -92,6 +93,7 @@ pub record KnownApplication (flash : List ℕ) (offset : ℕ) (e : Extents) : Ty
   pub entry : entry_of (FLASH_START + offset) h m < e.flash_end
   pub protected : after_protected (FLASH_START + offset) h m ≤ e.flash_start
   pub least : first_break e.start m.minimum_ram ≡ e.brk
+  pub no_grants : e.kernel_break ≡ e.end
 
 -- an application has a header with a main
 has_main : (at : ℕ) (bytes : List ℕ) (r : Result Meaning HeaderFault) → reading bytes ≡ r → verdict_of at r ≡ App → (h : Meaning) × (m : Main) × (reading bytes ≡ Ok h) × (h.main ≡ Some m) × (app_verdict at h m ≡ App)
@@ -144,6 +146,7 @@ application_known flash offset place l =
       entry = subst (λ (n : ℕ). entry_of (FLASH_START + offset) h m < n) to (inside (FLASH_START + offset) h m known.4);
       protected = subst (λ (n : ℕ). after_protected (FLASH_START + offset) h m ≤ n) from (omega arith);
       least = ap (λ (x : Extents). x.brk) e;
+      no_grants = sym (ap (λ (x : Extents). x.kernel_break) e) ∙ ap (λ (x : Extents). x.end) e;
     }
 
 -- the process at its start
@@ -166,14 +169,14 @@ whole_object flash offset size total e =
 
 module _ (flash : List ℕ) (offset : ℕ) (e : Extents) (a : KnownApplication flash offset e) (p : Process) (s : p ≡ started (FLASH_START + offset) a.h a.m e.start (e.end - e.start) e.brk) where
   -- the record of the process in its place
-  pub process_shown : Some (record_of flash (p, own_opened e)) ≡ opened_by flash offset e (reading (object_bytes flash offset))
+  pub process_shown : Some (record_of flash (p, own_opened (record { object = p.object; layout = e }))) ≡ opened_by flash offset e (reading (object_bytes flash offset))
   unfolding opened
   process_shown =
-      ap (λ (q : Process). Some (record_of flash (q, own_opened e))) s
-      ∙ ap (λ (o : List ℕ). Some (record { process = started (FLASH_START + offset) a.h a.m e.start (e.end - e.start) e.brk; object = o; own = own_opened e; storage = fresh_storage })) (whole_object flash offset (size_at flash offset) a.h.total_size a.total)
+      ap (λ (q : Process). Some (record_of flash (q, own_opened (record { object = q.object; layout = e })))) s
+      ∙ ap (λ (o : List ℕ). Some (record { process = started (FLASH_START + offset) a.h a.m e.start (e.end - e.start) e.brk; object = o; own = own_opened (record { object = record { address = FLASH_START + offset; size = a.h.total_size }; layout = e }); storage = fresh_storage })) (whole_object flash offset (size_at flash offset) a.h.total_size a.total)
       ∙ sym (ap (opened_by flash offset e) a.read ∙ ap (option_map (opened flash offset e a.h)) a.main)
 
-  pub process_seated : IsAccessible offset (size_at flash offset) e.flash_start e.flash_end → offset + size_at flash offset ≤ length flash → length flash ≤ FLASH_LIMIT → e.flash_end ≤ RAM_START → e.brk ≤ e.end → IsSeated flash 0 (p, own_opened e)
+  pub process_seated : IsAccessible offset (size_at flash offset) e.flash_start e.flash_end → offset + size_at flash offset ≤ length flash → length flash ≤ FLASH_LIMIT → e.flash_end ≤ RAM_START → e.brk ≤ e.end → IsSeated flash 0 (p, own_opened (record { object = p.object; layout = e }))
   process_seated access within short below end =
       let at : p.object.address ≡ 536870912 + offset = ap (λ (q : Process). q.object.address) s in
       let size : p.object.size ≡ size_at flash offset = ap (λ (q : Process). q.object.size) s ∙ a.total in
@@ -185,13 +188,16 @@ module _ (flash : List ℕ) (offset : ℕ) (e : Extents) (a : KnownApplication f
       record {
         own = record {
           object = record {
-            from = omega (arith, at);
-            to = omega (arith, at, size, within);
+            lies = record {
+              from = omega (arith, at);
+              to = omega (arith, at, size, within);
+              accessible_from = omega (arith, at, access.from_object);
+              accessible_to = omega (arith, at, size, access.within_object);
+            };
             below = omega (arith, at, size, within, short);
-            accessible_from = omega (arith, at, access.from_object);
-            accessible_to = omega (arith, at, size, access.within_object);
             application = subst (λ (n : ℕ). IsApplication n e (reading (object_in flash p.object))) (sym at) (subst (λ (o : List ℕ). IsApplication (FLASH_START + offset) e (reading o)) (sym object) application);
           };
+          object_is = refl;
           lives = alive;
           life = sym restarts;
         };
@@ -202,6 +208,14 @@ module _ (flash : List ℕ) (offset : ℕ) (e : Extents) (a : KnownApplication f
       alive : true ≡ Rattle.kernel_calls.specs.Own.is_alive p.state
       alive = sym (ap (λ (q : Process). Rattle.kernel_calls.specs.Own.is_alive q.state) s)
 
+-- what it takes up, where it begins its first life
+pub process_first : (flash : List ℕ) (offset : ℕ) (e : Extents) (p : Process) → KnownApplication flash offset e → IsOrdered e → IsSeated flash 0 (p, own_opened (record { object = p.object; layout = e })) → IsFirst (length flash) (record { object = p.object; layout = e })
+process_first flash offset e p a ordered s = record {
+  ordered = ordered;
+  object = s.own.object.lies;
+  no_grants = a.no_grants;
+}
+
 -- what one more element adds
 pub filter_map-take : {X Y : Type 0} (f : X → Option Y) (xs : List X) (i : ℕ) (d : X) (o : Option Y) → i < length xs → f (get_or xs i d) ≡ o → filter_map f (take (i + 1) xs) ≡ filter_map f (take i xs) ++ cons_option o []
 filter_map-take f xs i d o h e =
@@ -211,7 +225,7 @@ filter_map-take f xs i d o h e =
     ∙ ap (λ o. filter_map f (take i xs) ++ cons_option o []) e
 
 -- the residents with one more at the end
-module _ (flash : List ℕ) (processes : List Process) (layouts : List Extents) (process : Process) (e : Extents) (same : length processes ≡ length layouts) where
+module _ (flash : List ℕ) (processes : List Process) (layouts : List Footprint) (process : Process) (e : Footprint) (same : length processes ≡ length layouts) where
   owns_more : map own_opened (layouts ++ e ∷ []) ≡ map own_opened layouts ++ own_opened e ∷ []
   owns_more = map-append own_opened layouts (e ∷ [])
 
@@ -236,13 +250,13 @@ pub pass_some : {X Y : Type 0} (f : X → Option Y) (xs : List X) (i : ℕ) (d :
 pass_some f xs i d y ys h e so = ap (λ zs. zs ++ y ∷ []) so ∙ sym (filter_map-take f xs i d (Some y) h e)
 
 -- nobody yet
-pub crew_empty : (flash : List ℕ) (crew : Crew) → crew.processes.items ≡ [] → crew.layouts.items ≡ [] → IsCrew flash [] crew
-crew_empty flash crew processes layouts =
-    let pairs : zip crew.processes.items (map own_opened crew.layouts.items) ≡ [] = ap₂ (λ (ps : List Process) (es : List Extents). zip ps (map own_opened es)) processes layouts in
+pub crew_empty : (flash : List ℕ) (crew : Crew) → crew.processes.items ≡ [] → crew.footprints.items ≡ [] → IsCrew flash [] crew
+crew_empty flash crew processes footprints =
+    let pairs : zip crew.processes.items (map own_opened crew.footprints.items) ≡ [] = ap₂ (λ (ps : List Process) (fs : List Footprint). zip ps (map own_opened fs)) processes footprints in
     record {
-      layouts = layouts;
-      ordered = subst (All IsOrdered) (sym layouts) (λ i d h. absurd (omega arith));
-      count = ap length processes ∙ sym (ap length layouts);
+      layouts = ap (map (λ (f : Footprint). f.layout)) footprints;
+      first = subst (All (IsFirst (length flash))) (sym footprints) (λ i d h. absurd (omega arith));
+      count = ap length processes ∙ sym (ap length footprints);
       shown = ap (map (record_of flash)) pairs;
       seated = subst (All (IsSeated flash 0)) (sym pairs) (λ i d h. absurd (omega arith));
     }
@@ -250,24 +264,25 @@ crew_empty flash crew processes layouts =
 -- an application that has no place adds nobody
 pub crew_none : (flash : List ℕ) (placed : List Placed) (i : ℕ) (d : Placed) (crew : Crew) → i < length placed → get_or placed i d ≡ d → (fault : PlaceFault) → d.place ≡ Err fault → IsCrew flash (take i placed) crew → IsCrew flash (take (i + 1) placed) crew
 crew_none flash placed i d crew h is fault f c = record {
-  layouts = pass_none layout_at placed i d crew.layouts.items h (ap layout_at is ∙ ap layout_in f) c.layouts;
-  ordered = c.ordered;
+  layouts = pass_none layout_at placed i d _ h (ap layout_at is ∙ ap layout_in f) c.layouts;
+  first = c.first;
   count = c.count;
   shown = pass_none (record_at flash) placed i d _ h (ap (record_at flash) is ∙ ap (record_in flash d.offset) f) c.shown;
   seated = c.seated;
 }
 
--- one that has adds its process and its layout
-pub crew_more : (flash : List ℕ) (placed : List Placed) (i : ℕ) (d : Placed) (crew more : Crew) (process : Process) (place : Place) → i < length placed → get_or placed i d ≡ d → d.place ≡ Ok place → IsCrew flash (take i placed) crew → more.processes.items ≡ crew.processes.items ++ process ∷ [] → more.layouts.items ≡ crew.layouts.items ++ place.layout ∷ [] → Some (record_of flash (process, own_opened place.layout)) ≡ record_in flash d.offset (Ok place) → IsSeated flash 0 (process, own_opened place.layout) → IsOrdered place.layout → IsCrew flash (take (i + 1) placed) more
-crew_more flash placed i d crew more process place h is f c processes layouts shown seated ordered =
-    let e = place.layout in
-    let pairs : zip more.processes.items (map own_opened more.layouts.items) ≡ zip (crew.processes.items ++ process ∷ []) (map own_opened (crew.layouts.items ++ e ∷ [])) = ap₂ (λ (ps : List Process) (es : List Extents). zip ps (map own_opened es)) processes layouts in
+-- one that has adds its process and what it takes up
+pub crew_more : (flash : List ℕ) (placed : List Placed) (i : ℕ) (d : Placed) (crew more : Crew) (process : Process) (place : Place) → i < length placed → get_or placed i d ≡ d → d.place ≡ Ok place → IsCrew flash (take i placed) crew → more.processes.items ≡ crew.processes.items ++ process ∷ [] → more.footprints.items ≡ crew.footprints.items ++ footprint_of process place ∷ [] → Some (record_of flash (process, own_opened (footprint_of process place))) ≡ record_in flash d.offset (Ok place) → IsSeated flash 0 (process, own_opened (footprint_of process place)) → IsFirst (length flash) (footprint_of process place) → IsCrew flash (take (i + 1) placed) more
+crew_more flash placed i d crew more process place h is f c processes footprints shown seated first =
+    let e = footprint_of process place in
+    let fs = crew.footprints.items in
+    let pairs : zip more.processes.items (map own_opened more.footprints.items) ≡ zip (crew.processes.items ++ process ∷ []) (map own_opened (fs ++ e ∷ [])) = ap₂ (λ (ps : List Process) (fs : List Footprint). zip ps (map own_opened fs)) processes footprints in
     record {
-      layouts = layouts ∙ pass_some layout_at placed i d e crew.layouts.items h (ap layout_at is ∙ ap layout_in f) c.layouts;
-      ordered = subst (All IsOrdered) (sym layouts) (All-push IsOrdered crew.layouts.items e c.ordered ordered);
-      count = ap length processes ∙ length-append crew.processes.items (process ∷ []) ∙ ap (λ (n : ℕ). n + 1) c.count ∙ sym (length-append crew.layouts.items (e ∷ [])) ∙ sym (ap length layouts);
-      shown = ap (map (record_of flash)) pairs ∙ records_more flash crew.processes.items crew.layouts.items process e c.count placed i d (record_in flash d.offset (Ok place)) h (ap (record_at flash) is ∙ ap (record_in flash d.offset) f) shown c.shown;
-      seated = subst (All (IsSeated flash 0)) (sym pairs) (seated_more flash crew.processes.items crew.layouts.items process e c.count c.seated seated);
+      layouts = ap (map (λ (f : Footprint). f.layout)) footprints ∙ map-append (λ (f : Footprint). f.layout) fs (e ∷ []) ∙ pass_some layout_at placed i d place.layout (map (λ (f : Footprint). f.layout) fs) h (ap layout_at is ∙ ap layout_in f) c.layouts;
+      first = subst (All (IsFirst (length flash))) (sym footprints) (All-push (IsFirst (length flash)) fs e c.first first);
+      count = ap length processes ∙ length-append crew.processes.items (process ∷ []) ∙ ap (λ (n : ℕ). n + 1) c.count ∙ sym (length-append fs (e ∷ [])) ∙ sym (ap length footprints);
+      shown = ap (map (record_of flash)) pairs ∙ records_more flash crew.processes.items fs process e c.count placed i d (record_in flash d.offset (Ok place)) h (ap (record_at flash) is ∙ ap (record_in flash d.offset) f) shown c.shown;
+      seated = subst (All (IsSeated flash 0)) (sym pairs) (seated_more flash crew.processes.items fs process e c.count c.seated seated);
     }
 
 -- there are no more records than applications that are placed
@@ -299,9 +314,9 @@ all_tail : {X : Type 0} (P : X → Type 0) (x : X) (xs : List X) → All P (x �
 all_tail P x xs all i d h = all (suc i) d (omega arith)
 
 -- where the memory of each lies
-settled_one : (flash : List ℕ) (ram offset : ℕ) (r : Result Place PlaceFault) (rest : List Extents) → LiesInFlash flash (record { offset = offset; place = r }) → LiesInRam ram (record { offset = offset; place = r }) → All IsOrdered (cons_option (layout_in r) rest) → (All IsOrdered rest → All (IsSettled (length flash) ram) rest) → All (IsSettled (length flash) ram) (cons_option (layout_in r) rest)
-settled_one flash ram offset (Err fault) rest in_flash in_ram ordered later = later ordered
-settled_one flash ram offset (Ok place) rest in_flash in_ram ordered later =
+settled_one : (flash : List ℕ) (ram offset : ℕ) (r : Result Place PlaceFault) (rest : List Extents) → ram ≤ RAM_LIMIT → LiesInFlash flash (record { offset = offset; place = r }) → LiesInRam ram (record { offset = offset; place = r }) → All IsOrdered (cons_option (layout_in r) rest) → (All IsOrdered rest → All (IsSettled (length flash) ram) rest) → All (IsSettled (length flash) ram) (cons_option (layout_in r) rest)
+settled_one flash ram offset (Err fault) rest small in_flash in_ram ordered later = later ordered
+settled_one flash ram offset (Ok place) rest small in_flash in_ram ordered later =
     let access = in_flash.0 in
     all_cons (IsSettled (length flash) ram) place.layout rest
     (record {
@@ -313,14 +328,15 @@ settled_one flash ram offset (Ok place) rest in_flash in_ram ordered later =
       below = in_flash.2;
       from = in_ram.0;
       to = in_ram.1;
+      fits = omega (arith, in_ram.1);
     })
     (later (all_tail IsOrdered place.layout rest ordered))
 
-pub all_settled : (flash : List ℕ) (ram : ℕ) (placed : List Placed) → All (LiesInFlash flash) placed → All (LiesInRam ram) placed → All IsOrdered (filter_map layout_at placed) → All (IsSettled (length flash) ram) (filter_map layout_at placed)
-all_settled flash ram [] in_flash in_ram ordered = λ i d h. absurd (omega arith)
-all_settled flash ram (p ∷ ps) in_flash in_ram ordered =
-    settled_one flash ram p.offset p.place (filter_map layout_at ps) (in_flash 0 p (omega arith)) (in_ram 0 p (omega arith)) ordered
-    (λ o. all_settled flash ram ps (all_tail (LiesInFlash flash) p ps in_flash) (all_tail (LiesInRam ram) p ps in_ram) o)
+pub all_settled : (flash : List ℕ) (ram : ℕ) (placed : List Placed) → ram ≤ RAM_LIMIT → All (LiesInFlash flash) placed → All (LiesInRam ram) placed → All IsOrdered (filter_map layout_at placed) → All (IsSettled (length flash) ram) (filter_map layout_at placed)
+all_settled flash ram [] small in_flash in_ram ordered = λ i d h. absurd (omega arith)
+all_settled flash ram (p ∷ ps) small in_flash in_ram ordered =
+    settled_one flash ram p.offset p.place (filter_map layout_at ps) small (in_flash 0 p (omega arith)) (in_ram 0 p (omega arith)) ordered
+    (λ o. all_settled flash ram ps small (all_tail (LiesInFlash flash) p ps in_flash) (all_tail (LiesInRam ram) p ps in_ram) o)
 
 -- and that they lie apart
 after_one : (a : Place) (r : Result Place PlaceFault) (rest : List Extents) → IfOk r (λ b. (a.slot < b.slot) × (a.layout.end ≤ b.layout.start)) → All (EndsBefore a.layout) rest → All (EndsBefore a.layout) (cons_option (layout_in r) rest)
@@ -339,9 +355,32 @@ pub all_apart : (placed : List Placed) → AllPairs LiesBefore placed → AllPai
 all_apart [] apart = λ i j d l h. absurd (omega arith)
 all_apart (p ∷ ps) apart = apart_one p.place ps (λ i d h. apart 0 (suc i) d (omega arith) (omega arith)) (all_apart ps (λ i j d l h. apart (suc i) (suc j) d (omega arith) (omega arith)))
 
+-- what each process takes up may be moved into
+pub all_move_in : (flash ram : ℕ) (fs : List Footprint) → All (IsSettled flash ram) (map (λ (f : Footprint). f.layout) fs) → All (IsFirst flash) fs → All (CanMoveIn flash ram) fs
+all_move_in flash ram fs settled first i d h =
+    let f = first i d h in
+    record {
+      settled = subst (IsSettled flash ram) (get_or-map (λ (f : Footprint). f.layout) fs i d d.layout h) (settled i d.layout (omega (arith, length-map fs (λ (f : Footprint). f.layout))));
+      object = f.object;
+      no_grants = f.no_grants;
+    }
+
+pub all_stand_apart : (fs : List Footprint) → AllPairs EndsBefore (map (λ (f : Footprint). f.layout) fs) → AllPairs StandsBefore fs
+all_stand_apart fs apart i j d l h =
+    let e = d.layout in
+    let first : get_or (map (λ (f : Footprint). f.layout) fs) i e ≡ (get_or fs i d).layout = get_or-map (λ (f : Footprint). f.layout) fs i d e (omega arith) in
+    let second : get_or (map (λ (f : Footprint). f.layout) fs) j e ≡ (get_or fs j d).layout = get_or-map (λ (f : Footprint). f.layout) fs j d e h in
+    subst (λ (x : Extents). EndsBefore (get_or fs i d).layout x) second (subst (λ (x : Extents). EndsBefore x (get_or (map (λ (f : Footprint). f.layout) fs) j e)) first (apart i j e l (omega (arith, length-map fs (λ (f : Footprint). f.layout)))))
+
+pub all_ordered : (flash : ℕ) (fs : List Footprint) → All (IsFirst flash) fs → All IsOrdered (map (λ (f : Footprint). f.layout) fs)
+all_ordered flash fs first i d h =
+    let f : Footprint = record { object = record { address = 0; size = 0 }; layout = d } in
+    let within : i < length fs = omega (arith, length-map fs (λ (f : Footprint). f.layout)) in
+    subst IsOrdered (sym (get_or-map (λ (f : Footprint). f.layout) fs i f d within)) (first i f within).ordered
+
 -- the world of a board before its first step
-pub opening_shown : (script : Script) (flash : List ℕ) (home : Homes) (layouts : List Extents) (processes : List Process) (unplaced : ArrayVec Unplaced) → home ≡ record { flash = flash; owns = map own_opened layouts } → map (record_of flash) (zip processes (map own_opened layouts)) ≡ filter_map (record_at flash) (places script.ram flash) → unplaced.items ≡ filter_map unplaced_at (places script.ram flash) → ◌≡◌ {A = World} (record { records = map (record_of home.flash) (zip processes home.owns); unplaced = unplaced.items; settings = settings; pace = pace; devices = record { writes = []; reads = []; randoms = []; stores = []; leds = 0 }; clock = record { time = 0; steps = 0 }; present = record { slot = None; used = 0 } }) (opening script flash)
+pub opening_shown : (script : Script) (flash : List ℕ) (home : Homes) (footprints : List Footprint) (processes : List Process) (unplaced : ArrayVec Unplaced) → home ≡ record { flash = flash; owns = map own_opened footprints } → map (record_of flash) (zip processes (map own_opened footprints)) ≡ filter_map (record_at flash) (places script.ram flash) → unplaced.items ≡ filter_map unplaced_at (places script.ram flash) → ◌≡◌ {A = World} (record { records = map (record_of home.flash) (zip processes home.owns); unplaced = unplaced.items; settings = settings script.leds script.policy; pace = pace script.slice; devices = record { writes = []; reads = []; randoms = []; stores = []; leds = 0 }; clock = record { time = 0; steps = 0 }; present = record { slot = None; used = 0 } }) (opening script flash)
 unfolding opening
-opening_shown script flash home layouts processes unplaced h e u =
-    ap₂ (λ (rs : List Record) (us : List Unplaced). record { records = rs; unplaced = us; settings = settings; pace = pace; devices = record { writes = []; reads = []; randoms = []; stores = []; leds = 0 }; clock = record { time = 0; steps = 0 }; present = record { slot = None; used = 0 } })
+opening_shown script flash home footprints processes unplaced h e u =
+    ap₂ (λ (rs : List Record) (us : List Unplaced). record { records = rs; unplaced = us; settings = settings script.leds script.policy; pace = pace script.slice; devices = record { writes = []; reads = []; randoms = []; stores = []; leds = 0 }; clock = record { time = 0; steps = 0 }; present = record { slot = None; used = 0 } })
     (ap (λ (x : Homes). map (record_of x.flash) (zip processes x.owns)) h ∙ e) u

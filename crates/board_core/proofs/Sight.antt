@@ -26,9 +26,9 @@ sees_record flash r own place =
     let object = r.0.object in
     record {
       in_flash = λ a low high.
-          flash_side e.start (length r.1.ram) object.address a _ _ (omega (arith, place.apart)) (omega (arith, own.accessible_from))
-          ∙ in_object flash (object.address - FLASH_START) object.size (a - object.address) (omega (arith, own.accessible_from, own.accessible_to))
-          ∙ ap (slice_index flash) (at_place object.address a own.from (omega (arith, own.accessible_from)));
+          flash_side e.start (length r.1.ram) object.address a _ _ (omega (arith, place.apart)) (omega (arith, own.lies.accessible_from))
+          ∙ in_object flash (object.address - FLASH_START) object.size (a - object.address) (omega (arith, own.lies.accessible_from, own.lies.accessible_to))
+          ∙ ap (slice_index flash) (at_place object.address a own.lies.from (omega (arith, own.lies.accessible_from)));
       in_ram = λ a low high. ram_side e.start (length r.1.ram) object.address a _ _ low (omega (arith, place.ram, place.ordered.grants, place.ordered.block));
     }
   where

@@ -5,7 +5,10 @@ use Rattle.tk_base.specs.declared.access.TheConstants.{RAM_START}
 use Rattle.tk_base.specs.declared.process.PlaceFault.{PlaceFault}
 use Rattle.process_layout.specs.Extents.{Extents}
 use Rattle.process_layout.specs.Ordered.{IsOrdered}
+use Rattle.process_own.specs.declared.place.Footprint.{Footprint}
 use Rattle.process_own.specs.Own.{opened}
+use Rattle.process_record.specs.declared.process.Process.{Process}
+use Rattle.grant_enter.specs.Homes.{HasObject}
 use Rattle.app_placement.specs.declared.placed.Place.{Place}
 use Rattle.app_placement.specs.declared.placed.Placed.{Placed}
 use Rattle.board_core.specs.declared.boot.Crew.{Crew}
@@ -27,10 +30,20 @@ layout_in (Err fault) = None
 abbrev pub layout_at : Placed → Option Extents
 layout_at p = layout_in p.place
 
--- a process for each application that is placed, at its start, with its layout
+-- what a process takes up in its place
+abbrev pub footprint_of : Process → Place → Footprint
+footprint_of process place = record { object = process.object; layout = place.layout }
+
+-- a footprint lies where a process may begin its first life, in so many bytes of flash, but for its block in RAM
+pub record IsFirst (flash : ℕ) (f : Footprint) : Type 0 where
+  pub ordered : IsOrdered f.layout
+  pub object : HasObject flash f.object f.layout
+  pub no_grants : f.layout.kernel_break ≡ f.layout.end
+
+-- a process for each application that is placed, at its start, with what it takes up
 pub record IsCrew (flash : List ℕ) (placed : List Placed) (crew : Crew) : Type 0 where
-  pub layouts : crew.layouts.items ≡ filter_map layout_at placed
-  pub ordered : All IsOrdered crew.layouts.items
-  pub count : length crew.processes.items ≡ length crew.layouts.items
-  pub shown : map (record_of flash) (zip crew.processes.items (map opened crew.layouts.items)) ≡ filter_map (record_at flash) placed
-  pub seated : All (IsSeated flash 0) (zip crew.processes.items (map opened crew.layouts.items))
+  pub layouts : map (λ f. f.layout) crew.footprints.items ≡ filter_map layout_at placed
+  pub first : All (IsFirst (length flash)) crew.footprints.items
+  pub count : length crew.processes.items ≡ length crew.footprints.items
+  pub shown : map (record_of flash) (zip crew.processes.items (map opened crew.footprints.items)) ≡ filter_map (record_at flash) placed
+  pub seated : All (IsSeated flash 0) (zip crew.processes.items (map opened crew.footprints.items))

@@ -1,7 +1,6 @@
 pub mod Settings
 pub mod Opening
 pub mod Guards
-pub mod Shown
 pub mod Residents
 pub mod Boot
 pub mod Shows

@@ -24,7 +24,7 @@ unfoldable pub opened : List ℕ → ℕ → Extents → Meaning → Main → Re
 opened flash offset e h m = record {
   process = started (FLASH_START + offset) h m e.start (e.end - e.start) e.brk;
   object = object_bytes flash offset;
-  own = own.opened e;
+  own = own.opened (record { object = record { address = FLASH_START + offset; size = h.total_size }; layout = e });
   storage = fresh_storage;
 }
 
@@ -57,8 +57,8 @@ unfoldable pub opening : Script → List ℕ → World
 opening script flash = record {
   records = filter_map (record_at flash) (places script.ram flash);
   unplaced = filter_map unplaced_at (places script.ram flash);
-  settings = settings;
-  pace = pace;
+  settings = settings script.leds script.policy;
+  pace = pace script.slice;
   devices = record { writes = []; reads = []; randoms = []; stores = []; leds = 0 };
   clock = record { time = 0; steps = 0 };
   present = record { slot = None; used = 0 };

@@ -17,8 +17,8 @@ abbrev pub world_of : Inside → World
 world_of b = record {
   records = map (record_of b.home.flash) (residents b);
   unplaced = b.unplaced.items;
-  settings = settings;
-  pace = pace;
+  settings = settings b.leds b.policy;
+  pace = pace b.slice;
   devices = record { writes = []; reads = []; randoms = []; stores = []; leds = 0 };
   clock = record { time = b.time; steps = b.steps };
   present = record { slot = b.present; used = b.used };
@@ -31,4 +31,5 @@ pub record IsBoard (b : Inside) : Type 0 where
   pub guard : GuardsOnly b.guard b.home
   pub steps : b.steps ≤ STEP_LIMIT
   pub time : b.time ≤ b.steps
-  pub used : b.used ≤ pace.slice
+  pub slice : 1 ≤ b.slice
+  pub used : b.used ≤ b.slice

@@ -1,16 +1,15 @@
 //! The applications of a flash image in their slots, before the first step.
 ghost use Rattle.std.specs.Prelude.{◌≡◌, ◌≤◌, All, AllPairs, count_by, length, filter_map, Ok, Some, IfOk};
-ghost use Rattle.process_layout.specs.Ordered.{IsOrdered};
 ghost use Rattle.process_own.specs.Own.{opened};
 ghost use Rattle.app_placement.specs.Placement.{LiesBefore, LiesInFlash, LiesInRam, IsLaidOut, is_placed};
 ghost use Rattle.board_core.specs.Opening.{places, record_at, record_in, unplaced_at};
 ghost use Rattle.board_core.specs.Residents.{IsSeated, record_of};
-ghost use Rattle.board_core.specs.Boot.{at_offset, IsCrew, StartsInRam};
+ghost use Rattle.board_core.specs.Boot.{at_offset, footprint_of, IsCrew, IsFirst, StartsInRam};
 
 use app_placement::{Place, Placed, place};
 use arrayvec::ArrayVec;
 use flash_walk::walk;
-use process_layout::Layout;
+use process_own::Footprint;
 use process_record::{Process, Unplaced};
 use std::alloc::Global;
 use tbf_headers::{object_at, read_header, word_at};
@@ -34,11 +33,11 @@ pub(crate) fn placed_in(flash: &[u8], ram: u32) -> ArrayVec<Placed, 64>
     place(&found, flash, ram)
 }
 
-/// The processes of the applications that have a place, slot 0 first, and where the memory of each lies.
+/// The processes of the applications that have a place, slot 0 first, and what each takes up of flash and RAM.
 #[derive(Drop)]
 pub(crate) struct Crew {
     pub processes: Vec<Process>,
-    pub layouts: Vec<Layout>,
+    pub footprints: Vec<Footprint>,
 }
 
 /// The process of an application in its place, before its first turn.
@@ -47,11 +46,10 @@ fn first_process(flash: &[u8], offset: u32, place: &Place) -> Process
     requires flash { LiesInFlash flash.now (at_offset offset place.now) }
     requires ram { StartsInRam (at_offset offset place.now) }
     requires layout { IsLaidOut flash.now (at_offset offset place.now) }
-    ensures shown { Some (record_of flash.now (result, opened place.now.layout))
+    ensures shown { Some (record_of flash.now (result, opened (footprint_of result place.now)))
         ≡ record_in flash.now offset (Ok place.now) }
-    ensures seated { IsSeated flash.now 0 (result, opened place.now.layout) }
-    // as always
-    ensures ordered { IsOrdered place.now.layout }
+    ensures seated { IsSeated flash.now 0 (result, opened (footprint_of result place.now)) }
+    ensures first { IsFirst (length flash.now) (footprint_of result place.now) }
 {
     let size = word_at(flash, offset as usize + 4);
     let Ok(header) = read_header(object_at(flash, offset, size)) else {
@@ -80,17 +78,21 @@ pub(crate) fn first_crew(alloc: Global, flash: &[u8], placed: &[Placed]) -> Resu
 {
     let mut crew = Crew {
         processes: Vec::new(alloc),
-        layouts: Vec::new(alloc),
+        footprints: Vec::new(alloc),
     };
     for application in placed {
         let Ok(place) = &application.place else {
             continue;
         };
         let process = first_process(flash, application.offset, place);
+        let footprint = Footprint {
+            object: process.object,
+            layout: place.layout,
+        };
         let Ok(()) = crew.processes.push(process) else {
             return Err(NoMemory);
         };
-        let Ok(()) = crew.layouts.push(place.layout) else {
+        let Ok(()) = crew.footprints.push(footprint) else {
             return Err(NoMemory);
         };
     }

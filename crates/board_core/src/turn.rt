@@ -1,21 +1,22 @@
 //! One turn of the process in a slot.
-ghost use Rattle.std.specs.Prelude.{◌≡◌, ◌+◌, ◌<◌, ◌≤◌, length, None, Some};
+ghost use Rattle.std.specs.Prelude.{◌≡◌, ◌+◌, ◌<◌, ◌≤◌, length, true, None, Some};
+ghost use Rattle.process_record.specs.declared.process.State.TheVariants.{Running, Yielded};
 ghost use Rattle.tk_base.specs.declared.limits.TheConstants.{STEP_LIMIT};
 ghost use Rattle.process_own.specs.Own.{ended};
 ghost use Rattle.process_own.specs.Instruction.{with_write};
 ghost use Rattle.process_record.specs.Process.{after_fault, after_turn};
 ghost use Rattle.grant_enter.specs.Homes.{own_of, ChangesOnly};
 ghost use Rattle.kernel_calls.specs.Outcomes.{ServesAt};
+ghost use Rattle.kernel_model.specs.Calls.{restart};
 ghost use Rattle.kernel_model.specs.Record.{instruction};
-ghost use Rattle.kernel_model.specs.Turn.{arguments, made, runs, unknown_call};
+ghost use Rattle.kernel_model.specs.Turn.{arguments, made, unknown_call};
 ghost use Rattle.board_core.specs.Guards.{GuardsOnly, IsSetFor};
-ghost use Rattle.board_core.specs.Residents.{IsSeated, Serves, Turns, record_of, resident};
-ghost use Rattle.board_core.specs.Shown.{shown_call};
+ghost use Rattle.board_core.specs.Residents.{IsSeated, Serves, Settles, Turns, record_of, resident, resident_turns};
 
 use crate::guard::Guard;
+use fault_policy::{Action, Policy, decide};
 use grant_enter::Home;
-use kernel_calls::kernel_call;
-use kernel_model::unserved_changes_nothing;
+use kernel_calls::{deliver, kernel_call, restart_process};
 use process_record::{CallMade, Outcome, Process, State};
 use rv32_model::TurnEnd;
 use syscall_abi::Call;
@@ -35,35 +36,37 @@ fn arguments_of(regs: &Regs) -> [u32; 4]
     [regs.get(10), regs.get(11), regs.get(12), regs.get(13)]
 }
 
-/// The call as a step shows it, from the registers before it and what came of it; none where nothing
-/// serves it.
-fn call_shown(before: &Regs, outcome: Outcome) -> Option<CallMade>
-    ensures { result ≡ shown_call before.now outcome }
+/// The call as a step shows it, from the registers before it and what came of it.
+fn call_shown(before: &Regs, outcome: Outcome) -> CallMade
+    ensures { result ≡ made before.now outcome }
 {
     let (reply, rule) = match outcome {
-        Outcome::Unserved => return None,
-        Outcome::Ended | Outcome::Again => (None, None),
         Outcome::Replied { reply, rule } => {
             let mut after = *before;
             reply.put(&mut after);
             (Some(arguments_of(&after)), rule)
         }
+        Outcome::Waits | Outcome::Delivered | Outcome::GoesOn | Outcome::Ended | Outcome::Again => (
+            None, None,
+        ),
     };
-    Some(CallMade {
+    CallMade {
         class: before.get(Call::CLASS),
         args: arguments_of(before),
         reply,
         rule,
-    })
+    }
 }
 
-/// Whether a process in this state can have a turn.
-pub fn has_turns(state: State) -> bool
-    ensures { result ≡ runs state }
+/// Whether the process in a slot can have a turn: it runs, or it waits and an upcall is pending.
+pub fn can_turn(home: &Home, process: &Process, slot: Slot) -> bool
+    requires { slot < length home.now.owns }
+    ensures { result ≡ resident_turns (resident home.now slot process.now) }
 {
-    match state {
+    match process.state {
         State::Running => true,
-        State::Yielded | State::Faulted | State::Terminated(_) => false,
+        State::Yielded => home.has_pending(slot),
+        State::Faulted | State::Terminated(_) => false,
     }
 }
 
@@ -83,20 +86,74 @@ fn stop_at(home: &mut Home, process: &mut Process, slot: Slot, denial: Denial) -
     }
 }
 
-/// The call that the registers make is of an unknown class, which stops the process.
-fn stop_at_unknown(home: &mut Home, process: &mut Process, slot: Slot) -> Shown
-    requires { slot < length home.old.owns }
-    ensures process { process.new ≡ after_fault process.old (unknown_call process.old) }
-    ensures own { own_of home.new slot ≡ ended (own_of home.old slot) }
+/// A denial starts the process in a slot again, and it is protected as its layout is then.
+fn restart_at(
+    home: &mut Home,
+    process: &mut Process,
+    guard: &mut Guard,
+    slot: Slot,
+    denial: Denial,
+    steps: u64,
+) -> Shown
+    requires slot { slot < length home.old.owns }
+    requires seated { IsSeated home.old.flash (steps + 1) (resident home.old slot process.old) }
+    requires restarts { process.old.restarts ≤ steps }
+    requires limit { steps < STEP_LIMIT }
+    requires guard { IsSetFor slot guard.old home.old }
+    ensures restarted { restart (record_of home.old.flash (after_fault process.old denial, own_of home.old slot))
+        ≡ record_of home.old.flash (resident home.new slot process.new) }
+    ensures seated { IsSeated home.old.flash (steps + 1) (resident home.new slot process.new) }
     ensures rest { ChangesOnly slot home.old home.new }
-    ensures shown { result ≡ record { call = None; denial = Some (unknown_call process.old) } }
+    ensures guard { IsSetFor slot guard.new home.new }
+    ensures shown { result ≡ record { call = None; denial = Some denial } }
 {
-    let denial = Denial {
+    process.denial = Some(denial);
+    let layout = home.layout(slot);
+    restart_process(home, process, slot);
+    guard.follow(home, slot, &layout);
+    Shown {
+        call: None,
+        denial: Some(denial),
+    }
+}
+
+/// A denial: the process in a slot faults, and has ended or starts again, as the policy decides.
+fn fault_at(
+    home: &mut Home,
+    process: &mut Process,
+    guard: &mut Guard,
+    slot: Slot,
+    policy: Policy,
+    denial: Denial,
+    steps: u64,
+) -> Shown
+    requires slot { slot < length home.old.owns }
+    requires seated { IsSeated home.old.flash (steps + 1) (resident home.old slot process.old) }
+    requires restarts { process.old.restarts ≤ steps }
+    requires limit { steps < STEP_LIMIT }
+    requires guard { IsSetFor slot guard.old home.old }
+    ensures settles { Settles policy home.old.flash process.old (own_of home.old slot) denial
+        (resident home.new slot process.new) }
+    ensures seated { IsSeated home.old.flash (steps + 1) (resident home.new slot process.new) }
+    ensures rest { ChangesOnly slot home.old home.new }
+    ensures guard { IsSetFor slot guard.new home.new }
+    ensures shown { result ≡ record { call = None; denial = Some denial } }
+{
+    match decide(policy, process.restarts) {
+        Action::Stop => stop_at(home, process, slot, denial),
+        Action::Restart => restart_at(home, process, guard, slot, denial, steps),
+    }
+}
+
+/// The call that the registers make is of an unknown class.
+fn unknown_class(process: &Process) -> Denial
+    ensures { result ≡ unknown_call process.now }
+{
+    Denial {
         access: Access::Fetch,
         address: process.regs.pc,
         rule: Rule::UnknownClass,
-    };
-    stop_at(home, process, slot, denial)
+    }
 }
 
 /// Serves a system call, and protects the process as its layout is afterwards.
@@ -110,6 +167,7 @@ fn serve(
 ) -> Outcome
     requires slot { slot < length home.old.owns }
     requires seated { IsSeated home.old.flash (steps + 1) (resident home.old slot process.old) }
+    requires lives { (own_of home.old slot).lives ≡ true }
     requires restarts { process.old.restarts ≤ steps }
     requires limit { steps < STEP_LIMIT }
     requires guard { IsSetFor slot guard.old home.old }
@@ -130,31 +188,30 @@ fn serve_call(
     process: &mut Process,
     guard: &mut Guard,
     slot: Slot,
+    policy: Policy,
     steps: u64,
 ) -> Shown
     requires slot { slot < length home.old.owns }
     requires seated { IsSeated home.old.flash (steps + 1) (resident home.old slot process.old) }
+    requires lives { (own_of home.old slot).lives ≡ true }
     requires restarts { process.old.restarts ≤ steps }
     requires limit { steps < STEP_LIMIT }
     requires guard { IsSetFor slot guard.old home.old }
-    ensures serves { Serves home.old.flash (resident home.old slot process.old)
+    ensures serves { Serves policy home.old.flash (resident home.old slot process.old)
         (resident home.new slot process.new) result }
     ensures seated { IsSeated home.new.flash (steps + 1) (resident home.new slot process.new) }
     ensures rest { ChangesOnly slot home.old home.new }
     ensures guard { IsSetFor slot guard.new home.new }
 {
-    unserved_changes_nothing();
     let before = process.regs;
     let Some(call) = Call::of(&before) else {
-        return stop_at_unknown(home, process, slot);
+        let denial = unknown_class(process);
+        return fault_at(home, process, guard, slot, policy, denial, steps);
     };
     let outcome = serve(home, process, guard, slot, &call, steps);
-    match call_shown(&before, outcome) {
-        Some(call) => Shown {
-            call: Some(call),
-            denial: None,
-        },
-        None => stop_at_unknown(home, process, slot),
+    Shown {
+        call: Some(call_shown(&before, outcome)),
+        denial: None,
     }
 }
 
@@ -184,19 +241,21 @@ fn make_instruction(
     home.instruct(slot, &guard.pmp, &mut process.regs)
 }
 
-/// One turn of the process in a slot: an instruction of it, and what a system call or a denial asks for.
-pub fn take_turn(
+/// The turn of a process that runs: an instruction of it, and what a system call or a denial asks for.
+fn run_on(
     home: &mut Home,
     process: &mut Process,
     guard: &mut Guard,
     slot: Slot,
+    policy: Policy,
     steps: u64,
 ) -> Shown
     requires slot { slot < length home.old.owns }
+    requires runs { process.old.state ≡ Running }
     requires seated { IsSeated home.old.flash steps (resident home.old slot process.old) }
     requires limit { steps < STEP_LIMIT }
     requires guard { GuardsOnly guard.old home.old }
-    ensures turns { Turns home.old.flash (resident home.old slot process.old)
+    ensures turns { Turns policy home.old.flash (resident home.old slot process.old)
         (resident home.new slot process.new) result }
     ensures seated { IsSeated home.old.flash (steps + 1) (resident home.new slot process.new) }
     ensures rest { ChangesOnly slot home.old home.new }
@@ -207,7 +266,68 @@ pub fn take_turn(
             call: None,
             denial: None,
         },
-        TurnEnd::Call => serve_call(home, process, guard, slot, steps),
-        TurnEnd::Trap(denial) => stop_at(home, process, slot, denial),
+        TurnEnd::Call => serve_call(home, process, guard, slot, policy, steps),
+        TurnEnd::Trap(denial) => fault_at(home, process, guard, slot, policy, denial, steps),
+    }
+}
+
+/// The turn of a process that waits: the first of its pending upcalls is delivered, if there is one. The
+/// registers are set for it, since it is the next to run.
+fn wake(
+    home: &mut Home,
+    process: &mut Process,
+    guard: &mut Guard,
+    slot: Slot,
+    policy: Policy,
+    steps: u64,
+) -> Shown
+    requires slot { slot < length home.old.owns }
+    requires waits { process.old.state ≡ Yielded }
+    requires seated { IsSeated home.old.flash steps (resident home.old slot process.old) }
+    requires limit { steps < STEP_LIMIT }
+    requires guard { GuardsOnly guard.old home.old }
+    ensures turns { Turns policy home.old.flash (resident home.old slot process.old)
+        (resident home.new slot process.new) result }
+    ensures seated { IsSeated home.old.flash (steps + 1) (resident home.new slot process.new) }
+    ensures rest { ChangesOnly slot home.old home.new }
+    ensures guard { IsSetFor slot guard.new home.new }
+{
+    guard.turn_to(home, slot);
+    if home.has_pending(slot) {
+        process.count_turn();
+        deliver(home, process, slot);
+    }
+    Shown {
+        call: None,
+        denial: None,
+    }
+}
+
+/// One turn of the process in a slot. One that has ended has none, and nothing changes.
+pub fn take_turn(
+    home: &mut Home,
+    process: &mut Process,
+    guard: &mut Guard,
+    slot: Slot,
+    policy: Policy,
+    steps: u64,
+) -> Shown
+    requires slot { slot < length home.old.owns }
+    requires seated { IsSeated home.old.flash steps (resident home.old slot process.old) }
+    requires limit { steps < STEP_LIMIT }
+    requires guard { GuardsOnly guard.old home.old }
+    ensures turns { Turns policy home.old.flash (resident home.old slot process.old)
+        (resident home.new slot process.new) result }
+    ensures seated { IsSeated home.old.flash (steps + 1) (resident home.new slot process.new) }
+    ensures rest { ChangesOnly slot home.old home.new }
+    ensures guard { GuardsOnly guard.new home.new }
+{
+    match process.state {
+        State::Running => run_on(home, process, guard, slot, policy, steps),
+        State::Yielded => wake(home, process, guard, slot, policy, steps),
+        State::Faulted | State::Terminated(_) => Shown {
+            call: None,
+            denial: None,
+        },
     }
 }

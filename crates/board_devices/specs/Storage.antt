@@ -1,5 +1,5 @@
 -- The storage of the slots, each of which reads and writes its own bytes alone.
-use Rattle.std.specs.Prelude.{◌≡◌, ℕ, ◌+◌, ◌-◌, ◌^◌, ◌==◌, ◌<◌, Bool, List, [], ◌++◌, All, drop, length, min, replicate, slice_index_or, take}
+use Rattle.std.specs.Prelude.{◌≡◌, ℕ, ◌+◌, ◌^◌, ◌==◌, ◌<◌, Bool, List, [], ◌++◌, All, drop, length, replicate, slice_index_or, slice_range, slice_set, take}
 use Rattle.std.specs.List.{list_any}
 
 -- the bytes of each slot, slot 0 first; how many each has; how many requests were served; and the numbers of those that
@@ -20,16 +20,24 @@ pub record AreSized (size : ℕ) (slots : List (List ℕ)) : Type 0 where
 abbrev pub fresh_slots : ℕ → List (List ℕ)
 fresh_slots size = replicate 8 (replicate size 0xFF)
 
+-- storage before the first request
+abbrev pub fresh_storage : ℕ → List ℕ → Storage
+fresh_storage size faults = record { slots = fresh_slots size; size = size; served = 0; faults = faults }
+
 abbrev pub slot_bytes : Storage → ℕ → List ℕ
 slot_bytes s slot = slice_index_or s.slots slot []
+
+-- so many bytes of a slot, from an offset on
+abbrev pub bytes_from : Storage → ℕ → ℕ → ℕ → List ℕ
+bytes_from s slot offset count = slice_range (slot_bytes s slot) offset (offset + count)
 
 -- bytes with others put over them from an offset on
 abbrev pub overwritten : List ℕ → ℕ → List ℕ → List ℕ
 overwritten bytes offset written = take offset bytes ++ written ++ drop (offset + length written) bytes
 
--- one request more; the count stands still at its greatest value
-abbrev pub counted : ℕ → ℕ
-counted served = min (served + 1) (2 ^ 64 - 1)
+-- the storage with bytes put over those of a slot, from an offset on
+abbrev pub with_bytes : Storage → ℕ → ℕ → List ℕ → Storage
+with_bytes s slot offset written = record s { slots = slice_set s.slots slot (overwritten (slot_bytes s slot) offset written) }
 
 -- whether the request of a number fails
 abbrev pub is_fault : List ℕ → ℕ → Bool

@@ -1,5 +1,5 @@
 //! The storage of the slots.
-ghost use Rattle.std.specs.Prelude.{◌≡◌, ◌+◌, ◌^◌, ◌<◌, ◌≤◌, IfOk, length, replicate, slice_range, slice_set};
+ghost use Rattle.std.specs.Prelude.{◌≡◌, ◌+◌, ◌^◌, ◌<◌, ◌≤◌, IfOk, length, replicate, slice_range};
 ghost use Rattle.board_devices.specs.Storage.{overwritten, fresh_slots};
 
 use arrayvec::ArrayVec;
@@ -93,18 +93,14 @@ fn erased_slots(alloc: Global, size: usize) -> Result<Vec<Store>, AllocError>
 }
 
 impl Stores {
-    ghost use Rattle.board_devices.specs.Storage.{AreSized, slot_bytes, counted, is_fault};
+    ghost use Rattle.tk_outside.specs.Count.{counted};
+    ghost use Rattle.board_devices.specs.Storage.{AreSized, fresh_storage, bytes_from, with_bytes, is_fault};
 
     /// The storage of eight slots with so many bytes each, which are 0xFF, before the first request.
     /// `faults` are the numbers of the requests that fail. It fails where there is no memory for the
     /// bytes.
     pub fn new(alloc: Global, size: u32, faults: ArrayVec<u32, 64>) -> Result<Stores, NoMemory>
-        ensures { IfOk result (λ stores. stores ≡ record {
-          slots = fresh_slots size;
-          size = size;
-          served = 0;
-          faults = faults.items;
-        }) }
+        ensures { IfOk result (λ stores. stores ≡ fresh_storage size faults.items) }
     {
         match erased_slots(alloc, size as usize) {
             Ok(slots) => Ok(Stores {
@@ -140,7 +136,7 @@ impl Stores {
     /// slot's storage.
     pub fn read(&self, slot: Slot, offset: u32, into: &mut [u8])
         requires { offset + length into.old ≤ self.now.size }
-        ensures { into.new ≡ slice_range (slot_bytes self.now slot) offset (offset + length into.old) }
+        ensures { into.new ≡ bytes_from self.now slot offset (length into.old) }
     {
         self.slots[slot.index()].read(offset as usize, into);
     }
@@ -149,9 +145,7 @@ impl Stores {
     /// The other slots have what they had, and nothing else changes.
     pub fn write(&mut self, slot: Slot, offset: u32, from: &[u8])
         requires { offset + length from.now ≤ self.old.size }
-        ensures { self.new ≡ record self.old {
-          slots = slice_set self.old.slots slot (overwritten (slot_bytes self.old slot) offset from.now);
-        } }
+        ensures { self.new ≡ with_bytes self.old slot offset from.now }
     {
         self.slots[slot.index()].write(offset as usize, from);
     }

@@ -23,3 +23,8 @@ abbrev pub LendsHalves : MutBor (List ℕ) → Halves → Fml
 LendsHalves block halves =
     follows_both (Array u8 0) (Array u8 0) (Array u8 0)
     block.ghost_name halves.app.ghost_name halves.kernel.ghost_name ◌++◌
+
+-- memory ends with the bytes that are left in a part of RAM, from the part's first address on
+abbrev pub LendsPart : MutBor MemoryBytes → ℕ → MutBor (List ℕ) → Fml
+LendsPart memory from part =
+    follows the_row (Array u8 0) memory.ghost_name part.ghost_name (with_run memory.now from)

@@ -1,5 +1,6 @@
 //! Flash and RAM.
-ghost use Rattle.std.specs.Prelude.{◌≡◌, ◌-◌, ◌≤◌, length, replicate, IfOk};
+ghost use Rattle.std.specs.Prelude.{◌≡◌, ◌+◌, ◌-◌, ◌≤◌, length, replicate, IfOk};
+ghost use Rattle.tk_base.specs.declared.access.TheConstants.{RAM_START};
 ghost use Rattle.std.specs.Borrow.{sem};
 ghost use Rattle.board_memory.specs.Bytes.{StoresLieIn};
 
@@ -9,7 +10,7 @@ use pmp_regions::Pmp;
 use process_layout::Layout;
 use std::alloc::{AllocError, Global};
 use std::marker::Model;
-use tk_base::{FLASH_START, RAM_START};
+use tk_base::{Addr, FLASH_START, RAM_START};
 
 /// The board's memory: flash, whose first byte has the address [`FLASH_START`], and RAM, whose first byte
 /// has the address [`RAM_START`]. All processes have their blocks in the one RAM.
@@ -28,7 +29,7 @@ impl Model for Memory {
 }
 
 impl Memory {
-    ghost use Rattle.board_memory.specs.Lending.{LendsView, LendsBlock};
+    ghost use Rattle.board_memory.specs.Lending.{LendsView, LendsBlock, LendsPart};
     ghost use Rattle.board_memory.specs.Memory.{IsPlaced, cleared, ram_between, accessible_flash};
 
     /// Memory with these bytes in flash, and so many bytes of RAM, which are 0. It fails where there is no
@@ -87,5 +88,28 @@ impl Memory {
         let cut = (layout.kernel_break - layout.start) as usize;
         let flash = &self.flash.as_slice()[flash_from as usize..flash_to as usize];
         Block::new(flash, self.ram.slice_mut(from as usize..to as usize), cut)
+    }
+
+    /// The bytes of RAM from one address up to another.
+    pub fn part(&self, from: Addr, to: Addr) -> &[u8]
+        requires from { RAM_START ≤ from }
+        requires order { from ≤ to }
+        requires to { to ≤ RAM_START + length self.now.ram }
+        ensures { result.now ≡ ram_between self.now.ram from to }
+    {
+        &self.ram.as_slice()[(from - RAM_START) as usize..(to - RAM_START) as usize]
+    }
+
+    /// The bytes of RAM from one address up to another, to be written. What is written to them stands in
+    /// memory afterwards.
+    pub fn part_mut(&mut self, from: Addr, to: Addr) -> &mut [u8]
+        requires from { RAM_START ≤ from }
+        requires order { from ≤ to }
+        requires to { to ≤ RAM_START + length self.old.ram }
+        ensures* writes_back { sem 𝓛 (LendsPart self.entry from result) }
+        ensures part { result.now ≡ ram_between self.old.ram from to }
+    {
+        self.ram
+            .slice_mut((from - RAM_START) as usize..(to - RAM_START) as usize)
     }
 }

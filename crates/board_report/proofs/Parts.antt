@@ -1,18 +1,19 @@
 -- Texts in parts, as the loops write them.
-use Rattle.std.proofs.Common.{◌≡◌, ℕ, zero, suc, ◌+◌, ◌-◌, ◌/◌, ◌^◌, ◌<◌, ◌≤◌, List, [], ◌∷◌, ◌++◌, length, get_or, take, drop, map, Option, refl, sym, ap, subst, ◌∙◌, arith, append_assoc, drop-cons, add-one, length-take}
+use Rattle.std.proofs.Common.{◌≡◌, ℕ, zero, suc, ◌+◌, ◌-◌, ◌/◌, ◌^◌, ◌<◌, ◌≤◌, List, [], ◌∷◌, ◌++◌, length, get_or, take, drop, map, refl, sym, ap, subst, ◌∙◌, arith, append_assoc, drop-cons, add-one, length-take}
 use Rattle.std.proofs.Math.Nat.{div-eq_of_lt}
 use Rattle.std.proofs.Math.Pow.{pow_mono}
 use Rattle.std.proofs.lemmas.List.{take-append-drop, take_more, append-nil}
 use Rattle.std.proofs.lemmas.List.Concat.{flat_map-append}
 use Rattle.std.specs.List.{flat_map, range_with_len}
+use Rattle.tk_outside.specs.Sink.{SinkFacts}
 use Rattle.tk_outside.specs.Writes.{WroteAll, WrotePart}
 use Rattle.tk_outside.specs.Laws.{WritesCompose}
 use Rattle.process_record.specs.declared.summary.SlotLine.{SlotLine}
 use Rattle.board_report.specs.Report.{slot_text, slot_texts, led_text, led_texts}
 
 -- a piece failed after what stands before it was written
-pub part_between : {K : Type 0} {told : K → Option (List ℕ)} {faults : K → ℕ} {a b c : K} {front piece : List ℕ} → WritesCompose told faults → (rest whole : List ℕ) → whole ≡ front ++ (piece ++ rest) → WroteAll told faults a b front → WrotePart told faults b c piece → WrotePart told faults a c whole
-part_between {K} {told} {faults} {a} {b} {c} law rest whole e p q = subst (λ (t : List ℕ). WrotePart told faults a c t) (sym e) (law.all_then_part p (law.part_of_more rest q))
+pub part_between : {K : Type 0} {tells : K → SinkFacts} {a b c : K} {front piece : List ℕ} → WritesCompose tells → (rest whole : List ℕ) → whole ≡ front ++ (piece ++ rest) → WroteAll tells a b front → WrotePart tells b c piece → WrotePart tells a c whole
+part_between {K} {tells} {a} {b} {c} law rest whole e p q = subst (λ (t : List ℕ). WrotePart tells a c t) (sym e) (law.all_then_part p (law.part_of_more rest q))
 
 -- the lines of some slots and of the slots after them
 slot_texts-append : (slot : ℕ) (xs ys : List SlotLine) → slot_texts slot (xs ++ ys) ≡ slot_texts slot xs ++ slot_texts (slot + length xs) ys

@@ -7,6 +7,3 @@ mod words;
 
 pub use list::write_list;
 pub use report::{End, write_report};
-
-#[cfg(test)]
-mod tests;

@@ -44,7 +44,7 @@ fn verdict_word(verdict: Verdict) -> &'static [u8]
 #[tactic(auto, unfolding(crate::specs::FlashList::object_text))]
 fn write_object<K: Sink>(out: &mut K, flash: &[u8], object: &Found) -> Result<(), Failed>
     requires { IsObject flash.now object.now }
-    ensures { Writes K.told K.faults out.old out.new (object_text flash.now object.now) result }
+    ensures { Writes K.tells out.old out.new (object_text flash.now object.now) result }
 {
     let mut offset = Buffer::new();
     let mut size = Buffer::new();
@@ -69,7 +69,7 @@ fn write_object<K: Sink>(out: &mut K, flash: &[u8], object: &Found) -> Result<()
 /// Writes the lines of objects.
 fn write_objects<K: Sink>(out: &mut K, flash: &[u8], found: &[Found]) -> Result<(), Failed>
     requires { All (IsObject flash.now) found.now }
-    ensures { Writes K.told K.faults out.old out.new (object_texts flash.now found.now) result }
+    ensures { Writes K.tells out.old out.new (object_texts flash.now found.now) result }
 {
     writes_compose::<K>();
     for object in found {
@@ -81,7 +81,7 @@ fn write_objects<K: Sink>(out: &mut K, flash: &[u8], found: &[Found]) -> Result<
 /// Writes how many objects there are.
 #[tactic(auto, unfolding(crate::specs::FlashList::count_text))]
 fn write_count<K: Sink>(out: &mut K, count: usize) -> Result<(), Failed>
-    ensures { Writes K.told K.faults out.old out.new (count_text count) result }
+    ensures { Writes K.tells out.old out.new (count_text count) result }
 {
     let mut digits = Buffer::new();
     put_pieces(out, &[b"objects ", digits.format(count).as_bytes(), b"\n"])
@@ -99,7 +99,7 @@ fn write_count<K: Sink>(out: &mut K, count: usize) -> Result<(), Failed>
 pub fn write_list<K: Sink>(flash: &[u8], found: &[Found], out: &mut K) -> Result<(), Failed>
     requires flash { length flash.now ≤ FLASH_LIMIT }
     requires found { found.now ≡ objects flash.now }
-    ensures { Writes K.told K.faults out.old out.new (list_text flash.now) result }
+    ensures { Writes K.tells out.old out.new (list_text flash.now) result }
 {
     writes_compose::<K>();
     objects_are_found();

@@ -22,7 +22,7 @@ pub enum End {
 
 /// Writes a denial: its access, its address and its rule.
 fn write_denial<K: Sink>(out: &mut K, denial: &Option<Denial>) -> Result<(), Failed>
-    ensures { Writes K.told K.faults out.old out.new (denial_text denial.now) result }
+    ensures { Writes K.tells out.old out.new (denial_text denial.now) result }
 {
     match denial {
         Some(denial) => put_pieces(
@@ -42,7 +42,7 @@ fn write_denial<K: Sink>(out: &mut K, denial: &Option<Denial>) -> Result<(), Fai
 
 /// Writes that a process ended, and its completion code.
 fn write_terminated<K: Sink>(out: &mut K, code: u32) -> Result<(), Failed>
-    ensures { Writes K.told K.faults out.old out.new (codes "terminated " ++ decimal code) result }
+    ensures { Writes K.tells out.old out.new (codes "terminated " ++ decimal code) result }
 {
     writes_compose::<K>();
     put_all(out, b"terminated ")?;
@@ -51,7 +51,7 @@ fn write_terminated<K: Sink>(out: &mut K, code: u32) -> Result<(), Failed>
 
 /// Writes that a process was stopped, and at which denial.
 fn write_faulted<K: Sink>(out: &mut K, denial: &Option<Denial>) -> Result<(), Failed>
-    ensures { Writes K.told K.faults out.old out.new (codes "faulted" ++ denial_text denial.now) result }
+    ensures { Writes K.tells out.old out.new (codes "faulted" ++ denial_text denial.now) result }
 {
     writes_compose::<K>();
     put_all(out, b"faulted")?;
@@ -60,7 +60,7 @@ fn write_faulted<K: Sink>(out: &mut K, denial: &Option<Denial>) -> Result<(), Fa
 
 /// Writes the state of a process.
 fn write_state<K: Sink>(out: &mut K, state: State, denial: &Option<Denial>) -> Result<(), Failed>
-    ensures { Writes K.told K.faults out.old out.new (state_text state denial.now) result }
+    ensures { Writes K.tells out.old out.new (state_text state denial.now) result }
 {
     match state {
         State::Running => put_all(out, b"running"),
@@ -72,7 +72,7 @@ fn write_state<K: Sink>(out: &mut K, state: State, denial: &Option<Denial>) -> R
 
 /// Writes what comes before the state in the line of a slot.
 fn write_head<K: Sink>(out: &mut K, slot: usize, line: &SlotLine) -> Result<(), Failed>
-    ensures { Writes K.told K.faults out.old out.new (slot_head slot line.now) result }
+    ensures { Writes K.tells out.old out.new (slot_head slot line.now) result }
 {
     let mut buffer = Buffer::new();
     let name = shown_name(&line.name);
@@ -84,7 +84,7 @@ fn write_head<K: Sink>(out: &mut K, slot: usize, line: &SlotLine) -> Result<(), 
 
 /// Writes how many upcalls were dropped, where any was.
 fn write_dropped<K: Sink>(out: &mut K, dropped: u32) -> Result<(), Failed>
-    ensures { Writes K.told K.faults out.old out.new (dropped_text dropped ++ newline) result }
+    ensures { Writes K.tells out.old out.new (dropped_text dropped ++ newline) result }
 {
     if dropped == 0 {
         return put_all(out, b"\n");
@@ -98,7 +98,7 @@ fn write_dropped<K: Sink>(out: &mut K, dropped: u32) -> Result<(), Failed>
 
 /// Writes how many turns and restarts there were.
 fn write_turns<K: Sink>(out: &mut K, line: &SlotLine) -> Result<(), Failed>
-    ensures { Writes K.told K.faults out.old out.new (slot_turns line.now) result }
+    ensures { Writes K.tells out.old out.new (slot_turns line.now) result }
 {
     let mut turns = Buffer::new();
     let mut restarts = Buffer::new();
@@ -116,7 +116,7 @@ fn write_turns<K: Sink>(out: &mut K, line: &SlotLine) -> Result<(), Failed>
 /// Writes the line of a slot.
 #[tactic(auto, unfolding(crate::specs::Report::slot_text))]
 fn write_slot<K: Sink>(out: &mut K, slot: usize, line: &SlotLine) -> Result<(), Failed>
-    ensures { Writes K.told K.faults out.old out.new (slot_text slot line.now) result }
+    ensures { Writes K.tells out.old out.new (slot_text slot line.now) result }
 {
     writes_compose::<K>();
     write_head(out, slot, line)?;
@@ -127,7 +127,7 @@ fn write_slot<K: Sink>(out: &mut K, slot: usize, line: &SlotLine) -> Result<(), 
 
 /// Writes the lines of the slots, slot 0 first.
 fn write_slots<K: Sink>(out: &mut K, lines: &[SlotLine]) -> Result<(), Failed>
-    ensures { Writes K.told K.faults out.old out.new (slot_texts 0 lines.now) result }
+    ensures { Writes K.tells out.old out.new (slot_texts 0 lines.now) result }
 {
     writes_compose::<K>();
     for (slot, line) in lines.iter().enumerate() {
@@ -139,7 +139,7 @@ fn write_slots<K: Sink>(out: &mut K, lines: &[SlotLine]) -> Result<(), Failed>
 /// Writes the line of an application that was not placed.
 #[tactic(auto, unfolding(crate::specs::Report::unplaced_text))]
 fn write_unplaced<K: Sink>(out: &mut K, app: &Unplaced) -> Result<(), Failed>
-    ensures { Writes K.told K.faults out.old out.new (unplaced_text app.now) result }
+    ensures { Writes K.tells out.old out.new (unplaced_text app.now) result }
 {
     let mut buffer = Buffer::new();
     put_pieces(
@@ -156,7 +156,7 @@ fn write_unplaced<K: Sink>(out: &mut K, app: &Unplaced) -> Result<(), Failed>
 
 /// Writes the lines of the applications that were not placed.
 fn write_all_unplaced<K: Sink>(out: &mut K, apps: &[Unplaced]) -> Result<(), Failed>
-    ensures { Writes K.told K.faults out.old out.new (unplaced_texts apps.now) result }
+    ensures { Writes K.tells out.old out.new (unplaced_texts apps.now) result }
 {
     writes_compose::<K>();
     for app in apps {
@@ -167,7 +167,7 @@ fn write_all_unplaced<K: Sink>(out: &mut K, apps: &[Unplaced]) -> Result<(), Fai
 
 /// Writes whether each LED is on.
 fn write_led_states<K: Sink>(out: &mut K, leds: u32, count: u32) -> Result<(), Failed>
-    ensures { Writes K.told K.faults out.old out.new (led_texts leds count) result }
+    ensures { Writes K.tells out.old out.new (led_texts leds count) result }
 {
     writes_compose::<K>();
     for led in 0..count {
@@ -189,7 +189,7 @@ fn led_glyph(leds: u32, led: u32) -> u8
 /// Writes the LEDs, or `-` where there is none.
 #[tactic(auto, unfolding(crate::specs::Report::led_list))]
 fn write_led_list<K: Sink>(out: &mut K, leds: u32, count: u32) -> Result<(), Failed>
-    ensures { Writes K.told K.faults out.old out.new (led_list leds count) result }
+    ensures { Writes K.tells out.old out.new (led_list leds count) result }
 {
     if count == 0 {
         return put_all(out, b"-");
@@ -199,7 +199,7 @@ fn write_led_list<K: Sink>(out: &mut K, leds: u32, count: u32) -> Result<(), Fai
 
 /// Writes the line of the LEDs.
 fn write_leds<K: Sink>(out: &mut K, leds: u32, count: u32) -> Result<(), Failed>
-    ensures { Writes K.told K.faults out.old out.new (leds_text leds count) result }
+    ensures { Writes K.tells out.old out.new (leds_text leds count) result }
 {
     writes_compose::<K>();
     put_all(out, b"leds ")?;
@@ -220,7 +220,7 @@ fn end_word(end: End) -> &'static [u8]
 /// Writes the line of the end.
 #[tactic(auto, unfolding(crate::specs::Report::end_line))]
 fn write_end<K: Sink>(out: &mut K, end: End, steps: u64, time: u64) -> Result<(), Failed>
-    ensures { Writes K.told K.faults out.old out.new (end_line end steps time) result }
+    ensures { Writes K.tells out.old out.new (end_line end steps time) result }
 {
     let mut step_digits = Buffer::new();
     let mut time_digits = Buffer::new();
@@ -243,7 +243,7 @@ fn write_end<K: Sink>(out: &mut K, end: End, steps: u64, time: u64) -> Result<()
 /// where the sink's count of faults rose, a part of it was written.
 #[tactic(auto, unfolding(crate::specs::Report::report_text))]
 pub fn write_report<K: Sink>(summary: &Summary, end: End, out: &mut K) -> Result<(), Failed>
-    ensures { Writes K.told K.faults out.old out.new (report_text summary.now end) result }
+    ensures { Writes K.tells out.old out.new (report_text summary.now end) result }
 {
     writes_compose::<K>();
     write_slots(out, &summary.slots)?;

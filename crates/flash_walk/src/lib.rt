@@ -10,6 +10,3 @@ mod walking;
 pub use found::{Found, Verdict};
 pub use laws::objects_are_found;
 pub use walking::walk;
-
-#[cfg(test)]
-mod tests;

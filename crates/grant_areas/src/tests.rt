@@ -13,12 +13,19 @@ fn a_buffer_of_the_console()
         ++ (0x20 ∷ 0 ∷ 0 ∷ 0x80 ∷ 8 ∷ 0 ∷ 0 ∷ 0 ∷ []) ++ replicate 32 0 }
 {}
 
-/// The alarm is entered after the storage, and lies below it.
+/// All drivers with a grant, in an order and the other way round: the one entered last is lowest.
 #[tactic(auto, unfolding(crate::specs::Grants::shape_of, grant_values::specs::Drivers::counts_of, grant_values::specs::Drivers::drivers))]
 fn the_last_entered_is_lowest()
-    ensures { laid (entered 0 (entered 0x50001 []))
+    ensures one_way { laid (entered 0 (entered 0x50001 (entered 1 (entered 0x40001 []))))
         ≡ (0 ∷ 0 ∷ 0 ∷ 0 ∷ 40 ∷ 0 ∷ 0 ∷ 0 ∷ []) ++ replicate 32 0
-        ++ (1 ∷ 0 ∷ 5 ∷ 0 ∷ 64 ∷ 0 ∷ 0 ∷ 0 ∷ []) ++ replicate 56 0 }
+        ++ (1 ∷ 0 ∷ 5 ∷ 0 ∷ 64 ∷ 0 ∷ 0 ∷ 0 ∷ []) ++ replicate 56 0
+        ++ (1 ∷ 0 ∷ 0 ∷ 0 ∷ 96 ∷ 0 ∷ 0 ∷ 0 ∷ []) ++ replicate 88 0
+        ++ (1 ∷ 0 ∷ 4 ∷ 0 ∷ 48 ∷ 0 ∷ 0 ∷ 0 ∷ []) ++ replicate 40 0 }
+    ensures the_other { laid (entered 0x40001 (entered 1 (entered 0x50001 (entered 0 []))))
+        ≡ (1 ∷ 0 ∷ 4 ∷ 0 ∷ 48 ∷ 0 ∷ 0 ∷ 0 ∷ []) ++ replicate 40 0
+        ++ (1 ∷ 0 ∷ 0 ∷ 0 ∷ 96 ∷ 0 ∷ 0 ∷ 0 ∷ []) ++ replicate 88 0
+        ++ (1 ∷ 0 ∷ 5 ∷ 0 ∷ 64 ∷ 0 ∷ 0 ∷ 0 ∷ []) ++ replicate 56 0
+        ++ (0 ∷ 0 ∷ 0 ∷ 0 ∷ 40 ∷ 0 ∷ 0 ∷ 0 ∷ []) ++ replicate 32 0 }
 {}
 
 #[test]

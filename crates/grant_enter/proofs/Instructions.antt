@@ -1,7 +1,7 @@
 -- What an instruction over the whole of RAM leaves of what contracts see.
 use Rattle.std.proofs.Common.{◌≡◌, ℕ, ◌+◌, ◌-◌, ◌<◌, ◌≤◌, inr, IsTrue, List, length, IfSome, Option, None, Some, refl, sym, ap, ap₂, subst, ◌∙◌, arith}
-use Rattle.std.specs.Prelude.{slice_index_or, slice_range, slice_set}
-use Rattle.std.proofs.lemmas.List.{length-map, set-get_or}
+use Rattle.std.specs.Prelude.{slice_index_or, slice_range}
+use Rattle.std.proofs.lemmas.List.{length-map}
 use Rattle.std.proofs.lemmas.Bool.Decides.{nat_tests}
 use Rattle.process_layout.specs.Interval.{lies_within}
 use Rattle.tk_base.specs.declared.access.Access.TheVariants.{Store}
@@ -24,11 +24,11 @@ use Rattle.grant_enter.specs.declared.seat.Seat.{Seat}
 use Rattle.grant_enter.specs.declared.home.Home.TheInside.{Inside}
 use Rattle.grant_enter.specs.Homes.{Homes, IsInPlace, IsSettled, ChangesOnly, nobody, own_of, with_own, Makes}
 use Rattle.grant_enter.specs.Reach.{turn_under}
-use Rattle.grant_enter.specs.Seats.{AreSettled, IsHome, layouts_of, first_seat, own_in, owns_in, homes_of}
-use Rattle.grant_enter.proofs.Windows.{length_window, windows_same, put_outside, put_window}
+use Rattle.grant_enter.specs.Seats.{IsHome, IsSeated, IsKept, Reseats, first_seat, owned, kernel_in, own_in, homes_of}
+use Rattle.grant_enter.proofs.Windows.{length_window, windows_same, put_outside, put_window, widened}
 use Rattle.grant_enter.proofs.Sight.{same_turn, store_lies, stores_in_ram}
-use Rattle.grant_enter.proofs.Moves.{own_is, layout_is, settled_is, others, put_found, put_only}
-use Rattle.grant_enter.proofs.Tables.{any_default, one_changed}
+use Rattle.grant_enter.proofs.Moves.{own_is, layout_is, settled_is, seated_is, same_memory, still_home, still_shown, put_found, put_only}
+use Rattle.grant_enter.proofs.Tables.{any_default}
 
 -- as much RAM as before
 pub length_after : AStoreIsPut → (pmp : List Entry) (ram : List ℕ) (w : Option Write) → StoresLieIn (length ram) pmp → IfSome w (λ x. denied_by pmp Store x.address x.width ≡ None) → length (ram_after RAM_START w ram) ≡ length ram
@@ -42,94 +42,104 @@ length_after law pmp ram (Some w) s d = (law ram (w.address - RAM_START) w.width
         inside : (from to at size : ℕ) → IsTrue (lies_within from to at size) → (from ≤ at) × (at + size ≤ to)
         inside from to at size l = grind (arith, nat_tests)
 
--- the seats are where they were
-pub home_after : AStoreIsPut → (h : Inside) (pmp : List Entry) (regs : Regs) (m : MemoryBytes) → IsHome h → StoresLieIn (length h.memory.ram) pmp → WritesArePermitted → m ≡ record h.memory { ram = ram_after RAM_START (turn_under pmp h.memory.flash h.memory.ram regs).write h.memory.ram } → IsHome (record { memory = m; seats = h.seats })
-home_after law h pmp regs m home s writes is =
-    let t = turn_under pmp h.memory.flash h.memory.ram regs in
-    let flash : length m.flash ≡ length h.memory.flash = ap (λ (x : MemoryBytes). length x.flash) is in
-    let ram : length m.ram ≡ length h.memory.ram = ap (λ (x : MemoryBytes). length x.ram) is ∙ length_after law pmp h.memory.ram t.write s (writes (denied_by pmp) (byte_at h.memory.flash h.memory.ram) regs) in
+-- what a permitted write to RAM leaves of a seat, and of what is its own
+pub record Writes (m : MemoryBytes) (s : Seat) (w : Option Write) : Type 0 where
+  pub reseats : Reseats m s (record m { ram = ram_after RAM_START w m.ram }) s
+  pub own : own_in (ram_after RAM_START w m.ram) s ≡ record (own_in m.ram s) { ram = ram_after s.layout.start w (own_in m.ram s).ram }
+
+pub writes_own : AStoreIsPut → (m : MemoryBytes) (pmp : List Entry) (s : Seat) → IsSettled (length m.flash) (length m.ram) s.layout → IsSeated (length m.flash) m.ram s → Protect pmp s.layout → (w : Option Write) → IfSome w (λ x. denied_by pmp Store x.address x.width ≡ None) → Writes m s w
+unfolding ram_after
+writes_own law m pmp s t seated p None d = record { reseats = same_memory m s s t refl refl seated; own = refl }
+writes_own law m pmp s t seated p (Some w) d =
+    let l = store_lies pmp s.layout w.address w.width p d in
+    let at = w.address - RAM_START in
+    let put_is = law m.ram at w.width w.value (omega (arith, l.0, l.1, t.from, t.to, t.ordered.grants, t.ordered.end)) in
+    let outside = put_outside m.ram at w.width w.value put_is in
+    let ram = put m.ram at w.width w.value in
+    let app : slice_range ram (s.layout.start - RAM_START) (s.layout.kernel_break - RAM_START) ≡ put (own_in m.ram s).ram (w.address - s.layout.start) w.width w.value
+    = put_window law m.ram at w.width w.value (s.layout.start - RAM_START) (s.layout.kernel_break - RAM_START) (omega (arith, l.0)) (omega (arith, l.0, l.1, t.from, t.ordered.grants)) (omega (arith, t.to, t.ordered.end, t.from))
+    ∙ ap (λ (k : ℕ). put (own_in m.ram s).ram k w.width w.value) (place w.address s.layout.start t.from l.0) in
+    let kernel : kernel_in ram s.layout ≡ kernel_in m.ram s.layout
+    = windows_same m.ram ram at (at + width_bytes w.width) (s.layout.kernel_break - RAM_START) (s.layout.end - RAM_START) outside (inr (omega (arith, l.0, l.1, t.from, t.ordered.grants))) in
     record {
-      settled = subst (λ (n : ℕ). AreSettled n (length m.ram) (layouts_of h.seats.items)) (sym flash)
-          (subst (λ (n : ℕ). AreSettled (length h.memory.flash) n (layouts_of h.seats.items)) (sym ram) home.settled);
+      reseats = record {
+        flash = refl;
+        elsewhere = widened m.ram ram at (at + width_bytes w.width) (s.layout.start - RAM_START) (s.layout.end - RAM_START) outside (omega (arith, l.0)) (omega (arith, l.0, l.1, t.from, t.ordered.grants, t.ordered.end));
+        start = refl;
+        end = refl;
+        settled = t;
+        seated = record { object = seated.object; kept = subst (IsKept s.layout) (sym kernel) seated.kept };
+      };
+      own = ap₂ (owned s) app kernel;
     }
+  where
+    place : (address start : ℕ) → RAM_START ≤ start → start ≤ address → address - RAM_START - (start - RAM_START) ≡ address - start
+    place address start from in_block = omega arith
 
 module _ (law : AStoreIsPut) (h : Inside) (slot : ℕ) (low : slot < length (homes_of h).owns) (home : IsHome h) (pmp : List Entry) where
-  seat : Seat
-  seat = slice_index_or h.seats.items slot (first_seat nobody.layout)
+  abbrev seat : Seat
+  seat = slice_index_or h.seats.items slot (first_seat (record { object = nobody.object; layout = nobody.layout }))
 
-  read : slice_index_or h.seats.items slot (first_seat nobody.layout) ≡ slice_index_or h.seats.items slot (slice_index_or h.seats.items slot (first_seat nobody.layout))
+  read : seat ≡ slice_index_or h.seats.items slot seat
   read = any_default h.seats.items slot _ _ (omega (arith, length-map h.seats.items (own_in h.memory.ram), low))
 
-  here : own_of (homes_of h) slot ≡ own_in h.memory.ram (slice_index_or h.seats.items slot (first_seat nobody.layout))
-  here = own_is h slot slot (slice_index_or h.seats.items slot (first_seat nobody.layout)) refl read low
+  here : own_of (homes_of h) slot ≡ own_in h.memory.ram seat
+  here = own_is h slot slot seat refl read low
 
-  settled : IsSettled (length h.memory.flash) (length h.memory.ram) (slice_index_or h.seats.items slot (first_seat nobody.layout)).layout
-  settled = settled_is h slot slot (slice_index_or h.seats.items slot (first_seat nobody.layout)) refl read low home
+  settled : IsSettled (length h.memory.flash) (length h.memory.ram) seat.layout
+  settled = settled_is h slot slot seat refl read low home
 
-  -- what a permitted write to RAM leaves of the slot's own
-  own_written : (s : Seat) → s ≡ slice_index_or h.seats.items slot (first_seat nobody.layout) → Protect pmp s.layout → (w : Option Write) → IfSome w (λ x. denied_by pmp Store x.address x.width ≡ None) → owns_in (ram_after RAM_START w h.memory.ram) h.seats.items ≡ slice_set (homes_of h).owns slot (record (own_in h.memory.ram s) { ram = ram_after s.layout.start w (own_in h.memory.ram s).ram })
-  unfolding ram_after
-  own_written s is p None d = sym (ap (slice_set (homes_of h).owns slot) (ap (own_in h.memory.ram) is ∙ sym here) ∙ set-get_or (homes_of h).owns slot nobody)
-  own_written s is p (Some w) d =
-      let t = subst (λ (x : Seat). IsSettled (length h.memory.flash) (length h.memory.ram) x.layout) (sym is) settled in
-      let l = store_lies pmp s.layout w.address w.width p d in
-      let at = w.address - RAM_START in
-      let put_is = law h.memory.ram at w.width w.value (omega (arith, l.0, l.1, t.from, t.to, t.ordered.grants, t.ordered.end)) in
-      let outside = put_outside h.memory.ram at w.width w.value put_is in
-      let read_s : s ≡ slice_index_or h.seats.items slot s = is ∙ read ∙ ap (slice_index_or h.seats.items slot) (sym is) in
-      let ram = put h.memory.ram at w.width w.value in
-      let app : slice_range ram (s.layout.start - RAM_START) (s.layout.kernel_break - RAM_START) ≡ put (own_in h.memory.ram s).ram (w.address - s.layout.start) w.width w.value
-      = put_window law h.memory.ram at w.width w.value (s.layout.start - RAM_START) (s.layout.kernel_break - RAM_START) (omega (arith, l.0)) (omega (arith, l.0, l.1, t.from, t.ordered.grants)) (omega (arith, t.to, t.ordered.end, t.from))
-      ∙ ap (λ (k : ℕ). put (own_in h.memory.ram s).ram k w.width w.value) (place w.address s.layout.start t.from l.0) in
-      let kernel : slice_range ram (s.layout.kernel_break - RAM_START) (s.layout.end - RAM_START) ≡ (own_in h.memory.ram s).kernel
-      = windows_same h.memory.ram ram at (at + width_bytes w.width) (s.layout.kernel_break - RAM_START) (s.layout.end - RAM_START) outside (inr (omega (arith, l.0, l.1, t.from, t.ordered.grants))) in
-      let moved : slice_set h.seats.items slot s ≡ h.seats.items = ap (slice_set h.seats.items slot) is ∙ set-get_or h.seats.items slot (first_seat nobody.layout) in
-      ap (owns_in ram) (sym moved)
-      ∙ one_changed (own_in ram) (own_in h.memory.ram) h.seats.items slot s _ (ap₂ (λ (a b : List ℕ). record { layout = s.layout; ram = a; kernel = b; life = s.life; lives = s.lives; dropped = s.dropped }) app kernel)
-      (others h slot slot s refl read_s low home ram at (at + width_bytes w.width) outside (omega (arith, l.0)) (omega (arith, l.0, l.1, t.from, t.ordered.grants, t.ordered.end)))
-    where
-      place : (address start : ℕ) → RAM_START ≤ start → start ≤ address → address - RAM_START - (start - RAM_START) ≡ address - start
-      place address start from in_block = omega arith
+  seated : IsSeated (length h.memory.flash) h.memory.ram seat
+  seated = seated_is h slot slot seat refl read low home
 
   -- the layout that the registers protect
   pub stores : (old : Homes) → homes_of h ≡ old → Protect pmp (own_of old slot).layout → StoresLieIn (length h.memory.ram) pmp
   stores old shown p =
-      let same = layout_is h slot slot (slice_index_or h.seats.items slot (first_seat nobody.layout)) refl read low old shown in
+      let same = layout_is h slot slot seat refl read low old shown in
       stores_in_ram (length h.memory.flash) (length h.memory.ram) pmp _ settled (subst (Protect pmp) same p)
+
+  -- what is left in memory
+  left : (old : Homes) (m : MemoryBytes) (regs : Regs) → homes_of h ≡ old → Protect pmp (own_of old slot).layout → WritesArePermitted → m ≡ record h.memory { ram = ram_after RAM_START (turn_under pmp h.memory.flash h.memory.ram regs).write h.memory.ram } → Writes h.memory seat (turn_under pmp h.memory.flash h.memory.ram regs).write
+  left old m regs shown p writes is = writes_own law h.memory pmp seat settled seated (subst (Protect pmp) (layout_is h slot slot seat refl read low old shown) p) (turn_under pmp h.memory.flash h.memory.ram regs).write (writes (denied_by pmp) (byte_at h.memory.flash h.memory.ram) regs)
+
+  pub home_after : (old : Homes) (m : MemoryBytes) (regs : Regs) → homes_of h ≡ old → Protect pmp (own_of old slot).layout → WritesArePermitted → m ≡ record h.memory { ram = ram_after RAM_START (turn_under pmp h.memory.flash h.memory.ram regs).write h.memory.ram } → IsHome (record { memory = m; seats = h.seats })
+  home_after old m regs shown p writes is =
+      subst (λ (x : MemoryBytes). IsHome (record { memory = x; seats = h.seats })) (sym is)
+      (still_home h slot slot seat refl read low home _ (left old m regs shown p writes is).reseats)
+
+  -- all that the instruction leaves, by the registers
+  written : (old : Homes) (m : MemoryBytes) (regs : Regs) → homes_of h ≡ old → Protect pmp (own_of old slot).layout → WritesArePermitted → m ≡ record h.memory { ram = ram_after RAM_START (turn_under pmp h.memory.flash h.memory.ram regs).write h.memory.ram } → homes_of (record { memory = m; seats = h.seats }) ≡ with_own old slot (with_write (own_of old slot) (turn_under pmp h.memory.flash h.memory.ram regs))
+  written old m regs shown p writes is =
+      let t = turn_under pmp h.memory.flash h.memory.ram regs in
+      let own : own_of old slot ≡ own_in h.memory.ram seat = ap (λ (x : Homes). own_of x slot) (sym shown) ∙ here in
+      ap (λ (x : MemoryBytes). homes_of (record { memory = x; seats = h.seats })) is
+      ∙ still_shown h slot slot seat refl read low home _ (left old m regs shown p writes is).reseats old _ shown
+      ((left old m regs shown p writes is).own ∙ ap (λ (o : Own). with_write o t) (sym own))
 
   -- what is the slot's own lies in its place
   pub in_place : (old : Homes) → homes_of h ≡ old → IsInPlace (own_of old slot)
   in_place old shown =
-      let s = slice_index_or h.seats.items slot (first_seat nobody.layout) in
       let t = settled in
-      let place : IsInPlace (own_in h.memory.ram s) = record {
+      let e = seat.layout in
+      let kernel : length (kernel_in h.memory.ram seat.layout) ≡ seat.layout.end - seat.layout.kernel_break = length_window h.memory.ram (e.kernel_break - RAM_START) (e.end - RAM_START) (omega (arith, t.to, t.from)) ∙ differ e.kernel_break e.end (omega (arith, t.from, t.ordered.block, t.ordered.grants)) t.ordered.end in
+      let place : IsInPlace (own_in h.memory.ram seat) = record {
         ordered = t.ordered;
         apart = omega (arith, t.below, t.from);
-        ram = length_window h.memory.ram (s.layout.start - RAM_START) (s.layout.kernel_break - RAM_START) (omega (arith, t.to, t.from, t.ordered.end)) ∙ differ s.layout.start s.layout.kernel_break t.from (omega (arith, t.ordered.block, t.ordered.grants));
-        kernel = length_window h.memory.ram (s.layout.kernel_break - RAM_START) (s.layout.end - RAM_START) (omega (arith, t.to, t.from)) ∙ differ s.layout.kernel_break s.layout.end (omega (arith, t.from, t.ordered.block, t.ordered.grants)) t.ordered.end;
+        ram = length_window h.memory.ram (e.start - RAM_START) (e.kernel_break - RAM_START) (omega (arith, t.to, t.from, t.ordered.end)) ∙ differ e.start e.kernel_break t.from (omega (arith, t.ordered.block, t.ordered.grants));
+        kernel = ap length (sym seated.kept.laid.bytes) ∙ kernel;
+        sound = seated.kept.laid.sound;
       } in
       subst IsInPlace (sym (ap (λ (x : Homes). own_of x slot) (sym shown) ∙ here)) place
     where
       differ : (a b : ℕ) → RAM_START ≤ a → a ≤ b → b - RAM_START - (a - RAM_START) ≡ b - a
       differ a b low order = omega arith
 
-  -- all that the instruction leaves, by the registers
-  written : (old : Homes) (m : MemoryBytes) (regs : Regs) → homes_of h ≡ old → Protect pmp (own_of old slot).layout → WritesArePermitted → m ≡ record h.memory { ram = ram_after RAM_START (turn_under pmp h.memory.flash h.memory.ram regs).write h.memory.ram } → homes_of (record { memory = m; seats = h.seats }) ≡ with_own old slot (with_write (own_of old slot) (turn_under pmp h.memory.flash h.memory.ram regs))
-  written old m regs shown p writes left =
-      let s = slice_index_or h.seats.items slot (first_seat nobody.layout) in
-      let protect : Protect pmp s.layout = subst (Protect pmp) (layout_is h slot slot s refl read low old shown) p in
-      let t = turn_under pmp h.memory.flash h.memory.ram regs in
-      ap (λ (x : MemoryBytes). homes_of (record { memory = x; seats = h.seats })) left
-      ∙ ap (λ (owns : List Own). record { flash = h.memory.flash; owns = owns }) (own_written s refl protect t.write (writes (denied_by pmp) (byte_at h.memory.flash h.memory.ram) regs))
-      ∙ ap (λ (o : Own). with_own (homes_of h) slot (with_write o t)) (sym here)
-      ∙ ap (λ (x : Homes). with_own x slot (with_write (own_of x slot) t)) shown
-
   pub makes_only : (old : Homes) (m : MemoryBytes) (regs : Regs) → homes_of h ≡ old → slot < length old.owns → Protect pmp (own_of old slot).layout → WritesArePermitted → m ≡ record h.memory { ram = ram_after RAM_START (turn_under pmp h.memory.flash h.memory.ram regs).write h.memory.ram } → ChangesOnly slot old (homes_of (record { memory = m; seats = h.seats }))
   makes_only old m regs shown within p writes left = put_only old (homes_of (record { memory = m; seats = h.seats })) slot (with_write (own_of old slot) (turn_under pmp h.memory.flash h.memory.ram regs)) within (written old m regs shown p writes left)
 
   pub makes : (old : Homes) (m : MemoryBytes) (regs after : Regs) (end : TurnEnd) → homes_of h ≡ old → slot < length old.owns → Protect pmp (own_of old slot).layout → SeesOnlyPermitted → WritesArePermitted → m ≡ record h.memory { ram = ram_after RAM_START (turn_under pmp h.memory.flash h.memory.ram regs).write h.memory.ram } → after ≡ (turn_under pmp h.memory.flash h.memory.ram regs).regs → end ≡ (turn_under pmp h.memory.flash h.memory.ram regs).end → Makes old.flash (own_of old slot) regs (own_of (homes_of (record { memory = m; seats = h.seats })) slot) after end
   makes old m regs after end shown within p sees writes left regs_is end_is seen looks =
-      let s = slice_index_or h.seats.items slot (first_seat nobody.layout) in
+      let s = seat in
       let own : own_of old slot ≡ own_in h.memory.ram s = ap (λ (x : Homes). own_of x slot) (sym shown) ∙ here in
       let protect : Protect pmp s.layout = subst (Protect pmp) (layout_is h slot slot s refl read low old shown) p in
       let t = turn_under pmp h.memory.flash h.memory.ram regs in

@@ -1,7 +1,17 @@
-pub mod Boot
-pub mod Instructions
-pub mod Left
-pub mod Moves
-pub mod Sight
-pub mod Tables
-pub mod Windows
+mod Windows
+mod Tables
+mod Moves
+mod Boot
+mod Left
+mod Sight
+mod Instructions
+mod Blocks
+mod Holding
+mod Handed
+mod Flags
+mod Values
+mod Buffers
+mod Serving
+mod Writing
+mod Keeping
+mod Entering

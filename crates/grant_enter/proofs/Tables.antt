@@ -1,6 +1,6 @@
 -- The seats, by slot.
 use Rattle.std.proofs.Common.{◌≡◌, ◌≢◌, ℕ, zero, suc, ◌<◌, ◌≤◌, ◌⊎◌, inl, inr, List, [], ◌∷◌, length, map, get_or, refl, sym, ap, ap₂, subst, ◌∙◌, arith}
-use Rattle.std.specs.Prelude.{slice_index_or, slice_set}
+use Rattle.std.specs.Prelude.{slice_index_or, slice_set, All}
 use Rattle.std.proofs.lemmas.List.{get_or-map, map-set, length-map, length-set}
 use Rattle.std.proofs.lemmas.List.Elements.{All-set}
 use Rattle.process_layout.specs.Extents.{Extents}
@@ -86,8 +86,23 @@ settled_set flash ram es s y d settled h here start end = record {
 }
 
 -- so does a seat
-pub seated_set : (flash ram : ℕ) (seats : List Seat) (slot index : ℕ) (seat new : Seat) → AreSettled flash ram (layouts_of seats) → index ≡ slot → seat ≡ slice_index_or seats index seat → slot < length seats → IsSettled flash ram new.layout → new.layout.start ≡ seat.layout.start → new.layout.end ≡ seat.layout.end → AreSettled flash ram (layouts_of (slice_set seats index new))
-seated_set flash ram seats slot index seat new settled is read h here start end =
+pub layouts_set : (flash ram : ℕ) (seats : List Seat) (slot index : ℕ) (seat new : Seat) → AreSettled flash ram (layouts_of seats) → index ≡ slot → seat ≡ slice_index_or seats index seat → slot < length seats → IsSettled flash ram new.layout → new.layout.start ≡ seat.layout.start → new.layout.end ≡ seat.layout.end → AreSettled flash ram (layouts_of (slice_set seats index new))
+layouts_set flash ram seats slot index seat new settled is read h here start end =
     let was : get_or (layouts_of seats) index seat.layout ≡ seat.layout = get_or-map (λ (s : Seat). s.layout) seats index seat seat.layout (omega arith) ∙ ap (λ (s : Seat). s.layout) (sym read) in
     subst (AreSettled flash ram) (sym (map-set (λ (s : Seat). s.layout) seats index new))
     (settled_set flash ram (layouts_of seats) index new.layout seat.layout settled (omega (arith, length-map seats (λ (s : Seat). s.layout))) here (start ∙ ap (λ (e : Extents). e.start) (sym was)) (end ∙ ap (λ (e : Extents). e.end) (sym was)))
+
+-- what holds of each element holds of each once one was changed
+pub all_changed : {X : Type 0} (P Q : X → Type 0) (xs : List X) (i : ℕ) (x : X) → ((k : ℕ) (d : X) → k < length xs → k ≢ i → P (get_or xs k d) → Q (get_or xs k d)) → Q x → All P xs → All Q (slice_set xs i x)
+all_changed P Q [] i x others here all = λ k d h. absurd (omega arith)
+all_changed P Q (z ∷ zs) zero x others here all = by_place
+  where
+    by_place : (k : ℕ) (d : _) → k < length (x ∷ zs) → Q (get_or (x ∷ zs) k d)
+    by_place zero d h = here
+    by_place (suc k) d h = others (suc k) d (omega arith) (omega arith) (all (suc k) d (omega arith))
+all_changed P Q (z ∷ zs) (suc i) x others here all =
+    by_place (all_changed P Q zs i x (λ k d h ne p. others (suc k) d (omega arith) (omega arith) p) here (λ k d h. all (suc k) d (omega arith)))
+  where
+    by_place : All Q (slice_set zs i x) → (k : ℕ) (d : _) → k < length (z ∷ slice_set zs i x) → Q (get_or (z ∷ slice_set zs i x) k d)
+    by_place rest zero d h = others zero d (omega arith) (omega arith) (all zero d (omega arith))
+    by_place rest (suc k) d h = rest k d (omega arith)

@@ -9,11 +9,7 @@ use Rattle.tk_base.specs.Access.{width_bytes}
 use Rattle.tk_base.specs.Bus.{put, written, byte_of}
 use Rattle.tk_base.specs.Laws.{AStoreIsPut, IsPut}
 use Rattle.board_memory.specs.Memory.{over}
-
--- bytes that are the same outside of an interval of places
-pub record SameOutside (from to : ℕ) (old new : List ℕ) : Type 0 where
-  pub long : length new ≡ length old
-  pub each : (k : ℕ) → (k < from) ⊎ (to ≤ k) → slice_index new k ≡ slice_index old k
+use Rattle.grant_enter.specs.Windows.{SameOutside}
 
 -- a byte of a window
 pub window_at : (xs : List ℕ) (a b k : ℕ) → k < b - a → slice_index (slice_range xs a b) k ≡ slice_index xs (a + k)
@@ -44,6 +40,14 @@ windows_same xs ys from to a b same side =
     at_side : (b ≤ from) ⊎ (to ≤ a) → (k : ℕ) → k < b - a → (a + k < from) ⊎ (to ≤ a + k)
     at_side (inl below) k h = inl (omega arith)
     at_side (inr above) k h = inr (omega arith)
+
+-- so they are outside of a wider interval
+pub widened : (xs ys : List ℕ) (a b from to : ℕ) → SameOutside a b xs ys → from ≤ a → b ≤ to → SameOutside from to xs ys
+widened xs ys a b from to same low high = record { long = same.long; each = λ k side. same.each k (narrowed k side) }
+  where
+    narrowed : (k : ℕ) → (k < from) ⊎ (to ≤ k) → (k < a) ⊎ (b ≤ k)
+    narrowed k (inl below) = inl (omega arith)
+    narrowed k (inr above) = inr (omega arith)
 
 -- a value that is put changes its own places alone
 pub put_outside : (xs : List ℕ) (at : ℕ) (width : Width) (v : ℕ) → IsPut xs at width v → SameOutside at (at + width_bytes width) xs (put xs at width v)
@@ -81,6 +85,10 @@ over_outside xs ws at fits = record { long = search (rules, places); each = λ k
 -- and they stand there
 pub over_window : (xs ws : List ℕ) (at b : ℕ) → at + length ws ≤ length xs → b ≡ at + length ws → slice_range (over xs at ws) at b ≡ ws
 over_window xs ws at b fits end = same_number_lists _ _ (search (rules, places)) (λ k h. grind (arith, places))
+
+-- any part of them stands at its place
+pub over_part : (xs ws : List ℕ) (at a b : ℕ) → at + length ws ≤ length xs → at ≤ a → b ≤ at + length ws → slice_range (over xs at ws) a b ≡ slice_range ws (a - at) (b - at)
+over_part xs ws at a b fits low high = same_number_lists _ _ (search (rules, places)) (λ k h. grind (arith, places))
 
 -- so many zeros
 abbrev pub zeros : ℕ → List ℕ

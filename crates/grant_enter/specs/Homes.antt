@@ -1,10 +1,15 @@
 -- What contracts see of the memory of all processes: flash, and by slot what is a process's own.
-use Rattle.std.specs.Prelude.{◌≡◌, ◌≤◌, ℕ, ◌+◌, ◌-◌, ◌%◌, true, List, [], length, slice_index_or, slice_set}
+use Rattle.std.specs.Prelude.{◌≡◌, ◌≤◌, ◌<◌, ℕ, ◌+◌, ◌-◌, ◌%◌, ◌^◌, true, if◌then◌else◌, List, [], length, slice_index_or, slice_set, Option, None, Some}
+use Rattle.std.specs.List.{AllByRecursion}
 use Rattle.tk_base.specs.declared.access.TheConstants.{FLASH_START, RAM_START}
+use Rattle.tk_base.specs.declared.process.ProcessId.{ProcessId}
 use Rattle.tk_base.specs.declared.regs.Regs.{Regs}
 use Rattle.rv32_model.specs.declared.turn_end.TurnEnd.{TurnEnd}
 use Rattle.process_layout.specs.Extents.{Extents}
 use Rattle.process_layout.specs.Ordered.{IsOrdered}
+use Rattle.grant_areas.specs.Laid.{laid, IsSound}
+use Rattle.process_own.specs.declared.place.Object.{Object}
+use Rattle.process_own.specs.declared.place.Footprint.{Footprint}
 use Rattle.process_own.specs.Own.{Own}
 use Rattle.process_own.specs.Instruction.{Sees, instruction_of, with_write}
 
@@ -15,9 +20,11 @@ pub record Homes : Type 0 where
 -- what stands for a slot that there is not
 abbrev pub nobody : Own
 nobody = record {
+  object = record { address = 0; size = 0 };
   layout = record { flash_start = 0; flash_end = 0; start = 0; end = 0; brk = 0; kernel_break = 0; mark = 0 };
   ram = [];
-  kernel = [];
+  grants = [];
+  pending = [];
   life = 0;
   lives = true;
   dropped = 0;
@@ -30,6 +37,11 @@ own_of home slot = slice_index_or home.owns slot nobody
 -- the same with another own in a slot
 abbrev pub with_own : Homes → ℕ → Own → Homes
 with_own home slot own = record home { owns = slice_set home.owns slot own }
+
+-- the process that lives in a slot, if one does
+abbrev pub living : ℕ → Option Own → Option ProcessId
+living slot None = None
+living slot (Some own) = if own.lives then Some (record { slot = slot; life = own.life }) else None
 
 -- nothing but what is in one slot may differ
 abbrev pub ChangesOnly : ℕ → Homes → Homes → Type 0
@@ -46,18 +58,36 @@ pub record IsSettled (flash ram : ℕ) (e : Extents) : Type 0 where
   pub below : e.flash_end ≤ RAM_START
   pub from : RAM_START ≤ e.start
   pub to : e.end ≤ RAM_START + ram
+  pub fits : e.end < 2 ^ 32
 
--- A process's own memory as it always lies: its parts in their order, the bytes below the kernel break and those from it
--- on as many as the layout says, its accessible flash below its block.
+-- a process's object lies in so many bytes of flash, and its accessible flash in the object
+pub record HasObject (flash : ℕ) (object : Object) (e : Extents) : Type 0 where
+  pub from : FLASH_START ≤ object.address
+  pub to : object.address + object.size ≤ FLASH_START + flash
+  pub accessible_from : object.address ≤ e.flash_start
+  pub accessible_to : e.flash_end ≤ object.address + object.size
+
+-- where a process may begin its first life: it lies in flash and RAM, and has no grants yet
+pub record CanMoveIn (flash ram : ℕ) (f : Footprint) : Type 0 where
+  pub settled : IsSettled flash ram f.layout
+  pub object : HasObject flash f.object f.layout
+  pub no_grants : f.layout.kernel_break ≡ f.layout.end
+
+-- A process's own memory as it always lies: its parts in their order, the bytes below the kernel break and those of its
+-- grants as many as the layout says, its accessible flash below its block.
 pub record IsInPlace (own : Own) : Type 0 where
   pub ordered : IsOrdered own.layout
   pub apart : own.layout.flash_end ≤ own.layout.start
   pub ram : length own.ram ≡ own.layout.kernel_break - own.layout.start
-  pub kernel : length own.kernel ≡ own.layout.end - own.layout.kernel_break
+  pub kernel : length (laid own.grants) ≡ own.layout.end - own.layout.kernel_break
+  pub sound : AllByRecursion IsSound own.grants
 
 -- one block ends before another begins
 abbrev pub EndsBefore : Extents → Extents → Type 0
 EndsBefore a b = a.end ≤ b.start
+
+abbrev pub LiesBefore : Footprint → Footprint → Type 0
+LiesBefore a b = EndsBefore a.layout b.layout
 
 -- An instruction of a process: whatever bytes stand where it may not look, it is the one that its own bytes give, and
 -- of memory it leaves what it writes to its own RAM.

@@ -1,25 +1,59 @@
 -- How the one RAM holds the blocks. Only proofs use this.
-use Rattle.std.specs.Prelude.{ℕ, true, List, length, map, All, AllPairs}
+use Rattle.std.specs.Prelude.{ℕ, ◌≡◌, ◌<◌, ◌≤◌, ◌+◌, ◌-◌, ◌==◌, ◌||◌, Bool, IsTrue, true, if◌then◌else◌, List, [], ◌∷◌, ◌++◌, length, map, take, drop, slice_range, All, AllPairs}
+use Rattle.std.specs.List.{AllByRecursion}
+use Rattle.tk_base.specs.declared.access.TheConstants.{FLASH_START, RAM_START}
+use Rattle.tk_base.specs.declared.upcall.Upcall.{Upcall}
+use Rattle.upcall_queue.specs.Pending.{has_room}
 use Rattle.process_layout.specs.Extents.{Extents}
+use Rattle.process_layout.specs.Interval.{lies_within}
+use Rattle.grant_values.specs.Words.{bytes_of}
+use Rattle.grant_areas.specs.Grants.{Grant, grant_of, entered}
+use Rattle.grant_areas.specs.Laid.{IsLaid, Tells, read_back}
+use Rattle.grant_region.specs.Region.{below, fits, roomed}
+use Rattle.grant_areas.specs.declared.kinds.PairKind.{PairKind}
+use Rattle.swap_tables.specs.Swaps.{held_pair, swapped}
+use Rattle.process_own.specs.declared.place.Footprint.{Footprint}
 use Rattle.process_own.specs.Own.{Own}
-use Rattle.board_memory.specs.Memory.{ram_between}
-use Rattle.grant_enter.specs.Homes.{Homes, IsSettled, EndsBefore}
+use Rattle.process_own.specs.Handed.{lies_in_ram}
+use Rattle.board_memory.specs.Memory.{MemoryBytes, ram_between, with_run}
+use Rattle.grant_enter.specs.Homes.{Homes, HasObject, IsSettled, EndsBefore}
+use Rattle.grant_enter.specs.Windows.{SameOutside}
+use Rattle.grant_enter.specs.declared.seat.Pending.{Pending}
 use Rattle.grant_enter.specs.declared.seat.Seat.{Seat}
 use Rattle.grant_enter.specs.declared.home.Home.TheInside.{Inside}
 
-abbrev pub first_seat : Extents → Seat
-first_seat e = record { layout = e; life = 0; lives = true; dropped = 0 }
+abbrev pub first_seat : Footprint → Seat
+first_seat f = record {
+  object = f.object;
+  layout = f.layout;
+  pending = record { queue = []; dropped = 0 };
+  life = 0;
+  lives = true;
+}
+
+-- what is the own of a process whose block has these two parts
+abbrev pub owned : Seat → List ℕ → List ℕ → Own
+owned seat app kernel = record {
+  object = seat.object;
+  layout = seat.layout;
+  ram = app;
+  grants = read_back kernel;
+  pending = seat.pending.queue;
+  life = seat.life;
+  lives = seat.lives;
+  dropped = seat.pending.dropped;
+}
+
+-- the two parts of a block in RAM
+abbrev pub app_in : List ℕ → Extents → List ℕ
+app_in ram e = ram_between ram e.start e.kernel_break
+
+abbrev pub kernel_in : List ℕ → Extents → List ℕ
+kernel_in ram e = ram_between ram e.kernel_break e.end
 
 -- what is the own of a process whose block lies in RAM
 abbrev pub own_in : List ℕ → Seat → Own
-own_in ram seat = record {
-  layout = seat.layout;
-  ram = ram_between ram seat.layout.start seat.layout.kernel_break;
-  kernel = ram_between ram seat.layout.kernel_break seat.layout.end;
-  life = seat.life;
-  lives = seat.lives;
-  dropped = seat.dropped;
-}
+own_in ram seat = owned seat (app_in ram seat.layout) (kernel_in ram seat.layout)
 
 abbrev pub owns_in : List ℕ → List Seat → List Own
 owns_in ram seats = map (own_in ram) seats
@@ -35,5 +69,83 @@ pub record AreSettled (flash ram : ℕ) (layouts : List Extents) : Type 0 where
 abbrev pub layouts_of : List Seat → List Extents
 layouts_of seats = map (λ s. s.layout) seats
 
+-- a read-write buffer that has bytes lies below the mark
+abbrev pub LiesBelowMark : Extents → ℕ × ℕ → Type 0
+LiesBelowMark e pair = 0 < pair.1 → (e.start ≤ pair.0) × (pair.0 + pair.1 ≤ e.mark)
+
+-- a read-only buffer that has bytes lies there, or in accessible flash
+abbrev pub MayBeRead : Extents → ℕ × ℕ → Type 0
+MayBeRead e pair = 0 < pair.1 → IsTrue (lies_within e.start e.mark pair.0 pair.1 || lies_within e.flash_start e.flash_end pair.0 pair.1)
+
+-- the buffers of a grant lie where they may
+pub record Holds (e : Extents) (g : Grant) : Type 0 where
+  pub rw : AllByRecursion (LiesBelowMark e) g.rw
+  pub ro : AllByRecursion (MayBeRead e) g.ro
+
+-- the bytes from the kernel break on are the areas of grants, whose buffers lie where they may
+pub record IsKept (e : Extents) (kernel : List ℕ) : Type 0 where
+  pub laid : IsLaid kernel
+  pub held : AllByRecursion (Holds e) (read_back kernel)
+
+-- a process in its seat, over so many bytes of flash and over RAM
+pub record IsSeated (flash : ℕ) (ram : List ℕ) (seat : Seat) : Type 0 where
+  pub object : HasObject flash seat.object seat.layout
+  pub kept : IsKept seat.layout (kernel_in ram seat.layout)
+
 pub record IsHome (h : Inside) : Type 0 where
   pub settled : AreSettled (length h.memory.flash) (length h.memory.ram) (layouts_of h.seats.items)
+  pub seated : All (IsSeated (length h.memory.flash) h.memory.ram) h.seats.items
+
+-- A seat with the block of its process changes, in memory that is the same elsewhere: it lies where it lay, and is a
+-- seat as before.
+pub record Reseats (m : MemoryBytes) (seat : Seat) (m' : MemoryBytes) (seat' : Seat) : Type 0 where
+  pub flash : m'.flash ≡ m.flash
+  pub elsewhere : SameOutside (seat.layout.start - RAM_START) (seat.layout.end - RAM_START) m.ram m'.ram
+  pub start : seat'.layout.start ≡ seat.layout.start
+  pub end : seat'.layout.end ≡ seat.layout.end
+  pub settled : IsSettled (length m.flash) (length m.ram) seat'.layout
+  pub seated : IsSeated (length m.flash) m'.ram seat'
+
+-- A block that lay as a layout says lies as another one says, in memory that is the same elsewhere: the process's own
+-- bytes are as they were, as far as they are still its own, and these are its grants.
+pub record Regrants (m : MemoryBytes) (e : Extents) (m' : MemoryBytes) (e' : Extents) (gs : List Grant) : Type 0 where
+  pub flash : m'.flash ≡ m.flash
+  pub elsewhere : SameOutside (e.start - RAM_START) (e.end - RAM_START) m.ram m'.ram
+  pub app : app_in m'.ram e' ≡ below e' (app_in m.ram e)
+  pub tells : Tells (kernel_in m'.ram e') gs
+
+-- a swap in a block of memory gives the former pair, and leaves the new one among the grants
+pub record SwapsIn (kind : PairKind) (driver number : ℕ) (pair : ℕ × ℕ) (m : MemoryBytes) (e : Extents) (m' : MemoryBytes) (e' : Extents) (answer : ℕ × ℕ) : Type 0 where
+  pub former : answer ≡ held_pair kind driver number (kernel_in m.ram e)
+  pub layout : e' ≡ roomed driver e (grant_of driver (read_back (kernel_in m.ram e)))
+  pub grants : Regrants m e m' e' (swapped kind driver number pair (kernel_in m.ram e))
+
+-- whether a driver is entered by the process of a block in RAM, or its grant fits
+abbrev pub fits_in : ℕ → List ℕ → Extents → Bool
+fits_in driver ram e = fits e driver (grant_of driver (read_back (kernel_in ram e)))
+
+-- room was made in a block of memory for a driver's grant, where there was none
+pub record MakesRoom (driver : ℕ) (m : MemoryBytes) (e : Extents) (m' : MemoryBytes) (e' : Extents) : Type 0 where
+  pub layout : e' ≡ roomed driver e (grant_of driver (read_back (kernel_in m.ram e)))
+  pub grants : Regrants m e m' e' (entered driver (read_back (kernel_in m.ram e)))
+
+-- what is pending once an upcall was scheduled
+abbrev pub queued : Upcall → Pending → Pending
+queued upcall pending =
+    if upcall.function == 0 then pending
+    else (if has_room pending.queue then record pending { queue = pending.queue ++ upcall ∷ [] } else record pending { dropped = pending.dropped + 1 })
+
+-- the bytes of a buffer that may be read, which has none where its size is 0
+abbrev pub readable : MemoryBytes → Extents → ℕ × ℕ → List ℕ
+readable m e buffer =
+    if buffer.1 == 0 then []
+    else (if lies_in_ram e buffer.0 buffer.1 then ram_between m.ram buffer.0 (buffer.0 + buffer.1)
+    else slice_range m.flash (buffer.0 - FLASH_START) (buffer.0 + buffer.1 - FLASH_START))
+
+-- the kernel's bytes of a block in which a value of so many bytes has other words, at a place from the kernel break on
+abbrev pub value_put : List ℕ → ℕ → ℕ → List ℕ → List ℕ
+value_put kernel at size words = take at kernel ++ (bytes_of words ++ drop size (drop at kernel))
+
+-- memory in whose block it stands
+abbrev pub with_value_in : MemoryBytes → Extents → ℕ → ℕ → List ℕ → MemoryBytes
+with_value_in m e at size words = with_run m e.kernel_break (value_put (kernel_in m.ram e) at size words)

@@ -1,21 +1,34 @@
 //! The memory of all processes.
-ghost use Rattle.std.specs.Prelude.{◌≡◌, ◌≤◌, ◌<◌, ◌+◌, ◌%◌, ◌^◌, All, AllPairs, length, map, IfOk, vec_len};
+ghost use Rattle.std.specs.Prelude.{◌≡◌, ◌==◌, ◌≤◌, ◌<◌, ◌+◌, ◌%◌, ◌^◌, not, slice_get, All, AllPairs, IsTrue, length, map, option_map, is_ok, Some, IfOk, OnOk, OnErr, vec_len};
 ghost use Rattle.std.specs.Bool.{OnTrue, OnFalse};
 ghost use Rattle.process_layout.specs.Extents.{permits_break};
 ghost use Rattle.process_layout.specs.Ordered.{IsOrdered};
 ghost use Rattle.board_memory.specs.Registers.{Protect};
-ghost use Rattle.process_own.specs.Own.{opened, with_moved_break, restarted, ended};
-ghost use Rattle.grant_enter.specs.Homes.{own_of, ChangesOnly, IsInPlace, IsSettled, EndsBefore, Makes};
+ghost use Rattle.process_own.specs.Own.{block_of, opened, with_moved_break, restarted, ended, without_first};
+ghost use Rattle.process_own.specs.Flag.{with_flag};
+ghost use Rattle.process_own.specs.Handed.{entering, handing, has_place, held, may_hand};
+ghost use Rattle.process_own.specs.Served.{kept};
+ghost use Rattle.grant_values.specs.Drivers.{counts_of};
+ghost use Rattle.swap_tables.specs.Swaps.{IsPair};
+ghost use Rattle.grant_enter.specs.Homes.{own_of, living, ChangesOnly, IsInPlace, CanMoveIn, LiesBefore, Makes};
+ghost use Rattle.grant_enter.specs.Visits.{Asks, Enters, Visits, is_stale};
 
+use crate::flag::put_flag_at;
+use crate::handing::hand_at;
 use crate::instruction::turn_in;
 use crate::seat::Seat;
+use crate::visit::{EnterError, Stale, Visit, block_at, enter_seat, peek_seat, visit_seat};
 use board_memory::{Memory, set_process};
+use grant_areas::{PairKind, what_is_laid_is_read_back};
+use grant_region::NoRoom;
+use grant_values::GrantValue;
 use pmp_regions::Pmp;
 use process_layout::Layout;
+use process_own::Footprint;
 use rv32_model::{TurnEnd, sees_only_permitted, writes_are_permitted};
 use std::alloc::{AllocError, Global};
 use std::marker::Model;
-use tk_base::{Addr, Regs, Slot, a_store_is_put};
+use tk_base::{Addr, Counts, ProcessId, Regs, Slot, Upcall, a_store_is_put};
 
 /// The memory of the processes, and what the kernel keeps of each beside its registers: where its memory
 /// lies, which life it is in, whether it lives, how many upcalls it missed (Levy et al., SOSP 2017).
@@ -42,24 +55,25 @@ impl Model for Home {
 }
 
 impl Home {
-    /// Memory with these bytes in flash, and so many bytes of RAM, in which each layout has its block, slot
-    /// 0 first. All blocks are zero, and each process lives its first life. It fails where there is no
-    /// memory.
+    /// Memory with these bytes in flash, and so many bytes of RAM, in which each process has its block, slot
+    /// 0 first. All blocks are zero, and each process lives its first life and has no grants. It fails where
+    /// there is no memory.
     pub fn new(
         alloc: Global,
         flash: Vec<u8>,
         ram: u32,
-        layouts: &[Layout],
+        footprints: &[Footprint],
     ) -> Result<Home, AllocError>
-        requires settled { All (IsSettled (vec_len flash) ram) layouts.now }
-        requires apart { AllPairs EndsBefore layouts.now }
+        requires settled { All (CanMoveIn (vec_len flash) ram) footprints.now }
+        requires apart { AllPairs LiesBefore footprints.now }
         ensures { IfOk result
-            (λ home. home ≡ record { flash = flash.items; owns = map opened layouts.now }) }
+            (λ home. home ≡ record { flash = flash.items; owns = map opened footprints.now }) }
     {
+        what_is_laid_is_read_back();
         let memory = Memory::new(alloc, flash, ram)?;
         let mut seats = Vec::new(alloc);
-        for layout in layouts {
-            seats.push(Seat::first(*layout))?;
+        for footprint in footprints {
+            seats.push(Seat::first(footprint))?;
         }
         Ok(Home { memory, seats })
     }
@@ -84,7 +98,7 @@ impl Home {
         requires { slot < length self.now.owns }
         ensures { result ≡ (own_of self.now slot).dropped }
     {
-        self.seats[slot.index()].dropped
+        self.seats[slot.index()].pending.dropped
     }
 
     /// Sets the protection registers for the process in a slot: they deny what its layout denies, and
@@ -111,7 +125,8 @@ impl Home {
     }
 
     /// Starts the process in a slot again, with its first break (TRD 104, "Exit"): every byte of its block is
-    /// 0, it has no grants, its next life begins, and it lives. How many upcalls were dropped stays.
+    /// 0, it has no grants and no pending upcalls, its next life begins, and it lives. How many upcalls were
+    /// dropped stays.
     /// Nothing of another slot changes.
     pub fn restart(&mut self, slot: Slot, brk: Addr)
         requires slot { slot < length self.old.owns }
@@ -122,21 +137,165 @@ impl Home {
         ensures own { own_of self.new slot ≡ restarted brk (own_of self.old slot) }
         ensures rest { ChangesOnly slot self.old self.new }
     {
+        what_is_laid_is_read_back();
         let seat = &mut self.seats[slot.index()];
         seat.layout.restart(brk);
+        seat.pending.queue.clear();
         seat.life += 1;
         seat.lives = true;
         self.memory.clear_block(&seat.layout);
     }
 
-    /// Ends the process in a slot: it lives no more. Its memory stays as it is, and nothing of another slot
-    /// changes.
+    /// Ends the process in a slot: it lives no more, and its pending upcalls are gone. Its memory stays as it
+    /// is, and nothing of another slot changes.
     pub fn end(&mut self, slot: Slot)
         requires { slot < length self.old.owns }
         ensures own { own_of self.new slot ≡ ended (own_of self.old slot) }
         ensures rest { ChangesOnly slot self.old self.new }
     {
-        self.seats[slot.index()].lives = false;
+        let seat = &mut self.seats[slot.index()];
+        seat.pending.queue.clear();
+        seat.lives = false;
+    }
+
+    /// Hands a pair of the process in a slot to a driver (TRD 104, "Subscribe", "Read-Only Allow", "Read-Write
+    /// Allow"): the function and the application data of an upcall, or the address and the size of a
+    /// buffer. The answer is the former pair, at first (0, 0). The driver is entered; a buffer in RAM that
+    /// has bytes raises the mark; an upcall takes away the pending ones of its driver and number. `counts` are
+    /// the driver's. All else of the process, and all of another slot, stays.
+    ///
+    /// There is [`NoRoom`], and nothing changes, exactly where the driver is not entered and the kernel break
+    /// less the cost of its grant is below the break.
+    pub fn hand(
+        &mut self,
+        slot: Slot,
+        kind: PairKind,
+        driver: u32,
+        counts: &Counts,
+        number: u32,
+        pair: (u32, u32),
+    ) -> Result<(u32, u32), NoRoom>
+        requires slot { slot < length self.old.owns }
+        requires pair { IsPair kind driver counts.now number }
+        requires may { IsTrue (may_hand kind (own_of self.old slot).layout pair) }
+        ensures room { is_ok result ≡ has_place driver (own_of self.old slot) }
+        ensures former { IfOk result (λ former. former ≡ held kind driver number (own_of self.old slot)) }
+        ensures handed { OnOk result
+            (own_of self.new slot ≡ handing kind driver number pair (own_of self.old slot)) }
+        ensures refused { OnErr result (self.new ≡ self.old) }
+        ensures rest { ChangesOnly slot self.old self.new }
+    {
+        let seat = &mut self.seats[slot.index()];
+        hand_at(&mut self.memory, seat, kind, driver, counts, number, pair)
+    }
+
+    /// The process that lives in a slot, in its present life. None exactly where none lives there.
+    pub fn id(&self, slot: Slot) -> Option<ProcessId>
+        ensures { result ≡ living slot (slice_get self.now.owns slot) }
+    {
+        let seat = self.seats.get(slot.index())?;
+        seat.lives.then_some(ProcessId {
+            slot,
+            life: seat.life,
+        })
+    }
+
+    /// Whether an upcall waits to be delivered to the process in a slot.
+    pub fn has_pending(&self, slot: Slot) -> bool
+        requires { slot < length self.now.owns }
+        ensures { result ≡ not (length (own_of self.now slot).pending == 0) }
+    {
+        !self.seats[slot.index()].pending.queue.is_empty()
+    }
+
+    /// Takes out the first upcall that waits for the process in a slot, for its delivery (TRD 104, "Yield").
+    /// None exactly where none waits. Nothing else of the process changes, and nothing of another slot.
+    pub fn take_pending(&mut self, slot: Slot) -> Option<Upcall>
+        requires { slot < length self.old.owns }
+        ensures first { result ≡ slice_get (own_of self.old slot).pending 0 }
+        ensures own { own_of self.new slot ≡ without_first (own_of self.old slot) }
+        ensures rest { ChangesOnly slot self.old self.new }
+    {
+        self.seats[slot.index()].pending.queue.pop()
+    }
+
+    /// Writes the byte by which a yield of the process in a slot tells whether an upcall was delivered (TRD
+    /// 104, "Yield"), where it lies in accessible RAM; elsewhere nothing changes.
+    pub fn put_flag(&mut self, slot: Slot, at: Addr, flag: u8)
+        requires { slot < length self.old.owns }
+        ensures own { own_of self.new slot ≡ with_flag at flag (own_of self.old slot) }
+        ensures rest { ChangesOnly slot self.old self.new }
+    {
+        put_flag_at(&mut self.memory, &self.seats[slot.index()], at, flag);
+    }
+
+    /// A driver with these counts enters the process of an id.
+    pub(crate) fn enter<T: GrantValue, V: Visit<T> + Drop>(
+        &mut self,
+        id: ProcessId,
+        driver: u32,
+        counts: Counts,
+        visitor: V,
+    ) -> Result<V::Answer, EnterError>
+        requires slot { id.slot < length self.old.owns }
+        requires counts { counts_of driver ≡ Some counts }
+        requires value { T.SIZE ≡ counts.value }
+        requires asks { Asks (V.asks visitor) T.value driver counts self.old.flash
+            (entering driver (own_of self.old id.slot)) }
+        ensures enters { Enters (V.leaves visitor) T.value T.words driver counts id.life self.old.flash
+            (own_of self.old id.slot) result (own_of self.new id.slot) }
+        ensures rest { ChangesOnly id.slot self.old self.new }
+    {
+        let seat = &mut self.seats[id.slot.index()];
+        enter_seat::<T, V>(&mut self.memory, seat, id.life, driver, counts, visitor)
+    }
+
+    /// A driver with these counts visits the process of an id.
+    pub(crate) fn visit<T: GrantValue, V: Visit<T> + Drop>(
+        &mut self,
+        id: ProcessId,
+        driver: u32,
+        counts: Counts,
+        visitor: V,
+    ) -> Result<Option<V::Answer>, Stale>
+        requires slot { id.slot < length self.old.owns }
+        requires counts { counts_of driver ≡ Some counts }
+        requires value { T.SIZE ≡ counts.value }
+        requires asks { Asks (V.asks visitor) T.value driver counts self.old.flash
+            (own_of self.old id.slot) }
+        ensures visits { Visits (V.leaves visitor) T.value T.words driver counts id.life self.old.flash
+            (own_of self.old id.slot) result (own_of self.new id.slot) }
+        ensures rest { ChangesOnly id.slot self.old self.new }
+    {
+        let seat = &mut self.seats[id.slot.index()];
+        visit_seat::<T, V>(&mut self.memory, seat, id.life, driver, counts, visitor)
+    }
+
+    /// The value that the process of an id keeps for a driver with these counts.
+    pub(crate) fn peek<T: GrantValue>(
+        &self,
+        id: ProcessId,
+        driver: u32,
+        counts: Counts,
+    ) -> Result<Option<T>, Stale>
+        requires slot { id.slot < length self.now.owns }
+        requires counts { counts_of driver ≡ Some counts }
+        requires value { T.SIZE ≡ counts.value }
+        ensures stale { is_ok result ≡ not (is_stale id.life (own_of self.now id.slot)) }
+        ensures kept { IfOk result
+            (λ value. value ≡ option_map T.value (kept driver (own_of self.now id.slot))) }
+    {
+        let seat = &self.seats[id.slot.index()];
+        peek_seat::<T>(&self.memory, seat, id.life, driver, counts)
+    }
+
+    /// The bytes of the block of the process in a slot: its own, and those of its grants.
+    pub fn block(&self, slot: Slot) -> &[u8]
+        requires { slot < length self.now.owns }
+        ensures { result.now ≡ block_of (own_of self.now slot) }
+    {
+        let seat = &self.seats[slot.index()];
+        block_at(&self.memory, seat)
     }
 
     /// One instruction of the process in a slot, while the registers protect it. It sees its own accessible

@@ -29,7 +29,9 @@ pub(crate) fn turn_in(regs: &mut Regs, memory: &mut Memory, pmp: &Pmp) -> TurnEn
     requires { StoresLieIn (length memory.old.ram) pmp.now }
     ensures regs { regs.new ≡ (turn_under pmp.now memory.old.flash memory.old.ram regs.old).regs }
     ensures end { result ≡ (turn_under pmp.now memory.old.flash memory.old.ram regs.old).end }
-    ensures memory { memory.new ≡ record memory.old { ram = ram_after RAM_START (turn_under pmp.now memory.old.flash memory.old.ram regs.old).write memory.old.ram } }
+    ensures memory { memory.new ≡ record memory.old {
+      ram = ram_after RAM_START (turn_under pmp.now memory.old.flash memory.old.ram regs.old).write memory.old.ram;
+    } }
 {
     let View { flash, ram, pmp } = memory.view(pmp);
     turn_over(regs, flash, ram, pmp)

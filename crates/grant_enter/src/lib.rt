@@ -2,8 +2,22 @@
 //! process beside its registers. Nothing above it names a place in RAM.
 #![tactic(auto)]
 
+mod entered;
+mod flag;
+mod grant;
+mod handing;
 mod home;
 mod instruction;
+mod kept;
+mod laws;
 mod seat;
+mod visit;
 
+pub use entered::Entered;
+pub use grant::Grant;
 pub use home::Home;
+pub use laws::{a_buffer_is_written, frames_join};
+pub use visit::{EnterError, Stale, Visit};
+
+#[cfg(test)]
+mod tests;

@@ -3,28 +3,43 @@ ghost use Rattle.std.specs.Prelude.{◌≡◌};
 ghost use Rattle.grant_enter.specs.Seats.{first_seat};
 
 use process_layout::Layout;
+use process_own::{Footprint, Object};
+use upcall_queue::Queue;
 
-/// A process's place in memory, and what is counted of it.
+/// What is scheduled for a process.
 #[derive(Drop)]
-pub(crate) struct Seat {
-    pub layout: Layout,
-    /// Which of its lives it is in: how often it was started again.
-    pub life: u32,
-    pub lives: bool,
+pub(crate) struct Pending {
+    /// The upcalls that wait to be delivered.
+    pub queue: Queue,
     /// How many upcalls were dropped.
     pub dropped: u32,
 }
 
+/// A process's place in memory, what is scheduled for it, and what is counted of it.
+#[derive(Drop)]
+pub(crate) struct Seat {
+    pub object: Object,
+    pub layout: Layout,
+    pub pending: Pending,
+    /// Which of its lives it is in: how often it was started again.
+    pub life: u32,
+    pub lives: bool,
+}
+
 impl Seat {
     /// A process before its first turn.
-    pub fn first(layout: Layout) -> Seat
-        ensures { result ≡ first_seat layout }
+    pub fn first(footprint: &Footprint) -> Seat
+        ensures { result ≡ first_seat footprint.now }
     {
         Seat {
-            layout,
+            object: footprint.object,
+            layout: footprint.layout,
+            pending: Pending {
+                queue: Queue::new(),
+                dropped: 0,
+            },
             life: 0,
             lives: true,
-            dropped: 0,
         }
     }
 }

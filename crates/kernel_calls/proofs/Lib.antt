@@ -1,2 +1,4 @@
 pub mod Breaks
 pub mod Starts
+pub mod AtOnce
+pub mod Handed

@@ -8,7 +8,7 @@ use Rattle.tbf_headers.specs.Meaning.{Meaning, reading}
 use Rattle.process_layout.specs.Extents.{Extents, first_break}
 use Rattle.process_own.specs.Own.{Own, restarted as own_restarted}
 use Rattle.syscall_abi.specs.declared.reply.Reply.{Reply}
-use Rattle.process_record.specs.declared.process.Object.{Object}
+use Rattle.process_own.specs.declared.place.Object.{Object}
 use Rattle.process_record.specs.declared.outcome.Outcome.{Outcome}
 use Rattle.process_record.specs.declared.process.Process.{Process}
 use Rattle.process_record.specs.Process.{restarted}

@@ -1,4 +1,4 @@
--- What serving a system call leaves, and what comes of it: TRD 104, "Memop" and "Exit".
+-- What serving a system call leaves, and what comes of it: TRD 104, "System Call API".
 use Rattle.std.specs.Prelude.{◌≡◌, ℕ, ◌+◌, ◌≤◌, ◌^◌, nat_lt, if◌then◌else◌, List, Option, None, Some, Result, Ok, Err}
 use Rattle.tk_base.specs.declared.call.CallRule.{CallRule}
 use Rattle.syscall_abi.specs.declared.call.Call.{Call}
@@ -8,7 +8,7 @@ use Rattle.process_record.specs.declared.outcome.Outcome.{Outcome}
 use Rattle.process_record.specs.declared.process.Process.{Process}
 use Rattle.grant_enter.specs.Homes.{Homes, own_of}
 use Rattle.kernel_model.specs.Record.{Record}
-use Rattle.kernel_model.specs.Calls.{Served, replied, refused, served}
+use Rattle.kernel_model.specs.Calls.{Served, deliver, replied, refused, served}
 use Rattle.kernel_calls.specs.Own.{record_in}
 
 -- serving a call leads from a record to another, with an outcome
@@ -43,3 +43,13 @@ as_address (Some n) = if nat_lt n (2 ^ 32) then Some n else None
 -- nothing but the break of a process may have moved
 abbrev pub MovesBreak : Own → Own → Type 0
 MovesBreak old new = new ≡ record old { layout = record old.layout { brk = new.layout.brk } }
+
+-- the rule that an answer broke, if it broke one
+abbrev pub broken_by : {A : Type 0} → Result A CallRule → Option CallRule
+broken_by (Ok answer) = None
+broken_by (Err rule) = Some rule
+
+-- what a delivery leaves of the process in a slot, whatever its storage is
+abbrev pub DeliversAt : ℕ → Homes → Process → Homes → Process → Type 0
+DeliversAt slot home process home_after process_after =
+    (storage : List ℕ) → record_at home_after slot process_after storage ≡ deliver (record_at home slot process storage)

@@ -8,7 +8,8 @@ use Rattle.tbf_headers.specs.Addresses.{after_protected, entry_of}
 use Rattle.tbf_headers.specs.Objects.{object_at}
 use Rattle.process_layout.specs.Extents.{Extents, first_break}
 use Rattle.process_own.specs.Own.{Own}
-use Rattle.process_record.specs.declared.process.Object.{Object}
+use Rattle.grant_enter.specs.Homes.{HasObject}
+use Rattle.process_own.specs.declared.place.Object.{Object}
 use Rattle.process_record.specs.declared.process.Process.{Process}
 use Rattle.process_record.specs.declared.process.State.{State}
 use Rattle.process_record.specs.declared.process.State.TheVariants.{Running, Yielded, Faulted, Terminated}
@@ -46,11 +47,8 @@ pub record HasHeader (flash : List ℕ) (object : Object) : Type 0 where
 
 -- the object lies in flash, has an end below 2^32, holds the accessible flash, and is an application that can start
 pub record IsOwnObject (flash : List ℕ) (object : Object) (e : Extents) : Type 0 where
-  pub from : FLASH_START ≤ object.address
-  pub to : object.address + object.size ≤ FLASH_START + length flash
+  pub lies : HasObject (length flash) object e
   pub below : object.address + object.size < 2 ^ 32
-  pub accessible_from : object.address ≤ e.flash_start
-  pub accessible_to : e.flash_end ≤ object.address + object.size
   pub application : IsApplication object.address e (reading (object_in flash object))
 
 -- a process lives while it runs or waits (TRD 104, "Yield", "Exit")
@@ -64,5 +62,6 @@ is_alive (Terminated code) = false
 -- count of its restarts.
 pub record IsOwn (flash : List ℕ) (process : Process) (own : Own) : Type 0 where
   pub object : IsOwnObject flash process.object own.layout
+  pub object_is : own.object ≡ process.object
   pub lives : own.lives ≡ is_alive process.state
   pub life : own.life ≡ process.restarts

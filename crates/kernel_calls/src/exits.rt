@@ -13,7 +13,7 @@ use process_record::{Outcome, Process};
 use tk_base::{CallRule, Slot};
 
 /// Starts the process in a slot again, over a block of zeros, by the header of its object.
-fn restart_process(home: &mut Home, process: &mut Process, slot: Slot)
+pub fn restart_process(home: &mut Home, process: &mut Process, slot: Slot)
     requires slot { slot < length home.old.owns }
     requires own { IsOwn home.old.flash process.old (own_of home.old slot) }
     requires count { process.old.restarts + 1 < 2 ^ 32 }

@@ -4,7 +4,7 @@ ghost use Rattle.tbf_headers.specs.Meaning.{reading};
 ghost use Rattle.tbf_headers.specs.Shown.{shown};
 ghost use Rattle.kernel_calls.specs.Own.{object_in, HasHeader};
 
-use process_record::Object;
+use process_own::Object;
 use tbf_headers::{Header, object_at, read_header};
 use tk_base::FLASH_START;
 

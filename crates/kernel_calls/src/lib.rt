@@ -1,4 +1,5 @@
-//! The system calls that the kernel serves itself: memop and exit (TRD 104, "Memop", "Exit").
+//! The system calls that the kernel serves itself: yield, subscribe, the allows, memop and exit (TRD 104, "System
+//! Call API"), and the delivery of upcalls.
 #![tactic(auto)]
 
 mod exits;
@@ -6,5 +7,9 @@ mod headers;
 mod memops;
 mod replies;
 mod serving;
+mod swaps;
+mod yields;
 
+pub use exits::restart_process;
 pub use serving::kernel_call;
+pub use yields::deliver;

@@ -1,4 +1,4 @@
 pub mod Places
 pub mod Refusals
 pub mod Runs
-pub mod Unserved
+mod Replays

@@ -1,35 +1,48 @@
 -- What a refused call changes, by cases on the call.
 use Rattle.std.proofs.Common.{◌≡◌, ℕ, ◌+◌, ◌==◌, Bool, true, false, cond, List, [], ◌∷◌, find, Option, None, Some, refl, ap, sym, ◌∙◌}
 use Rattle.tk_base.specs.declared.call.CallRule.{CallRule}
-use Rattle.tk_base.specs.declared.call.CallRule.TheVariants.{Break, Index, NoOperation}
+use Rattle.tk_base.specs.declared.call.CallRule.TheVariants.{Break, Index, NoDriver, NoOperation}
+use Rattle.tk_base.specs.declared.upcall.Upcall.{Upcall as Scheduled}
+use Rattle.tk_base.specs.Call.{error_of}
+use Rattle.grant_areas.specs.declared.kinds.PairKind.{PairKind}
+use Rattle.grant_areas.specs.declared.kinds.PairKind.TheVariants.{Upcall, ReadOnly, ReadWrite}
 use Rattle.process_layout.specs.Extents.{permits_break}
 use Rattle.syscall_abi.specs.declared.call.Call.{Call as SystemCall}
 use Rattle.syscall_abi.specs.declared.call.Call.TheVariants.{Yield, Subscribe, Command, AllowRw, AllowRo, Memop, Exit}
 use Rattle.syscall_abi.specs.declared.reply.Reply.{Reply}
-use Rattle.syscall_abi.specs.declared.reply.Reply.TheVariants.{Success, SuccessU32}
-use Rattle.process_record.specs.Process.{after_exit}
+use Rattle.syscall_abi.specs.declared.reply.Reply.TheVariants.{Failure, FailureU32U32, Success, SuccessU32}
+use Rattle.process_record.specs.Process.{after_call, after_exit, waiting}
 use Rattle.process_record.specs.declared.outcome.Outcome.TheVariants as outcomes
 use Rattle.process_own.specs.Own.{ended}
-use Rattle.kernel_model.specs.Record.{Record}
+use Rattle.kernel_model.specs.Record.{Record, with_process}
 use Rattle.kernel_model.specs.Turn.{rule_shown}
-use Rattle.kernel_model.specs.Calls.{Served, replied, refused, break_moved, with_break_at, moved_by, region, region_end, memops, memop, or_refused, restart, exit, served, unserved}
+use Rattle.kernel_model.specs.Calls.{Served, replied, refused, refused_with, failure_of, swap_by, swap_refusal, yielding, yield_now, break_moved, with_break_at, moved_by, region, region_end, memops, memop, or_refused, restart, exit, served}
 use Rattle.kernel_model.specs.Laws.{RefusedChangesNothingElse}
 
--- an answer that is a refusal is that of its rule alone
-IsPlain : Record → Served → Type 0
-IsPlain r a = (rule : CallRule) → rule_shown a.outcome ≡ Some rule → a ≡ refused r rule
+-- an answer that is a refusal is that of its rule alone, with this failure
+IsRefusedBy : (CallRule → Reply) → Record → Served → Type 0
+IsRefusedBy failure r a = (rule : CallRule) → rule_shown a.outcome ≡ Some rule → a ≡ refused_with r rule (failure rule)
+
+abbrev plain : CallRule → Reply
+plain rule = Failure (error_of rule)
+
+abbrev IsPlain : Record → Served → Type 0
+IsPlain r a = IsRefusedBy plain r a
 
 plain_refused : (r : Record) (broken : CallRule) → IsPlain r (refused r broken)
-unfolding IsPlain
+unfolding IsRefusedBy
 plain_refused r broken rule e = let same : broken ≡ rule = cc in ap (refused r) same
 
 -- one that breaks no rule is none
-plain_unbroken : (r : Record) (a : Served) → rule_shown a.outcome ≡ None → IsPlain r a
-unfolding IsPlain
-plain_unbroken r a none rule e = absurd (no_rule (sym none ∙ e))
+unbroken : (failure : CallRule → Reply) (r : Record) (a : Served) → rule_shown a.outcome ≡ None → IsRefusedBy failure r a
+unfolding IsRefusedBy
+unbroken failure r a none rule e = absurd (no_rule (sym none ∙ e))
   where
     no_rule : ◌≡◌ {A = Option CallRule} None (Some rule) → ⊥
     no_rule e = cc
+
+plain_unbroken : (r : Record) (a : Served) → rule_shown a.outcome ≡ None → IsPlain r a
+plain_unbroken r a none = unbroken plain r a none
 
 plain_test : (r : Record) (b : Bool) (x y : Served) → IsPlain r x → IsPlain r y → IsPlain r (cond b x y)
 plain_test r true x y p q = p
@@ -69,16 +82,35 @@ plain_exit r kind code =
     plain_test r (kind == 0) _ _ (plain_unbroken r (record { after = record r { process = after_exit r.process code; own = ended r.own }; outcome = outcomes.Ended }) refl)
     (plain_test r (kind == 1) _ _ (plain_unbroken r (record { after = restart r; outcome = outcomes.Again }) refl) (plain_refused r NoOperation))
 
-plain_served : (r : Record) (call : SystemCall) → IsPlain r (served r call)
+plain_yield : (r : Record) (number at : ℕ) → IsPlain r (yielding r number at)
+unfolding yielding
+plain_yield r number at =
+    plain_test r (number == 0) _ _ (by_pending r.own.pending)
+    (plain_test r (number == 1) _ _ (plain_unbroken r (record { after = with_process r (waiting r.process); outcome = outcomes.Waits }) refl) (plain_unbroken r (record { after = with_process r (after_call r.process); outcome = outcomes.GoesOn }) refl))
+  where
+    by_pending : (pending : List Scheduled) → IsPlain r (yield_now r at pending)
+    by_pending [] = plain_unbroken r (yield_now r at []) refl
+    by_pending (u ∷ us) = plain_unbroken r (yield_now r at (u ∷ us)) refl
+
+-- a swap that is refused hands back the passed pair
+abbrev passed : ℕ × ℕ → CallRule → Reply
+passed pair rule = FailureU32U32 (error_of rule) pair.0 pair.1
+
+swap_refused : (r : Record) (kind : PairKind) (driver number : ℕ) (pair : ℕ × ℕ) (o : Option CallRule) → IsRefusedBy (passed pair) r (swap_by r kind driver number pair o)
+unfolding IsRefusedBy
+swap_refused r kind driver number pair None = unbroken (passed pair) r (swap_by r kind driver number pair None) refl
+swap_refused r kind driver number pair (Some broken) = λ rule e. let same : broken ≡ rule = cc in ap (λ (x : CallRule). refused_with r x (passed pair x)) same
+
+all_refused : (r : Record) (call : SystemCall) → IsRefusedBy (failure_of call) r (served r call)
 unfolding served
-plain_served r (Memop operation argument) = plain_memop r operation argument
-plain_served r (Exit kind code) = plain_exit r kind code
-plain_served r (Yield number a1 a2) = plain_unbroken r (unserved r) refl
-plain_served r (Subscribe driver number function app) = plain_unbroken r (unserved r) refl
-plain_served r (Command driver command a2 a3) = plain_unbroken r (unserved r) refl
-plain_served r (AllowRw driver number address size) = plain_unbroken r (unserved r) refl
-plain_served r (AllowRo driver number address size) = plain_unbroken r (unserved r) refl
+all_refused r (Memop operation argument) = plain_memop r operation argument
+all_refused r (Exit kind code) = plain_exit r kind code
+all_refused r (Yield number a1 a2) = plain_yield r number a1
+all_refused r (Subscribe driver number function app) = swap_refused r Upcall driver number (function, app) (swap_refusal Upcall driver number (function, app) r.own)
+all_refused r (Command driver command a2 a3) = plain_refused r NoDriver
+all_refused r (AllowRw driver number address size) = swap_refused r ReadWrite driver number (address, size) (swap_refusal ReadWrite driver number (address, size) r.own)
+all_refused r (AllowRo driver number address size) = swap_refused r ReadOnly driver number (address, size) (swap_refusal ReadOnly driver number (address, size) r.own)
 
 pub refused_changes_nothing_else : RefusedChangesNothingElse
-unfolding IsPlain
-refused_changes_nothing_else r call rule e = plain_served r call rule e
+unfolding IsRefusedBy
+refused_changes_nothing_else r call rule e = all_refused r call rule e

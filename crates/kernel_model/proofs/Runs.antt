@@ -7,7 +7,7 @@ use Rattle.tk_base.specs.declared.process.Choice.{Choice}
 use Rattle.tk_base.specs.declared.process.Choice.TheVariants.{Run}
 use Rattle.turn_scheduler.specs.RoundRobin.{choice, is_ready as is_ready_at, next_slot, ready_device, slots_after}
 use Rattle.kernel_model.specs.Record.{Record}
-use Rattle.kernel_model.specs.Turn.{runs}
+use Rattle.kernel_model.specs.Turn.{may_turn}
 use Rattle.kernel_model.specs.World.{World, is_ready, can_run}
 use Rattle.kernel_model.specs.Run.{next, ready_slots}
 
@@ -30,7 +30,7 @@ next_slot_ready ready (Some p) used slice s e = by_ready (is_ready_at ready p) (
     by_ready true false f g = found_passes (is_ready_at ready) (slots_after (Some p)) s g
     by_ready false u f g = found_passes (is_ready_at ready) (slots_after (Some p)) s g
 
-ready_runs : (records : List Record) (s : ℕ) → slice_index_or (map (λ (r : Record). runs r.process.state) records) s false ≡ true → can_run (slice_get records s) ≡ true
+ready_runs : (records : List Record) (s : ℕ) → slice_index_or (map may_turn records) s false ≡ true → can_run (slice_get records s) ≡ true
 ready_runs [] s e = e
 ready_runs (r ∷ rs) zero e = e
 ready_runs (r ∷ rs) (suc s) e = ready_runs rs s e

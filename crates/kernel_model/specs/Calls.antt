@@ -1,21 +1,31 @@
--- The system calls that the kernel serves itself: TRD 104, "Memop" and "Exit".
-use Rattle.std.specs.Prelude.{ℕ, ◌+◌, ◌-◌, ◌%◌, ◌^◌, ◌==◌, nat_le, nat_lt, if◌then◌else◌, List, [], ◌∷◌, find, Option, None, Some, option_and_then, Result, Ok, Err}
+-- The system calls that the kernel serves itself: TRD 104, "Yield", "Subscribe", "Read-Only Allow", "Read-Write Allow",
+-- "Memop" and "Exit".
+use Rattle.std.specs.Prelude.{ℕ, ◌+◌, ◌-◌, ◌%◌, ◌^◌, ◌==◌, not, nat_le, nat_lt, if◌then◌else◌, List, [], ◌∷◌, find, Option, None, Some, is_none, option_and_then, Result, Ok, Err}
 use Rattle.tk_base.specs.declared.call.CallRule.{CallRule}
-use Rattle.tk_base.specs.declared.call.CallRule.TheVariants.{Break, Index, NoOperation}
+use Rattle.tk_base.specs.declared.call.CallRule.TheVariants.{Break, Index, NoDriver, NoNumber, NoOperation, NoRoom, Outside}
 use Rattle.tk_base.specs.Call.{error_of}
 use Rattle.tbf_headers.specs.declared.fault.HeaderFault.{HeaderFault}
 use Rattle.tbf_headers.specs.declared.program.Main.{Main}
 use Rattle.tbf_headers.specs.Meaning.{Meaning, reading, region_in, region_count}
 use Rattle.process_layout.specs.Extents.{first_break, permits_break}
+use Rattle.tk_base.specs.declared.upcall.Upcall.{Upcall as Scheduled}
+use Rattle.grant_values.specs.Drivers.{counts_of}
+use Rattle.grant_areas.specs.declared.kinds.PairKind.{PairKind}
+use Rattle.grant_areas.specs.declared.kinds.PairKind.TheVariants.{Upcall, ReadOnly, ReadWrite}
+use Rattle.grant_areas.specs.Kinds.{count_of}
+use Rattle.grant_areas.specs.Grants.{shape_of}
 use Rattle.process_own.specs.Own as own
+use Rattle.process_own.specs.Own.{Own}
+use Rattle.process_own.specs.Handed.{handing, has_place, held, may_hand}
+use Rattle.process_own.specs.Flag.{with_flag}
 use Rattle.syscall_abi.specs.declared.call.Call.{Call as SystemCall}
 use Rattle.syscall_abi.specs.declared.call.Call.TheVariants.{Yield, Subscribe, Command, AllowRw, AllowRo, Memop, Exit}
 use Rattle.syscall_abi.specs.declared.reply.Reply.{Reply}
-use Rattle.syscall_abi.specs.declared.reply.Reply.TheVariants.{Failure, Success, SuccessU32}
+use Rattle.syscall_abi.specs.declared.reply.Reply.TheVariants.{Failure, FailureU32U32, Success, SuccessU32, SuccessU32U32}
 use Rattle.process_record.specs.declared.outcome.Outcome.{Outcome}
-use Rattle.process_record.specs.declared.outcome.Outcome.TheVariants.{Replied, Ended, Again, Unserved}
-use Rattle.process_record.specs.Process.{after_exit, after_reply, after_refusal, restarted}
-use Rattle.kernel_model.specs.Record.{Record, with_process}
+use Rattle.process_record.specs.declared.outcome.Outcome.TheVariants.{Replied, Waits, Delivered, GoesOn, Ended, Again}
+use Rattle.process_record.specs.Process.{after_call, after_exit, after_reply, after_refusal, delivered, restarted, waiting}
+use Rattle.kernel_model.specs.Record.{Record, with_process, with_own}
 
 -- what a call leaves, and what comes of it
 pub record Served : Type 0 where
@@ -26,10 +36,56 @@ abbrev pub replied : Record → Reply → Served
 replied r reply = record { after = with_process r (after_reply r.process reply); outcome = Replied reply None }
 
 -- a refused call changes the reply registers, pc and the recorded refusal alone
+abbrev pub refused_with : Record → CallRule → Reply → Served
+refused_with r rule reply = record { after = with_process r (after_refusal r.process rule reply); outcome = Replied reply (Some rule) }
+
 abbrev pub refused : Record → CallRule → Served
-refused r rule =
-    let reply = Failure (error_of rule) in
-    record { after = with_process r (after_refusal r.process rule reply); outcome = Replied reply (Some rule) }
+refused r rule = refused_with r rule (Failure (error_of rule))
+
+-- Why a process may not hand a pair to a driver, the first cause first: there is no such driver; the driver has no upcall
+-- or buffer of that number; the bytes do not lie where the process may have them; the driver's grant has no room.
+unfoldable pub swap_refusal : PairKind → ℕ → ℕ → ℕ × ℕ → Own → Option CallRule
+swap_refusal kind driver number pair o =
+    if is_none (counts_of driver) then Some NoDriver
+    else (if not (nat_lt number (count_of kind (shape_of driver))) then Some NoNumber
+    else (if not (may_hand kind o.layout pair) then Some Outside
+    else (if not (has_place driver o) then Some NoRoom
+    else None)))
+
+-- subscribe and the allows give the former pair back; a refusal hands back the passed one
+abbrev pub swap_by : Record → PairKind → ℕ → ℕ → ℕ × ℕ → Option CallRule → Served
+swap_by r kind driver number pair None =
+    let former = held kind driver number r.own in
+    replied (with_own r (handing kind driver number pair r.own)) (SuccessU32U32 former.0 former.1)
+swap_by r kind driver number pair (Some rule) = refused_with r rule (FailureU32U32 (error_of rule) pair.0 pair.1)
+
+abbrev pub swap : Record → PairKind → ℕ → ℕ → ℕ × ℕ → Served
+swap r kind driver number pair = swap_by r kind driver number pair (swap_refusal kind driver number pair r.own)
+
+-- the first pending upcall of a process is delivered; where none is pending nothing changes
+abbrev pub deliver_by : Record → List Scheduled → Record
+deliver_by r [] = r
+deliver_by r (upcall ∷ more) = record r { process = delivered upcall r.process; own = own.without_first r.own }
+
+abbrev pub deliver : Record → Record
+deliver r = deliver_by r r.own.pending
+
+-- a process past its `ecall`, with its flag written
+abbrev pub flagged : Record → ℕ → ℕ → Record
+flagged r at byte = record r { process = after_call r.process; own = with_flag at byte r.own }
+
+-- A yield that does not wait: where an upcall is pending, it writes 1 to its flag, and the first one is delivered; else
+-- it writes 0, and the process goes on.
+abbrev pub yield_now : Record → ℕ → List Scheduled → Served
+yield_now r at [] = record { after = flagged r at 0; outcome = GoesOn }
+yield_now r at (upcall ∷ more) = record { after = deliver_by (flagged r at 1) (upcall ∷ more); outcome = Delivered }
+
+-- yield with 0 does not wait, with 1 waits for an upcall; another number goes on
+unfoldable pub yielding : Record → ℕ → ℕ → Served
+yielding r number at =
+    if number == 0 then yield_now r at r.own.pending
+    else (if number == 1 then record { after = with_process r (waiting r.process); outcome = Waits }
+    else record { after = with_process r (after_call r.process); outcome = GoesOn })
 
 -- sbrk moves the break by a signed number; none is below 0
 abbrev pub moved_by : ℕ → ℕ → Option ℕ
@@ -110,16 +166,22 @@ exit r kind code =
     else (if kind == 1 then record { after = restart r; outcome = Again }
     else refused r NoOperation)
 
--- nothing serves the call
-abbrev pub unserved : Record → Served
-unserved r = record { after = r; outcome = Unserved }
-
--- the calls that the kernel serves itself so far
+-- The calls, by class. No driver takes commands yet.
 unfoldable pub served : Record → SystemCall → Served
+served r (Yield number a1 a2) = yielding r number a1
+served r (Subscribe driver number function app) = swap r Upcall driver number (function, app)
+served r (Command driver command a2 a3) = refused r NoDriver
+served r (AllowRw driver number address size) = swap r ReadWrite driver number (address, size)
+served r (AllowRo driver number address size) = swap r ReadOnly driver number (address, size)
 served r (Memop operation argument) = memop r operation argument
 served r (Exit kind code) = exit r kind code
-served r (Yield number a1 a2) = unserved r
-served r (Subscribe driver number function app) = unserved r
-served r (Command driver command a2 a3) = unserved r
-served r (AllowRw driver number address size) = unserved r
-served r (AllowRo driver number address size) = unserved r
+
+-- the failure with which a call is refused that breaks a rule
+abbrev pub failure_of : SystemCall → CallRule → Reply
+failure_of (Yield number a1 a2) rule = Failure (error_of rule)
+failure_of (Subscribe driver number function app) rule = FailureU32U32 (error_of rule) function app
+failure_of (Command driver command a2 a3) rule = Failure (error_of rule)
+failure_of (AllowRw driver number address size) rule = FailureU32U32 (error_of rule) address size
+failure_of (AllowRo driver number address size) rule = FailureU32U32 (error_of rule) address size
+failure_of (Memop operation argument) rule = Failure (error_of rule)
+failure_of (Exit kind code) rule = Failure (error_of rule)

@@ -7,8 +7,7 @@ use Rattle.tk_base.specs.declared.process.Choice.TheVariants.{Run}
 use Rattle.tk_base.specs.declared.call.CallRule.{CallRule}
 use Rattle.syscall_abi.specs.declared.call.Call.{Call as SystemCall}
 use Rattle.kernel_model.specs.Record.{Record}
-use Rattle.process_record.specs.declared.outcome.Outcome.TheVariants.{Unserved}
-use Rattle.kernel_model.specs.Calls.{served, refused, unserved}
+use Rattle.kernel_model.specs.Calls.{served, refused_with, failure_of}
 use Rattle.kernel_model.specs.Turn.{Turn, apply, rule_shown}
 use Rattle.kernel_model.specs.World.{World, after, is_ready}
 use Rattle.kernel_model.specs.Run.{next}
@@ -25,8 +24,4 @@ NextIsReady = (w : World) (c : Choice) → next w ≡ Some c → w.clock.steps <
 -- A call that is refused gets the failure of the rule that it broke; of the process it changes the reply registers, pc
 -- and the recorded refusal, and nothing of what else is its own (TRD 104, "Return Values").
 abbrev pub RefusedChangesNothingElse : Type 0
-RefusedChangesNothingElse = (r : Record) (call : SystemCall) (rule : CallRule) → rule_shown (served r call).outcome ≡ Some rule → served r call ≡ refused r rule
-
--- A call that nothing serves changes nothing.
-abbrev pub UnservedChangesNothing : Type 0
-UnservedChangesNothing = (r : Record) (call : SystemCall) → (served r call).outcome ≡ Unserved → served r call ≡ unserved r
+RefusedChangesNothingElse = (r : Record) (call : SystemCall) (rule : CallRule) → rule_shown (served r call).outcome ≡ Some rule → served r call ≡ refused_with r rule (failure_of call rule)

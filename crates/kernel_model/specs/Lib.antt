@@ -3,6 +3,7 @@ pub mod Calls
 pub mod Turn
 pub mod World
 pub mod Run
+pub mod Replay
 pub mod Shown
 pub mod Laws
 pub mod Worked

@@ -4,11 +4,11 @@ use Rattle.std.specs.List.{flat_map}
 use Rattle.tk_base.specs.declared.process.Choice.{Choice}
 use Rattle.turn_scheduler.specs.Situation.{Situation}
 use Rattle.turn_scheduler.specs.RoundRobin.{choice as chosen}
-use Rattle.kernel_model.specs.Turn.{runs}
+use Rattle.kernel_model.specs.Turn.{may_turn}
 use Rattle.kernel_model.specs.World.{World, Label, TurnOf, Printed, Stepped, stepped}
 
 abbrev pub ready_slots : World → List Bool
-ready_slots w = map (λ r. runs r.process.state) w.records
+ready_slots w = map may_turn w.records
 
 -- what the round robin reads of a world; no device acts yet
 abbrev pub situation_of : World → Situation

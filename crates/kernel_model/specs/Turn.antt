@@ -1,5 +1,5 @@
 -- The turn of a process, and what else may happen to it.
-use Rattle.std.specs.Prelude.{ℕ, Bool, true, false, List, [], ◌∷◌, Option, None, Some}
+use Rattle.std.specs.Prelude.{ℕ, ◌==◌, Bool, true, false, not, if◌then◌else◌, List, [], ◌∷◌, length, Option, None, Some}
 use Rattle.tk_base.specs.declared.access.Access.TheVariants.{Fetch}
 use Rattle.tk_base.specs.declared.access.Rule.TheVariants.{UnknownClass}
 use Rattle.tk_base.specs.declared.access.Denial.{Denial}
@@ -11,10 +11,14 @@ use Rattle.rv32_model.specs.UserTurn.{Touch, denied_at}
 use Rattle.fault_policy.specs.declared.Action.{Action}
 use Rattle.fault_policy.specs.declared.Action.TheVariants.{Stop, Restart}
 use Rattle.fault_policy.specs.Policy.{decision}
+use Rattle.tk_base.specs.declared.upcall.Upcall.{Upcall}
 use Rattle.syscall_abi.specs.declared.call.Call.{Call as SystemCall}
+use Rattle.syscall_abi.specs.declared.call.Call.TheVariants.{Yield, Subscribe, Command, AllowRw, AllowRo, Memop, Exit}
 use Rattle.syscall_abi.specs.Call.{call_of, class, a0, a1, a2, a3}
 use Rattle.syscall_abi.specs.Reply.{put_reply}
 use Rattle.process_own.specs.Own.{ended as ended_own}
+use Rattle.driver_model.specs.Commands.{Act}
+use Rattle.process_own.specs.Flag.{flag_place}
 use Rattle.process_record.specs.declared.emit.CallMade.{CallMade}
 use Rattle.process_record.specs.declared.outcome.Outcome.{Outcome}
 use Rattle.process_record.specs.declared.outcome.Outcome.TheVariants as outcomes
@@ -23,26 +27,14 @@ use Rattle.process_record.specs.declared.process.State.{State}
 use Rattle.process_record.specs.declared.process.State.TheVariants.{Running, Yielded, Faulted, Terminated}
 use Rattle.process_record.specs.Process.{after_turn, after_fault}
 use Rattle.kernel_model.specs.Record.{Record, Settings, with_process, instruction, with_effect}
-use Rattle.kernel_model.specs.Calls.{served, restart}
+use Rattle.kernel_model.specs.Calls.{Served, deliver_by, served, restart}
 
--- what a turn tells: its accesses, and the call or the denial in it
+-- what a turn tells: its accesses, the call in it, the address of the flag that its yield wrote, and the denial in it
 pub record Told : Type 0 where
   pub accesses : List Touch
   pub call : Option CallMade
+  pub flag : Option ℕ
   pub denial : Option Denial
-
--- the lists in which processes wait: to write to the console and to read from it, for random words, for storage
-pub data Line : Type 0 where
-  Writes : Line
-  Reads : Line
-  Randoms : Line
-  Stores : Line
-
--- what the board is to do for a turn: let the process begin to wait in a list, or stop to; light an LED, or put it out
-pub data Act : Type 0 where
-  Waits : Line → Act
-  Leaves : Line → Act
-  Lights : (led : ℕ) (on : Bool) → Act
 
 -- what a turn leaves, what it tells, and what the board is to do for it
 pub record Turned : Type 0 where
@@ -57,15 +49,19 @@ arguments regs = a0 regs ∷ a1 regs ∷ a2 regs ∷ a3 regs ∷ []
 -- what an outcome shows: the reply as it stands in the registers, and the rule that the call broke
 abbrev pub reply_shown : Regs → Outcome → Option (List ℕ)
 reply_shown regs (outcomes.Replied reply rule) = Some (arguments (put_reply reply regs))
+reply_shown regs outcomes.Waits = None
+reply_shown regs outcomes.Delivered = None
+reply_shown regs outcomes.GoesOn = None
 reply_shown regs outcomes.Ended = None
 reply_shown regs outcomes.Again = None
-reply_shown regs outcomes.Unserved = None
 
 abbrev pub rule_shown : Outcome → Option CallRule
 rule_shown (outcomes.Replied reply rule) = rule
+rule_shown outcomes.Waits = None
+rule_shown outcomes.Delivered = None
+rule_shown outcomes.GoesOn = None
 rule_shown outcomes.Ended = None
 rule_shown outcomes.Again = None
-rule_shown outcomes.Unserved = None
 
 -- the call as the step shows it, from the registers before it and what came of it
 abbrev pub made : Regs → Outcome → CallMade
@@ -80,7 +76,7 @@ settled r Restart = restart r
 abbrev pub faulted : Settings → Record → Denial → Turned
 faulted settings r denial = record {
   after = settled (with_process r (after_fault r.process denial)) (decision settings.policy r.process.restarts);
-  told = record { accesses = []; call = None; denial = Some denial };
+  told = record { accesses = []; call = None; flag = None; denial = Some denial };
   acts = [];
 }
 
@@ -88,28 +84,31 @@ faulted settings r denial = record {
 abbrev pub unknown_call : Process → Denial
 unknown_call p = denied_at Fetch p.regs.pc UnknownClass
 
--- a call that was made
-abbrev pub called : Record → List Touch → Record → Outcome → Turned
-called r accesses after outcome = record {
-  after = after;
-  told = record { accesses = accesses; call = Some (made r.process.regs outcome); denial = None };
+-- the flag that a call writes: that of a yield which does not wait, where it lies in accessible RAM (TRD 104, "Yield")
+abbrev pub flag_of : Record → SystemCall → Option ℕ
+flag_of r (Yield number a1 a2) = if number == 0 then flag_place a1 r.own else None
+flag_of r (Subscribe driver number function app) = None
+flag_of r (Command driver command a2 a3) = None
+flag_of r (AllowRw driver number address size) = None
+flag_of r (AllowRo driver number address size) = None
+flag_of r (Memop operation argument) = None
+flag_of r (Exit kind code) = None
+
+-- a call that was made, with what came of it
+abbrev pub called : Record → List Touch → SystemCall → Served → Turned
+called r accesses call s = record {
+  after = s.after;
+  told = record { accesses = accesses; call = Some (made r.process.regs s.outcome); flag = flag_of r call; denial = None };
   acts = [];
 }
 
--- what comes of a call; one that nothing serves is denied as one of an unknown class
-abbrev pub answered : Settings → Record → List Touch → Record → Outcome → Turned
-answered settings r accesses after (outcomes.Replied reply rule) = called r accesses after (outcomes.Replied reply rule)
-answered settings r accesses after outcomes.Ended = called r accesses after outcomes.Ended
-answered settings r accesses after outcomes.Again = called r accesses after outcomes.Again
-answered settings r accesses after outcomes.Unserved = faulted settings r (unknown_call r.process)
-
 abbrev pub calls : Settings → Record → List Touch → Option SystemCall → Turned
-calls settings r accesses (Some call) = answered settings r accesses (served r call).after (served r call).outcome
+calls settings r accesses (Some call) = called r accesses call (served r call)
 calls settings r accesses None = faulted settings r (unknown_call r.process)
 
 -- what the end of an instruction asks for, once its effect stands; a denied one had none
 abbrev pub ended : Settings → Record → List Touch → TurnEnd → Turned
-ended settings r accesses Went = record { after = r; told = record { accesses = accesses; call = None; denial = None }; acts = [] }
+ended settings r accesses Went = record { after = r; told = record { accesses = accesses; call = None; flag = None; denial = None }; acts = [] }
 ended settings r accesses Call = calls settings r accesses (call_of r.process.regs)
 ended settings r accesses (Trap denial) = faulted settings r denial
 
@@ -117,8 +116,27 @@ ended settings r accesses (Trap denial) = faulted settings r denial
 abbrev pub counted : Record → Record
 counted r = with_process r (after_turn r.process)
 
+abbrev pub instructed : Settings → Record → Turned
+instructed settings r = let t = instruction r in ended settings (with_effect (counted r) t) t.accesses t.end
+
+-- nothing was done
+abbrev pub idle : Record → Turned
+idle r = record { after = r; told = record { accesses = []; call = None; flag = None; denial = None }; acts = [] }
+
+-- a process that waits gets the first of its pending upcalls, which is its turn (TRD 104, "Yield")
+abbrev pub delivery : Record → List Upcall → Turned
+delivery r [] = idle r
+delivery r (upcall ∷ more) = idle (deliver_by (counted r) (upcall ∷ more))
+
+-- its turn, as it runs or waits; one that ended has none
+abbrev pub turn_in : Settings → State → Record → Turned
+turn_in settings Running r = instructed settings r
+turn_in settings Yielded r = delivery r r.own.pending
+turn_in settings Faulted r = idle r
+turn_in settings (Terminated code) r = idle r
+
 unfoldable pub turned : Settings → ℕ → Record → Turned
-turned settings time r = let t = instruction r in ended settings (with_effect (counted r) t) t.accesses t.end
+turned settings time r = turn_in settings r.process.state r
 
 -- what happens to a process: its turn at a time
 pub data Event : Type 0 where
@@ -128,9 +146,15 @@ pub data Event : Type 0 where
 unfoldable pub apply : Settings → Event → Record → Record
 apply settings (Turn time) r = (turned settings time r).after
 
--- whether it can have a turn
-abbrev pub runs : State → Bool
-runs Running = true
-runs Yielded = false
-runs Faulted = false
-runs (Terminated code) = false
+-- whether a process in a state can have a turn: it runs, or it waits and an upcall is pending
+abbrev pub has_turn : State → Bool → Bool
+has_turn Running pending = true
+has_turn Yielded pending = pending
+has_turn Faulted pending = false
+has_turn (Terminated code) pending = false
+
+abbrev pub is_pending : List Upcall → Bool
+is_pending pending = not (length pending == 0)
+
+abbrev pub may_turn : Record → Bool
+may_turn r = has_turn r.process.state (is_pending r.own.pending)

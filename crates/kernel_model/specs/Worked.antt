@@ -26,13 +26,16 @@ asks operation argument = record {
   };
   object = 0x73 ∷ 0 ∷ 0 ∷ 0 ∷ [];
   own = opened (record {
-    flash_start = FLASH_START;
-    flash_end = FLASH_START + 4;
-    start = RAM_START;
-    end = RAM_START + 16;
-    brk = RAM_START + 8;
-    kernel_break = RAM_START + 16;
-    mark = RAM_START;
+    object = record { address = FLASH_START; size = 4 };
+    layout = record {
+      flash_start = FLASH_START;
+      flash_end = FLASH_START + 4;
+      start = RAM_START;
+      end = RAM_START + 16;
+      brk = RAM_START + 8;
+      kernel_break = RAM_START + 16;
+      mark = RAM_START;
+    };
   });
   storage = [];
 }

@@ -6,7 +6,8 @@ use Rattle.tk_base.specs.declared.process.Choice.TheVariants.{Run, Device, Pass}
 use Rattle.process_record.specs.declared.summary.Unplaced.{Unplaced}
 use Rattle.turn_scheduler.specs.RoundRobin.{used_after}
 use Rattle.kernel_model.specs.Record.{Record, Settings}
-use Rattle.kernel_model.specs.Turn.{Act, Waits, Leaves, Lights, Line, Writes, Reads, Randoms, Stores, Told, Turned, turned, runs}
+use Rattle.driver_model.specs.Commands.{Act, Waits, Leaves, Lights, Line, Writes, Reads, Randoms, Stores}
+use Rattle.kernel_model.specs.Turn.{Told, Turned, turned, may_turn}
 
 -- what of the settings no process sees: how many turns a slice has, and how many ticks the UART needs for a byte
 pub record Pace : Type 0 where
@@ -48,7 +49,7 @@ pub data Label : Type 0 where
 
 abbrev pub can_run : Option Record → Bool
 can_run None = false
-can_run (Some r) = runs r.process.state
+can_run (Some r) = may_turn r
 
 -- whether a choice may be made; no device acts yet, and no time passes by itself
 unfoldable pub is_ready : World → Choice → Bool

@@ -1,5 +1,6 @@
 //! Laws of the definitions, each the contract of a function that does nothing.
-ghost use Rattle.kernel_model.specs.Laws.{NextIsReady, OnlyItsOwnTurn, RefusedChangesNothingElse, UnservedChangesNothing};
+ghost use Rattle.kernel_model.specs.Laws.{NextIsReady, OnlyItsOwnTurn, RefusedChangesNothingElse};
+ghost use Rattle.kernel_model.specs.Replay.{RecordIsReplay, RoundFollowsChoices, SameHistorySameRecord};
 
 /// A step changes the record of no process but the one whose turn it is, and that one by its turn.
 pub fn only_its_own_turn()
@@ -18,8 +19,11 @@ pub fn refused_changes_nothing_else()
     ensures { RefusedChangesNothingElse }
 {}
 
-/// A call that nothing serves changes nothing.
-#[tactic(auto, using(crate::proofs::Unserved::unserved_changes_nothing))]
-pub fn unserved_changes_nothing()
-    ensures { UnservedChangesNothing }
+/// After any choices a process's record is the replay of its own turns alone, and a run by round robin follows
+/// its choices. So in any two worlds in which a process has the same record under the same settings, and then
+/// the same turns, it has the same record: its registers, memory and storage byte by byte.
+pub fn a_record_is_the_replay_of_its_turns()
+    ensures replay { RecordIsReplay }
+    ensures same { SameHistorySameRecord }
+    ensures round { RoundFollowsChoices }
 {}

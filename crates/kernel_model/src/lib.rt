@@ -5,7 +5,8 @@
 mod laws;
 
 pub use laws::{
-    next_is_ready, only_its_own_turn, refused_changes_nothing_else, unserved_changes_nothing,
+    a_record_is_the_replay_of_its_turns, next_is_ready, only_its_own_turn,
+    refused_changes_nothing_else,
 };
 
 #[cfg(test)]

@@ -1,5 +1,5 @@
 -- An entry decides every access in its range, where no range below it reaches past its bottom.
-use Rattle.std.proofs.Common.{◌≡◌, ℕ, ◌+◌, ◌*◌, ◌<◌, ◌≤◌, List, Bool, true, false, ◌&&◌, nat_le, nat_lt, IsTrue, None, refl, ◌∙◌, arith}
+use Rattle.std.proofs.Common.{◌≡◌, ℕ, ◌+◌, ◌-◌, ◌*◌, ◌%◌, ◌^◌, ◌<◌, ◌≤◌, List, Bool, true, false, ◌&&◌, nat_le, nat_lt, IsTrue, None, refl, ◌∙◌, arith}
 use Rattle.std.proofs.lemmas.Bool.Decides.{nat_tests}
 use Rattle.tk_base.specs.declared.access.Access.{Access}
 use Rattle.tk_base.specs.declared.access.Width.{Width}
@@ -23,20 +23,33 @@ past_end true bottom top b t at size ends held = let e : top ≤ b = ends refl i
 none_below : (pmp : List Entry) (i at : ℕ) (width : Width) → EndBy pmp i (bottom_word pmp i) → IsTrue (nat_le (bottom_of pmp i) at && nat_le (at + width_bytes width) (top_of pmp i)) → NoneBelow pmp at width i
 none_below pmp i at width ends held k below = matches_any_within pmp k at width ∙ past_end _ (bottom_word pmp k) (entry_of pmp k).address (bottom_word pmp i) (entry_of pmp i).address at (width_bytes width) (ends k below) held
 
-pub decides_range : (pmp : List Entry) (i from to : ℕ) → i < 8 → IsTrue (is_tor (entry_of pmp i).mode) → EndBy pmp i (bottom_word pmp i) → from ≡ bottom_of pmp i → to ≡ top_of pmp i → Decides pmp i (record { from = from; to = to })
-decides_range pmp i from to few tor ends bottom top = rw (bottom, top) (record {
-  decides = λ at width held. deciding_first pmp at width i few (none_below pmp i at width ends held) (matches_any_within pmp i at width ∙ rw tor (meets_own (bottom_word pmp i) (entry_of pmp i).address at (width_bytes width) (some_bytes width) held));
-  matches = λ at width held. matches_all_within pmp i at width ∙ rw tor held;
-})
+-- what lies in a window lies between its ends
+held_in : (from length bottom top at size : ℕ) → from ≡ bottom → from + length ≡ top → IsTrue (nat_le from at && nat_le (at + size) (from + length)) → IsTrue (nat_le bottom at && nat_le (at + size) top)
+held_in from length bottom top at size b t held = grind (arith, nat_tests)
+
+pub decides_range : (pmp : List Entry) (i : ℕ) (w : Window) → i < 8 → IsTrue (is_tor (entry_of pmp i).mode) → EndBy pmp i (bottom_word pmp i) → w.from ≡ bottom_of pmp i → w.from + w.length ≡ top_of pmp i → Decides pmp i w
+decides_range pmp i w few tor ends bottom top = record {
+  decides = λ at width held.
+      let lies = held_in w.from w.length (bottom_of pmp i) (top_of pmp i) at (width_bytes width) bottom top held in
+      deciding_first pmp at width i few (none_below pmp i at width ends lies) (matches_any_within pmp i at width ∙ rw tor (meets_own (bottom_word pmp i) (entry_of pmp i).address at (width_bytes width) (some_bytes width) lies));
+  matches = λ at width held. matches_all_within pmp i at width ∙ rw tor (held_in w.from w.length (bottom_of pmp i) (top_of pmp i) at (width_bytes width) bottom top held);
+}
+
+-- one comparison of the place in a window, modulo 2^32, tells both bounds
+place : (from length at size : ℕ) → from + length ≤ 2 ^ 32 → from < 2 ^ 32 → at < 2 ^ 32 → 0 < size → nat_le ((at + (2 ^ 32 - from)) % 2 ^ 32 + size) length ≡ nat_le from at && nat_le (at + size) (from + length)
+place from length at size fits f a some = grind (arith, nat_tests)
+
+pub place_tells : (w : Window) (at : ℕ) (width : Width) → w.from + w.length ≤ 2 ^ 32 → w.from < 2 ^ 32 → at < 2 ^ 32 → nat_le ((at + (2 ^ 32 - w.from)) % 2 ^ 32 + width_bytes width) w.length ≡ holds w at width
+place_tells w at width fits f a = place w.from w.length at (width_bytes width) fits f a (some_bytes width)
 
 -- nothing lies in an empty window
-none_held : (at : ℕ) (width : Width) → IsTrue (holds (record { from = 0; to = 0 }) at width) → ⊥
-none_held at width held = let some : 0 < width_bytes width = some_bytes width in grind (arith, nat_tests)
+none_held : (w : Window) (at : ℕ) (width : Width) → w.length ≡ 0 → IsTrue (holds w at width) → ⊥
+none_held w at width empty held = let some : 0 < width_bytes width = some_bytes width in grind (arith, nat_tests)
 
-pub decides_none : (pmp : List Entry) (i : ℕ) → Decides pmp i (record { from = 0; to = 0 })
-decides_none pmp i = record {
-  decides = λ at width held. absurd (none_held at width held);
-  matches = λ at width held. absurd (none_held at width held);
+pub decides_none : (pmp : List Entry) (i : ℕ) (w : Window) → w.length ≡ 0 → Decides pmp i w
+decides_none pmp i w empty = record {
+  decides = λ at width held. absurd (none_held w at width empty held);
+  matches = λ at width held. absurd (none_held w at width empty held);
 }
 
 pub permits_by : (pmp : List Entry) (access : Access) (i : ℕ) (w : Window) → Decides pmp i w → lacking (entry_of pmp i) access ≡ None → Permits pmp access w

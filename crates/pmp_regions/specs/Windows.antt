@@ -11,7 +11,7 @@ use Rattle.pmp_regions.specs.Check.{deciding, matches_all, denied_by}
 
 -- all bytes of an access lie in a window
 abbrev pub holds : Window → ℕ → Width → Bool
-holds w at width = nat_le w.from at && nat_le (at + width_bytes width) w.to
+holds w at width = nat_le w.from at && nat_le (at + width_bytes width) (w.from + w.length)
 
 -- the entries permit every access of a kind in a window
 abbrev pub Permits : List Entry → Access → Window → Type 0

@@ -2,7 +2,7 @@
 //! load from and store to (the privileged RISC-V manual, "Physical Memory Protection").
 #![tactic(auto)]
 
-ghost use Rattle.std.specs.Prelude.{◌≡◌, ◌↔◌, ◌%◌, ◌<◌, IfSome, IsTrue, None, length, replicate, slice_set};
+ghost use Rattle.std.specs.Prelude.{◌≡◌, ◌↔◌, ◌+◌, ◌%◌, ◌^◌, ◌<◌, ◌≤◌, IfSome, IsTrue, None, length, replicate, slice_set};
 ghost use Rattle.std.specs.Bool.{OnTrue};
 ghost use Rattle.tk_base.specs.Bus.{answered};
 
@@ -60,6 +60,8 @@ impl Pmp {
     ghost use Rattle.pmp_regions.specs.Spans.{IsSpan};
     ghost use Rattle.pmp_regions.specs.Check.{denied_by, deciding, matches_any, matches_all};
     ghost use Rattle.pmp_regions.specs.Windows.{Permits, Decides, EndBy};
+    ghost use Rattle.tk_base.specs.declared.access.Access.TheVariants.{Fetch, Load, Store};
+    ghost use Rattle.tk_base.specs.declared.access.Width.TheVariants.{Half};
 
     /// How many entries there are.
     pub const COUNT: usize = 8;
@@ -186,13 +188,16 @@ impl Pmp {
         if range.mode == Mode::Off || !self.is_clear_below(entry) {
             return Window::EMPTY;
         }
-        match (
+        let (Some(from), Some(to)) = (
             self.bottom(entry).checked_mul(4),
             range.address.checked_mul(4),
-        ) {
-            (Some(from), Some(to)) => Window { from, to },
-            _ => Window::EMPTY,
+        ) else {
+            return Window::EMPTY;
+        };
+        if to < from {
+            return Window::EMPTY;
         }
+        Window::between(from, to)
     }
 
     /// Whether the ranges of all lower entries end at or below the bottom of an entry's range.
@@ -215,7 +220,7 @@ impl Pmp {
     /// that of the permission bit which that entry lacks.
     ///
     /// An access in a window of its kind needs no search.
-    #[inline]
+    #[inline(always)]
     pub fn check(&self, access: Access, at: Addr, width: Width) -> Result<(), Rule>
         ensures { result ≡ answered (denied_by self.now access at width) tt }
     {
@@ -225,8 +230,29 @@ impl Pmp {
         self.search(access, at, width)
     }
 
+    /// Whether two parcels of 16 bits lie in the window where every fetch is permitted. Where they do not,
+    /// each may be permitted nevertheless.
+    #[inline(always)]
+    pub fn holds_parcels(&self, at: Addr) -> bool
+        ensures first { OnTrue result (denied_by self.now Fetch at Half ≡ None) }
+        ensures second { OnTrue result (denied_by self.now Fetch (at + 2) Half ≡ None) }
+        ensures below { OnTrue result (at + 4 ≤ 2 ^ 32) }
+    {
+        self.executable.holds(at, Width::Word)
+    }
+
+    /// Whether an access lies in the window where every load and every store is permitted. Where it does
+    /// not, it may be permitted nevertheless.
+    #[inline(always)]
+    pub fn holds_data(&self, at: Addr, width: Width) -> bool
+        ensures load { OnTrue result (denied_by self.now Load at width ≡ None) }
+        ensures store { OnTrue result (denied_by self.now Store at width ≡ None) }
+    {
+        self.writable.holds(at, width)
+    }
+
     /// Whether an access lies in a window where its kind is permitted.
-    #[inline]
+    #[inline(always)]
     fn is_in_window(&self, access: Access, at: Addr, width: Width) -> bool
         ensures { OnTrue result (denied_by self.now access at width ≡ None) }
     {
@@ -239,6 +265,7 @@ impl Pmp {
 
     /// The answer of [`Pmp::check`] by the entries alone.
     #[cold]
+    #[inline(never)]
     fn search(&self, access: Access, at: Addr, width: Width) -> Result<(), Rule>
         ensures { result ≡ answered (denied_by self.now access at width) tt }
     {
@@ -310,24 +337,38 @@ impl Pmp {
     }
 }
 
-/// The addresses from one on up to but not including an end.
+/// So many addresses from one on. One subtraction and one comparison tell whether an access lies in them.
 #[derive(Clone, Copy, Debug)]
 struct Window {
     from: Addr,
-    to: Addr,
+    length: u64,
+    ghost fits: { from + length ≤ 2 ^ 32 },
 }
 
 impl Window {
     ghost use Rattle.pmp_regions.specs.Windows.{holds};
 
-    const EMPTY: Window = Window { from: 0, to: 0 };
+    const EMPTY: Window = Window { from: 0, length: 0 };
+
+    /// The addresses from one on up to but not including an end.
+    fn between(from: Addr, to: Addr) -> Window
+        requires { from ≤ to }
+        ensures from { result.from ≡ from }
+        ensures to { result.from + result.length ≡ to }
+    {
+        Window {
+            from,
+            length: u64::from(to - from),
+        }
+    }
 
     /// Whether all bytes of an access lie in the window.
-    #[inline]
+    #[inline(always)]
+    #[tactic(auto, using(crate::proofs::Windows::place_tells))]
     fn holds(&self, at: Addr, width: Width) -> bool
         ensures { result ≡ holds self.now at width }
     {
-        self.from <= at && u64::from(at) + u64::from(width.bytes()) <= u64::from(self.to)
+        u64::from(at.wrapping_sub(self.from)) + u64::from(width.bytes()) <= self.length
     }
 }
 

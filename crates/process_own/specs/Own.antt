@@ -1,29 +1,40 @@
--- What the kernel keeps of one process beside its registers: where its memory lies, and the bytes of its block (Levy
--- et al., SOSP 2017); which of its lives it is in, and whether it lives (TRD 104, "Exit"); how many upcalls were dropped.
-use Rattle.std.specs.Prelude.{ℕ, ◌+◌, ◌-◌, Bool, true, false, List, replicate}
+-- What the kernel keeps of one process beside its registers: where it lies, the bytes of its block and the grants in it
+-- (Levy et al., SOSP 2017); the upcalls that wait for it (TRD 104, "Yield"); which of its lives it is in, and whether it
+-- lives (TRD 104, "Exit"); how many upcalls were dropped.
+use Rattle.std.specs.Prelude.{ℕ, ◌+◌, ◌-◌, Bool, true, false, List, [], ◌++◌, replicate, drop}
 use Rattle.tk_base.specs.Numbers.{rounded_up}
+use Rattle.tk_base.specs.declared.upcall.Upcall.{Upcall}
 use Rattle.process_layout.specs.Extents.{Extents, with_break}
+use Rattle.grant_areas.specs.Grants.{Grant}
+use Rattle.grant_areas.specs.Laid.{laid}
+use Rattle.process_own.specs.declared.place.Object.{Object}
+use Rattle.process_own.specs.declared.place.Footprint.{Footprint}
 
 pub record Own : Type 0 where
+  pub object : Object
   pub layout : Extents
   -- the bytes of the block below the kernel break: the process's
   pub ram : List ℕ
-  -- the bytes from the kernel break on: the kernel's
-  pub kernel : List ℕ
+  -- its grants, the last entered first; their bytes fill the block from the kernel break on
+  pub grants : List Grant
+  -- the upcalls that wait to be delivered, the first one first
+  pub pending : List Upcall
   pub life : ℕ
   pub lives : Bool
   pub dropped : ℕ
 
--- all bytes of a block are 0, which lies as a layout says
-abbrev pub zeroed : Extents → Own → Own
-zeroed e own = record own { layout = e; ram = replicate (e.kernel_break - e.start) 0; kernel = replicate (e.end - e.kernel_break) 0 }
+-- the bytes of the block: the process's own, and its grants
+abbrev pub block_of : Own → List ℕ
+block_of own = own.ram ++ laid own.grants
 
--- a process in its place, before its first turn
-abbrev pub opened : Extents → Own
-opened e = record {
-  layout = e;
-  ram = replicate (e.kernel_break - e.start) 0;
-  kernel = replicate (e.end - e.kernel_break) 0;
+-- a process in its place, before its first turn: its block is zero, and it has no grants
+abbrev pub opened : Footprint → Own
+opened f = record {
+  object = f.object;
+  layout = f.layout;
+  ram = replicate (f.layout.kernel_break - f.layout.start) 0;
+  grants = [];
+  pending = [];
   life = 0;
   lives = true;
   dropped = 0;
@@ -33,11 +44,22 @@ opened e = record {
 abbrev pub with_moved_break : ℕ → Own → Own
 with_moved_break new own = record own { layout = record own.layout { brk = rounded_up new } }
 
--- a process that starts again, with its first break: its block is zeroed and it has no grants; its next life begins;
--- how many upcalls were dropped stays
+-- a process that starts again, with its first break: its block is zeroed, it has no grants and no pending upcalls, and
+-- its next life begins; how many upcalls were dropped stays
 abbrev pub restarted : ℕ → Own → Own
-restarted brk own = record (zeroed (with_break brk own.layout) own) { life = own.life + 1; lives = true }
+restarted brk own = record own {
+  layout = with_break brk own.layout;
+  ram = replicate (own.layout.end - own.layout.start) 0;
+  grants = [];
+  pending = [];
+  life = own.life + 1;
+  lives = true;
+}
 
--- a process that ended: its memory stays as it is
+-- a process that ended: it has no pending upcalls, and its memory stays as it is
 abbrev pub ended : Own → Own
-ended own = record own { lives = false }
+ended own = record own { pending = []; lives = false }
+
+-- a process whose first pending upcall was taken out, to be delivered (TRD 104, "Yield")
+abbrev pub without_first : Own → Own
+without_first own = record own { pending = drop 1 own.pending }

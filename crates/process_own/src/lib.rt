@@ -1,9 +1,8 @@
-//! What the kernel keeps of one process beside its registers, in `specs/`. Nothing here runs.
+//! What the kernel keeps of one process beside its registers: where it lies, and in `specs/` all else.
 #![tactic(auto)]
 
-ghost use Rattle.process_own.specs.Laws.{RestartForgets};
+mod laws;
+mod place;
 
-/// A restart forgets every byte of a process's block, and where the breaks were.
-pub fn restart_forgets()
-    ensures { RestartForgets }
-{}
+pub use laws::restart_forgets;
+pub use place::{Footprint, Object};

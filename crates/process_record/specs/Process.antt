@@ -1,16 +1,17 @@
 -- One process: TRD 104, "Yield", "Exit" and "Return Values"; the start registers as Tock gives them to a process.
-use Rattle.std.specs.Prelude.{ℕ, ◌+◌, ◌%◌, ◌^◌, None, Some, replicate}
+use Rattle.std.specs.Prelude.{ℕ, ◌+◌, ◌*◌, ◌/◌, ◌%◌, ◌^◌, None, Some, replicate, slice_index}
 use Rattle.tk_base.specs.declared.access.Denial.{Denial}
 use Rattle.tk_base.specs.declared.regs.Regs.{Regs}
 use Rattle.tk_base.specs.Regs.{with_register}
 use Rattle.tk_base.specs.declared.call.CallRule.{CallRule}
+use Rattle.tk_base.specs.declared.upcall.Upcall.{Upcall}
 use Rattle.syscall_abi.specs.declared.reply.Reply.{Reply}
 use Rattle.syscall_abi.specs.Reply.{put_reply}
 use Rattle.tbf_headers.specs.declared.program.Main.{Main}
 use Rattle.tbf_headers.specs.Meaning.{Meaning}
 use Rattle.tbf_headers.specs.Addresses.{after_protected, entry_of}
 use Rattle.process_record.specs.declared.process.Process.{Process}
-use Rattle.process_record.specs.declared.process.State.TheVariants.{Running, Faulted, Terminated}
+use Rattle.process_record.specs.declared.process.State.TheVariants.{Running, Yielded, Faulted, Terminated}
 
 -- all registers 0, and pc
 abbrev pub cleared : ℕ → Regs
@@ -64,3 +65,22 @@ after_reply p reply = record p { regs = past_call (put_reply reply p.regs) }
 -- the refused call is recorded, by the address of its `ecall` and the rule that it broke, and replied to
 abbrev pub after_refusal : Process → CallRule → Reply → Process
 after_refusal p rule reply = record (after_reply p reply) { refusal = Some (record { address = p.regs.pc; rule = rule }) }
+
+-- the process goes on past an `ecall` that has no reply
+abbrev pub after_call : Process → Process
+after_call p = record p { regs = past_call p.regs }
+
+-- it waits for an upcall, with pc past the `ecall`
+abbrev pub waiting : Process → Process
+waiting p = record (after_call p) { state = Yielded }
+
+-- the registers of an upcall: a0 to a2 are its arguments and a3 the application data, ra is pc, and pc the function
+-- with bit 0 cleared
+abbrev pub upcall_regs : Upcall → Regs → Regs
+upcall_regs u regs =
+    let called = with_register (with_register (with_register (with_register (with_register regs 10 (slice_index u.args 0)) 11 (slice_index u.args 1)) 12 (slice_index u.args 2)) 13 u.app) 1 regs.pc in
+    record called { pc = u.function / 2 * 2 }
+
+-- an upcall is delivered (TRD 104, "Yield")
+abbrev pub delivered : Upcall → Process → Process
+delivered u p = record p { regs = upcall_regs u p.regs; state = Running }

@@ -10,8 +10,5 @@ mod summary;
 pub use emit::{CallMade, Emit};
 pub use name::{object_name, short_name};
 pub use outcome::Outcome;
-pub use process::{Object, Process, Refusal, State};
+pub use process::{Process, Refusal, State};
 pub use summary::{SlotLine, Summary, Unplaced};
-
-#[cfg(test)]
-mod tests;

@@ -2,7 +2,7 @@
 use syscall_abi::Reply;
 use tk_base::CallRule;
 
-/// What comes of a system call (TRD 104, "Return Values", "Exit").
+/// What comes of a system call (TRD 104, "Return Values", "Yield", "Exit").
 #[derive(Clone, Copy, Debug, PartialEq, Eq)]
 pub enum Outcome {
     /// The call returned.
@@ -12,10 +12,14 @@ pub enum Outcome {
         /// The rule that the call broke, where it was refused.
         rule: Option<CallRule>,
     },
+    /// The process waits for an upcall.
+    Waits,
+    /// An upcall was delivered to the process.
+    Delivered,
+    /// The process goes on after the call, which has no reply.
+    GoesOn,
     /// The process ended itself.
     Ended,
     /// The process started again.
     Again,
-    /// Nothing serves a call of that class yet, and nothing changed.
-    Unserved,
 }

@@ -2,11 +2,12 @@
 ghost use Rattle.std.specs.Prelude.{◌≡◌, ◌+◌, ◌<◌, ◌^◌, Some};
 ghost use Rattle.tbf_headers.specs.Addresses.{after_protected, entry_of};
 ghost use Rattle.tbf_headers.specs.Shown.{shown};
-ghost use Rattle.process_record.specs.Process.{start_regs, started, restarted, past_call, after_turn, after_fault, after_exit, after_reply, after_refusal};
+ghost use Rattle.process_record.specs.Process.{start_regs, started, restarted, past_call, after_turn, after_fault, after_exit, after_reply, after_refusal, after_call, waiting, delivered};
 
+use process_own::Object;
 use syscall_abi::Reply;
 use tbf_headers::AppHeader;
-use tk_base::{Addr, CallRule, Denial, Regs};
+use tk_base::{Addr, CallRule, Denial, Regs, Upcall};
 
 /// Whether a process runs (TRD 104, "Yield", "Exit"). It lives while it is Running or Yielded.
 #[derive(Clone, Copy, Debug, PartialEq, Eq, Default)]
@@ -20,15 +21,6 @@ pub enum State {
     Faulted,
     /// It ended with a completion code.
     Terminated(u32),
-}
-
-/// Where the object of a process lies in flash.
-#[derive(Clone, Copy, Debug, PartialEq, Eq)]
-pub struct Object {
-    /// The address of its header.
-    pub address: Addr,
-    /// Its total size in bytes.
-    pub size: u32,
 }
 
 /// The last system call that was refused.
@@ -139,6 +131,38 @@ impl Process {
             rule,
         });
         self.reply(reply);
+    }
+
+    /// Goes on after a system call that has no reply (TRD 104, "Yield"): pc goes past the `ecall`, and
+    /// nothing else changes.
+    pub fn go_on(&mut self)
+        ensures { self.new ≡ after_call self.old }
+    {
+        self.pass_call();
+    }
+
+    /// Waits for an upcall (TRD 104, "Yield"), with pc past the `ecall`.
+    pub fn wait(&mut self)
+        ensures { self.new ≡ waiting self.old }
+    {
+        self.pass_call();
+        self.state = State::Yielded;
+    }
+
+    /// Delivers an upcall (TRD 104, "Yield"): a0 to a2 are its arguments and a3 the application data, ra
+    /// is pc, and pc the function with bit 0 cleared. Other registers stay, and the process runs.
+    pub fn deliver(&mut self, upcall: &Upcall)
+        ensures { self.new ≡ delivered upcall.now self.old }
+    {
+        let back = self.regs.pc;
+        let [first, second, third] = upcall.args;
+        self.regs.set(10, first);
+        self.regs.set(11, second);
+        self.regs.set(12, third);
+        self.regs.set(13, upcall.app);
+        self.regs.set(1, back);
+        self.regs.pc = upcall.function / 2 * 2;
+        self.state = State::Running;
     }
 
     /// Moves pc past an `ecall`, which has 4 bytes.

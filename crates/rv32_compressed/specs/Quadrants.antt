@@ -25,11 +25,14 @@ upper_of w =
     else if is_lui w then Some (instrs.Lui (rd_of w) (imm_lui w))
     else None
 
+abbrev pub andi_short : ℕ → Instr
+andi_short w = instrs.OpImm ops.And (rs1_short w) (rs1_short w) (imm_ci w)
+
 abbrev pub arithmetic_of : ℕ → Option Instr
 arithmetic_of w =
     if is_shift 0 w then Some (shift_short ops.Srl w)
     else if is_shift 1 w then Some (shift_short ops.Sra w)
-    else if is_andi w then Some (instrs.OpImm ops.And (rs1_short w) (rs1_short w) (imm_ci w))
+    else if is_andi w then Some (andi_short w)
     else if is_registers 0 w then Some (registers_short ops.Sub w)
     else if is_registers 1 w then Some (registers_short ops.Xor w)
     else if is_registers 2 w then Some (registers_short ops.Or w)

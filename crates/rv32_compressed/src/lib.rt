@@ -1,50 +1,58 @@
 //! The expansion of compressed instructions.
 #![tactic(auto)]
 
-ghost use Rattle.std.specs.Prelude.{◌≡◌};
+ghost use Rattle.std.specs.Prelude.{◌≡◌, Some};
 ghost use Rattle.rv32_model.specs.Instructions.{bits_of, rd_of};
 ghost use Rattle.rv32_model.specs.Compressed.{decoding16, rs2_full, rd_short, rs1_short, imm_addi4spn, imm_word, imm_ci, imm_addi16sp, imm_lui, imm_cj, imm_cb, imm_lwsp, imm_swsp, bit_12, shift_short, registers_short, branch_short};
-ghost use Rattle.rv32_compressed.specs.Quadrants.{addi4spn_of, quadrant0_of, upper_of, arithmetic_of, quadrant1_of, slli_of, lwsp_of, moves_of, quadrant2_of};
+ghost use Rattle.rv32_compressed.specs.Quadrants.{addi4spn_of, andi_short, quadrant0_of, upper_of, arithmetic_of, quadrant1_of, slli_of, lwsp_of, moves_of, quadrant2_of};
 
 use rv32_model::{BranchTest, Instr, LoadKind, Op};
+use rv32_traits::{AsValue, Handler};
 use tk_base::Width;
 
+#[inline(always)]
 fn rd(parcel: u32) -> u8
     ensures { result ≡ rd_of parcel }
 {
     ((parcel >> 7) % 32) as u8
 }
 
+#[inline(always)]
 fn rs2(parcel: u32) -> u8
     ensures { result ≡ rs2_full parcel }
 {
     ((parcel >> 2) % 32) as u8
 }
 
+#[inline(always)]
 fn short_rd(parcel: u32) -> u8
     ensures { result ≡ rd_short parcel }
 {
     (8 + (parcel >> 2) % 8) as u8
 }
 
+#[inline(always)]
 fn short_rs1(parcel: u32) -> u8
     ensures { result ≡ rs1_short parcel }
 {
     (8 + (parcel >> 7) % 8) as u8
 }
 
+#[inline(always)]
 fn top(parcel: u32) -> u32
     ensures { result ≡ bits_of parcel 13 3 }
 {
     (parcel >> 13) % 8
 }
 
+#[inline(always)]
 fn bit12(parcel: u32) -> u32
     ensures { result ≡ bit_12 parcel }
 {
     (parcel >> 12) % 2
 }
 
+#[inline(always)]
 fn immediate_addi4spn(parcel: u32) -> u32
     ensures { result ≡ imm_addi4spn parcel }
 {
@@ -54,12 +62,14 @@ fn immediate_addi4spn(parcel: u32) -> u32
         + (parcel >> 5) % 2 * 8
 }
 
+#[inline(always)]
 fn immediate_word(parcel: u32) -> u32
     ensures { result ≡ imm_word parcel }
 {
     (parcel >> 10) % 8 * 8 + (parcel >> 6) % 2 * 4 + (parcel >> 5) % 2 * 64
 }
 
+#[inline(always)]
 fn immediate(parcel: u32) -> u32
     ensures { result ≡ imm_ci parcel }
 {
@@ -71,6 +81,7 @@ fn immediate(parcel: u32) -> u32
     }
 }
 
+#[inline(always)]
 fn immediate_addi16sp(parcel: u32) -> u32
     ensures { result ≡ imm_addi16sp parcel }
 {
@@ -86,6 +97,7 @@ fn immediate_addi16sp(parcel: u32) -> u32
     }
 }
 
+#[inline(always)]
 fn immediate_lui(parcel: u32) -> u32
     ensures { result ≡ imm_lui parcel }
 {
@@ -97,6 +109,7 @@ fn immediate_lui(parcel: u32) -> u32
     }
 }
 
+#[inline(always)]
 fn immediate_jump(parcel: u32) -> u32
     ensures { result ≡ imm_cj parcel }
 {
@@ -115,6 +128,7 @@ fn immediate_jump(parcel: u32) -> u32
     }
 }
 
+#[inline(always)]
 fn immediate_branch(parcel: u32) -> u32
     ensures { result ≡ imm_cb parcel }
 {
@@ -130,257 +144,203 @@ fn immediate_branch(parcel: u32) -> u32
     }
 }
 
+#[inline(always)]
 fn immediate_lwsp(parcel: u32) -> u32
     ensures { result ≡ imm_lwsp parcel }
 {
     (parcel >> 12) % 2 * 32 + (parcel >> 4) % 8 * 4 + (parcel >> 2) % 4 * 64
 }
 
+#[inline(always)]
 fn immediate_swsp(parcel: u32) -> u32
     ensures { result ≡ imm_swsp parcel }
 {
     (parcel >> 9) % 16 * 4 + (parcel >> 7) % 4 * 64
 }
 
-fn addi4spn(parcel: u32) -> Option<Instr>
-    ensures { result ≡ addi4spn_of parcel }
+#[inline(always)]
+fn addi4spn<H: Handler>(parcel: u32, handler: &mut H) -> H::Answer
+    ensures { H.handles handler.old (addi4spn_of parcel) result handler.new }
 {
     let offset = immediate_addi4spn(parcel);
     if offset == 0 {
-        return None;
+        return handler.illegal();
     }
-    Some(Instr::OpImm {
-        op: Op::Add,
-        rd: short_rd(parcel),
-        rs1: 2,
-        imm: offset,
-    })
+    handler.op_imm(Op::Add, short_rd(parcel), 2, offset)
 }
 
-fn quadrant0(parcel: u32) -> Option<Instr>
-    ensures { result ≡ quadrant0_of parcel (bits_of parcel 13 3) }
+#[inline(always)]
+fn quadrant0<H: Handler>(parcel: u32, handler: &mut H) -> H::Answer
+    ensures { H.handles handler.old (quadrant0_of parcel (bits_of parcel 13 3)) result handler.new }
 {
     match top(parcel) {
-        0 => addi4spn(parcel),
-        2 => Some(Instr::Load {
-            kind: LoadKind::Lw,
-            rd: short_rd(parcel),
-            rs1: short_rs1(parcel),
-            offset: immediate_word(parcel),
-        }),
-        6 => Some(Instr::Store {
-            width: Width::Word,
-            rs1: short_rs1(parcel),
-            rs2: short_rd(parcel),
-            offset: immediate_word(parcel),
-        }),
-        _ => None,
+        0 => addi4spn(parcel, handler),
+        2 => {
+            let offset = immediate_word(parcel);
+            handler.load(LoadKind::Lw, short_rd(parcel), short_rs1(parcel), offset)
+        }
+        6 => {
+            let offset = immediate_word(parcel);
+            handler.store(Width::Word, short_rs1(parcel), short_rd(parcel), offset)
+        }
+        _ => handler.illegal(),
     }
 }
 
-fn upper(parcel: u32) -> Option<Instr>
-    ensures { result ≡ upper_of parcel }
+#[inline(always)]
+fn upper<H: Handler>(parcel: u32, handler: &mut H) -> H::Answer
+    ensures { H.handles handler.old (upper_of parcel) result handler.new }
 {
     if rd(parcel) == 2 {
         let imm = immediate_addi16sp(parcel);
         if imm == 0 {
-            return None;
+            return handler.illegal();
         }
-        return Some(Instr::OpImm {
-            op: Op::Add,
-            rd: 2,
-            rs1: 2,
-            imm,
-        });
+        return handler.op_imm(Op::Add, 2, 2, imm);
     }
     let imm = immediate_lui(parcel);
     if imm == 0 {
-        return None;
+        return handler.illegal();
     }
-    Some(Instr::Lui {
-        rd: rd(parcel),
-        imm,
-    })
+    handler.lui(rd(parcel), imm)
 }
 
-fn shift(op: Op, parcel: u32) -> Instr
-    ensures { result ≡ shift_short op parcel }
+#[inline(always)]
+fn shift<H: Handler>(op: Op, parcel: u32, handler: &mut H) -> H::Answer
+    ensures { H.handles handler.old (Some (shift_short op parcel)) result handler.new }
 {
-    Instr::OpImm {
-        op,
-        rd: short_rs1(parcel),
-        rs1: short_rs1(parcel),
-        imm: u32::from(rs2(parcel)),
-    }
+    let register = short_rs1(parcel);
+    handler.op_imm(op, register, register, u32::from(rs2(parcel)))
 }
 
-fn registers(op: Op, parcel: u32) -> Instr
-    ensures { result ≡ registers_short op parcel }
+#[inline(always)]
+fn registers<H: Handler>(op: Op, parcel: u32, handler: &mut H) -> H::Answer
+    ensures { H.handles handler.old (Some (registers_short op parcel)) result handler.new }
 {
-    Instr::Op {
-        op,
-        rd: short_rs1(parcel),
-        rs1: short_rs1(parcel),
-        rs2: short_rd(parcel),
-    }
+    let register = short_rs1(parcel);
+    handler.op(op, register, register, short_rd(parcel))
 }
 
-fn arithmetic(parcel: u32) -> Option<Instr>
-    ensures { result ≡ arithmetic_of parcel }
+#[inline(always)]
+fn and_immediate<H: Handler>(parcel: u32, handler: &mut H) -> H::Answer
+    ensures { H.handles handler.old (Some (andi_short parcel)) result handler.new }
+{
+    let register = short_rs1(parcel);
+    handler.op_imm(Op::And, register, register, immediate(parcel))
+}
+
+#[inline(always)]
+fn arithmetic<H: Handler>(parcel: u32, handler: &mut H) -> H::Answer
+    ensures { H.handles handler.old (arithmetic_of parcel) result handler.new }
 {
     match ((parcel >> 10) % 4, bit12(parcel), (parcel >> 5) % 4) {
-        (0, 0, _) => Some(shift(Op::Srl, parcel)),
-        (1, 0, _) => Some(shift(Op::Sra, parcel)),
-        (2, _, _) => Some(Instr::OpImm {
-            op: Op::And,
-            rd: short_rs1(parcel),
-            rs1: short_rs1(parcel),
-            imm: immediate(parcel),
-        }),
-        (3, 0, 0) => Some(registers(Op::Sub, parcel)),
-        (3, 0, 1) => Some(registers(Op::Xor, parcel)),
-        (3, 0, 2) => Some(registers(Op::Or, parcel)),
-        (3, 0, 3) => Some(registers(Op::And, parcel)),
-        _ => None,
+        (0, 0, _) => shift(Op::Srl, parcel, handler),
+        (1, 0, _) => shift(Op::Sra, parcel, handler),
+        (2, _, _) => and_immediate(parcel, handler),
+        (3, 0, 0) => registers(Op::Sub, parcel, handler),
+        (3, 0, 1) => registers(Op::Xor, parcel, handler),
+        (3, 0, 2) => registers(Op::Or, parcel, handler),
+        (3, 0, 3) => registers(Op::And, parcel, handler),
+        _ => handler.illegal(),
     }
 }
 
-fn branch(test: BranchTest, parcel: u32) -> Instr
-    ensures { result ≡ branch_short test parcel }
+#[inline(always)]
+fn branch<H: Handler>(test: BranchTest, parcel: u32, handler: &mut H) -> H::Answer
+    ensures { H.handles handler.old (Some (branch_short test parcel)) result handler.new }
 {
-    Instr::Branch {
-        test,
-        rs1: short_rs1(parcel),
-        rs2: 0,
-        offset: immediate_branch(parcel),
-    }
+    handler.branch(test, short_rs1(parcel), 0, immediate_branch(parcel))
 }
 
-fn quadrant1(parcel: u32) -> Option<Instr>
-    ensures { result ≡ quadrant1_of parcel (bits_of parcel 13 3) }
+#[inline(always)]
+fn quadrant1<H: Handler>(parcel: u32, handler: &mut H) -> H::Answer
+    ensures { H.handles handler.old (quadrant1_of parcel (bits_of parcel 13 3)) result handler.new }
 {
     match top(parcel) {
-        0 => Some(Instr::OpImm {
-            op: Op::Add,
-            rd: rd(parcel),
-            rs1: rd(parcel),
-            imm: immediate(parcel),
-        }),
-        1 => Some(Instr::Jal {
-            rd: 1,
-            offset: immediate_jump(parcel),
-        }),
-        2 => Some(Instr::OpImm {
-            op: Op::Add,
-            rd: rd(parcel),
-            rs1: 0,
-            imm: immediate(parcel),
-        }),
-        3 => upper(parcel),
-        4 => arithmetic(parcel),
-        5 => Some(Instr::Jal {
-            rd: 0,
-            offset: immediate_jump(parcel),
-        }),
-        6 => Some(branch(BranchTest::Beq, parcel)),
-        7 => Some(branch(BranchTest::Bne, parcel)),
-        _ => None,
+        0 => handler.op_imm(Op::Add, rd(parcel), rd(parcel), immediate(parcel)),
+        1 => handler.jal(1, immediate_jump(parcel)),
+        2 => handler.op_imm(Op::Add, rd(parcel), 0, immediate(parcel)),
+        3 => upper(parcel, handler),
+        4 => arithmetic(parcel, handler),
+        5 => handler.jal(0, immediate_jump(parcel)),
+        6 => branch(BranchTest::Beq, parcel, handler),
+        7 => branch(BranchTest::Bne, parcel, handler),
+        _ => handler.illegal(),
     }
 }
 
-fn slli(parcel: u32) -> Option<Instr>
-    ensures { result ≡ slli_of parcel }
+#[inline(always)]
+fn slli<H: Handler>(parcel: u32, handler: &mut H) -> H::Answer
+    ensures { H.handles handler.old (slli_of parcel) result handler.new }
 {
     if bit12(parcel) != 0 {
-        return None;
+        return handler.illegal();
     }
-    Some(Instr::OpImm {
-        op: Op::Sll,
-        rd: rd(parcel),
-        rs1: rd(parcel),
-        imm: u32::from(rs2(parcel)),
-    })
+    handler.op_imm(Op::Sll, rd(parcel), rd(parcel), u32::from(rs2(parcel)))
 }
 
-fn lwsp(parcel: u32) -> Option<Instr>
-    ensures { result ≡ lwsp_of parcel }
+#[inline(always)]
+fn lwsp<H: Handler>(parcel: u32, handler: &mut H) -> H::Answer
+    ensures { H.handles handler.old (lwsp_of parcel) result handler.new }
 {
     let rd = rd(parcel);
     if rd == 0 {
-        return None;
+        return handler.illegal();
     }
-    Some(Instr::Load {
-        kind: LoadKind::Lw,
-        rd,
-        rs1: 2,
-        offset: immediate_lwsp(parcel),
-    })
+    handler.load(LoadKind::Lw, rd, 2, immediate_lwsp(parcel))
 }
 
-fn moves(parcel: u32) -> Option<Instr>
-    ensures { result ≡ moves_of parcel }
+#[inline(always)]
+fn moves<H: Handler>(parcel: u32, handler: &mut H) -> H::Answer
+    ensures { H.handles handler.old (moves_of parcel) result handler.new }
 {
     let rd = rd(parcel);
     let rs2 = rs2(parcel);
     match (bit12(parcel), rs2, rd) {
-        (0, 0, 0) => None,
-        (0, 0, _) => Some(Instr::Jalr {
-            rd: 0,
-            rs1: rd,
-            offset: 0,
-        }),
-        (0, _, _) => Some(Instr::Op {
-            op: Op::Add,
-            rd,
-            rs1: 0,
-            rs2,
-        }),
-        (_, 0, 0) => Some(Instr::Ebreak),
-        (_, 0, _) => Some(Instr::Jalr {
-            rd: 1,
-            rs1: rd,
-            offset: 0,
-        }),
-        _ => Some(Instr::Op {
-            op: Op::Add,
-            rd,
-            rs1: rd,
-            rs2,
-        }),
+        (0, 0, 0) => handler.illegal(),
+        (0, 0, _) => handler.jalr(0, rd, 0),
+        (0, _, _) => handler.op(Op::Add, rd, 0, rs2),
+        (_, 0, 0) => handler.ebreak(),
+        (_, 0, _) => handler.jalr(1, rd, 0),
+        _ => handler.op(Op::Add, rd, rd, rs2),
     }
 }
 
-fn quadrant2(parcel: u32) -> Option<Instr>
-    ensures { result ≡ quadrant2_of parcel (bits_of parcel 13 3) }
+#[inline(always)]
+fn quadrant2<H: Handler>(parcel: u32, handler: &mut H) -> H::Answer
+    ensures { H.handles handler.old (quadrant2_of parcel (bits_of parcel 13 3)) result handler.new }
 {
     match top(parcel) {
-        0 => slli(parcel),
-        2 => lwsp(parcel),
-        4 => moves(parcel),
-        6 => Some(Instr::Store {
-            width: Width::Word,
-            rs1: 2,
-            rs2: rs2(parcel),
-            offset: immediate_swsp(parcel),
-        }),
-        _ => None,
+        0 => slli(parcel, handler),
+        2 => lwsp(parcel, handler),
+        4 => moves(parcel, handler),
+        6 => handler.store(Width::Word, 2, rs2(parcel), immediate_swsp(parcel)),
+        _ => handler.illegal(),
     }
 }
 
-/// The instruction of 32 bits that a parcel of 16 expands to (RISC-V unprivileged manual, "C
-/// Standard Extension for Compressed Instructions"). None exactly where no row of the table fits; a
-/// hint means its expansion.
+/// Hands the instruction of 32 bits that a parcel of 16 expands to (RISC-V unprivileged manual, "C
+/// Standard Extension for Compressed Instructions") on to a handler. It is none exactly where no row of
+/// the table fits; a hint means its expansion.
+#[inline(always)]
 #[tactic(auto, using(crate::proofs::ByQuadrant::by_quadrants))]
-pub fn decode16(parcel: u16) -> Option<Instr>
-    ensures { result ≡ decoding16 parcel }
+pub fn handle16<H: Handler>(parcel: u16, handler: &mut H) -> H::Answer
+    ensures { H.handles handler.old (decoding16 parcel) result handler.new }
 {
     let parcel = u32::from(parcel);
     match parcel % 4 {
-        0 => quadrant0(parcel),
-        1 => quadrant1(parcel),
-        2 => quadrant2(parcel),
-        _ => None,
+        0 => quadrant0(parcel, handler),
+        1 => quadrant1(parcel, handler),
+        2 => quadrant2(parcel, handler),
+        _ => handler.illegal(),
     }
+}
+
+/// The instruction of 32 bits that a parcel of 16 expands to. None exactly where no row of the table fits.
+pub fn decode16(parcel: u16) -> Option<Instr>
+    ensures { result ≡ decoding16 parcel }
+{
+    handle16(parcel, &mut AsValue)
 }
 
 #[cfg(test)]

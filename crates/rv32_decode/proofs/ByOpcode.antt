@@ -8,8 +8,8 @@ use Rattle.std.proofs.lemmas.Bool.Decides.{nat_tests, eqb_tells}
 use Rattle.std.proofs.lemmas.Bool.{ne_eqb}
 use Rattle.rv32_model.specs.declared.instr.Instr.{Instr}
 use Rattle.rv32_model.specs.declared.instr.Instr.TheVariants as instrs
-use Rattle.rv32_model.specs.Instructions.{Row, fits, table, decoding, rd_of, rs1_of, imm_i, imm_u, imm_j, branch, load, store, op_imm, shift_imm, op_reg}
-use Rattle.rv32_decode.specs.Kinds.{funct3_of, funct7_of, test_of, load_kind_of, store_width_of, op_of, shift_op_of, imm_op_of, jalr_of, branch_of, load_of, store_of, op_imm_of, op_reg_of, fence_of, system_of}
+use Rattle.rv32_model.specs.Instructions.{Row, fits, table, decoding, rd_of, imm_u, imm_j}
+use Rattle.rv32_decode.specs.Kinds.{funct3_of, funct7_of, jalr_of, branch_of, load_of, store_of, op_imm_of, op_reg_of, fence_of, system_of}
 
 -- a mask of two blocks of bits takes the bits of both
 block : (w k m n : ℕ) → m < 2 ^ k → bit_and w (n * 2 ^ k + m) ≡ bit_and (w / 2 ^ k) n * 2 ^ k + bit_and (w % 2 ^ k) m
@@ -168,62 +168,54 @@ pub jal_row : (w : ℕ) → w < 2 ^ 32 → w % 128 ≡ 0x6f → decoding w ≡ S
 unfolding by_fields fields_fit table
 jal_row w h e = at_opcode w 0x6f h e
 
-pub jalr_row : (w : ℕ) → w < 2 ^ 32 → w % 128 ≡ 0x67 → decoding w ≡ jalr_of w
+pub jalr_row : (w : ℕ) → w < 2 ^ 32 → w % 128 ≡ 0x67 → decoding w ≡ jalr_of w (funct3_of w)
 unfolding by_fields fields_fit table
 jalr_row w h e =
-    at_opcode w 0x67 h e ∙ below8 (λ f3. by_fields w 0x67 f3 (funct7_of w) ≡ (if f3 == 0 then Some (instrs.Jalr (rd_of w) (rs1_of w) (imm_i w)) else None)) refl refl refl refl refl refl refl refl (funct3_of w) (omega arith)
+    at_opcode w 0x67 h e ∙ below8 (λ f3. by_fields w 0x67 f3 (funct7_of w) ≡ jalr_of w f3) refl refl refl refl refl refl refl refl (funct3_of w) (omega arith)
 
-pub branch_rows : (w : ℕ) → w < 2 ^ 32 → w % 128 ≡ 0x63 → decoding w ≡ branch_of w
+pub branch_rows : (w : ℕ) → w < 2 ^ 32 → w % 128 ≡ 0x63 → decoding w ≡ branch_of w (funct3_of w)
 unfolding by_fields fields_fit table
 branch_rows w h e =
-    at_opcode w 0x63 h e ∙ below8 (λ f3. by_fields w 0x63 f3 (funct7_of w) ≡ option_map (λ test. branch test w) (test_of f3)) refl refl refl refl refl refl refl refl (funct3_of w) (omega arith)
+    at_opcode w 0x63 h e ∙ below8 (λ f3. by_fields w 0x63 f3 (funct7_of w) ≡ branch_of w f3) refl refl refl refl refl refl refl refl (funct3_of w) (omega arith)
 
-pub load_rows : (w : ℕ) → w < 2 ^ 32 → w % 128 ≡ 0x03 → decoding w ≡ load_of w
+pub load_rows : (w : ℕ) → w < 2 ^ 32 → w % 128 ≡ 0x03 → decoding w ≡ load_of w (funct3_of w)
 unfolding by_fields fields_fit table
 load_rows w h e =
-    at_opcode w 0x03 h e ∙ below8 (λ f3. by_fields w 0x03 f3 (funct7_of w) ≡ option_map (λ kind. load kind w) (load_kind_of f3)) refl refl refl refl refl refl refl refl (funct3_of w) (omega arith)
+    at_opcode w 0x03 h e ∙ below8 (λ f3. by_fields w 0x03 f3 (funct7_of w) ≡ load_of w f3) refl refl refl refl refl refl refl refl (funct3_of w) (omega arith)
 
-pub store_rows : (w : ℕ) → w < 2 ^ 32 → w % 128 ≡ 0x23 → decoding w ≡ store_of w
+pub store_rows : (w : ℕ) → w < 2 ^ 32 → w % 128 ≡ 0x23 → decoding w ≡ store_of w (funct3_of w)
 unfolding by_fields fields_fit table
 store_rows w h e =
-    at_opcode w 0x23 h e ∙ below8 (λ f3. by_fields w 0x23 f3 (funct7_of w) ≡ option_map (λ width. store width w) (store_width_of f3)) refl refl refl refl refl refl refl refl (funct3_of w) (omega arith)
+    at_opcode w 0x23 h e ∙ below8 (λ f3. by_fields w 0x23 f3 (funct7_of w) ≡ store_of w f3) refl refl refl refl refl refl refl refl (funct3_of w) (omega arith)
 
-op_imm_by : ℕ → ℕ → ℕ → Option Instr
-op_imm_by w f3 f7 = if f3 % 4 == 1 then option_map (λ op. shift_imm op w) (shift_op_of f3 f7) else option_map (λ op. op_imm op w) (imm_op_of f3)
-
-op_imm_shift : (w f7 f3 : ℕ) → f3 < 8 → by_fields w 0x13 f3 f7 ≡ op_imm_by w f3 f7
-unfolding by_fields fields_fit table op_imm_by
-op_imm_shift w f7 = by_funct7s (λ n. (f3 : ℕ) → f3 < 8 → by_fields w 0x13 f3 n ≡ op_imm_by w f3 n)
-    (below8 (λ f3. by_fields w 0x13 f3 0 ≡ op_imm_by w f3 0) refl refl refl refl refl refl refl refl)
-    (below8 (λ f3. by_fields w 0x13 f3 0x20 ≡ op_imm_by w f3 0x20) refl refl refl refl refl refl refl refl)
-    (below8 (λ f3. by_fields w 0x13 f3 1 ≡ op_imm_by w f3 1) refl refl refl refl refl refl refl refl)
-    (λ n a b c. below8 (λ f3. by_fields w 0x13 f3 n ≡ op_imm_by w f3 n) refl (simp (a, b)) refl refl refl (simp (a, b)) refl refl)
+op_imm_shift : (w f7 f3 : ℕ) → f3 < 8 → by_fields w 0x13 f3 f7 ≡ op_imm_of w f3 f7
+unfolding by_fields fields_fit table
+op_imm_shift w f7 = by_funct7s (λ n. (f3 : ℕ) → f3 < 8 → by_fields w 0x13 f3 n ≡ op_imm_of w f3 n)
+    (below8 (λ f3. by_fields w 0x13 f3 0 ≡ op_imm_of w f3 0) refl refl refl refl refl refl refl refl)
+    (below8 (λ f3. by_fields w 0x13 f3 0x20 ≡ op_imm_of w f3 0x20) refl refl refl refl refl refl refl refl)
+    (below8 (λ f3. by_fields w 0x13 f3 1 ≡ op_imm_of w f3 1) refl refl refl refl refl refl refl refl)
+    (λ n a b c. below8 (λ f3. by_fields w 0x13 f3 n ≡ op_imm_of w f3 n) refl (simp a) refl refl refl (simp (a, b)) refl refl)
     f7
 
-pub op_imm_rows : (w : ℕ) → w < 2 ^ 32 → w % 128 ≡ 0x13 → decoding w ≡ op_imm_of w
-unfolding op_imm_by
+pub op_imm_rows : (w : ℕ) → w < 2 ^ 32 → w % 128 ≡ 0x13 → decoding w ≡ op_imm_of w (funct3_of w) (funct7_of w)
 op_imm_rows w h e = at_opcode w 0x13 h e ∙ op_imm_shift w (funct7_of w) (funct3_of w) (omega arith)
 
-op_reg_by : ℕ → ℕ → ℕ → Option Instr
-op_reg_by w f3 f7 = option_map (λ op. op_reg op w) (op_of f3 f7)
-
-op_reg_each : (w f7 f3 : ℕ) → f3 < 8 → by_fields w 0x33 f3 f7 ≡ op_reg_by w f3 f7
-unfolding by_fields fields_fit table op_reg_by
-op_reg_each w f7 = by_funct7s (λ n. (f3 : ℕ) → f3 < 8 → by_fields w 0x33 f3 n ≡ op_reg_by w f3 n)
-    (below8 (λ f3. by_fields w 0x33 f3 0 ≡ op_reg_by w f3 0) refl refl refl refl refl refl refl refl)
-    (below8 (λ f3. by_fields w 0x33 f3 0x20 ≡ op_reg_by w f3 0x20) refl refl refl refl refl refl refl refl)
-    (below8 (λ f3. by_fields w 0x33 f3 1 ≡ op_reg_by w f3 1) refl refl refl refl refl refl refl refl)
-    (λ n a b c. below8 (λ f3. by_fields w 0x33 f3 n ≡ op_reg_by w f3 n) (simp (a, b, c)) (simp (a, b, c)) (simp (a, b, c)) (simp (a, b, c)) (simp (a, b, c)) (simp (a, b, c)) (simp (a, b, c)) (simp (a, b, c)))
+op_reg_each : (w f7 f3 : ℕ) → f3 < 8 → by_fields w 0x33 f3 f7 ≡ op_reg_of w f3 f7
+unfolding by_fields fields_fit table
+op_reg_each w f7 = by_funct7s (λ n. (f3 : ℕ) → f3 < 8 → by_fields w 0x33 f3 n ≡ op_reg_of w f3 n)
+    (below8 (λ f3. by_fields w 0x33 f3 0 ≡ op_reg_of w f3 0) refl refl refl refl refl refl refl refl)
+    (below8 (λ f3. by_fields w 0x33 f3 0x20 ≡ op_reg_of w f3 0x20) refl refl refl refl refl refl refl refl)
+    (below8 (λ f3. by_fields w 0x33 f3 1 ≡ op_reg_of w f3 1) refl refl refl refl refl refl refl refl)
+    (λ n a b c. below8 (λ f3. by_fields w 0x33 f3 n ≡ op_reg_of w f3 n) (simp (a, b, c)) (simp (a, b, c)) (simp (a, b, c)) (simp (a, b, c)) (simp (a, b, c)) (simp (a, b, c)) (simp (a, b, c)) (simp (a, b, c)))
     f7
 
-pub op_reg_rows : (w : ℕ) → w < 2 ^ 32 → w % 128 ≡ 0x33 → decoding w ≡ op_reg_of w
-unfolding op_reg_by
+pub op_reg_rows : (w : ℕ) → w < 2 ^ 32 → w % 128 ≡ 0x33 → decoding w ≡ op_reg_of w (funct3_of w) (funct7_of w)
 op_reg_rows w h e = at_opcode w 0x33 h e ∙ op_reg_each w (funct7_of w) (funct3_of w) (omega arith)
 
-pub fence_row : (w : ℕ) → w < 2 ^ 32 → w % 128 ≡ 0x0f → decoding w ≡ fence_of w
+pub fence_row : (w : ℕ) → w < 2 ^ 32 → w % 128 ≡ 0x0f → decoding w ≡ fence_of w (funct3_of w)
 unfolding by_fields fields_fit table
 fence_row w h e =
-    at_opcode w 0x0f h e ∙ below8 (λ f3. by_fields w 0x0f f3 (funct7_of w) ≡ (if f3 == 0 then Some instrs.Fence else None)) refl refl refl refl refl refl refl refl (funct3_of w) (omega arith)
+    at_opcode w 0x0f h e ∙ below8 (λ f3. by_fields w 0x0f f3 (funct7_of w) ≡ fence_of w f3) refl refl refl refl refl refl refl refl (funct3_of w) (omega arith)
 
 system_by : (w f3 f7 : ℕ) → by_fields w 0x73 f3 f7 ≡ (if w == 0x00000073 then Some instrs.Ecall else if w == 0x00100073 then Some instrs.Ebreak else None)
 unfolding by_fields fields_fit table

@@ -1,1 +1,2 @@
 pub mod ByOpcode
+mod Signs

@@ -1,347 +1,339 @@
 //! The decoder of 32-bit instructions.
 #![tactic(auto)]
 
-ghost use Rattle.std.specs.Prelude.{◌≡◌};
-ghost use Rattle.rv32_model.specs.Instructions.{decoding, rd_of, rs1_of, rs2_of, imm_i, imm_s, imm_b, imm_u, imm_j};
-ghost use Rattle.rv32_decode.specs.Kinds.{funct3_of, funct7_of, test_of, load_kind_of, store_width_of, base_op_of, other_op_of, multiply_op_of, op_of, shift_op_of, imm_op_of, jalr_of, branch_of, load_of, store_of, op_imm_of, op_reg_of, fence_of, system_of};
+ghost use Rattle.std.specs.Prelude.{◌≡◌, Some};
+ghost use Rattle.rv32_model.specs.Instructions.{bits_of, sign_extended, decoding, rd_of, rs1_of, rs2_of, imm_i, imm_s, imm_b, imm_u, imm_j, branch, load, store, op_imm, shift_imm, op_reg};
+ghost use Rattle.rv32_decode.specs.Kinds.{funct3_of, funct7_of, jalr_of, branch_of, load_of, store_of, shift_left_of, shift_right_of, op_imm_of, base_of, other_of, multiply_of, op_reg_of, fence_of, system_of};
 
 use rv32_model::{BranchTest, Instr, LoadKind, Op};
+use rv32_traits::{AsValue, Handler};
 use tk_base::Width;
 
+#[inline(always)]
 fn rd(word: u32) -> u8
     ensures { result ≡ rd_of word }
 {
     ((word >> 7) % 32) as u8
 }
 
+#[inline(always)]
 fn rs1(word: u32) -> u8
     ensures { result ≡ rs1_of word }
 {
     ((word >> 15) % 32) as u8
 }
 
+#[inline(always)]
 fn rs2(word: u32) -> u8
     ensures { result ≡ rs2_of word }
 {
     ((word >> 20) % 32) as u8
 }
 
+#[inline(always)]
 fn funct3(word: u32) -> u32
     ensures { result ≡ funct3_of word }
 {
     (word >> 12) % 8
 }
 
+#[inline(always)]
 fn funct7(word: u32) -> u32
     ensures { result ≡ funct7_of word }
 {
     (word >> 25) % 128
 }
 
+/// 32 bits, each of which is the highest of a word.
+#[inline(always)]
+#[tactic(auto, using(crate::proofs::Signs::by_shifts))]
+fn sign(word: u32) -> u32
+    ensures { result ≡ sign_extended 1 (bits_of word 31 1) }
+{
+    (word.cast_signed() >> 31).cast_unsigned()
+}
+
+#[inline(always)]
+#[tactic(auto, using(crate::proofs::Signs::by_shifts))]
 fn immediate_i(word: u32) -> u32
     ensures { result ≡ imm_i word }
 {
-    let field = (word >> 20) % 4096;
-    if field < 0x800 {
-        field
-    } else {
-        field + 0xffff_f000
-    }
+    (word.cast_signed() >> 20).cast_unsigned()
 }
 
+#[inline(always)]
+#[tactic(auto, using(crate::proofs::Signs::by_shifts))]
 fn immediate_s(word: u32) -> u32
     ensures { result ≡ imm_s word }
 {
-    let field = (word >> 25) % 128 * 32 + (word >> 7) % 32;
-    if field < 0x800 {
-        field
-    } else {
-        field + 0xffff_f000
-    }
+    (word.cast_signed() >> 25).cast_unsigned().wrapping_mul(32) + (word >> 7) % 32
 }
 
+#[inline(always)]
 fn immediate_b(word: u32) -> u32
     ensures { result ≡ imm_b word }
 {
-    let field = (word >> 31) % 2 * 4096
+    sign(word).wrapping_mul(4096)
         + (word >> 7) % 2 * 2048
         + (word >> 25) % 64 * 32
-        + (word >> 8) % 16 * 2;
-    if field < 0x1000 {
-        field
-    } else {
-        field + 0xffff_e000
-    }
+        + (word >> 8) % 16 * 2
 }
 
+#[inline(always)]
 fn immediate_u(word: u32) -> u32
     ensures { result ≡ imm_u word }
 {
     ((word >> 12) % 0x10_0000) * 4096
 }
 
+#[inline(always)]
 fn immediate_j(word: u32) -> u32
     ensures { result ≡ imm_j word }
 {
-    let field = (word >> 31) % 2 * 0x10_0000
+    sign(word).wrapping_mul(0x10_0000)
         + (word >> 12) % 256 * 4096
         + (word >> 20) % 2 * 2048
-        + (word >> 21) % 1024 * 2;
-    if field < 0x10_0000 {
-        field
-    } else {
-        field + 0xffe0_0000
-    }
+        + (word >> 21) % 1024 * 2
 }
 
-fn branch_test(funct3: u32) -> Option<BranchTest>
-    ensures { result ≡ test_of funct3 }
-{
-    match funct3 {
-        0 => Some(BranchTest::Beq),
-        1 => Some(BranchTest::Bne),
-        4 => Some(BranchTest::Blt),
-        5 => Some(BranchTest::Bge),
-        6 => Some(BranchTest::Bltu),
-        7 => Some(BranchTest::Bgeu),
-        _ => None,
-    }
-}
-
-fn load_kind(funct3: u32) -> Option<LoadKind>
-    ensures { result ≡ load_kind_of funct3 }
-{
-    match funct3 {
-        0 => Some(LoadKind::Lb),
-        1 => Some(LoadKind::Lh),
-        2 => Some(LoadKind::Lw),
-        4 => Some(LoadKind::Lbu),
-        5 => Some(LoadKind::Lhu),
-        _ => None,
-    }
-}
-
-fn store_width(funct3: u32) -> Option<Width>
-    ensures { result ≡ store_width_of funct3 }
-{
-    match funct3 {
-        0 => Some(Width::Byte),
-        1 => Some(Width::Half),
-        2 => Some(Width::Word),
-        _ => None,
-    }
-}
-
-fn base_op(funct3: u32) -> Option<Op>
-    ensures { result ≡ base_op_of funct3 }
-{
-    match funct3 {
-        0 => Some(Op::Add),
-        1 => Some(Op::Sll),
-        2 => Some(Op::Slt),
-        3 => Some(Op::Sltu),
-        4 => Some(Op::Xor),
-        5 => Some(Op::Srl),
-        6 => Some(Op::Or),
-        7 => Some(Op::And),
-        _ => None,
-    }
-}
-
-fn other_op(funct3: u32) -> Option<Op>
-    ensures { result ≡ other_op_of funct3 }
-{
-    match funct3 {
-        0 => Some(Op::Sub),
-        5 => Some(Op::Sra),
-        _ => None,
-    }
-}
-
-fn multiply_op(funct3: u32) -> Option<Op>
-    ensures { result ≡ multiply_op_of funct3 }
-{
-    match funct3 {
-        0 => Some(Op::Mul),
-        1 => Some(Op::Mulh),
-        2 => Some(Op::Mulhsu),
-        3 => Some(Op::Mulhu),
-        4 => Some(Op::Div),
-        5 => Some(Op::Divu),
-        6 => Some(Op::Rem),
-        7 => Some(Op::Remu),
-        _ => None,
-    }
-}
-
-fn register_op(funct3: u32, funct7: u32) -> Option<Op>
-    ensures { result ≡ op_of funct3 funct7 }
-{
-    match funct7 {
-        0x00 => base_op(funct3),
-        0x20 => other_op(funct3),
-        0x01 => multiply_op(funct3),
-        _ => None,
-    }
-}
-
-fn shift_op(funct3: u32, funct7: u32) -> Option<Op>
-    ensures { result ≡ shift_op_of funct3 funct7 }
-{
-    match (funct7, funct3) {
-        (0x00, 1) => Some(Op::Sll),
-        (0x00, 5) => Some(Op::Srl),
-        (0x20, 5) => Some(Op::Sra),
-        _ => None,
-    }
-}
-
-fn immediate_op(funct3: u32) -> Option<Op>
-    ensures { result ≡ imm_op_of funct3 }
-{
-    match funct3 {
-        0 => Some(Op::Add),
-        2 => Some(Op::Slt),
-        3 => Some(Op::Sltu),
-        4 => Some(Op::Xor),
-        6 => Some(Op::Or),
-        7 => Some(Op::And),
-        _ => None,
-    }
-}
-
-fn jalr(word: u32) -> Option<Instr>
-    ensures { result ≡ jalr_of word }
+#[inline(always)]
+fn jalr<H: Handler>(word: u32, handler: &mut H) -> H::Answer
+    ensures { H.handles handler.old (jalr_of word (funct3_of word)) result handler.new }
 {
     if funct3(word) != 0 {
-        return None;
+        return handler.illegal();
     }
-    Some(Instr::Jalr {
-        rd: rd(word),
-        rs1: rs1(word),
-        offset: immediate_i(word),
-    })
+    handler.jalr(rd(word), rs1(word), immediate_i(word))
 }
 
-fn branch(word: u32) -> Option<Instr>
-    ensures { result ≡ branch_of word }
+#[inline(always)]
+fn branch_on<H: Handler>(test: BranchTest, word: u32, handler: &mut H) -> H::Answer
+    ensures { H.handles handler.old (Some (branch test word)) result handler.new }
 {
-    let test = branch_test(funct3(word))?;
-    Some(Instr::Branch {
-        test,
-        rs1: rs1(word),
-        rs2: rs2(word),
-        offset: immediate_b(word),
-    })
+    handler.branch(test, rs1(word), rs2(word), immediate_b(word))
 }
 
-fn load(word: u32) -> Option<Instr>
-    ensures { result ≡ load_of word }
+#[inline(always)]
+fn branches<H: Handler>(word: u32, handler: &mut H) -> H::Answer
+    ensures { H.handles handler.old (branch_of word (funct3_of word)) result handler.new }
 {
-    let kind = load_kind(funct3(word))?;
-    Some(Instr::Load {
-        kind,
-        rd: rd(word),
-        rs1: rs1(word),
-        offset: immediate_i(word),
-    })
-}
-
-fn store(word: u32) -> Option<Instr>
-    ensures { result ≡ store_of word }
-{
-    let width = store_width(funct3(word))?;
-    Some(Instr::Store {
-        width,
-        rs1: rs1(word),
-        rs2: rs2(word),
-        offset: immediate_s(word),
-    })
-}
-
-fn op_imm(word: u32) -> Option<Instr>
-    ensures { result ≡ op_imm_of word }
-{
-    let funct3 = funct3(word);
-    if funct3 % 4 == 1 {
-        let op = shift_op(funct3, funct7(word))?;
-        return Some(Instr::OpImm {
-            op,
-            rd: rd(word),
-            rs1: rs1(word),
-            imm: u32::from(rs2(word)),
-        });
+    match funct3(word) {
+        0 => branch_on(BranchTest::Beq, word, handler),
+        1 => branch_on(BranchTest::Bne, word, handler),
+        4 => branch_on(BranchTest::Blt, word, handler),
+        5 => branch_on(BranchTest::Bge, word, handler),
+        6 => branch_on(BranchTest::Bltu, word, handler),
+        7 => branch_on(BranchTest::Bgeu, word, handler),
+        _ => handler.illegal(),
     }
-    let op = immediate_op(funct3)?;
-    Some(Instr::OpImm {
-        op,
-        rd: rd(word),
-        rs1: rs1(word),
-        imm: immediate_i(word),
-    })
 }
 
-fn op_reg(word: u32) -> Option<Instr>
-    ensures { result ≡ op_reg_of word }
+#[inline(always)]
+fn load_as<H: Handler>(kind: LoadKind, word: u32, handler: &mut H) -> H::Answer
+    ensures { H.handles handler.old (Some (load kind word)) result handler.new }
 {
-    let op = register_op(funct3(word), funct7(word))?;
-    Some(Instr::Op {
-        op,
-        rd: rd(word),
-        rs1: rs1(word),
-        rs2: rs2(word),
-    })
+    handler.load(kind, rd(word), rs1(word), immediate_i(word))
 }
 
-fn fence(word: u32) -> Option<Instr>
-    ensures { result ≡ fence_of word }
+#[inline(always)]
+fn loads<H: Handler>(word: u32, handler: &mut H) -> H::Answer
+    ensures { H.handles handler.old (load_of word (funct3_of word)) result handler.new }
+{
+    match funct3(word) {
+        0 => load_as(LoadKind::Lb, word, handler),
+        1 => load_as(LoadKind::Lh, word, handler),
+        2 => load_as(LoadKind::Lw, word, handler),
+        4 => load_as(LoadKind::Lbu, word, handler),
+        5 => load_as(LoadKind::Lhu, word, handler),
+        _ => handler.illegal(),
+    }
+}
+
+#[inline(always)]
+fn store_as<H: Handler>(width: Width, word: u32, handler: &mut H) -> H::Answer
+    ensures { H.handles handler.old (Some (store width word)) result handler.new }
+{
+    handler.store(width, rs1(word), rs2(word), immediate_s(word))
+}
+
+#[inline(always)]
+fn stores<H: Handler>(word: u32, handler: &mut H) -> H::Answer
+    ensures { H.handles handler.old (store_of word (funct3_of word)) result handler.new }
+{
+    match funct3(word) {
+        0 => store_as(Width::Byte, word, handler),
+        1 => store_as(Width::Half, word, handler),
+        2 => store_as(Width::Word, word, handler),
+        _ => handler.illegal(),
+    }
+}
+
+#[inline(always)]
+fn by_immediate<H: Handler>(op: Op, word: u32, handler: &mut H) -> H::Answer
+    ensures { H.handles handler.old (Some (op_imm op word)) result handler.new }
+{
+    handler.op_imm(op, rd(word), rs1(word), immediate_i(word))
+}
+
+#[inline(always)]
+fn by_distance<H: Handler>(op: Op, word: u32, handler: &mut H) -> H::Answer
+    ensures { H.handles handler.old (Some (shift_imm op word)) result handler.new }
+{
+    handler.op_imm(op, rd(word), rs1(word), u32::from(rs2(word)))
+}
+
+#[inline(always)]
+fn left_shift<H: Handler>(word: u32, handler: &mut H) -> H::Answer
+    ensures { H.handles handler.old (shift_left_of word (funct7_of word)) result handler.new }
+{
+    match funct7(word) {
+        0x00 => by_distance(Op::Sll, word, handler),
+        _ => handler.illegal(),
+    }
+}
+
+#[inline(always)]
+fn right_shift<H: Handler>(word: u32, handler: &mut H) -> H::Answer
+    ensures { H.handles handler.old (shift_right_of word (funct7_of word)) result handler.new }
+{
+    match funct7(word) {
+        0x00 => by_distance(Op::Srl, word, handler),
+        0x20 => by_distance(Op::Sra, word, handler),
+        _ => handler.illegal(),
+    }
+}
+
+#[inline(always)]
+fn immediates<H: Handler>(word: u32, handler: &mut H) -> H::Answer
+    ensures { H.handles handler.old (op_imm_of word (funct3_of word) (funct7_of word)) result handler.new }
+{
+    match funct3(word) {
+        0 => by_immediate(Op::Add, word, handler),
+        1 => left_shift(word, handler),
+        2 => by_immediate(Op::Slt, word, handler),
+        3 => by_immediate(Op::Sltu, word, handler),
+        4 => by_immediate(Op::Xor, word, handler),
+        5 => right_shift(word, handler),
+        6 => by_immediate(Op::Or, word, handler),
+        7 => by_immediate(Op::And, word, handler),
+        _ => handler.illegal(),
+    }
+}
+
+#[inline(always)]
+fn by_register<H: Handler>(op: Op, word: u32, handler: &mut H) -> H::Answer
+    ensures { H.handles handler.old (Some (op_reg op word)) result handler.new }
+{
+    handler.op(op, rd(word), rs1(word), rs2(word))
+}
+
+#[inline(always)]
+fn base_operations<H: Handler>(word: u32, handler: &mut H) -> H::Answer
+    ensures { H.handles handler.old (base_of word (funct3_of word)) result handler.new }
+{
+    match funct3(word) {
+        0 => by_register(Op::Add, word, handler),
+        1 => by_register(Op::Sll, word, handler),
+        2 => by_register(Op::Slt, word, handler),
+        3 => by_register(Op::Sltu, word, handler),
+        4 => by_register(Op::Xor, word, handler),
+        5 => by_register(Op::Srl, word, handler),
+        6 => by_register(Op::Or, word, handler),
+        7 => by_register(Op::And, word, handler),
+        _ => handler.illegal(),
+    }
+}
+
+#[inline(always)]
+fn other_operations<H: Handler>(word: u32, handler: &mut H) -> H::Answer
+    ensures { H.handles handler.old (other_of word (funct3_of word)) result handler.new }
+{
+    match funct3(word) {
+        0 => by_register(Op::Sub, word, handler),
+        5 => by_register(Op::Sra, word, handler),
+        _ => handler.illegal(),
+    }
+}
+
+#[inline(always)]
+fn multiplications<H: Handler>(word: u32, handler: &mut H) -> H::Answer
+    ensures { H.handles handler.old (multiply_of word (funct3_of word)) result handler.new }
+{
+    match funct3(word) {
+        0 => by_register(Op::Mul, word, handler),
+        1 => by_register(Op::Mulh, word, handler),
+        2 => by_register(Op::Mulhsu, word, handler),
+        3 => by_register(Op::Mulhu, word, handler),
+        4 => by_register(Op::Div, word, handler),
+        5 => by_register(Op::Divu, word, handler),
+        6 => by_register(Op::Rem, word, handler),
+        7 => by_register(Op::Remu, word, handler),
+        _ => handler.illegal(),
+    }
+}
+
+#[inline(always)]
+fn operations<H: Handler>(word: u32, handler: &mut H) -> H::Answer
+    ensures { H.handles handler.old (op_reg_of word (funct3_of word) (funct7_of word)) result handler.new }
+{
+    match funct7(word) {
+        0x00 => base_operations(word, handler),
+        0x20 => other_operations(word, handler),
+        0x01 => multiplications(word, handler),
+        _ => handler.illegal(),
+    }
+}
+
+#[inline(always)]
+fn fence<H: Handler>(word: u32, handler: &mut H) -> H::Answer
+    ensures { H.handles handler.old (fence_of word (funct3_of word)) result handler.new }
 {
     if funct3(word) == 0 {
-        Some(Instr::Fence)
+        handler.fence()
     } else {
-        None
+        handler.illegal()
     }
 }
 
-fn system(word: u32) -> Option<Instr>
-    ensures { result ≡ system_of word }
+#[inline(always)]
+fn system<H: Handler>(word: u32, handler: &mut H) -> H::Answer
+    ensures { H.handles handler.old (system_of word) result handler.new }
 {
     match word {
-        0x0000_0073 => Some(Instr::Ecall),
-        0x0010_0073 => Some(Instr::Ebreak),
-        _ => None,
+        0x0000_0073 => handler.ecall(),
+        0x0010_0073 => handler.ebreak(),
+        _ => handler.illegal(),
     }
 }
 
-/// The instruction of a word of 32 bits (RISC-V unprivileged manual, "RV32/64G Instruction Set
-/// Listings", RV32I and M). None exactly where no row of the table fits.
+/// Hands the instruction of a word of 32 bits (RISC-V unprivileged manual, "RV32/64G Instruction Set
+/// Listings", RV32I and M) on to a handler. It is none exactly where no row of the table fits.
+#[inline(always)]
 #[tactic(auto, using(crate::proofs::ByOpcode::by_opcodes))]
+pub fn handle32<H: Handler>(word: u32, handler: &mut H) -> H::Answer
+    ensures { H.handles handler.old (decoding word) result handler.new }
+{
+    match word % 128 {
+        0x37 => handler.lui(rd(word), immediate_u(word)),
+        0x17 => handler.auipc(rd(word), immediate_u(word)),
+        0x6f => handler.jal(rd(word), immediate_j(word)),
+        0x67 => jalr(word, handler),
+        0x63 => branches(word, handler),
+        0x03 => loads(word, handler),
+        0x23 => stores(word, handler),
+        0x13 => immediates(word, handler),
+        0x33 => operations(word, handler),
+        0x0f => fence(word, handler),
+        0x73 => system(word, handler),
+        _ => handler.illegal(),
+    }
+}
+
+/// The instruction of a word of 32 bits. None exactly where no row of the table fits.
 pub fn decode32(word: u32) -> Option<Instr>
     ensures { result ≡ decoding word }
 {
-    match word % 128 {
-        0x37 => Some(Instr::Lui {
-            rd: rd(word),
-            imm: immediate_u(word),
-        }),
-        0x17 => Some(Instr::Auipc {
-            rd: rd(word),
-            imm: immediate_u(word),
-        }),
-        0x6f => Some(Instr::Jal {
-            rd: rd(word),
-            offset: immediate_j(word),
-        }),
-        0x67 => jalr(word),
-        0x63 => branch(word),
-        0x03 => load(word),
-        0x23 => store(word),
-        0x13 => op_imm(word),
-        0x33 => op_reg(word),
-        0x0f => fence(word),
-        0x73 => system(word),
-        _ => None,
-    }
+    handle32(word, &mut AsValue)
 }
 
 #[cfg(test)]

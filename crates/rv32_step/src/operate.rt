@@ -5,6 +5,7 @@ ghost use Rattle.rv32_model.specs.UserTurn.{is_taken, operation, upper_half};
 
 use rv32_model::{BranchTest, Op};
 
+#[inline(always)]
 fn set_less(x: u32, y: u32) -> u32
     ensures { result ≡ operation ops.Slt x y }
 {
@@ -15,42 +16,49 @@ fn set_less(x: u32, y: u32) -> u32
     }
 }
 
+#[inline(always)]
 fn shift_right_arithmetic(x: u32, y: u32) -> u32
     ensures { result ≡ operation ops.Sra x y }
 {
     (x.cast_signed() >> (y % 32)).cast_unsigned()
 }
 
+#[inline(always)]
 fn upper(product: i64) -> u32
     ensures { result ≡ upper_half product }
 {
     (product.cast_unsigned() >> 32) as u32
 }
 
+#[inline(always)]
 fn signed_product(x: i32, y: i32) -> i64
     ensures { result ≡ x *ℤ y }
 {
     i64::from(x) * i64::from(y)
 }
 
+#[inline(always)]
 fn multiply_high(x: u32, y: u32) -> u32
     ensures { result ≡ operation ops.Mulh x y }
 {
     upper(signed_product(x.cast_signed(), y.cast_signed()))
 }
 
+#[inline(always)]
 fn multiply_high_signed_unsigned(x: u32, y: u32) -> u32
     ensures { result ≡ operation ops.Mulhsu x y }
 {
     upper(i64::from(x.cast_signed()) * i64::from(y))
 }
 
+#[inline(always)]
 fn multiply_high_unsigned(x: u32, y: u32) -> u32
     ensures { result ≡ operation ops.Mulhu x y }
 {
     ((u64::from(x) * u64::from(y)) >> 32) as u32
 }
 
+#[inline(always)]
 fn divide(x: u32, y: u32) -> u32
     ensures { result ≡ operation ops.Div x y }
 {
@@ -62,12 +70,14 @@ fn divide(x: u32, y: u32) -> u32
         .cast_unsigned()
 }
 
+#[inline(always)]
 fn divide_unsigned(x: u32, y: u32) -> u32
     ensures { result ≡ operation ops.Divu x y }
 {
     if y == 0 { u32::MAX } else { x / y }
 }
 
+#[inline(always)]
 fn remainder(x: u32, y: u32) -> u32
     ensures { result ≡ operation ops.Rem x y }
 {
@@ -79,6 +89,7 @@ fn remainder(x: u32, y: u32) -> u32
         .cast_unsigned()
 }
 
+#[inline(always)]
 fn remainder_unsigned(x: u32, y: u32) -> u32
     ensures { result ≡ operation ops.Remu x y }
 {
@@ -86,6 +97,7 @@ fn remainder_unsigned(x: u32, y: u32) -> u32
 }
 
 /// What an operation gives, modulo `2^32`.
+#[inline(always)]
 pub fn operate(op: Op, x: u32, y: u32) -> u32
     ensures { result ≡ operation op x y }
 {
@@ -112,6 +124,7 @@ pub fn operate(op: Op, x: u32, y: u32) -> u32
 }
 
 /// Whether a branch is taken.
+#[inline(always)]
 pub fn takes(test: BranchTest, x: u32, y: u32) -> bool
     ensures { result ≡ is_taken test x y }
 {

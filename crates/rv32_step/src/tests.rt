@@ -3,7 +3,7 @@
 use super::*;
 use crate::operate::operate;
 use rv32_model::Op;
-use tk_base::{Width, a_store_is_put, number_in, put_number};
+use tk_base::{Rule, Width, a_store_is_put, number_in, put_number};
 
 /// 64 bytes from address 0 on: the first 32 may be executed, the others written; all may be read.
 #[derive(Drop)]
@@ -61,6 +61,17 @@ impl Bus for SmallMemory {
         a_store_is_put();
         put_number(&mut self.bytes, at as usize, width, value);
         Ok(())
+    }
+}
+
+impl FetchAhead for SmallMemory {
+    fn word(&self, at: Addr) -> Option<u32> {
+        if at > 28 {
+            return None;
+        }
+        let first = number_in(&self.bytes, at as usize, Width::Half);
+        let second = number_in(&self.bytes, at as usize + 2, Width::Half);
+        Some(first + second * 65536)
     }
 }
 

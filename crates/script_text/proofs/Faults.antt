@@ -1,14 +1,15 @@
 -- How the lines are gone through.
-use Rattle.std.proofs.Common.{◌≡◌, ◌+◌, ◌-◌, ◌≤◌, ℕ, Bool, true, false, cond, List, [], ◌∷◌, ◌++◌, length, take, drop, get_or, filter_map, option_map, Option, Some, None, Ok, Err, refl, sym, ap, ◌∙◌, arith}
+use Rattle.std.proofs.Common.{◌≡◌, ◌+◌, ◌-◌, ◌≤◌, ℕ, Bool, true, false, not, cond, List, [], ◌∷◌, ◌++◌, length, take, drop, get_or, filter_map, option_map, Option, Some, None, Ok, Err, refl, sym, ap, ◌∙◌, arith}
 use Rattle.std.proofs.lemmas.List.{drop-drop, length-drop, get_or-drop, take_more, length-map, take_all}
 use Rattle.std.proofs.lemmas.List.Splits.{length-slice_split}
-use Rattle.std.proofs.lemmas.List.Sums.{count_by-le-length}
+use Rattle.std.proofs.lemmas.List.Sums.{count_by-le-length, length-filter}
 use Rattle.std.specs.List.{enumerate_from, slice_split, cons_option}
 use Rattle.script_text.specs.Settings.{Settings}
 use Rattle.script_text.specs.declared.rule.ScriptRule.{ScriptRule}
-use Rattle.script_text.specs.Text.{lines, without_return, without_empty_last, is_line_feed, is_empty}
+use Rattle.script_text.specs.Text.{lines, words, without_return, without_empty_last, is_line_feed, is_blank, is_empty}
 use Rattle.script_text.specs.Rules.{broken}
-use Rattle.script_text.specs.Reading.{fault_of, faults, settings, unless_bad, reading}
+use Rattle.script_text.specs.Reading.{fault_of, faults, unless_bad, reading}
+use Rattle.script_text.specs.Said.{settings}
 
 -- the line after the first n
 line_is : (all : List (List ℕ)) (n : ℕ) (line : List ℕ) (rest : List (List ℕ)) → drop n all ≡ line ∷ rest → get_or all n [] ≡ line
@@ -78,5 +79,12 @@ unfolding lines
 few_lines script =
     let pieces = slice_split is_line_feed script in
     omega (arith, length-map (without_empty_last pieces) without_return, shorter pieces, length-slice_split is_line_feed script, count_by-le-length is_line_feed script)
+
+-- nor a line many more words
+pub few_words : (line : List ℕ) → length (words line) ≤ length line + 1
+unfolding words
+few_words line =
+    let pieces = slice_split is_blank line in
+    omega (arith, length-filter (λ w. not (is_empty w)) pieces, count_by-le-length (λ w. not (is_empty w)) pieces, length-slice_split is_blank line, count_by-le-length is_blank line)
 
 pub ruleset going_on = (few_lines, one_passed, one_less, one_more, unbroken_more, broken_first, no_faults_before, settings_read, all_passed)

@@ -1,4 +1,8 @@
 pub mod TextLemmas
+pub mod Steps
+pub mod HexDigits
+pub mod Said
+pub mod Sound
 pub mod Rules
-pub mod Lines
+pub mod Adding
 pub mod Faults

@@ -20,7 +20,7 @@ none_after : (b : Bool) (n : ℕ) → cond b (Some n) None ≡ None → b ≡ fa
 none_after true n h = cc
 none_after false n h = refl
 
-none_passes : {X : Type 0} (p : X → Bool) (xs : List X) → position p xs ≡ None → All (λ x. p x ≡ false) xs
+pub none_passes : {X : Type 0} (p : X → Bool) (xs : List X) → position p xs ≡ None → All (λ x. p x ≡ false) xs
 none_passes p xs h =
     let past = ltb-false (position_or_len p xs) (length xs) (none_after _ _ h) in
     λ k d l. fails_before_first p xs k d (omega (arith, past, l))

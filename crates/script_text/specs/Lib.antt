@@ -1,6 +1,9 @@
 pub mod Text
+pub mod Settings
+pub mod Table
+pub mod Said
 pub mod Rules
 pub mod Reading
-pub mod Line
-pub mod Drafted
-pub mod Settings
+pub mod Alone
+pub mod Seats
+pub mod Progress

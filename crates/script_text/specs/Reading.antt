@@ -1,13 +1,13 @@
 -- The reading of a script: what it says, or its first bad line.
-use Rattle.std.specs.Prelude.{◌≡◌, ℕ, ◌-◌, List, [], ◌∷◌, take, find, filter_map, Option, option_map, unwrap_or, Result, Ok, Err}
+use Rattle.std.specs.Prelude.{◌≡◌, ℕ, ◌-◌, List, [], ◌∷◌, take, filter_map, Option, option_map, Result, Ok, Err}
 use Rattle.std.specs.List.{enumerate_from}
 use Rattle.script_text.specs.declared.rule.ScriptError.{ScriptError}
 use Rattle.script_text.specs.declared.rule.ScriptError.TheVariants.{Bad, Memory}
 use Rattle.script_text.specs.declared.rule.ScriptRule.{ScriptRule}
-use Rattle.decimal_number.specs.Number.{number}
 use Rattle.script_text.specs.Settings.{Settings}
 use Rattle.script_text.specs.Text.{lines}
-use Rattle.script_text.specs.Rules.{Row, ram_row, second_word, begins_with, broken}
+use Rattle.script_text.specs.Rules.{broken}
+use Rattle.script_text.specs.Said.{settings}
 
 -- a line's number, from 1, and the first rule that it breaks
 pub record Fault : Type 0 where
@@ -22,14 +22,6 @@ fault_of all line = option_map (λ rule. record { line = line.0; rule = rule }) 
 unfoldable pub faults : List (List ℕ) → List Fault
 faults all = filter_map (fault_of all) (enumerate_from 1 all)
 
--- the number that a line gives for a row of the table
-abbrev pub given : Row → List (List ℕ) → Option ℕ
-given row all = option_map (λ line. number (second_word line)) (find (begins_with row.name) all)
-
--- what lines say that have no fault
-abbrev pub settings : List (List ℕ) → Settings
-settings all = record { ram = unwrap_or (given ram_row all) ram_row.default }
-
 -- the settings, unless there is a fault: then the first one
 abbrev pub unless_bad : List Fault → Settings → Result Settings Fault
 unless_bad [] said = Ok said
@@ -39,8 +31,8 @@ unless_bad (fault ∷ more) said = Err fault
 unfoldable pub reading : List ℕ → Result Settings Fault
 reading script = unless_bad (faults (lines script)) (settings (lines script))
 
--- what was read is the reading; memory never runs out yet
+-- what was read is the reading, unless there was no memory for it
 abbrev pub Reads : Result Settings ScriptError → Result Settings Fault → Type 0
 Reads (Ok said) read = read ≡ Ok said
 Reads (Err (Bad line rule)) read = read ≡ Err (record { line = line; rule = rule })
-Reads (Err Memory) read = ⊥
+Reads (Err Memory) read = Unit {0}

@@ -1,66 +1,82 @@
--- The lines of a script, and the rules that a line may break.
-use Rattle.std.specs.Prelude.{ℕ, ◌%◌, ◌==◌, Bool, true, false, not, ◌&&◌, nat_le, List, [], ◌∷◌, length, find, slice_index, slice_index_or, codes, Option, is_some, is_none}
+-- The rules that a line may break.
+use Rattle.std.specs.Prelude.{ℕ, ◌+◌, ◌/◌, ◌%◌, ◌==◌, Bool, true, false, not, ◌&&◌, ◌||◌, nat_le, nat_lt, if◌then◌else◌, List, [], ◌∷◌, map, length, drop, find, position, slice_index, codes, Option, is_some, is_none}
 use Rattle.std.specs.Option.{option_map_or}
-use Rattle.std.specs.Str.{bytes_eq}
-use Rattle.tk_base.specs.declared.limits.TheConstants.{RAM_LEAST, RAM_LIMIT, RAM_UNIT}
+use Rattle.hex.specs.Hex.{is_hex_digit}
 use Rattle.script_text.specs.declared.rule.ScriptRule.{ScriptRule}
 use Rattle.script_text.specs.declared.rule.ScriptRule.TheVariants.{UnknownWord, Words, BadNumber, BadHex, OutOfRange, Repeated, Order, TooMany}
+use Rattle.script_text.specs.declared.table.Form.{Form}
+use Rattle.script_text.specs.declared.table.Line.{Line}
+use Rattle.script_text.specs.declared.table.Line.TheVariants.{StorageFault, Random, Input}
 use Rattle.decimal_number.specs.Number.{is_number, number}
-use Rattle.script_text.specs.Text.{words}
-
--- a line of a name and a number: the numbers that it may have, and the one that holds where no line gives it
-pub record Row : Type 0 where
-  pub name : List ℕ
-  pub least : ℕ
-  pub most : ℕ
-  pub multiple : ℕ
-  pub default : ℕ
-
-abbrev pub ram_row : Row
-ram_row = record { name = codes "ram"; least = RAM_LEAST; most = RAM_LIMIT; multiple = RAM_UNIT; default = 65536 }
-
--- the table of lines
-abbrev pub rows : List Row
-rows = ram_row ∷ []
-
-unfoldable pub row_of : List ℕ → Option Row
-row_of word = find (λ row. bytes_eq row.name word) rows
-
-abbrev pub permits : Row → ℕ → Bool
-permits row n = nat_le row.least n && nat_le n row.most && n % row.multiple == 0
-
-abbrev pub first_word : List ℕ → List ℕ
-first_word line = slice_index_or (words line) 0 []
-
-abbrev pub second_word : List ℕ → List ℕ
-second_word line = slice_index_or (words line) 1 []
+use Rattle.script_text.specs.Settings.{Settings}
+use Rattle.script_text.specs.Table.{row, permits, line_of}
+use Rattle.script_text.specs.Text.{words, word}
+use Rattle.script_text.specs.Said.{settings, stands, last}
 
 -- a line is skipped where it has no words, or its first word begins with `#`
 abbrev pub skips : List (List ℕ) → Bool
 skips [] = true
-skips (word ∷ more) = slice_index word 0 == 35
+skips (w ∷ more) = slice_index w 0 == 35
 
-abbrev pub is_skipped : List ℕ → Bool
-is_skipped line = skips (words line)
+-- a word has as many digits as are asked for, or an even number where none is asked
+abbrev pub has_digits : Option ℕ → List ℕ → Bool
+has_digits digits w = option_map_or (λ n. length w == n) digits (length w % 2 == 0)
 
--- a line begins with a word
-abbrev pub begins_with : List ℕ → List ℕ → Bool
-begins_with word line = bytes_eq (first_word line) word
+-- a word is hex: no byte of it is anything but a hex digit, of either case
+abbrev pub is_hex : Option ℕ → List ℕ → Bool
+is_hex digits w = is_none (position (λ byte. not (is_hex_digit byte)) w) && has_digits digits w
 
--- a line that is not skipped breaks a rule, where these lines stand before it
-abbrev pub breaks_rule : ScriptRule → List (List ℕ) → List ℕ → Bool
-breaks_rule UnknownWord before line = is_none (row_of (first_word line))
-breaks_rule Words before line = not (length (words line) == 2)
-breaks_rule BadNumber before line = not (is_number (second_word line))
-breaks_rule BadHex before line = false
-breaks_rule OutOfRange before line = not (option_map_or (λ row. permits row (number (second_word line))) (row_of (first_word line)) false)
-breaks_rule Repeated before line = is_some (find (begins_with (first_word line)) before)
-breaks_rule Order before line = false
-breaks_rule TooMany before line = false
+-- the number of words is wrong
+abbrev pub miscounts : Form → List (List ℕ) → Bool
+miscounts form ws = not (if form.more then nat_le form.words (length ws) else length ws == form.words)
+
+-- a number is not written as one
+abbrev pub misspells : Form → List (List ℕ) → Bool
+misspells form ws = option_map_or (λ n. not (is_number (word ws n.place))) form.number false
+
+-- a word that has to be hex is not
+abbrev pub has_bad_hex : Form → List (List ℕ) → Bool
+has_bad_hex form ws = option_map_or (λ h. is_some (find (λ w. not (is_hex h.digits w)) (drop h.place ws))) form.hex false
+
+-- a number is outside its range
+abbrev pub is_outside : Form → List (List ℕ) → Bool
+is_outside form ws = option_map_or (λ n. not (permits n.range (number (word ws n.place)))) form.number false
+
+-- a line may not repeat
+abbrev pub is_single : Line → Bool
+is_single StorageFault = false
+is_single Random = false
+is_single Input = false
+is_single line = true
+
+-- where lines said this: times do not fall, the numbers of faults rise, and no other line stands after an event
+abbrev pub disorders : Line → Settings → List (List ℕ) → Bool
+disorders Input said ws = nat_lt (number (word ws 1)) (last (map (λ e. e.time) said.events))
+disorders StorageFault said ws = nat_lt 0 (length said.events) || nat_le (number (word ws 1)) (last said.faults)
+disorders line said ws = nat_lt 0 (length said.events)
+
+-- 64 faults, 4096 words, 4096 events and 64 bytes in each there may be
+abbrev pub exceeds : Line → Settings → List (List ℕ) → Bool
+exceeds StorageFault said ws = nat_le 64 (length said.faults)
+exceeds Random said ws = nat_lt 4096 (length said.words + length (drop 1 ws))
+exceeds Input said ws = nat_le 4096 (length said.events) || nat_lt 64 (length (word ws 3) / 2)
+exceeds line said ws = false
+
+-- a line of the table breaks a rule with its words, where these lines stand before it
+abbrev pub breaks_rule : ScriptRule → List (List ℕ) → List (List ℕ) → Line → Bool
+breaks_rule UnknownWord before ws line = false
+breaks_rule Words before ws line = miscounts (row line).form ws
+breaks_rule BadNumber before ws line = misspells (row line).form ws
+breaks_rule BadHex before ws line = has_bad_hex (row line).form ws
+breaks_rule OutOfRange before ws line = is_outside (row line).form ws
+breaks_rule Repeated before ws line = is_single line && stands line before
+breaks_rule Order before ws line = disorders line (settings before) ws
+breaks_rule TooMany before ws line = exceeds line (settings before) ws
 
 -- a line breaks a rule, where these lines stand before it
-abbrev pub breaks : ScriptRule → List (List ℕ) → List ℕ → Bool
-breaks rule before line = not (is_skipped line) && breaks_rule rule before line
+abbrev pub breaks : ScriptRule → List (List ℕ) → List (List ℕ) → Bool
+breaks UnknownWord before ws = is_none (line_of ws)
+breaks rule before ws = option_map_or (breaks_rule rule before ws) (line_of ws) false
 
 -- the rules in the order in which they count
 abbrev pub in_order : List ScriptRule
@@ -68,7 +84,7 @@ in_order = UnknownWord ∷ Words ∷ BadNumber ∷ BadHex ∷ OutOfRange ∷ Rep
 
 -- the first rule that a line breaks
 unfoldable pub broken : List (List ℕ) → List ℕ → Option ScriptRule
-broken before line = find (λ rule. breaks rule before line) in_order
+broken before line = find (λ rule. not (skips (words line)) && breaks rule before (words line)) in_order
 
 -- the rules as the tool names them
 abbrev pub word_of : ScriptRule → List ℕ

@@ -1,5 +1,5 @@
 -- The bytes of a script: its lines, and the words of a line.
-use Rattle.std.specs.Prelude.{ℕ, ◌-◌, ◌==◌, Bool, not, ◌||◌, if◌then◌else◌, List, [], ◌∷◌, map, filter, length, take, slice_index}
+use Rattle.std.specs.Prelude.{ℕ, ◌-◌, ◌==◌, Bool, not, ◌||◌, if◌then◌else◌, List, [], ◌∷◌, map, filter, length, take, slice_index, slice_index_or}
 use Rattle.std.specs.List.{slice_split}
 
 abbrev pub is_line_feed : ℕ → Bool
@@ -29,3 +29,7 @@ lines script = map without_return (without_empty_last (slice_split is_line_feed 
 -- the words of a line: what stands between blanks
 unfoldable pub words : List ℕ → List (List ℕ)
 words line = filter (λ word. not (is_empty word)) (slice_split is_blank line)
+
+-- the word at a place, which counts from 0
+abbrev pub word : List (List ℕ) → ℕ → List ℕ
+word ws place = slice_index_or ws place []

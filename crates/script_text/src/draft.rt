@@ -1,58 +1,283 @@
 //! What the lines so far say.
-ghost use Rattle.std.specs.Prelude.{IsTrue};
-ghost use Rattle.std.specs.Option.{ForSome};
-ghost use Rattle.script_text.specs.Rules.{ram_row, permits};
+ghost use Rattle.std.specs.Prelude.{◌≡◌, ◌≤◌, ◌++◌, ◌*◌, true, false, length, map, drop, Some, None, IfOk};
+ghost use Rattle.decimal_number.specs.Number.{is_number, number};
+ghost use Rattle.script_text.specs.Said.{hex_bytes, hex_word};
+ghost use Rattle.script_text.specs.Rules.{is_hex, has_bad_hex};
+ghost use Rattle.script_text.specs.Seats.{seat, random_form};
+ghost use Rattle.script_text.specs.Text.{words, word};
 
-use crate::line::{Given, read_line};
-use crate::rule::{Script, ScriptRule};
-use crate::table::Setting;
+use crate::line::{read_line, written_at};
+use crate::rule::ScriptRule;
+use crate::script::{EventList, Script, TimedEvent};
+use crate::table::Line;
+use crate::text::{word_at, word_count, words_from};
+use arrayvec::ArrayVec;
+use fault_policy::Policy;
+use hex::FromHex;
+use std::alloc::{AllocError, Global};
+use tk_base::WordList;
 
-/// What the lines so far say.
+/// How many words a script gives at most.
+const WORD_LIMIT: usize = 4096;
+
+/// How many events there are at most.
+const EVENT_LIMIT: usize = 4096;
+
+/// How many bytes an event has at most.
+const EVENT_BYTES: usize = 64;
+
+/// Why a line is not added.
+#[derive(Clone, Copy, Debug, PartialEq, Eq)]
+pub enum Trouble {
+    /// It breaks a rule, and this one first.
+    Breaks(ScriptRule),
+    /// There was no memory for what it says.
+    Memory,
+}
+
+/// What the lines so far say, and which of those that may not repeat stand already.
 #[derive(Drop)]
 pub struct Draft {
-    ram: Option<u32>,
-    ghost ram_in_range: { ForSome ram (λ n. IsTrue (permits ram_row n)) },
+    ram: u32,
+    leds: u32,
+    slice: u32,
+    start: u32,
+    uart: u32,
+    storage: u32,
+    policy: Policy,
+    faults: ArrayVec<u32, 64>,
+    words: Vec<u32>,
+    events: Vec<TimedEvent>,
+    stood: [bool; 7],
+}
+
+impl Line {
+    /// Its place among those that may not repeat. The three of the fault policy have one. None for one
+    /// that may repeat.
+    fn seat(self) -> Option<usize>
+        ensures { result ≡ seat self }
+    {
+        match self {
+            Line::Ram => Some(0),
+            Line::Leds => Some(1),
+            Line::Slice => Some(2),
+            Line::Start => Some(3),
+            Line::Uart => Some(4),
+            Line::Storage => Some(5),
+            Line::Stop | Line::Restart | Line::Threshold => Some(6),
+            Line::StorageFault | Line::Random | Line::Input => None,
+        }
+    }
+}
+
+/// The number that eight hex digits write.
+fn hex_word(word: &[u8]) -> u32
+    requires { is_hex (Some 8) word.now ≡ true }
+    ensures { result ≡ hex_word word.now }
+{
+    match <[u8; 4] as FromHex>::from_hex(word) {
+        Ok(bytes) => u32::from_be_bytes(bytes),
+        Err(_) => 0,
+    }
+}
+
+/// Writes the bytes that hex digits write.
+fn decode_into(word: &[u8], bytes: &mut [u8])
+    requires digits { is_hex None word.now ≡ true }
+    requires size { length word.now ≡ 2 * length bytes.old }
+    ensures { bytes.new ≡ hex_bytes word.now }
+{
+    let _ = hex::decode_to_slice(word, bytes);
+}
+
+/// The bytes that hex digits write, of which there are at most [`EVENT_BYTES`].
+#[tactic(auto, using(crate::proofs::HexDigits::even_digits))]
+fn hex_bytes(word: &[u8]) -> ArrayVec<u8, 64>
+    requires digits { is_hex None word.now ≡ true }
+    requires few { length word.now ≤ 2 * EVENT_BYTES }
+    ensures { result.items ≡ hex_bytes word.now }
+{
+    let mut buffer = [0; EVENT_BYTES];
+    let bytes = &mut buffer[..word.len() / 2];
+    decode_into(word, bytes);
+    let mut list = ArrayVec::new();
+    let _ = list.try_extend_from_slice(bytes);
+    list
+}
+
+/// Appends the words that a `random` line gives.
+fn add_words(list: &mut Vec<u32>, text: &[u8]) -> Result<(), AllocError>
+    requires { has_bad_hex random_form (words text.now) ≡ false }
+    ensures { IfOk result (λ _. list.new.items ≡ list.old.items ++ map hex_word (drop 1 (words text.now))) }
+{
+    for word in words_from(text, 1) {
+        list.push(hex_word(word))?;
+    }
+    Ok(())
+}
+
+/// The number that a word of a line writes, where it is below 2^32.
+fn small_at(text: &[u8], place: usize) -> u32
+    requires digits { is_number (word (words text.now) place) ≡ true }
+    requires small { number (word (words text.now) place) ≤ 4294967295 }
+    ensures { result ≡ number (word (words text.now) place) }
+{
+    written_at(text, place) as u32
 }
 
 impl Draft {
-    ghost use Rattle.std.specs.Prelude.{◌≡◌, ℕ, List, []};
-    ghost use Rattle.script_text.specs.Reading.{settings};
-    ghost use Rattle.script_text.specs.Drafted.{Drafted, Adds};
+    ghost use Rattle.std.specs.Prelude.{◌≡◌, ◌≤◌, true, false, ℕ, List, [], IfOk};
+    ghost use Rattle.script_text.specs.Alone.{IsLine};
+    ghost use Rattle.script_text.specs.Rules.{disorders, exceeds};
+    ghost use Rattle.script_text.specs.Settings.{AreSound};
+    ghost use Rattle.script_text.specs.Text.{words};
+    ghost use Rattle.script_text.specs.Seats.{stood_at, stood_after};
+    ghost use Rattle.script_text.specs.Progress.{Made, Adds, said_by, with_line};
 
     /// No lines.
-    pub fn new() -> Draft
-        ensures { Drafted [] result }
+    pub fn new(alloc: Global) -> Draft
+        ensures { Made [] result }
     {
-        Draft { ram: None }
+        Draft {
+            ram: Line::Ram.row().default,
+            leds: Line::Leds.row().default,
+            slice: Line::Slice.row().default,
+            start: Line::Start.row().default,
+            uart: Line::Uart.row().default,
+            storage: Line::Storage.row().default,
+            policy: Policy::Stop,
+            faults: ArrayVec::new(),
+            words: Vec::new(alloc),
+            events: Vec::new(alloc),
+            stood: [false; 7],
+        }
     }
 
-    /// Adds a line, or tells the first rule that it breaks.
-    #[tactic(auto, using(crate::proofs::Lines::one_line_more))]
-    pub fn add(&mut self, line: &[u8]) -> Result<(), ScriptRule>
-        ensures { (before : List (List ℕ)) → Drafted before self.old → Adds before line.now self.new result }
+    /// Whether the line may not repeat, and stands already.
+    fn repeats(&self, line: Line) -> bool
+        ensures { result ≡ stood_at line self.now.stood }
     {
-        let Given { setting, number } = match read_line(line) {
-            Ok(Some(given)) => given,
-            Ok(None) => return Ok(()),
-            Err(rule) => return Err(rule),
-        };
-        let place = match setting {
-            Setting::Ram => &mut self.ram,
-        };
-        if place.is_some() {
-            return Err(ScriptRule::Repeated);
+        match line.seat() {
+            Some(seat) => self.stood[seat],
+            None => false,
         }
-        *place = Some(number);
+    }
+
+    /// Whether the line may not stand after those so far.
+    fn disorders(&self, line: Line, text: &[u8]) -> bool
+        requires { IsLine (words text.now) line }
+        ensures { result ≡ disorders line (said_by self.now) (words text.now) }
+    {
+        match line {
+            Line::Input => match self.events.last() {
+                Some(event) => written_at(text, 1) < u64::from(event.time),
+                None => false,
+            },
+            Line::StorageFault => {
+                !self.events.is_empty()
+                    || match self.faults.as_slice().last() {
+                        Some(fault) => written_at(text, 1) <= u64::from(*fault),
+                        None => false,
+                    }
+            }
+            _ => !self.events.is_empty(),
+        }
+    }
+
+    /// Whether there are too many of what the line gives.
+    fn exceeds(&self, line: Line, text: &[u8]) -> bool
+        requires { IsLine (words text.now) line }
+        ensures { result ≡ exceeds line (said_by self.now) (words text.now) }
+    {
+        match line {
+            Line::StorageFault => self.faults.is_full(),
+            Line::Random => self.words.len() + word_count(text) > WORD_LIMIT + 1,
+            Line::Input => {
+                self.events.len() >= EVENT_LIMIT || word_at(text, 3).len() / 2 > EVENT_BYTES
+            }
+            _ => false,
+        }
+    }
+
+    /// Notes that the line stands now.
+    fn mark(&mut self, line: Line)
+        ensures stood { self.new.stood ≡ stood_after line self.old.stood }
+        ensures said { said_by self.new ≡ said_by self.old }
+    {
+        if let Some(seat) = line.seat() {
+            self.stood[seat] = true;
+        }
+    }
+
+    /// Takes what the line says. It fails where there is no memory for it.
+    fn take(&mut self, line: Line, text: &[u8]) -> Result<(), AllocError>
+        requires line { IsLine (words text.now) line }
+        requires few { exceeds line (said_by self.old) (words text.now) ≡ false }
+        ensures said { IfOk result (λ _. said_by self.new ≡ with_line line (words text.now) (said_by self.old)) }
+        ensures stood { self.new.stood ≡ self.old.stood }
+    {
+        match line {
+            Line::Ram => self.ram = small_at(text, 1),
+            Line::Leds => self.leds = small_at(text, 1),
+            Line::Slice => self.slice = small_at(text, 1),
+            Line::Start => self.start = small_at(text, 1),
+            Line::Uart => self.uart = small_at(text, 1),
+            Line::Storage => self.storage = small_at(text, 1),
+            Line::Stop => self.policy = Policy::Stop,
+            Line::Restart => self.policy = Policy::Restart,
+            Line::Threshold => self.policy = Policy::Threshold(small_at(text, 2)),
+            Line::StorageFault => self.faults.push(small_at(text, 1)),
+            Line::Random => add_words(&mut self.words, text)?,
+            Line::Input => self.events.push(TimedEvent {
+                time: small_at(text, 1),
+                bytes: hex_bytes(word_at(text, 3)),
+            })?,
+        }
+        Ok(())
+    }
+
+    /// Adds a line, or tells the first rule that it breaks. Where there is no memory for what it says,
+    /// the draft is of no use any more.
+    pub fn add(&mut self, text: &[u8]) -> Result<(), Trouble>
+        ensures { (before : List (List ℕ)) → Made before self.old → Adds before text.now self.new result }
+    {
+        let line = match read_line(text) {
+            Ok(Some(line)) => line,
+            Ok(None) => return Ok(()),
+            Err(rule) => return Err(Trouble::Breaks(rule)),
+        };
+        if self.repeats(line) {
+            return Err(Trouble::Breaks(ScriptRule::Repeated));
+        }
+        if self.disorders(line, text) {
+            return Err(Trouble::Breaks(ScriptRule::Order));
+        }
+        if self.exceeds(line, text) {
+            return Err(Trouble::Breaks(ScriptRule::TooMany));
+        }
+        let Ok(()) = self.take(line, text) else {
+            return Err(Trouble::Memory);
+        };
+        self.mark(line);
         Ok(())
     }
 
     /// The settings.
-    #[tactic(auto, using(crate::proofs::Lines::ram_range))]
-    pub fn script(&self) -> Script
-        ensures { (all : List (List ℕ)) → Drafted all self.now → result ≡ settings all }
+    pub fn script(self) -> Script
+        requires { AreSound (said_by self) }
+        ensures { result ≡ said_by self }
     {
         Script {
-            ram: self.ram.unwrap_or(Setting::Ram.default()),
+            ram: self.ram,
+            leds: self.leds,
+            slice: self.slice,
+            start: self.start,
+            uart: self.uart,
+            storage: self.storage,
+            policy: self.policy,
+            faults: self.faults,
+            words: WordList::new(self.words),
+            events: EventList::new(self.events),
         }
     }
 }

@@ -5,11 +5,13 @@ mod draft;
 mod line;
 mod read;
 mod rule;
+mod script;
 mod table;
 mod text;
 
 pub use read::read_script;
-pub use rule::{Script, ScriptError, ScriptRule};
+pub use rule::{ScriptError, ScriptRule};
+pub use script::{EventList, Script, TimedEvent};
 
 #[cfg(test)]
 mod tests;

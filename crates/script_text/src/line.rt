@@ -1,18 +1,16 @@
-//! One line of a script.
-ghost use Rattle.std.specs.Prelude.{◌≡◌, ◌==◌, slice_index};
-ghost use Rattle.script_text.specs.Line.{Says};
+//! One line of a script, looked at alone.
+ghost use Rattle.std.specs.Prelude.{◌≡◌, ◌<◌, ◌==◌, true, false, not, drop, find, position, is_some, slice_index, IfSome};
+ghost use Rattle.hex.specs.Hex.{is_hex_digit};
+ghost use Rattle.decimal_number.specs.Number.{is_number, number};
+ghost use Rattle.script_text.specs.Alone.{Says, broken_alone};
+ghost use Rattle.script_text.specs.Rules.{has_digits, is_hex, miscounts, misspells, has_bad_hex, is_outside};
+ghost use Rattle.script_text.specs.Table.{permits};
+ghost use Rattle.script_text.specs.Text.{words, word};
 
 use crate::rule::ScriptRule;
-use crate::table::Setting;
-use crate::text::Words;
+use crate::table::{Form, Line, Range, line_in};
+use crate::text::{Words, word_at, word_count, words_from};
 use decimal_number::number_in;
-
-/// A number for a setting, as a line gives it.
-#[derive(Clone, Copy, Debug, PartialEq, Eq)]
-pub struct Given {
-    pub setting: Setting,
-    pub number: u32,
-}
 
 /// Whether a word begins a comment.
 fn is_comment(word: &[u8]) -> bool
@@ -21,33 +19,154 @@ fn is_comment(word: &[u8]) -> bool
     matches!(word, [b'#', ..])
 }
 
-/// What a line says where it is looked at alone, or the first rule that it breaks then. None where
-/// it is skipped.
-#[tactic(auto, using(crate::proofs::Rules::refusals))]
-pub fn read_line(line: &[u8]) -> Result<Option<Given>, ScriptRule>
-    ensures { Says line.now result }
+/// Whether a byte is a hex digit.
+fn is_hex_byte(byte: u8) -> bool
+    ensures { result ≡ is_hex_digit byte }
 {
-    let mut words = Words::of(line);
-    let Some(first) = words.next() else {
+    matches!(byte, b'0'..=b'9' | b'A'..=b'F' | b'a'..=b'f')
+}
+
+/// Whether a word has that many digits, or an even number where none is asked for.
+fn has_digits(digits: Option<usize>, word: &[u8]) -> bool
+    ensures { result ≡ has_digits digits word.now }
+{
+    match digits {
+        Some(digits) => word.len() == digits,
+        None => word.len() % 2 == 0,
+    }
+}
+
+/// The place of the first byte that is no hex digit.
+fn other_than_hex_in(word: &[u8]) -> Option<usize>
+    ensures { result ≡ position (λ byte. not (is_hex_digit byte)) word.now }
+{
+    word.iter().position(|byte| !is_hex_byte(*byte))
+}
+
+/// Whether a word is hex.
+fn is_hex_word(digits: Option<usize>, word: &[u8]) -> bool
+    ensures { result ≡ is_hex digits word.now }
+{
+    match other_than_hex_in(word) {
+        Some(_) => false,
+        None => has_digits(digits, word),
+    }
+}
+
+/// Whether some word from a place on is not hex.
+fn has_other_than_hex(line: &[u8], place: usize, digits: Option<usize>) -> bool
+    ensures { result ≡ is_some (find (λ w. not (is_hex digits w)) (drop place (words line.now))) }
+{
+    for word in words_from(line, place) {
+        if !is_hex_word(digits, word) {
+            return true;
+        }
+    }
+    false
+}
+
+impl Range {
+    /// Whether a number lies in it.
+    fn permits(self, number: u64) -> bool
+        requires { 0 < self.multiple }
+        ensures { result ≡ permits self number }
+    {
+        self.least <= number && number <= self.most && number % self.multiple == 0
+    }
+}
+
+impl Form {
+    /// Whether a line's number of words is another one.
+    fn miscounts(self, line: &[u8]) -> bool
+        ensures { result ≡ miscounts self (words line.now) }
+    {
+        let count = word_count(line);
+        if self.more {
+            count < self.words
+        } else {
+            count != self.words
+        }
+    }
+
+    /// Whether a line's number is not written as one.
+    fn misspells(self, line: &[u8]) -> bool
+        ensures { result ≡ misspells self (words line.now) }
+    {
+        match self.number {
+            Some(number) => number_in(word_at(line, number.place)).is_none(),
+            None => false,
+        }
+    }
+
+    /// Whether a line has a word that has to be hex and is not.
+    fn has_bad_hex(self, line: &[u8]) -> bool
+        ensures { result ≡ has_bad_hex self (words line.now) }
+    {
+        match self.hex {
+            Some(hex) => has_other_than_hex(line, hex.place, hex.digits),
+            None => false,
+        }
+    }
+
+    /// Whether a line's number, which is written as one, is outside its range.
+    fn is_outside(self, line: &[u8]) -> bool
+        requires spelled { misspells self (words line.now) ≡ false }
+        requires some { IfSome self.number (λ n. 0 < n.range.multiple) }
+        ensures { result ≡ is_outside self (words line.now) }
+    {
+        match self.number {
+            Some(number) => !number.range.permits(written_at(line, number.place)),
+            None => false,
+        }
+    }
+
+    /// The first rule that a line breaks where it is looked at alone.
+    pub fn broken_alone(self, line: &[u8]) -> Option<ScriptRule>
+        requires { IfSome self.number (λ n. 0 < n.range.multiple) }
+        ensures { result ≡ broken_alone self (words line.now) }
+    {
+        if self.miscounts(line) {
+            Some(ScriptRule::Words)
+        } else if self.misspells(line) {
+            Some(ScriptRule::BadNumber)
+        } else if self.has_bad_hex(line) {
+            Some(ScriptRule::BadHex)
+        } else if self.is_outside(line) {
+            Some(ScriptRule::OutOfRange)
+        } else {
+            None
+        }
+    }
+}
+
+/// The number that a word of a line writes.
+pub fn written_at(line: &[u8], place: usize) -> u64
+    requires { is_number (word (words line.now) place) ≡ true }
+    ensures { result ≡ number (word (words line.now) place) }
+{
+    match number_in(word_at(line, place)) {
+        Some(number) => number,
+        None => 0,
+    }
+}
+
+/// The line of the table that a text is where it is looked at alone, or the first rule that it breaks
+/// then. None where it is skipped.
+#[tactic(auto, using(crate::proofs::Rules::refusals))]
+pub fn read_line(text: &[u8]) -> Result<Option<Line>, ScriptRule>
+    ensures { Says text.now result }
+{
+    let Some(first) = Words::of(text).next() else {
         return Ok(None);
     };
     if is_comment(first) {
         return Ok(None);
     }
-    let Some(setting) = Setting::named(first) else {
+    let Some(line) = line_in(text) else {
         return Err(ScriptRule::UnknownWord);
     };
-    let (Some(second), None) = (words.next(), words.next()) else {
-        return Err(ScriptRule::Words);
-    };
-    let Some(number) = number_in(second) else {
-        return Err(ScriptRule::BadNumber);
-    };
-    if !setting.permits(number) {
-        return Err(ScriptRule::OutOfRange);
+    match line.row().form.broken_alone(text) {
+        Some(rule) => Err(rule),
+        None => Ok(Some(line)),
     }
-    Ok(Some(Given {
-        setting,
-        number: number as u32,
-    }))
 }

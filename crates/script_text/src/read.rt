@@ -2,8 +2,9 @@
 ghost use Rattle.std.specs.Prelude.{◌≤◌, length};
 ghost use Rattle.script_text.specs.Reading.{reading, Reads};
 
-use crate::draft::Draft;
-use crate::rule::{Script, ScriptError};
+use crate::draft::{Draft, Trouble};
+use crate::rule::ScriptError;
+use crate::script::Script;
 use crate::text::Lines;
 use std::alloc::Global;
 use tk_base::SCRIPT_LIMIT;
@@ -12,27 +13,41 @@ use tk_base::SCRIPT_LIMIT;
 ///
 /// The lines end at line feeds, one carriage return at a line's end is dropped, and spaces and tabs
 /// stand between words. A line without words, or whose first word begins with `#`, is skipped and
-/// counts. The others have to be lines of the table:
+/// counts. The others have to be lines of the table, which are served:
 ///
 /// | Line | Numbers | Where there is none |
 /// |---|---|---|
-/// | `ram N`, once | 4096 to 262144, multiples of 1024 | 65536 |
+/// | `ram N` | 4096 to 262144, multiples of 1024 | 65536 |
+/// | `leds N` | 0 to 16 | 4 |
+/// | `slice N` | 1 to 1000000 | 100 |
+/// | `start N` | 0 to 4294967295 | 0 |
+/// | `uart N` | 0 to 1000 | 1 |
+/// | `storage N` | 0 to 4096 | 512 |
+/// | `policy stop`, `policy restart`, `policy threshold N` | 0 to 4294967295 | `stop` |
+/// | `storage-fault K`, at most 64, rising | 1 to 4294967295 | none |
+/// | `random W ..`, at most 4096 words of 8 hex digits | | none |
+/// | `at T input H`, at most 4096, with 1 to 64 bytes in hex; T never falls | 0 to 4294967295 | none |
+///
+/// The last three may repeat, and nothing but `at` stands after an `at`. So far `ram`, `leds`, `slice`
+/// and `policy` are served; the others count as unknown.
 ///
 /// [`ScriptError::Bad`] names the first line that breaks a rule, and the first rule that it breaks,
-/// in the order of [`ScriptRule`](crate::ScriptRule)'s variants. Nothing takes memory yet, so
-/// [`ScriptError::Memory`] does not come.
+/// in the order of [`ScriptRule`](crate::ScriptRule)'s variants. [`ScriptError::Memory`] comes only
+/// for want of memory.
 #[tactic(auto, using(crate::proofs::Faults::going_on))]
 pub fn read_script(alloc: Global, script: &[u8]) -> Result<Script, ScriptError>
     requires { length script.now ≤ SCRIPT_LIMIT }
     // What is read is the script's reading, an error its first bad line.
     ensures { Reads result (reading script.now) }
 {
-    let mut draft = Draft::new();
+    let mut draft = Draft::new(alloc);
     let mut number = 0;
     for line in Lines::of(script) {
         number += 1;
-        if let Err(rule) = draft.add(line) {
-            return Err(ScriptError::Bad { line: number, rule });
+        match draft.add(line) {
+            Ok(()) => (),
+            Err(Trouble::Breaks(rule)) => return Err(ScriptError::Bad { line: number, rule }),
+            Err(Trouble::Memory) => return Err(ScriptError::Memory),
         }
     }
     Ok(draft.script())

@@ -1,50 +1,28 @@
-//! What a script says, and why it is refused.
+//! Why a script is refused.
 ghost use Rattle.std.specs.Prelude.{◌≡◌};
 ghost use Rattle.script_text.specs.Rules.{word_of};
 
-use std::marker::Model;
 use thiserror::Error;
-
-/// What a script says. Contracts see the settings.
-///
-/// Always `RAM_LEAST <= ram <= RAM_LIMIT`, and `ram` is a multiple of `RAM_UNIT`.
-#[derive(Debug, PartialEq, Eq, Drop)]
-pub struct Script {
-    /// The bytes of RAM that the board has.
-    pub ram: u32,
-}
-
-impl Model for Script {
-    ghost use Rattle.tk_base.specs.Limits.{IsRamSize};
-    ghost use Rattle.script_text.specs.Settings.{Settings};
-
-    ghost Value = { Settings };
-
-    ghost view = { λ s. record { ram = s.ram } };
-
-    ghost invariant = { λ s. IsRamSize s.ram };
-
-    ghost inverse = { λ s. record { ram = s.ram } };
-}
 
 /// A rule that a line of a script may break, in the order in which they count.
 #[derive(Clone, Copy, Debug, PartialEq, Eq)]
 pub enum ScriptRule {
-    /// The first word is not known.
+    /// The first word is not known, or that after `policy`, or the third one after `at`.
     UnknownWord,
     /// The number of words is wrong.
     Words,
     /// A number does not have 1 to 10 decimal digits.
     BadNumber,
-    /// A word is not written in hex. No line has one yet.
+    /// A word is not written in hex, or has too few or too many digits for what it is.
     BadHex,
     /// A number is outside its range.
     OutOfRange,
     /// A setting stands twice.
     Repeated,
-    /// A line stands where it may not stand. No line is bound to a place yet.
+    /// A line other than an event stands after an event, a time falls, or the number of a fault does not
+    /// rise.
     Order,
-    /// There are too many of a kind. Nothing is counted yet.
+    /// There are too many faults, words, events or bytes of an event.
     TooMany,
 }
 

@@ -1,67 +1,267 @@
 //! The table of lines.
-ghost use Rattle.std.specs.Prelude.{◌≡◌, ◌<◌, option_map};
-ghost use Rattle.script_text.specs.Rules.{row_of, permits};
-ghost use Rattle.script_text.specs.Line.{row};
+ghost use Rattle.std.specs.Prelude.{◌≡◌, ◌<◌, false, codes, Some, None, option_map, IfSome};
+ghost use Rattle.script_text.specs.Table.{row, key_of, fits, line_of};
+ghost use Rattle.script_text.specs.Text.{words};
 
+use crate::text::{word_at, word_count};
 use tk_base::{RAM_LEAST, RAM_LIMIT, RAM_UNIT};
 
-/// What a line of a name and a number is about.
+/// A line of the table.
 #[derive(Clone, Copy, Debug, PartialEq, Eq)]
-pub enum Setting {
+pub enum Line {
     /// `ram N`: the bytes of RAM.
     Ram,
+    /// `leds N`: the number of LEDs.
+    Leds,
+    /// `slice N`: how many turns a process has before the next one.
+    Slice,
+    /// `start N`: where the alarm's clock starts.
+    Start,
+    /// `uart N`: the ticks that the serial line takes for a byte.
+    Uart,
+    /// `storage N`: the bytes of storage of each slot.
+    Storage,
+    /// `policy stop`: a process that faults has ended.
+    Stop,
+    /// `policy restart`: it begins again.
+    Restart,
+    /// `policy threshold N`: it begins again where it had fewer restarts than that.
+    Threshold,
+    /// `storage-fault K`: the K-th storage request fails.
+    StorageFault,
+    /// `random W ..`: words that the source of random words gives.
+    Random,
+    /// `at T input H`: bytes that the serial line gets, and when.
+    Input,
 }
 
-/// The numbers that a line may have.
+/// The lines that the board obeys so far. Every other one is refused as one with an unknown word. A
+/// line is added here, and in `served` of `specs/Table.antt`.
+const SERVED: [Line; 6] = [
+    Line::Ram,
+    Line::Leds,
+    Line::Slice,
+    Line::Stop,
+    Line::Restart,
+    Line::Threshold,
+];
+
+/// Which numbers may stand in a line.
 #[derive(Clone, Copy)]
-struct Range {
-    least: u64,
-    most: u64,
-    multiple: u64,
+pub struct Range {
+    pub least: u64,
+    pub most: u64,
+    pub multiple: u64,
 }
 
-impl Setting {
-    /// The setting of that name.
-    #[tactic(auto, unfolding(crate::specs::Rules::row_of))]
-    pub fn named(word: &[u8]) -> Option<Setting>
-        ensures { option_map row result ≡ row_of word.now }
-    {
-        match word {
-            b"ram" => Some(Setting::Ram),
-            _ => None,
-        }
-    }
+/// The word that tells a line from others of its name, and its place. Places count from 0.
+#[derive(Clone, Copy)]
+pub struct Key {
+    pub place: usize,
+    pub word: &'static [u8],
+}
 
-    /// The numbers that its line may have.
-    fn range(self) -> Range
-        ensures least { result.least ≡ (row self).least }
-        ensures most { result.most ≡ (row self).most }
-        ensures multiple { result.multiple ≡ (row self).multiple }
-        ensures some { 0 < result.multiple }
+/// The place of a line's number, and which it may be.
+#[derive(Clone, Copy)]
+pub struct NumberAt {
+    pub place: usize,
+    pub range: Range,
+}
+
+/// The place from which on a line's words are hex, and how many digits each has where that is fixed.
+#[derive(Clone, Copy)]
+pub struct HexFrom {
+    pub place: usize,
+    pub digits: Option<usize>,
+}
+
+/// What the words of a line are.
+#[derive(Clone, Copy)]
+pub struct Form {
+    /// How many there are, the name among them.
+    pub words: usize,
+    /// Whether more may follow.
+    pub more: bool,
+    pub number: Option<NumberAt>,
+    pub hex: Option<HexFrom>,
+}
+
+/// A row of the table.
+#[derive(Clone, Copy)]
+pub struct Row {
+    /// The first word.
+    pub name: &'static [u8],
+    pub key: Option<Key>,
+    pub form: Form,
+    /// The number that holds where no line gives it.
+    pub default: u32,
+}
+
+/// Numbers from one to another, both among them.
+const fn from_to(least: u64, most: u64) -> Range
+    ensures { result ≡ record { least = least; most = most; multiple = 1 } }
+{
+    Range {
+        least,
+        most,
+        multiple: 1,
+    }
+}
+
+/// The form of two words, the second one a number.
+const fn name_and_number(range: Range) -> Form
+    ensures { result ≡ record {
+      words = 2;
+      more = false;
+      number = Some (record { place = 1; range = range });
+      hex = None;
+    } }
+{
+    Form {
+        words: 2,
+        more: false,
+        number: Some(NumberAt { place: 1, range }),
+        hex: None,
+    }
+}
+
+/// A line of a name and a number.
+const fn numbered(name: &'static [u8], range: Range, default: u32) -> Row
+    ensures name { result.name.now ≡ name.now }
+    ensures key { option_map key_of result.key ≡ None }
+    ensures form { result.form ≡ record {
+      words = 2;
+      more = false;
+      number = Some (record { place = 1; range = range });
+      hex = None;
+    } }
+    ensures default { result.default ≡ default }
+{
+    Row {
+        name,
+        key: None,
+        form: name_and_number(range),
+        default,
+    }
+}
+
+/// A line of the fault policy: the policy's word comes second.
+const fn policy(word: &'static [u8], words: usize, number: Option<NumberAt>) -> Row
+    ensures name { result.name.now ≡ codes "policy" }
+    ensures key { option_map key_of result.key ≡ Some (record { place = 1; word = word.now }) }
+    ensures form { result.form ≡ record { words = words; more = false; number = number; hex = None } }
+    ensures default { result.default ≡ 0 }
+{
+    Row {
+        name: b"policy",
+        key: Some(Key { place: 1, word }),
+        form: Form {
+            words,
+            more: false,
+            number,
+            hex: None,
+        },
+        default: 0,
+    }
+}
+
+impl Line {
+    /// Its row of the table.
+    pub fn row(self) -> Row
+        ensures name { result.name.now ≡ (row self).name }
+        ensures key { option_map key_of result.key ≡ (row self).key }
+        ensures form { result.form ≡ (row self).form }
+        ensures default { result.default ≡ (row self).default }
+        ensures some { IfSome result.form.number (λ n. 0 < n.range.multiple) }
     {
         match self {
-            Setting::Ram => Range {
-                least: u64::from(RAM_LEAST),
-                most: u64::from(RAM_LIMIT),
-                multiple: u64::from(RAM_UNIT),
+            Line::Ram => numbered(
+                b"ram",
+                Range {
+                    least: RAM_LEAST as u64,
+                    most: RAM_LIMIT as u64,
+                    multiple: RAM_UNIT as u64,
+                },
+                65536,
+            ),
+            Line::Leds => numbered(b"leds", from_to(0, 16), 4),
+            Line::Slice => numbered(b"slice", from_to(1, 1_000_000), 100),
+            Line::Start => numbered(b"start", from_to(0, 4_294_967_295), 0),
+            Line::Uart => numbered(b"uart", from_to(0, 1000), 1),
+            Line::Storage => numbered(b"storage", from_to(0, 4096), 512),
+            Line::Stop => policy(b"stop", 2, None),
+            Line::Restart => policy(b"restart", 2, None),
+            Line::Threshold => policy(
+                b"threshold",
+                3,
+                Some(NumberAt {
+                    place: 2,
+                    range: from_to(0, 4_294_967_295),
+                }),
+            ),
+            Line::StorageFault => numbered(b"storage-fault", from_to(1, 4_294_967_295), 0),
+            Line::Random => Row {
+                name: b"random",
+                key: None,
+                form: Form {
+                    words: 2,
+                    more: true,
+                    number: None,
+                    hex: Some(HexFrom {
+                        place: 1,
+                        digits: Some(8),
+                    }),
+                },
+                default: 0,
+            },
+            Line::Input => Row {
+                name: b"at",
+                key: Some(Key {
+                    place: 2,
+                    word: b"input",
+                }),
+                form: Form {
+                    words: 4,
+                    more: false,
+                    number: Some(NumberAt {
+                        place: 1,
+                        range: from_to(0, 4_294_967_295),
+                    }),
+                    hex: Some(HexFrom {
+                        place: 3,
+                        digits: None,
+                    }),
+                },
+                default: 0,
             },
         }
     }
 
-    /// Whether its line may have that number.
-    pub fn permits(self, number: u64) -> bool
-        ensures { result ≡ permits (row self) number }
+    /// Whether the first word of a text is its name, and the word that tells it from others of its name
+    /// stands there too, where any word stands in that place.
+    fn fits(self, text: &[u8]) -> bool
+        ensures { result ≡ fits (words text.now) self }
     {
-        let range = self.range();
-        range.least <= number && number <= range.most && number % range.multiple == 0
-    }
-
-    /// The number that holds where no line gives it.
-    pub fn default(self) -> u32
-        ensures { result ≡ (row self).default }
-    {
-        match self {
-            Setting::Ram => 65536,
+        let row = self.row();
+        if word_at(text, 0) != row.name {
+            return false;
+        }
+        match row.key {
+            None => true,
+            Some(key) => word_count(text) <= key.place || word_at(text, key.place) == key.word,
         }
     }
+}
+
+/// The first line of those that are served which fits a text.
+#[tactic(auto, unfolding(crate::specs::Table::line_of))]
+pub fn line_in(text: &[u8]) -> Option<Line>
+    ensures { result ≡ line_of (words text.now) }
+{
+    for line in SERVED {
+        if line.fits(text) {
+            return Some(line);
+        }
+    }
+    None
 }

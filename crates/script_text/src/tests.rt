@@ -1,9 +1,22 @@
+//! Scripts, and lines that are not served yet where they are looked at alone.
 ghost use Rattle.std.specs.Prelude.{◌≤◌, length};
 
 use super::*;
+use crate::table::Line;
+use fault_policy::Policy;
 use std::alloc::Global;
 use std::test::Fail;
 use tk_base::SCRIPT_LIMIT;
+
+/// The RAM, the LEDs, the slice and the policy that a script gives.
+fn said(alloc: Global, script: &[u8]) -> Option<(u32, u32, u32, Policy)>
+    requires { length script.now ≤ SCRIPT_LIMIT }
+{
+    match read_script(alloc, script) {
+        Ok(script) => Some((script.ram, script.leds, script.slice, script.policy)),
+        Err(_) => None,
+    }
+}
 
 /// The RAM that a script gives.
 fn ram(alloc: Global, script: &[u8]) -> Option<u32>
@@ -11,6 +24,30 @@ fn ram(alloc: Global, script: &[u8]) -> Option<u32>
 {
     match read_script(alloc, script) {
         Ok(script) => Some(script.ram),
+        Err(_) => None,
+    }
+}
+
+/// The start of the alarm's clock, the ticks of a byte, and the bytes of storage that a script gives.
+fn devices(alloc: Global, script: &[u8]) -> Option<(u32, u32, u32)>
+    requires { length script.now ≤ SCRIPT_LIMIT }
+{
+    match read_script(alloc, script) {
+        Ok(script) => Some((script.start, script.uart, script.storage)),
+        Err(_) => None,
+    }
+}
+
+/// How many faults, words and events a script gives.
+fn lists(alloc: Global, script: &[u8]) -> Option<(usize, usize, usize)>
+    requires { length script.now ≤ SCRIPT_LIMIT }
+{
+    match read_script(alloc, script) {
+        Ok(script) => Some((
+            script.faults.as_slice().len(),
+            script.words.as_slice().len(),
+            script.events.as_slice().len(),
+        )),
         Err(_) => None,
     }
 }
@@ -23,6 +60,11 @@ fn refusal(alloc: Global, script: &[u8]) -> Option<(u32, &'static [u8])>
         Err(ScriptError::Bad { line, rule }) => Some((line, rule.word())),
         _ => None,
     }
+}
+
+/// The first rule that a text breaks as a line of the table, where it is looked at alone.
+fn alone(line: Line, text: &[u8]) -> Option<ScriptRule> {
+    line.row().form.broken_alone(text)
 }
 
 #[test]
@@ -40,6 +82,40 @@ fn scripts_with_a_reading(rt: HostRuntime) -> Result<(), Fail> {
 }
 
 #[test]
+fn settings_of_scripts(rt: HostRuntime) -> Result<(), Fail> {
+    let alloc = rt.alloc();
+    assert_eq!(rt; said(alloc, b""), Some((65536, 4, 100, Policy::Stop)));
+    assert_eq!(rt;
+        said(alloc, b"leds 0\nslice 1\npolicy restart"),
+        Some((65536, 0, 1, Policy::Restart))
+    );
+    assert_eq!(rt;
+        said(
+            alloc,
+            b"policy threshold 4294967295\nslice 1000000\nleds 16\nram 4096"
+        ),
+        Some((4096, 16, 1000000, Policy::Threshold(4294967295)))
+    );
+    assert_eq!(rt;
+        said(alloc, b"slice 2\npolicy threshold 2"),
+        Some((65536, 4, 2, Policy::Threshold(2)))
+    );
+    assert_eq!(rt;
+        said(alloc, b"policy stop"),
+        Some((65536, 4, 100, Policy::Stop))
+    );
+    Ok(())
+}
+
+#[test]
+fn what_no_line_gives(rt: HostRuntime) -> Result<(), Fail> {
+    let alloc = rt.alloc();
+    assert_eq!(rt; devices(alloc, b"# nothing"), Some((0, 1, 512)));
+    assert_eq!(rt; lists(alloc, b"# nothing"), Some((0, 0, 0)));
+    Ok(())
+}
+
+#[test]
 fn unknown_words(rt: HostRuntime) -> Result<(), Fail> {
     let alloc = rt.alloc();
     let word = b"unknown-word".as_slice();
@@ -52,6 +128,21 @@ fn unknown_words(rt: HostRuntime) -> Result<(), Fail> {
         Some((4, word))
     );
     assert_eq!(rt; refusal(alloc, b"ram 4096\n\x0b\nx"), Some((2, word)));
+    assert_eq!(rt; refusal(alloc, b"policy go on now"), Some((1, word)));
+    Ok(())
+}
+
+#[test]
+fn lines_that_are_not_served_yet(rt: HostRuntime) -> Result<(), Fail> {
+    let alloc = rt.alloc();
+    let word = b"unknown-word".as_slice();
+    assert_eq!(rt; refusal(alloc, b"start 1"), Some((1, word)));
+    assert_eq!(rt; refusal(alloc, b"uart 1"), Some((1, word)));
+    assert_eq!(rt; refusal(alloc, b"storage 16"), Some((1, word)));
+    assert_eq!(rt; refusal(alloc, b"storage-fault 1"), Some((1, word)));
+    assert_eq!(rt; refusal(alloc, b"random 11223344"), Some((1, word)));
+    assert_eq!(rt; refusal(alloc, b"leds 4\nat 5 input 41"), Some((2, word)));
+    assert_eq!(rt; refusal(alloc, b"at 5 output 00"), Some((1, word)));
     Ok(())
 }
 
@@ -61,8 +152,10 @@ fn numbers_of_words(rt: HostRuntime) -> Result<(), Fail> {
     let word = b"words".as_slice();
     assert_eq!(rt; refusal(alloc, b"ram"), Some((1, word)));
     assert_eq!(rt; refusal(alloc, b"ram 4096 # x"), Some((1, word)));
-    assert_eq!(rt; refusal(alloc, b"ram 4096x 1"), Some((1, word)));
     assert_eq!(rt; refusal(alloc, b"ram 4096\nram\r\n"), Some((2, word)));
+    assert_eq!(rt; refusal(alloc, b"policy"), Some((1, word)));
+    assert_eq!(rt; refusal(alloc, b"policy threshold"), Some((1, word)));
+    assert_eq!(rt; refusal(alloc, b"policy stop 1"), Some((1, word)));
     Ok(())
 }
 
@@ -74,6 +167,7 @@ fn bad_numbers(rt: HostRuntime) -> Result<(), Fail> {
     assert_eq!(rt; refusal(alloc, b"ram 00000004096"), Some((1, word)));
     assert_eq!(rt; refusal(alloc, b"ram 4096\r\r\n"), Some((1, word)));
     assert_eq!(rt; refusal(alloc, b"ram 4096\nram x"), Some((2, word)));
+    assert_eq!(rt; refusal(alloc, b"policy threshold -1"), Some((1, word)));
     Ok(())
 }
 
@@ -88,6 +182,13 @@ fn numbers_outside_their_range(rt: HostRuntime) -> Result<(), Fail> {
         refusal(alloc, b"ram 4096\r\n\r\nram 263168"),
         Some((3, word))
     );
+    assert_eq!(rt; refusal(alloc, b"slice 0"), Some((1, word)));
+    assert_eq!(rt; refusal(alloc, b"slice 1000001"), Some((1, word)));
+    assert_eq!(rt; refusal(alloc, b"leds 17"), Some((1, word)));
+    assert_eq!(rt;
+        refusal(alloc, b"policy threshold 4294967296"),
+        Some((1, word))
+    );
     Ok(())
 }
 
@@ -95,10 +196,73 @@ fn numbers_outside_their_range(rt: HostRuntime) -> Result<(), Fail> {
 fn settings_that_stand_twice(rt: HostRuntime) -> Result<(), Fail> {
     let alloc = rt.alloc();
     let word = b"repeated".as_slice();
-    assert_eq!(rt; refusal(alloc, b"ram 4096\nram 4096"), Some((2, word)));
+    assert_eq!(rt; refusal(alloc, b"ram 8192\nram 8192"), Some((2, word)));
     assert_eq!(rt;
         refusal(alloc, b"ram 65536\r\n#\r\nram 4096\r\nx"),
         Some((3, word))
+    );
+    assert_eq!(rt;
+        refusal(alloc, b"policy stop\npolicy restart"),
+        Some((2, word))
+    );
+    assert_eq!(rt;
+        refusal(alloc, b"slice 1\nleds 4\nslice 1"),
+        Some((3, word))
+    );
+    Ok(())
+}
+
+#[test]
+fn lines_alone(rt: HostRuntime) -> Result<(), Fail> {
+    assert_eq!(rt; alone(Line::Input, b"at 5 input 41"), None);
+    assert_eq!(rt; alone(Line::Input, b"at 5 input"), Some(ScriptRule::Words));
+    assert_eq!(rt;
+        alone(Line::Input, b"at 12345678901 input 41"),
+        Some(ScriptRule::BadNumber)
+    );
+    assert_eq!(rt;
+        alone(Line::Input, b"at 4294967296 input 41"),
+        Some(ScriptRule::OutOfRange)
+    );
+    assert_eq!(rt;
+        alone(Line::Input, b"at 5 input 0g"),
+        Some(ScriptRule::BadHex)
+    );
+    assert_eq!(rt;
+        alone(Line::Input, b"at 5 input aBc"),
+        Some(ScriptRule::BadHex)
+    );
+    assert_eq!(rt; alone(Line::Random, b"random"), Some(ScriptRule::Words));
+    assert_eq!(rt;
+        alone(Line::Random, b"random 11223344 1234567"),
+        Some(ScriptRule::BadHex)
+    );
+    assert_eq!(rt; alone(Line::Random, b"random 1234567a FFFFFFFF"), None);
+    Ok(())
+}
+
+#[test]
+fn settings_alone(rt: HostRuntime) -> Result<(), Fail> {
+    assert_eq!(rt; alone(Line::Start, b"start 4294967280"), None);
+    assert_eq!(rt;
+        alone(Line::Start, b"start 4294967296"),
+        Some(ScriptRule::OutOfRange)
+    );
+    assert_eq!(rt;
+        alone(Line::Uart, b"uart 1001"),
+        Some(ScriptRule::OutOfRange)
+    );
+    assert_eq!(rt;
+        alone(Line::Storage, b"storage 4097"),
+        Some(ScriptRule::OutOfRange)
+    );
+    assert_eq!(rt;
+        alone(Line::StorageFault, b"storage-fault 0"),
+        Some(ScriptRule::OutOfRange)
+    );
+    assert_eq!(rt;
+        alone(Line::StorageFault, b"storage-fault 1 2"),
+        Some(ScriptRule::Words)
     );
     Ok(())
 }

@@ -1,7 +1,7 @@
 //! The lines of a script, and the words of a line.
-ghost use Rattle.std.specs.Prelude.{◌≡◌, [], ◌∷◌, not, position, MatchOption};
+ghost use Rattle.std.specs.Prelude.{◌≡◌, ◌+◌, ◌≤◌, [], ◌∷◌, not, position, length, drop, MatchOption};
 ghost use Rattle.std.specs.Iterator.{YieldsFirstRef, item_count};
-ghost use Rattle.script_text.specs.Text.{is_line_feed, is_blank, lines, words, without_return};
+ghost use Rattle.script_text.specs.Text.{is_line_feed, is_blank, lines, words, word, without_return};
 
 /// The lines of a script that are left, in order. A line ends at a line feed or at the script's
 /// end, and comes without the one carriage return at its end.
@@ -105,6 +105,40 @@ fn first_word(line: &[u8]) -> Option<(&[u8], &[u8])>
         Some(at) => Some(text.split_at(at)),
         None => Some((text, &[])),
     }
+}
+
+/// The words of a line from a place on. Places count from 0.
+pub fn words_from(line: &[u8], place: usize) -> Words<'_>
+    ensures { words result.rest.now ≡ drop place (words line.now) }
+{
+    let mut words = Words::of(line);
+    for _ in 0..place {
+        words.next();
+    }
+    words
+}
+
+/// The word at a place, which is empty where there are not so many.
+pub fn word_at(line: &[u8], place: usize) -> &[u8]
+    ensures { result.now ≡ word (words line.now) place }
+{
+    match words_from(line, place).next() {
+        Some(word) => word,
+        None => &[],
+    }
+}
+
+/// The number of words.
+#[tactic(auto, using(crate::proofs::Faults::few_words))]
+pub fn word_count(line: &[u8]) -> usize
+    ensures count { result ≡ length (words line.now) }
+    ensures few { result ≤ length line.now + 1 }
+{
+    let mut count = 0;
+    for _ in Words::of(line) {
+        count += 1;
+    }
+    count
 }
 
 /// Whether a byte is a space or a tab.

@@ -7,6 +7,3 @@ mod reply;
 
 pub use call::Call;
 pub use reply::Reply;
-
-#[cfg(test)]
-mod tests;

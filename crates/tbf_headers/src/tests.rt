@@ -11,11 +11,6 @@ const MAIN: Tlv<'_> = Tlv::Main {
 /// Asks to exit with 7.
 const CODE: [u32; 4] = [0x0060_0713, 0x0000_0513, 0x0070_0593, 0x0000_0073];
 
-/// An enabled object with a Main TLV.
-fn plain() -> [u8; 64] {
-    object(1, &[MAIN], &CODE)
-}
-
 /// An object of 96 bytes as elf2tab orders its header: Main, Program, and the name `blink`. These
 /// bytes were written by hand from the format.
 const BLINK: [u8; 96] = [
@@ -26,36 +21,6 @@ const BLINK: [u8; 96] = [
     0x6b, 0x00, 0x00, 0x00, 0x13, 0x07, 0x60, 0x00, 0x13, 0x05, 0x00, 0x00, 0x93, 0x05, 0x70, 0x00,
     0x73, 0x00, 0x00, 0x00, 0x00, 0x00, 0x00, 0x00, 0x00, 0x00, 0x00, 0x00, 0x00, 0x00, 0x00, 0x00,
 ];
-
-#[test]
-fn plain_object(rt: HostRuntime) -> Result<(), Fail> {
-    let object = plain();
-    let header = read_header(&object).ok().ok_or("the header has no fault")?;
-    assert_eq!(rt; header.header_size, 32);
-    assert_eq!(rt; header.total_size, 64);
-    assert_eq!(rt; header.flags, 1);
-    let main = header.main.ok_or("there is a Main TLV")?;
-    assert_eq!(rt; main.init, 0);
-    assert_eq!(rt; main.protected, 0);
-    assert_eq!(rt; main.minimum_ram, 256);
-    assert_eq!(rt; main.binary_end, None);
-    assert_eq!(rt; header.fixed, None);
-    assert!(rt; header.name().is_none());
-    assert!(rt; header.region(0).is_none());
-    assert_eq!(rt; header.region_count(), 0);
-    assert!(rt; header.perms().is_none());
-    Ok(())
-}
-
-#[test]
-fn entry_after_the_header(rt: HostRuntime) -> Result<(), Fail> {
-    let object = plain();
-    let header = read_header(&object).ok().ok_or("the header has no fault")?;
-    let app = header.app().ok_or("it is an application")?;
-    assert_eq!(rt; app.entry(0x2000_0000), 0x2000_0020);
-    assert_eq!(rt; app.entry(0xffff_fff0), 0x1_0000_0010);
-    Ok(())
-}
 
 #[test]
 fn built_as_written_by_hand(rt: HostRuntime) {
@@ -78,14 +43,6 @@ fn program_before_main_and_name(rt: HostRuntime) -> Result<(), Fail> {
         header.name().ok_or("there is a name")?,
         b"blink".as_slice()
     );
-    Ok(())
-}
-
-#[test]
-fn padding_object(rt: HostRuntime) -> Result<(), Fail> {
-    let padding: [u8; 16] = object(0, &[], &[]);
-    let header = read_header(&padding).ok().ok_or("the header has no fault")?;
-    assert!(rt; header.app().is_none());
     Ok(())
 }
 
@@ -118,34 +75,4 @@ fn two_regions_and_fixed_addresses(rt: HostRuntime) -> Result<(), Fail> {
     assert_eq!(rt; header.region_count(), 2);
     assert_eq!(rt; header.fixed, Some((0x8000_0400, 0x2000_0038)));
     Ok(())
-}
-
-#[test]
-fn cut_off_and_other_sizes(rt: HostRuntime) {
-    let mut object = plain();
-    assert_eq!(rt; read_header(&object[..15]).err(), Some(HeaderFault::Short));
-    assert_eq!(rt; read_header(&object[..16]).err(), Some(HeaderFault::Sizes));
-    object[4] = 62;
-    assert_eq!(rt; read_header(&object).err(), Some(HeaderFault::Sizes));
-    object[4] = 64;
-    object[2] = 12;
-    assert_eq!(rt; read_header(&object).err(), Some(HeaderFault::Sizes));
-    object[2] = 68;
-    assert_eq!(rt; read_header(&object).err(), Some(HeaderFault::Sizes));
-    object[0] = 3;
-    assert_eq!(rt; read_header(&object).err(), Some(HeaderFault::Version));
-}
-
-#[test]
-fn checksum_and_main_length(rt: HostRuntime) {
-    let mut object = plain();
-    object[12] = 0x43;
-    assert_eq!(rt; read_header(&object).err(), Some(HeaderFault::Checksum));
-    object[12] = 0x42;
-    object[14] = 0x2b;
-    object[18] = 11;
-    assert_eq!(rt; read_header(&object).err(), Some(HeaderFault::Tlv(16)));
-    object[14] = 0x2d;
-    object[18] = 13;
-    assert_eq!(rt; read_header(&object).err(), Some(HeaderFault::Tlv(16)));
 }

@@ -1,9 +1,9 @@
 //! Reading a whole file, up to a limit.
 #![tactic(auto)]
 
-ghost use Rattle.std.specs.Prelude.{◌≡◌, ◌≤◌, ◌<◌, ℕ, List, length, vec_len, Err, IfOk, IfSome, IsOkUnless};
-ghost use Rattle.tk_outside.specs.Count.{Rose};
-ghost use Rattle.tk_intake.specs.Intake.{IfLonger, IfWithin, IsTooLong};
+ghost use Rattle.std.specs.Prelude.{◌≡◌, ◌≤◌, ◌<◌, ◌+◌, ◌↔◌, ℕ, List, vec_len, Err, IfOk, IsTrue, IsOkUnless};
+ghost use Rattle.tk_outside.specs.Shelf.{FaultsRose};
+ghost use Rattle.tk_intake.specs.Intake.{AreAllOf, IsLonger, IfSoundAndLonger, IfCalmAndLonger, IfSoundAndWithin, IsTooLong};
 
 use std::alloc::Global;
 use thiserror::Error;
@@ -26,6 +26,14 @@ pub enum IntakeError {
 /// How many bytes are asked for at a time.
 const BUFFER_LEN: usize = 4096;
 
+/// Whether so many bytes more are past a limit that what is held is within.
+fn is_past(limit: usize, held: usize, more: usize) -> bool
+    requires { held ≤ limit }
+    ensures { IsTrue result ↔ (limit < held + more) }
+{
+    more > limit - held
+}
+
 /// All bytes of the file of that name, of which there are at most `limit`. A read that gives few
 /// bytes does not end the reading; only one that gives none does. No byte is handed out on a
 /// refusal.
@@ -39,27 +47,23 @@ pub fn read_whole<H: Shelf>(
     limit: usize,
 ) -> Result<Vec<u8>, IntakeError>
     // What is read is the whole file, and within the limit.
-    ensures whole { IfOk result (λ v. IfSome (H.bytes shelf.old name.now) (λ b. v.items ≡ b)) }
+    ensures whole { IfOk result (λ v. AreAllOf (H.tells shelf.old) name.now v.items) }
     ensures within { IfOk result (λ v. vec_len v ≤ limit) }
 
     // Each refusal has its cause.
-    ensures failed { (result ≡ Err IntakeError.Failed) → Rose (H.faults shelf.old) (H.faults shelf.new) }
-    ensures failed_unsound { (result ≡ Err IntakeError.Failed) → ¬ H.is_sound shelf.old name.now }
-    ensures too_long { (result ≡ Err IntakeError.TooLong)
-        → IfSome (H.bytes shelf.old name.now) (λ b. limit < length b) }
+    ensures failed { (result ≡ Err IntakeError.Failed) → FaultsRose H.tells shelf.old shelf.new }
+    ensures failed_unsound { (result ≡ Err IntakeError.Failed) → ¬ (H.tells shelf.old).is_sound name.now }
+    ensures too_long { (result ≡ Err IntakeError.TooLong) → IsLonger (H.tells shelf.old) name.now limit }
 
     // Want of memory aside, a longer file is refused as too long, and a file within the limit is read.
-    ensures longer { IfLonger (H.bytes shelf.old name.now) limit
-        (H.is_sound shelf.old name.now → IsTooLong result) }
-    ensures longer_unfailed { IfLonger (H.bytes shelf.old name.now) limit
-        (¬ Rose (H.faults shelf.old) (H.faults shelf.new) → IsTooLong result) }
-    ensures read { IfWithin (H.bytes shelf.old name.now) limit
-        (H.is_sound shelf.old name.now → IsOkUnless result IntakeError.Memory) }
+    ensures longer { IfSoundAndLonger (H.tells shelf.old) name.now limit (IsTooLong result) }
+    ensures longer_unfailed { IfCalmAndLonger H.tells shelf.old shelf.new name.now limit (IsTooLong result) }
+    ensures read { IfSoundAndWithin (H.tells shelf.old) name.now limit (IsOkUnless result IntakeError.Memory) }
 
     // What stays.
-    ensures bytes { H.bytes shelf.new ≡ H.bytes shelf.old }
-    ensures sound_names { (n : List ℕ) → H.is_sound shelf.old n → H.is_sound shelf.new n }
-    ensures count { H.faults shelf.old ≤ H.faults shelf.new }
+    ensures bytes { (H.tells shelf.new).bytes ≡ (H.tells shelf.old).bytes }
+    ensures sound_names { (n : List ℕ) → (H.tells shelf.old).is_sound n → (H.tells shelf.new).is_sound n }
+    ensures count { (H.tells shelf.old).faults ≤ (H.tells shelf.new).faults }
 {
     if shelf.begin(name).is_err() {
         return Err(IntakeError::Failed);
@@ -73,7 +77,7 @@ pub fn read_whole<H: Shelf>(
         if given == 0 {
             return Ok(bytes);
         }
-        if given > limit - bytes.len() {
+        if is_past(limit, bytes.len(), given) {
             return Err(IntakeError::TooLong);
         }
         if bytes.extend_from_slice(buffer.split_at(given).0).is_err() {
@@ -81,6 +85,3 @@ pub fn read_whole<H: Shelf>(
         }
     }
 }
-
-#[cfg(test)]
-mod tests;

@@ -5,5 +5,6 @@ pub mod MemSink
 pub mod Names
 pub mod Schedule
 pub mod Shelf
+pub mod Sink
 pub mod Text
 pub mod Writes

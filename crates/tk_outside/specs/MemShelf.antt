@@ -1,7 +1,6 @@
-use Rattle.std.specs.Prelude.{ℕ, List, Option, Some, None, Bool, length, min, is_some, if◌then◌else◌}
-use Rattle.std.specs.Prelude.{IsTrue}
+use Rattle.std.specs.Prelude.{◌≡◌, ℕ, List, String, Option, Some, None, Bool, false, length, min, is_some, IsSome, IsTrue, if◌then◌else◌}
 use Rattle.tk_outside.specs.Names.{file_of, rest_at, place_of}
-use Rattle.tk_outside.specs.Schedule.{fails_next, IsDone}
+use Rattle.tk_outside.specs.Schedule.{fails_after, fails_next, IsDone}
 use Rattle.tk_outside.specs.declared.mem_shelf.MemShelf.{MemShelf}
 
 -- the bytes under a name
@@ -42,6 +41,10 @@ HasNoFaultToCome s = IsDone s.schedule
 -- the name is held, and no failing call is still to come
 abbrev pub IsSoundName : MemShelf → List ℕ → Type 0
 IsSoundName s name = IsTrue (holds s name) × HasNoFaultToCome s
+
+-- the name is sound where it is among these, and none of these calls is to fail
+abbrev pub IsSoundIn : {Z : Type 0} → List (String Z) → List ℕ → MemShelf → List ℕ → Type 0
+IsSoundIn names failing s name = IsSome (place_of names name) → fails_after 0 failing ≡ false → IsSoundName s name
 
 -- how many bytes the next read gives for a slice of that length, or that it fails
 abbrev pub given_of : MemShelf → ℕ → Option ℕ

@@ -6,5 +6,5 @@ use crate::sink::Sink;
 /// Writes that follow one another make one write of the joined text. A function that makes several
 /// writes calls it, and its own proof then cites what it ensures.
 pub fn writes_compose<K: Sink>()
-    ensures { WritesCompose K.told K.faults }
+    ensures { WritesCompose K.tells }
 {}

@@ -1,5 +1,5 @@
 //! A shelf in memory.
-ghost use Rattle.std.specs.Prelude.{◌≡◌, ◌≤◌, ◌<◌, ◌+◌, ◌^◌, ◌++◌, length, drop, List, ℕ, [], false, is_some, IsSome, IsTrue, IfOk, IsOk, Some, None, vec_len};
+ghost use Rattle.std.specs.Prelude.{◌≡◌, ◌≤◌, ◌<◌, ◌+◌, ◌^◌, ◌++◌, length, drop, List, ℕ, [], is_some, IsTrue, IfOk, IsOk, vec_len};
 ghost use Rattle.tk_outside.specs.Names.{are_distinct, has_name, rest_at, place_of};
 
 use crate::failed::{Failed, NoMemory};
@@ -71,9 +71,8 @@ pub(crate) fn copy_front(into: &mut [u8], bytes: &[u8])
 }
 
 impl MemShelf {
-    ghost use Rattle.tk_outside.specs.MemShelf.{bytes_of, rest_of, most_of, calls_of, failing_of, faults_of, holds, IsSoundName};
+    ghost use Rattle.tk_outside.specs.MemShelf.{bytes_of, rest_of, most_of, calls_of, failing_of, faults_of, holds, IsSoundIn};
     ghost use Rattle.tk_outside.specs.Names.{file_of};
-    ghost use Rattle.tk_outside.specs.Schedule.{fails_after};
 
     /// A shelf that holds each file under the name at the same place. No name stands twice. One
     /// read gives at most `most` bytes. The calls whose numbers, from 1, are in `failing` fail;
@@ -90,12 +89,9 @@ impl MemShelf {
         requires as_many { vec_len names ≡ vec_len files }
         requires some { 1 ≤ most }
         ensures made { IsOk result }
-        ensures bytes { IfOk result (λ s. (name : List ℕ)
-            → bytes_of s name ≡ file_of names.items files.items name) }
-        ensures names { IfOk result (λ s. (name : List ℕ)
-            → holds s name ≡ is_some (place_of names.items name)) }
-        ensures sound { IfOk result (λ s. (name : List ℕ) → IsSome (place_of names.items name)
-            → fails_after 0 failing.items ≡ false → IsSoundName s name) }
+        ensures bytes { IfOk result (λ s. bytes_of s ≡ file_of names.items files.items) }
+        ensures names { IfOk result (λ s. (name : List ℕ) → holds s name ≡ is_some (place_of names.items name)) }
+        ensures sound { IfOk result (λ s. (name : List ℕ) → IsSoundIn names.items failing.items s name) }
         ensures rest { IfOk result (λ s. rest_of s ≡ []) }
         ensures most { IfOk result (λ s. most_of s ≡ most) }
         ensures calls { IfOk result (λ s. calls_of s ≡ 0) }
@@ -115,20 +111,16 @@ impl MemShelf {
 }
 
 impl Shelf for MemShelf {
-    ghost use Rattle.std.specs.Prelude.{◌≡◌, ◌≤◌, ◌<◌, ◌+◌, ◌-◌, ◌^◌, ◌&&◌, not, length, min, ℕ, List, is_ok, IfOk, IsOk, OnOk, OnErr, IsTrue, Some};
+    ghost use Rattle.std.specs.Prelude.{◌≡◌, ◌≤◌, ◌<◌, ◌&&◌, not, length, ℕ, List, is_ok, IfOk, IsOk, OnOk, OnErr, IsTrue, Some};
     ghost use Rattle.std.specs.Option.{ok_or};
     ghost use Rattle.std.specs.Io.KnownBytes.{Keeps, IsAtEnd};
-    ghost use Rattle.tk_outside.specs.Count.{Rose};
+    ghost use Rattle.tk_outside.specs.Count.{Rose, counted};
     ghost use Rattle.tk_outside.specs.Shelf.{Moves};
     ghost use Rattle.tk_outside.specs.MemShelf.{bytes_of, rest_of, most_of, calls_of, failing_of, faults_of, IsSoundName, HasNoFaultToCome, holds, fails_at_once, given_of};
 
-    ghost bytes = { bytes_of };
+    ghost tells = { λ s. record { bytes = bytes_of s; is_sound = IsSoundName s; faults = faults_of s } };
 
     ghost rest = { λ s. Some (rest_of s) };
-
-    ghost faults = { faults_of };
-
-    ghost is_sound = { IsSoundName };
 
     ghost in_sound = { HasNoFaultToCome };
 
@@ -146,7 +138,7 @@ impl Shelf for MemShelf {
         // What no trait says: when it fails, and that calls are counted.
         ensures answer { is_ok result ≡ (not (fails_at_once self.old) && holds self.old name.now) }
         ensures most { most_of self.new ≡ most_of self.old }
-        ensures calls { calls_of self.new ≡ min (calls_of self.old + 1) (2 ^ 64 - 1) }
+        ensures calls { calls_of self.new ≡ counted (calls_of self.old) }
         ensures failing { failing_of self.new ≡ failing_of self.old }
     {
         self.place = self.files.len();
@@ -179,7 +171,7 @@ impl Shelf for MemShelf {
         // What no trait says: how many bytes are given, and that calls are counted.
         ensures given { result ≡ ok_or (given_of self.old (length into.old)) record {} }
         ensures most { most_of self.new ≡ most_of self.old }
-        ensures calls { calls_of self.new ≡ min (calls_of self.old + 1) (2 ^ 64 - 1) }
+        ensures calls { calls_of self.new ≡ counted (calls_of self.old) }
         ensures failing { failing_of self.new ≡ failing_of self.old }
     {
         if self.schedule.next_fails() {

@@ -62,15 +62,13 @@ impl MemSink {
 }
 
 impl Sink for MemSink {
-    ghost use Rattle.std.specs.Prelude.{◌≡◌, ◌≤◌, ◌<◌, ◌+◌, ◌-◌, ◌^◌, length, min, IfOk, OnErr, Some};
+    ghost use Rattle.std.specs.Prelude.{◌≡◌, ◌≤◌, ◌<◌, length, IfOk, OnErr, Some};
     ghost use Rattle.std.specs.Option.{ok_or};
     ghost use Rattle.std.specs.Io.KnownBytes.{WriteAppends};
-    ghost use Rattle.tk_outside.specs.Count.{Rose};
+    ghost use Rattle.tk_outside.specs.Count.{Rose, counted};
     ghost use Rattle.tk_outside.specs.MemSink.{written_of, limits_of, calls_of, failing_of, faults_of, taken_of};
 
-    ghost told = { λ s. Some (written_of s) };
-
-    ghost faults = { faults_of };
+    ghost tells = { λ s. record { written = Some (written_of s); faults = faults_of s } };
 
     /// Takes as many bytes as `most`, the room left and the piece allow. Fails where the call is
     /// one of those that are to fail, and at a piece that is not empty where no room is left.
@@ -85,7 +83,7 @@ impl Sink for MemSink {
         // What no trait says: how many bytes are taken, and that only calls are counted.
         ensures taken { result ≡ ok_or (taken_of self.old piece.now) record {} }
         ensures limits { limits_of self.new ≡ limits_of self.old }
-        ensures calls { calls_of self.new ≡ min (calls_of self.old + 1) (2 ^ 64 - 1) }
+        ensures calls { calls_of self.new ≡ counted (calls_of self.old) }
         ensures failing { failing_of self.new ≡ failing_of self.old }
     {
         if self.schedule.next_fails() {

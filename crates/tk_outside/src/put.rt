@@ -11,7 +11,7 @@ use itoa::Buffer;
 
 /// Writes the piece. After a [`Failed`] the sink has a part of it that lacks at least one byte.
 pub fn put_all<K: Sink>(out: &mut K, piece: &[u8]) -> Result<(), Failed>
-    ensures { Writes K.told K.faults out.old out.new piece.now result }
+    ensures { Writes K.tells out.old out.new piece.now result }
 {
     let mut rest = piece;
     while !rest.is_empty() {
@@ -23,7 +23,7 @@ pub fn put_all<K: Sink>(out: &mut K, piece: &[u8]) -> Result<(), Failed>
 
 /// Writes the pieces, one after the other.
 pub fn put_pieces<K: Sink>(out: &mut K, pieces: &[&[u8]]) -> Result<(), Failed>
-    ensures { Writes K.told K.faults out.old out.new (text_of pieces.now) result }
+    ensures { Writes K.tells out.old out.new (text_of pieces.now) result }
 {
     for piece in pieces {
         put_all(out, piece)?;
@@ -33,7 +33,7 @@ pub fn put_pieces<K: Sink>(out: &mut K, pieces: &[&[u8]]) -> Result<(), Failed>
 
 /// Writes a number in decimal, with no leading zero.
 pub fn put_number<K: Sink>(out: &mut K, n: u64) -> Result<(), Failed>
-    ensures { Writes K.told K.faults out.old out.new (decimal n) result }
+    ensures { Writes K.tells out.old out.new (decimal n) result }
 {
     let mut buffer = Buffer::new();
     put_all(out, buffer.format(n).as_bytes())
@@ -72,7 +72,7 @@ pub fn put_hex<K: Sink>(out: &mut K, n: u32, digits: usize) -> Result<(), Failed
     requires some { 1 ≤ digits }
     requires at_most_eight { digits ≤ 8 }
     requires fits { n < 16 ^ digits }
-    ensures { Writes K.told K.faults out.old out.new (hex_digits digits n) result }
+    ensures { Writes K.tells out.old out.new (hex_digits digits n) result }
 {
     let text = hex_text(n);
     put_all(out, text.split_at(8 - digits).1)

@@ -1,5 +1,6 @@
 //! Which calls of an object in memory are to fail.
-ghost use Rattle.std.specs.Prelude.{◌≡◌, ◌+◌, ◌-◌, ◌^◌, ◌≤◌, false, min};
+ghost use Rattle.std.specs.Prelude.{◌≡◌, ◌≤◌, false};
+ghost use Rattle.tk_outside.specs.Count.{counted};
 
 use crate::failed::Failed;
 
@@ -29,7 +30,7 @@ impl Schedule {
     pub(crate) fn next_fails(&mut self) -> bool
         ensures answer { result ≡ fails_next self.old }
         ensures done { IsDone self.old → IsDone self.new × (result ≡ false) }
-        ensures counted { self.new ≡ record self.old { calls = min (self.old.calls + 1) (2 ^ 64 - 1) } }
+        ensures counted { self.new ≡ record self.old { calls = counted self.old.calls } }
     {
         if self.calls == u64::MAX {
             return false;
@@ -40,7 +41,7 @@ impl Schedule {
 
     /// Counts one more fault.
     pub(crate) fn fault(&mut self) -> Failed
-        ensures counted { self.new ≡ record self.old { faults = min (self.old.faults + 1) (2 ^ 64 - 1) } }
+        ensures counted { self.new ≡ record self.old { faults = counted self.old.faults } }
         ensures kept { self.old.faults ≤ self.new.faults }
     {
         self.faults = self.faults.saturating_add(1);

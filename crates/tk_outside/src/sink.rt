@@ -7,13 +7,10 @@ use crate::failed::Failed;
 
 /// A place that bytes are appended to, in order. A write may take only some of the bytes.
 pub trait Sink {
-    ghost use Rattle.std.specs.Prelude.{ℕ, List, Option};
+    ghost use Rattle.tk_outside.specs.Sink.{SinkFacts};
 
-    /// The bytes written so far, where the sink tells them.
-    ghost told: { Self → Option (List ℕ) };
-
-    /// How many faults there were. The count stands still at `2^64 - 1`.
-    ghost faults: { Self → ℕ };
+    /// What the sink tells: the bytes written so far, and how many faults there were.
+    ghost tells: { Self → SinkFacts };
 
     /// Appends the first bytes of the piece, and answers how many: at least one of a piece that
     /// is not empty. [`Failed`] comes only where the count of faults rose, and then nothing was
@@ -21,7 +18,7 @@ pub trait Sink {
     fn write(&mut self, piece: &[u8]) -> Result<usize, Failed>
         ensures within { IfOk result (λ n. n ≤ length piece.now) }
         ensures some { IfOk result (λ n. 0 < length piece.now → 0 < n) }
-        ensures bytes { WriteAppends (told self.old) (told self.new) result piece.now }
-        ensures failed { OnErr result (Rose (faults self.old) (faults self.new)) }
-        ensures count { faults self.old ≤ faults self.new };
+        ensures bytes { WriteAppends (tells self.old).written (tells self.new).written result piece.now }
+        ensures failed { OnErr result (Rose (tells self.old).faults (tells self.new).faults) }
+        ensures count { (tells self.old).faults ≤ (tells self.new).faults };
 }

@@ -30,7 +30,7 @@ pub struct FileShelf<'r, R: Files> {
 impl<'r, R: Files> FileShelf<'r, R> {
     /// A shelf over the system's files. No file is begun at first.
     pub fn new(rt: &'r R) -> FileShelf<'r, R>
-        ensures { ⟦<FileShelf<'r, R> as Shelf>⟧.faults result ≡ 0 }
+        ensures { (⟦<FileShelf<'r, R> as Shelf>⟧.tells result).faults ≡ 0 }
     {
         FileShelf {
             rt,
@@ -46,13 +46,9 @@ impl<'r, R: Files> FileShelf<'r, R> {
 impl<'r, R: Files> Shelf for FileShelf<'r, R> {
     ghost use Rattle.std.specs.Prelude.{None};
 
-    ghost bytes = { λ _ _. None };
+    ghost tells = { λ s. record { bytes = λ _. None; is_sound = λ _. ⊥; faults = s.faults } };
 
     ghost rest = { λ _. None };
-
-    ghost faults = { λ s. s.faults };
-
-    ghost is_sound = { λ _ _. ⊥ };
 
     ghost in_sound = { λ _. ⊥ };
 
@@ -106,7 +102,7 @@ pub struct OutSink<'r, R: Print> {
 impl<'r, R: Print> OutSink<'r, R> {
     /// A sink over the standard output.
     pub fn new(rt: &'r R) -> OutSink<'r, R>
-        ensures { ⟦<OutSink<'r, R> as Sink>⟧.faults result ≡ 0 }
+        ensures { (⟦<OutSink<'r, R> as Sink>⟧.tells result).faults ≡ 0 }
     {
         OutSink { rt, faults: 0 }
     }
@@ -115,9 +111,7 @@ impl<'r, R: Print> OutSink<'r, R> {
 impl<'r, R: Print> Sink for OutSink<'r, R> {
     ghost use Rattle.std.specs.Prelude.{None};
 
-    ghost told = { λ _. None };
-
-    ghost faults = { λ s. s.faults };
+    ghost tells = { λ s. record { written = None; faults = s.faults } };
 
     fn write(&mut self, piece: &[u8]) -> Result<usize, Failed> {
         match self.rt.write_some(piece) {

@@ -1,80 +1,6 @@
 use super::*;
-use std::alloc::Global;
 use std::fs;
-use std::process::Abort;
 use std::test::Fail;
-
-/// A shelf that holds `hello` under `greeting`, gives two bytes a read, and fails at one call.
-fn shelf_of(rt: &impl Abort, alloc: Global, failing: u64) -> Result<MemShelf, Fail> {
-    let names = vec![in alloc; String::from_str(alloc, "greeting")?]?;
-    let files = vec![in alloc; Vec::from_slice(alloc, b"hello")?]?;
-    assert!(rt; are_distinct(&names) && names.len() == files.len());
-    Ok(MemShelf::new(alloc, names, files, 2, vec![in alloc; failing]?)?)
-}
-
-/// How many bytes of `greeting` come before the end or the first fault, and whether one came.
-fn count_of(shelf: &mut MemShelf) -> (usize, bool) {
-    let mut count = 0usize;
-    let mut buffer = [0u8; 3];
-    if shelf.begin("greeting").is_err() {
-        return (0, true);
-    }
-    for _ in 0..5 {
-        match shelf.read(&mut buffer) {
-            Ok(given) => count = count.saturating_add(given),
-            Err(Failed) => return (count, true),
-        }
-    }
-    (count, false)
-}
-
-#[test]
-fn a_shelf_fails_at_the_call_that_is_named(rt: HostRuntime) -> Result<(), Fail> {
-    for (call, want) in [
-        (1, (0, true)),
-        (2, (0, true)),
-        (4, (4, true)),
-        (7, (5, false)),
-    ] {
-        let mut shelf = shelf_of(&rt, rt.alloc(), call)?;
-        assert!(rt; count_of(&mut shelf) == want, "at call {call}");
-    }
-    Ok(())
-}
-
-#[test]
-fn a_name_that_is_not_held_is_a_fault(rt: HostRuntime) -> Result<(), Fail> {
-    let mut shelf = shelf_of(&rt, rt.alloc(), 9)?;
-    assert!(rt; shelf.begin("none").is_err());
-    Ok(())
-}
-
-/// What is kept of `abcdef`, and whether all was.
-fn kept_of(sink: &mut MemSink) -> (usize, bool) {
-    let put = put_pieces(sink, &[b"ab", b"cde", b"f"]);
-    (sink.written().len(), put.is_ok())
-}
-
-#[test]
-fn a_sink_keeps_what_came_before_a_fault(rt: HostRuntime) -> Result<(), Fail> {
-    let table = [
-        (1, 10, (0, false)),
-        (2, 10, (2, false)),
-        (3, 10, (4, false)),
-        (4, 10, (5, false)),
-        (5, 6, (6, true)),
-        (5, 5, (5, false)),
-        (5, 0, (0, false)),
-    ];
-    for (call, room, want) in table {
-        let mut sink = MemSink::new(rt.alloc(), 2, room, vec![in rt.alloc(); call]?)?;
-        assert!(rt;
-            kept_of(&mut sink) == want,
-            "at call {call} with room {room}"
-        );
-    }
-    Ok(())
-}
 
 fn put_samples<K: Sink>(out: &mut K) -> Result<(), Failed> {
     put_number(out, 18446744073709551615)?;
@@ -90,6 +16,25 @@ fn numbers_are_written_in_their_digits(rt: HostRuntime) -> Result<(), Fail> {
     put_samples(&mut sink)?;
     let want = "18446744073709551615 20000020fffffff00fa";
     assert!(rt; sink.written() == want.as_bytes());
+    Ok(())
+}
+
+fn read_three<H: Shelf>(shelf: &mut H) -> Result<usize, Failed> {
+    shelf.read(&mut [0; 3])
+}
+
+#[test]
+fn a_shelf_in_memory_fails_at_the_call_that_is_named(rt: HostRuntime) -> Result<(), Fail> {
+    let alloc = rt.alloc();
+    let names = vec![in alloc; String::from_str(alloc, "greeting")?]?;
+    let files = vec![in alloc; Vec::from_slice(alloc, b"hello")?]?;
+    assert!(rt; are_distinct(&names) && names.len() == files.len());
+    let mut shelf = MemShelf::new(alloc, names, files, 2, vec![in alloc; 3]?)?;
+    shelf.begin("greeting")?;
+    assert!(rt; read_three(&mut shelf)? == 2);
+    assert!(rt; read_three(&mut shelf).is_err());
+    assert!(rt; read_three(&mut shelf)? == 2);
+    assert!(rt; read_three(&mut shelf)? == 1);
     Ok(())
 }
 

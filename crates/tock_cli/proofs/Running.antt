@@ -3,6 +3,7 @@ use Rattle.std.proofs.Common.{◌≡◌, ℕ, zero, suc, ◌+◌, ◌-◌, ◌<�
 use Rattle.std.proofs.lemmas.List.{append-nil}
 use Rattle.tk_base.specs.declared.process.Choice.{Choice}
 use Rattle.tk_base.specs.declared.process.Choice.TheVariants.{Run, Device, Pass}
+use Rattle.tk_outside.specs.Sink.{SinkFacts}
 use Rattle.tk_outside.specs.Writes.{WroteAll, WrotePart}
 use Rattle.tk_outside.specs.Laws.{WritesCompose}
 use Rattle.kernel_model.specs.Record.{Record}
@@ -15,9 +16,9 @@ use Rattle.tock_cli.specs.RunText.{IsWorldOf, end_text, run_text, mode_text}
 
 -- After i steps of a run of n steps, from a world to another: what was printed is written, and the run goes on as
 -- the rest of it would from there.
-pub record RunsOn {K : Type 0} (told : K → Option (List ℕ)) (faults : K → ℕ) (n i : ℕ) (from here : World) (old now : K) : Type 0 where
+pub record RunsOn {K : Type 0} (tells : K → SinkFacts) (n i : ℕ) (from here : World) (old now : K) : Type 0 where
   pub done : List ℕ
-  pub wrote : WroteAll told faults old now done
+  pub wrote : WroteAll tells old now done
   pub prints : printed (round n from).labels ≡ done ++ printed (round (n - i) here).labels
   pub leads : (round n from).world ≡ (round (n - i) here).world
   pub came : here ≡ (round i from).world
@@ -34,7 +35,7 @@ steps-after w (Run slot) = of_record (slice_get w.records slot)
 steps-after w (Device device) = omega arith
 steps-after w (Pass ticks) = omega arith
 
-module _ {K : Type 0} {told : K → Option (List ℕ)} {faults : K → ℕ} {n i : ℕ} {from here : World} {old now : K} (r : RunsOn told faults n i from here old now) where
+module _ {K : Type 0} {tells : K → SinkFacts} {n i : ℕ} {from here : World} {old now : K} (r : RunsOn tells n i from here old now) where
   -- what the run does from here with one more choice
   goes : (c : Choice) → i < n → next here ≡ Some c → round (n - i) here ≡ told_first (labels here c) (round (n - (i + 1)) (after here c))
   goes c h e =
@@ -54,7 +55,7 @@ module _ {K : Type 0} {told : K → Option (List ℕ)} {faults : K → ℕ} {n i
       ap (λ (w : World). after w c) r.came ∙ sym (round-more i from c there)
 
   -- one step more
-  pub one_more : WritesCompose told faults → (c : Choice) (then : World) (later : K) → i < n → next here ≡ Some c → then ≡ after here c → WroteAll told faults now later (printed (labels here c)) → RunsOn told faults n (i + 1) from then old later
+  pub one_more : WritesCompose tells → (c : Choice) (then : World) (later : K) → i < n → next here ≡ Some c → then ≡ after here c → WroteAll tells now later (printed (labels here c)) → RunsOn tells n (i + 1) from then old later
   one_more law c then later h e f w = record {
     done = r.done ++ printed (labels here c);
     wrote = law.all_then_all r.wrote w;
@@ -71,31 +72,31 @@ module _ {K : Type 0} {told : K → Option (List ℕ)} {faults : K → ℕ} {n i
       counted = omega (arith, r.steps, ap (λ (v : World). v.clock.steps) f, steps-after here c)
 
   -- a write that failed in a step
-  pub part : WritesCompose told faults → (c : Choice) (later : K) → i < n → next here ≡ Some c → WrotePart told faults now later (printed (labels here c)) → WrotePart told faults old later (printed (round n from).labels)
-  part law c later h e w = subst (λ (t : List ℕ). WrotePart told faults old later t) (sym (around c h e)) (law.all_then_part r.wrote (law.part_of_more (printed (round (n - (i + 1)) (after here c)).labels) w))
+  pub part : WritesCompose tells → (c : Choice) (later : K) → i < n → next here ≡ Some c → WrotePart tells now later (printed (labels here c)) → WrotePart tells old later (printed (round n from).labels)
+  part law c later h e w = subst (λ (t : List ℕ). WrotePart tells old later t) (sym (around c h e)) (law.all_then_part r.wrote (law.part_of_more (printed (round (n - (i + 1)) (after here c)).labels) w))
 
   -- a world of the run
   pub world_on : (c : Choice) (then : World) → i < n → next here ≡ Some c → then ≡ after here c → IsWorldOf n from then
   world_on c then h e f = record { steps = suc i; within = omega arith; reached = f ∙ came_on c e }
 
-  stopped : round (n - i) here ≡ stays here → (WroteAll told faults old now (printed (round n from).labels)) × (here ≡ (round n from).world)
+  stopped : round (n - i) here ≡ stays here → (WroteAll tells old now (printed (round n from).labels)) × (here ≡ (round n from).world)
   stopped e =
       let all : printed (round n from).labels ≡ r.done = r.prints ∙ ap (λ (q : Ran). r.done ++ printed q.labels) e ∙ append-nil r.done in
-      (subst (λ (t : List ℕ). WroteAll told faults old now t) (sym all) r.wrote, sym (r.leads ∙ ap (λ (q : Ran). q.world) e))
+      (subst (λ (t : List ℕ). WroteAll tells old now t) (sym all) r.wrote, sym (r.leads ∙ ap (λ (q : Ran). q.world) e))
 
   -- nothing is left to do
-  pub over : next here ≡ None → (WroteAll told faults old now (printed (round n from).labels)) × (here ≡ (round n from).world)
+  pub over : next here ≡ None → (WroteAll tells old now (printed (round n from).labels)) × (here ≡ (round n from).world)
   over e = stopped (round-stop (n - i) here e)
 
   -- all steps were made
-  pub made : n ≤ i → (WroteAll told faults old now (printed (round n from).labels)) × (here ≡ (round n from).world)
+  pub made : n ≤ i → (WroteAll tells old now (printed (round n from).labels)) × (here ≡ (round n from).world)
   made h =
       let none : n - i ≡ zero = omega arith in
       stopped (ap (λ (k : ℕ). round k here) none ∙ round-zero here)
 
 -- a run that begins
-pub begins : {K : Type 0} (told : K → Option (List ℕ)) (faults : K → ℕ) (n : ℕ) (from : World) (old : K) → WritesCompose told faults → RunsOn told faults n 0 from from old old
-begins told faults n from old law = record {
+pub begins : {K : Type 0} (tells : K → SinkFacts) (n : ℕ) (from : World) (old : K) → WritesCompose tells → RunsOn tells n 0 from from old old
+begins tells n from old law = record {
   done = [];
   wrote = law.wrote_nothing old;
   prints = ap (λ (k : ℕ). printed (round k from).labels) (whole n);

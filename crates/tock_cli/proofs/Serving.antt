@@ -14,7 +14,7 @@ use Rattle.tock_cli.specs.declared.serve.Outcome.TheVariants.{Done, Refused, Sin
 use Rattle.tock_cli.specs.Words.{Command, Boots, Lists, script_of}
 use Rattle.tock_cli.specs.Refusals.{Told, Cause, IsWithin, bytes_in, line_of, name_in}
 use Rattle.tock_cli.specs.Ready.{Task, Running, Listing, IsRead, IsTask, IsTaskOf, left_by}
-use Rattle.tock_cli.specs.Served.{Sent, All, Happens, answer_of, RefusalIs, TaskIs, IsUnhindered, IsWritten, HasReading, LeavesBoard, Decided, Serves}
+use Rattle.tock_cli.specs.Served.{Sent, All, Happens, answer_of, RefusalIs, TaskIs, IsUnhindered, IsWritten, HasReading, LeavesBoard, Decided, Answers}
 
 any : {X : Type 0} (o : Option X) (R : X → Type 0) → ((x : X) → R x) → IfSome o R
 any None R f = tt
@@ -162,8 +162,8 @@ module _ (told : Told) (sent : Sent) (last : Option World) where
   no_board n words e differs = (λ s. absurd (none_left e s), λ b. absurd (differs b.0))
 
   -- each answer with its cause
-  pub serves_at : (words : Option Command) (o : Outcome) → Happens told sent words last o → Serves told sent words last (answer_of o)
-  serves_at words Done h = record {
+  pub answers_at : (words : Option Command) (o : Outcome) → Happens told sent words last o → Answers told sent words last (answer_of o)
+  answers_at words Done h = record {
     done = λ e. h;
     usage = λ e. cc;
     fault = λ e. cc;
@@ -175,7 +175,7 @@ module _ (told : Told) (sent : Sent) (last : Option World) where
     left = (λ s. (refl, run_left words h.task h.given h.left s), λ e. board_left words h.task h.given h.left e.1);
     decided = decided words Done h;
   }
-  serves_at words (Refused Usage) h = record {
+  answers_at words (Refused Usage) h = record {
     done = λ e. cc;
     usage = λ e. h.0;
     fault = λ e. cc;
@@ -187,7 +187,7 @@ module _ (told : Told) (sent : Sent) (last : Option World) where
     left = no_board 2 words h.1 (λ e. cc);
     decided = decided words (Refused Usage) h;
   }
-  serves_at words (Refused (Fault file)) h = record {
+  answers_at words (Refused (Fault file)) h = record {
     done = λ e. cc;
     usage = λ e. cc;
     fault = λ e. (file, h.0);
@@ -199,7 +199,7 @@ module _ (told : Told) (sent : Sent) (last : Option World) where
     left = no_board 3 words h.1 (λ e. cc);
     decided = decided words (Refused (Fault file)) h;
   }
-  serves_at words (Refused (TooLong file)) h = record {
+  answers_at words (Refused (TooLong file)) h = record {
     done = λ e. cc;
     usage = λ e. cc;
     fault = λ e. cc;
@@ -211,7 +211,7 @@ module _ (told : Told) (sent : Sent) (last : Option World) where
     left = no_board 4 words h.1 (λ e. cc);
     decided = decided words (Refused (TooLong file)) h;
   }
-  serves_at words (Refused (Script line rule)) h = record {
+  answers_at words (Refused (Script line rule)) h = record {
     done = λ e. cc;
     usage = λ e. cc;
     fault = λ e. cc;
@@ -223,7 +223,7 @@ module _ (told : Told) (sent : Sent) (last : Option World) where
     left = no_board 5 words h.1 (λ e. cc);
     decided = decided words (Refused (Script line rule)) h;
   }
-  serves_at words (Refused Memory) h = record {
+  answers_at words (Refused Memory) h = record {
     done = λ e. cc;
     usage = λ e. cc;
     fault = λ e. cc;
@@ -235,7 +235,7 @@ module _ (told : Told) (sent : Sent) (last : Option World) where
     left = no_board 7 words h.1 (λ e. cc);
     decided = decided words (Refused Memory) h;
   }
-  serves_at words SinkFailed h = record {
+  answers_at words SinkFailed h = record {
     done = λ e. cc;
     usage = λ e. cc;
     fault = λ e. cc;
@@ -278,5 +278,5 @@ task_happens told sent words last task SinkFailed h r = (
   r.1,
 )
 
-pub serves : (told : Told) (sent : Sent) (words : Option Command) (last : Option World) (o : Outcome) (answer : ℕ) → answer ≡ answer_of o → Happens told sent words last o → Serves told sent words last answer
-serves told sent words last o answer e h = subst (λ (n : ℕ). Serves told sent words last n) (sym e) (serves_at told sent last words o h)
+pub answers : (told : Told) (sent : Sent) (words : Option Command) (last : Option World) (o : Outcome) (answer : ℕ) → answer ≡ answer_of o → Happens told sent words last o → Answers told sent words last answer
+answers told sent words last o answer e h = subst (λ (n : ℕ). Answers told sent words last n) (sym e) (answers_at told sent last words o h)

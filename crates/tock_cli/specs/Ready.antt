@@ -3,6 +3,7 @@ use Rattle.std.specs.Prelude.{◌≡◌, ℕ, ◌≤◌, List, length, Option, N
 use Rattle.tk_base.specs.declared.limits.TheConstants.{FLASH_LIMIT}
 use Rattle.script_text.specs.Settings.{Settings}
 use Rattle.script_text.specs.Reading.{reading}
+use Rattle.tk_outside.specs.Shelf.{ShelfFacts}
 use Rattle.tk_intake.specs.declared.IntakeError.{IntakeError}
 use Rattle.tk_intake.specs.declared.IntakeError.TheVariants as intake
 use Rattle.kernel_model.specs.World.{World}
@@ -70,6 +71,14 @@ IsTask bytes (Some command) task = IsTaskOf bytes command task
 abbrev pub task_of : Ready → Task
 task_of (ready.Run board turns) = Running turns board
 task_of (ready.List flash) = Listing flash.items
+
+-- what is ready is the task that a command gives, by what the shelf tells
+abbrev pub IsReadyFor : ShelfFacts → Command → Ready → Type 0
+IsReadyFor shelf command ready = IsTaskOf shelf.bytes command (task_of ready)
+
+-- and the same of words that are a command
+abbrev pub IsReady : ShelfFacts → Option Command → Ready → Type 0
+IsReady shelf words ready = IsTask shelf.bytes words (task_of ready)
 
 -- No step was made, and the steps to make are within the limit of a board; the image is within its limit.
 abbrev pub IsFresh : Ready → Type 0

@@ -4,7 +4,7 @@ use Rattle.std.specs.Option.{option_and_then}
 use Rattle.tk_base.specs.declared.limits.TheConstants.{FLASH_LIMIT, SCRIPT_LIMIT}
 use Rattle.script_text.specs.Rules.{word_of}
 use Rattle.script_text.specs.Reading.{reading}
-use Rattle.tk_outside.specs.Count.{Rose}
+use Rattle.tk_outside.specs.Shelf.{ShelfFacts, FaultsRose}
 use Rattle.tock_cli.specs.declared.refusal.File.{File}
 use Rattle.tock_cli.specs.declared.refusal.File.TheVariants.{Flash, Script as ScriptFile}
 use Rattle.tock_cli.specs.declared.refusal.Refusal.{Refusal}
@@ -44,7 +44,8 @@ abbrev pub name_in : Command → File → Option (List ℕ)
 name_in command Flash = Some (flash_of command)
 name_in command ScriptFile = script_of command
 
--- what a shelf tells: the bytes under each name, which names are sound, and whether its count of faults rose
+-- What a shelf tells over a call: the bytes under each name and which names are sound, before it, and whether its count
+-- of faults rose.
 pub record Told : Type 1 where
   pub bytes : List ℕ → Option (List ℕ)
   pub is_sound : List ℕ → Type 0
@@ -85,6 +86,6 @@ abbrev pub Cause : Told → Option Command → Refusal → Type 0
 Cause told None refusal = CauseWithout refusal
 Cause told (Some command) refusal = CauseOf told command refusal
 
--- what a shelf tells that was one and is now another
-abbrev pub told_by : {H : Type 0} → (H → List ℕ → Option (List ℕ)) → (H → List ℕ → Type 0) → (H → ℕ) → H → H → Told
-told_by bytes is_sound faults old new = record { bytes = bytes old; is_sound = is_sound old; rose = Rose (faults old) (faults new) }
+-- what a shelf tells over a call, by what it tells before and after it
+abbrev pub told_by : {H : Type 0} → (H → ShelfFacts) → H → H → Told
+told_by tells old new = record { bytes = (tells old).bytes; is_sound = (tells old).is_sound; rose = FaultsRose tells old new }

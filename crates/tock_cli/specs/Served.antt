@@ -1,8 +1,10 @@
 -- What the program does: each answer with its cause, and what was written.
-use Rattle.std.specs.Prelude.{◌≡◌, ℕ, ◌<◌, ◌≤◌, ◌⊎◌, List, length, Option, None, Some, IfSome, IsSome, IsSomeAnd, IsOk, IsErr, ◌↔◌}
+use Rattle.std.specs.Prelude.{◌≡◌, ℕ, ◌<◌, ◌≤◌, ◌⊎◌, List, length, String, Option, None, Some, IfSome, IsSome, IsSomeAnd, IsOk, IsErr, ◌↔◌}
 use Rattle.script_text.specs.declared.rule.ScriptRule.{ScriptRule}
 use Rattle.script_text.specs.Reading.{reading}
 use Rattle.tk_outside.specs.Count.{Rose}
+use Rattle.tk_outside.specs.Shelf.{ShelfFacts}
+use Rattle.tk_outside.specs.Sink.{SinkFacts}
 use Rattle.tk_outside.specs.Writes.{WroteAll, WrotePart}
 use Rattle.kernel_model.specs.World.{World}
 use Rattle.tock_cli.specs.declared.refusal.File.{File}
@@ -11,27 +13,30 @@ use Rattle.tock_cli.specs.declared.refusal.Refusal.{Refusal}
 use Rattle.tock_cli.specs.declared.refusal.Refusal.TheVariants.{Usage, Fault, TooLong, Script, Memory}
 use Rattle.tock_cli.specs.declared.serve.Outcome.{Outcome}
 use Rattle.tock_cli.specs.declared.serve.Outcome.TheVariants.{Done, Refused, SinkFailed}
-use Rattle.tock_cli.specs.Words.{Command, Boots, Lists, script_of}
-use Rattle.tock_cli.specs.Refusals.{Told, Cause, IsWithin, bytes_in, line_of, limit_of, name_in, status_of}
+use Rattle.tock_cli.specs.Words.{Command, Boots, Lists, command_of, script_of}
+use Rattle.tock_cli.specs.Refusals.{Told, Cause, IsWithin, bytes_in, line_of, limit_of, name_in, status_of, told_by}
 use Rattle.tock_cli.specs.Ready.{Task, IsTask, text_of, left_by}
 
 -- what a sink was before the call and after it, and what it tells
 pub record Sent : Type 1 where
   pub Sink : Type 0
-  pub told : Sink → Option (List ℕ)
-  pub faults : Sink → ℕ
+  pub tells : Sink → SinkFacts
   pub old : Sink
   pub new : Sink
 
-abbrev pub sent_by : {K : Type 0} → (K → Option (List ℕ)) → (K → ℕ) → K → K → Sent
-sent_by told faults old new = record { Sink = _; told = told; faults = faults; old = old; new = new }
+abbrev pub sent_by : {K : Type 0} → (K → SinkFacts) → K → K → Sent
+sent_by tells old new = record { Sink = _; tells = tells; old = old; new = new }
 
 -- all of a text was written, or a part of it that lacks at least one byte
 abbrev pub All : Sent → List ℕ → Type 0
-All sent text = WroteAll sent.told sent.faults sent.old sent.new text
+All sent text = WroteAll sent.tells sent.old sent.new text
 
 abbrev pub Part : Sent → List ℕ → Type 0
-Part sent text = WrotePart sent.told sent.faults sent.old sent.new text
+Part sent text = WrotePart sent.tells sent.old sent.new text
+
+-- the sink's count of faults rose
+abbrev pub SinkRose : Sent → Type 0
+SinkRose sent = Rose (sent.tells sent.old).faults (sent.tells sent.new).faults
 
 -- The command's task was done, its whole text written: the text of the run from the opening world of the files, or the
 -- list of the flash file. The board that a run leaves shows its last world.
@@ -56,7 +61,7 @@ pub record PartOfLine (told : Told) (sent : Sent) (words : Option Command) : Typ
 -- The sink failed: its count of faults rose, and a proper part was written of the text of the command's task or of the
 -- line of a refusal whose cause holds.
 pub record SinkFault (told : Told) (sent : Sent) (words : Option Command) : Type 0 where
-  pub rose : Rose (sent.faults sent.old) (sent.faults sent.new)
+  pub rose : SinkRose sent
   pub part : PartOfTask told sent words ⊎ PartOfLine told sent words
 
 -- a refusal: its cause holds, and its line was written
@@ -100,7 +105,7 @@ IsUnhindered told command file = IfSome (name_in command file) told.is_sound ⊎
 
 -- the sink's count of faults did not rise
 abbrev pub IsWritten : Sent → Type 0
-IsWritten sent = ¬ Rose (sent.faults sent.old) (sent.faults sent.new)
+IsWritten sent = ¬ SinkRose sent
 
 -- the script, where the words name one, is told, within its limit, and has a reading
 abbrev pub HasReading : Told → Command → Type 0
@@ -128,8 +133,8 @@ LeavesBoard None = ⊥
 LeavesBoard (Some (Boots words)) = Unit {0}
 LeavesBoard (Some (Lists flash)) = ⊥
 
--- What the program does with its words: the answer with its cause, what was written, and the board that is left.
-pub record Serves (told : Told) (sent : Sent) (words : Option Command) (last : Option World) (answer : ℕ) : Type 0 where
+-- What the program does: the answer with its cause, what was written, and the board that is left.
+pub record Answers (told : Told) (sent : Sent) (words : Option Command) (last : Option World) (answer : ℕ) : Type 0 where
   pub done : answer ≡ 0 → IsDone told sent words last
   pub usage : answer ≡ 2 → IsRefused told sent words Usage
   pub fault : answer ≡ 3 → (file : File) × IsRefused told sent words (Fault file)
@@ -142,3 +147,9 @@ pub record Serves (told : Told) (sent : Sent) (words : Option Command) (last : O
   -- a board is left exactly at answer 0 of `boot`
   pub left : IsSome last ↔ ((answer ≡ 0) × LeavesBoard words)
   pub decided : Decided told sent words answer
+
+-- What the program does with the words of its command line, over a shelf and a sink that were the first of each two and
+-- are now the second.
+abbrev pub Serves : {H K Z : Type 0} → (H → ShelfFacts) → H → H → (K → SinkFacts) → K → K → List (String Z) → Option World → ℕ → Type 0
+Serves shelf shelf_old shelf_new sink sink_old sink_new words last answer =
+    Answers (told_by shelf shelf_old shelf_new) (sent_by sink sink_old sink_new) (command_of words) last answer

@@ -45,12 +45,12 @@ accepted words = None
 abbrev pub command_of : {Z : Type 0} → List (String Z) → Option Command
 command_of words = accepted (map string_bytes words)
 
--- what the words of a command say
-abbrev pub shown_words : BootCommand → BootWords
-shown_words c = record { flash = c.flash.now; script = c.script.now; turns = c.turns }
+-- the command that the words of `boot` are
+abbrev pub boot_of : BootCommand → Command
+boot_of c = Boots (record { flash = c.flash.now; script = c.script.now; turns = c.turns })
 
 abbrev pub shown_command : Given → Command
-shown_command (given.Boot words) = Boots (shown_words words)
+shown_command (given.Boot words) = boot_of words
 shown_command (given.List flash) = Lists flash.now
 
 abbrev pub shown : Option Given → Option Command

@@ -15,7 +15,7 @@ use tk_outside::{Failed, Sink};
 /// lacks at least one byte. No memory is taken.
 pub fn list_out<K: Sink>(flash: &[u8], out: &mut K) -> Result<(), Failed>
     requires { length flash.now ≤ FLASH_LIMIT }
-    ensures { Writes K.told K.faults out.old out.new (list_text flash.now) result }
+    ensures { Writes K.tells out.old out.new (list_text flash.now) result }
 {
     let mut found = ArrayVec::new();
     walk(flash, &mut found);

@@ -30,6 +30,3 @@ fn main(rt: HostRuntime) -> ExitCode {
     let mut last = None;
     ExitCode::from(serve::serve(rt.alloc(), &words, &mut shelf, &mut out, &mut last))
 }
-
-#[cfg(test)]
-mod tests;

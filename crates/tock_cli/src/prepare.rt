@@ -1,8 +1,8 @@
 //! What is done before any text is written: the words, the files, the script's reading, the board.
 ghost use Rattle.std.specs.Prelude.{◌≡◌, ◌≤◌, IfOk, IfErr};
-ghost use Rattle.tock_cli.specs.Words.{command_of, most_turns, shown_words, Boots, Lists};
+ghost use Rattle.tock_cli.specs.Words.{boot_of, command_of, most_turns, Lists};
 ghost use Rattle.tock_cli.specs.Refusals.{Cause, CauseOf, told_by};
-ghost use Rattle.tock_cli.specs.Ready.{IsFresh, IsTask, IsTaskOf, refusal_of, task_of};
+ghost use Rattle.tock_cli.specs.Ready.{IsFresh, IsReady, IsReadyFor, refusal_of};
 
 use crate::refusal::{File, Refusal};
 use crate::words::{BootCommand, Command};
@@ -41,9 +41,9 @@ fn load_run<H: Shelf>(
     shelf: &mut H,
 ) -> Result<Ready, Refusal>
     requires { words.turns ≤ most_turns }
-    ensures task { IfOk result (λ ready. IsTaskOf (H.bytes shelf.old) (Boots (shown_words words.entry)) (task_of ready)) }
+    ensures task { IfOk result (IsReadyFor (H.tells shelf.old) (boot_of words.entry)) }
     ensures fresh { IfOk result IsFresh }
-    ensures refused { IfErr result (CauseOf (told_by H.bytes H.is_sound H.faults shelf.old shelf.new) (Boots (shown_words words.entry))) }
+    ensures refused { IfErr result (CauseOf (told_by H.tells shelf.old shelf.new) (boot_of words.entry)) }
 {
     let flash = match read_whole(alloc, shelf, words.flash, FLASH_LIMIT) {
         Ok(bytes) => bytes,
@@ -69,9 +69,9 @@ fn load_run<H: Shelf>(
 
 /// Reads the flash file alone.
 fn load_list<H: Shelf>(alloc: Global, name: &str, shelf: &mut H) -> Result<Ready, Refusal>
-    ensures task { IfOk result (λ ready. IsTaskOf (H.bytes shelf.old) (Lists name.now) (task_of ready)) }
+    ensures task { IfOk result (IsReadyFor (H.tells shelf.old) (Lists name.now)) }
     ensures fresh { IfOk result IsFresh }
-    ensures refused { IfErr result (CauseOf (told_by H.bytes H.is_sound H.faults shelf.old shelf.new) (Lists name.now)) }
+    ensures refused { IfErr result (CauseOf (told_by H.tells shelf.old shelf.new) (Lists name.now)) }
 {
     match read_whole(alloc, shelf, name, FLASH_LIMIT) {
         Ok(flash) => Ok(Ready::List { flash }),
@@ -82,9 +82,9 @@ fn load_list<H: Shelf>(alloc: Global, name: &str, shelf: &mut H) -> Result<Ready
 /// Does all that comes before any text: the words, the flash file, and for a run the script file, the
 /// script's reading and the board. A refusal names the first cause in this order.
 pub fn prepare<H: Shelf>(alloc: Global, words: &[String], shelf: &mut H) -> Result<Ready, Refusal>
-    ensures task { IfOk result (λ ready. IsTask (H.bytes shelf.old) (command_of words.now) (task_of ready)) }
+    ensures task { IfOk result (IsReady (H.tells shelf.old) (command_of words.now)) }
     ensures fresh { IfOk result IsFresh }
-    ensures refused { IfErr result (Cause (told_by H.bytes H.is_sound H.faults shelf.old shelf.new) (command_of words.now)) }
+    ensures refused { IfErr result (Cause (told_by H.tells shelf.old shelf.new) (command_of words.now)) }
 {
     match Command::of(words) {
         Some(Command::Boot(words)) => load_run(alloc, words, shelf),

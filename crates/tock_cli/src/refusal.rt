@@ -57,7 +57,7 @@ impl Refusal {
 
     /// Writes the line of the refusal.
     pub fn write_line<K: Sink>(self, out: &mut K) -> Result<(), Failed>
-        ensures { Writes K.told K.faults out.old out.new (line_of self) result }
+        ensures { Writes K.tells out.old out.new (line_of self) result }
     {
         match self {
             Refusal::Usage => put_all(

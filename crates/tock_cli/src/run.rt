@@ -20,7 +20,7 @@ pub enum Mode {
 /// Makes the run, and writes what it prints.
 fn run_steps<K: Sink>(board: &mut Board, turns: u32, out: &mut K) -> Result<(), Failed>
     requires { board.old.clock.steps + turns ≤ STEP_LIMIT }
-    ensures prints { Writes K.told K.faults out.old out.new (printed (round turns board.old).labels) result }
+    ensures prints { Writes K.tells out.old out.new (printed (round turns board.old).labels) result }
     ensures last { OnOk result (board.new ≡ (round turns board.old).world) }
     ensures some { OnErr result (IsWorldOf turns board.old board.new) }
 {
@@ -51,7 +51,7 @@ fn end_of_run(board: &Board) -> End
 
 /// Writes the line between what a run printed and its report, and the report.
 fn write_end_of_run<K: Sink>(board: &Board, out: &mut K) -> Result<(), Failed>
-    ensures { Writes K.told K.faults out.old out.new (end_text board.now) result }
+    ensures { Writes K.tells out.old out.new (end_text board.now) result }
 {
     writes_compose::<K>();
     put_all(out, b"==\n")?;
@@ -70,7 +70,7 @@ pub fn run_out<K: Sink>(
     out: &mut K,
 ) -> Result<(), Failed>
     requires { board.old.clock.steps + turns ≤ STEP_LIMIT }
-    ensures text { Writes K.told K.faults out.old out.new (mode_text mode turns board.old) result }
+    ensures text { Writes K.tells out.old out.new (mode_text mode turns board.old) result }
     ensures last { OnOk result (board.new ≡ (round turns board.old).world) }
     ensures some { OnErr result (IsWorldOf turns board.old board.new) }
 {

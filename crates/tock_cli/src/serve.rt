@@ -39,7 +39,7 @@ impl Outcome {
 
 /// Writes the line of a refusal.
 fn refuse<K: Sink>(refusal: Refusal, out: &mut K) -> Outcome
-    ensures { RefusalIs (sent_by K.told K.faults out.old out.new) refusal result }
+    ensures { RefusalIs (sent_by K.tells out.old out.new) refusal result }
 {
     match refusal.write_line(out) {
         Ok(()) => Outcome::Refused(refusal),
@@ -51,7 +51,7 @@ fn refuse<K: Sink>(refusal: Refusal, out: &mut K) -> Outcome
 fn finish<K: Sink>(ready: Ready, out: &mut K, last: &mut Option<Board>) -> Outcome
     requires fresh { IsFresh ready }
     requires none { last.old ≡ None }
-    ensures { TaskIs (sent_by K.told K.faults out.old out.new) (task_of ready) last.new result }
+    ensures { TaskIs (sent_by K.tells out.old out.new) (task_of ready) last.new result }
 {
     let written = match ready {
         Ready::Run { mut board, turns } => {
@@ -77,7 +77,7 @@ fn act<H: Shelf, K: Sink>(
     out: &mut K,
     last: &mut Option<Board>,
 ) -> Outcome
-    ensures { Happens (told_by H.bytes H.is_sound H.faults shelf.old shelf.new) (sent_by K.told K.faults out.old out.new)
+    ensures { Happens (told_by H.tells shelf.old shelf.new) (sent_by K.tells out.old out.new)
         (command_of words.now) last.new result }
 {
     *last = None;
@@ -109,8 +109,7 @@ pub fn serve<H: Shelf, K: Sink>(
     out: &mut K,
     last: &mut Option<Board>,
 ) -> u8
-    ensures { Serves (told_by H.bytes H.is_sound H.faults shelf.old shelf.new) (sent_by K.told K.faults out.old out.new)
-        (command_of words.now) last.new result }
+    ensures { Serves H.tells shelf.old shelf.new K.tells out.old out.new words.now last.new result }
 {
     act(alloc, words, shelf, out, last).answer()
 }

@@ -4,13 +4,13 @@ use Rattle.tk_intake.proofs.read_whole.Given as goal
 
 abbrev pub invariant-loop-given : goal.invariant-loop-given
 invariant-loop-given g l = record {
-  same : g.H.Shelf.bytes l.shelf ≡ g.H.Shelf.bytes l.fn.shelf;
-  so_far : IfSome (g.H.Shelf.bytes l.fn.shelf l.name) (λ b. Consumes (Some b) (g.H.Shelf.rest l.shelf) l.bytes.items);
+  same : (g.H.Shelf.tells l.shelf).bytes ≡ (g.H.Shelf.tells l.fn.shelf).bytes;
+  so_far : IfSome ((g.H.Shelf.tells l.fn.shelf).bytes l.name) (λ b. Consumes (Some b) (g.H.Shelf.rest l.shelf) l.bytes.items);
   within : vec_len l.bytes ≤ l.limit;
   room : length l.buffer ≡ 4096;
-  count : g.H.Shelf.faults l.fn.shelf ≤ g.H.Shelf.faults l.shelf;
-  sound : g.H.Shelf.is_sound l.fn.shelf l.name → g.H.Shelf.in_sound l.shelf;
-  sound_names : (n : List ℕ) → g.H.Shelf.is_sound l.fn.shelf n → g.H.Shelf.is_sound l.shelf n;
+  count : (g.H.Shelf.tells l.fn.shelf).faults ≤ (g.H.Shelf.tells l.shelf).faults;
+  sound : (g.H.Shelf.tells l.fn.shelf).is_sound l.name → g.H.Shelf.in_sound l.shelf;
+  sound_names : (n : List ℕ) → (g.H.Shelf.tells l.fn.shelf).is_sound n → (g.H.Shelf.tells l.shelf).is_sound n;
 }
 
 abbrev pub decreases-loop-given : goal.decreases-loop-given

@@ -1,6 +1,7 @@
 use Rattle.std.proofs.Common.{◌≡◌, map, take}
-use Rattle.board_core.specs.Residents.{process_runs}
+use Rattle.std.specs.List.{zip}
+use Rattle.board_core.specs.Residents.{resident_turns}
 use Rattle.board_core.proofs.board.add_ready.Given as goal
 
-abbrev pub invariant-loop-process : goal.invariant-loop-process
-invariant-loop-process l = l.ready.items ≡ map process_runs (take l.process-index l.processes)
+abbrev pub invariant-loop-slot : goal.invariant-loop-slot
+invariant-loop-slot l = l.ready.items ≡ map resident_turns (take l.slot (zip l.processes l.home.owns))

@@ -5,13 +5,13 @@ use Rattle.board_core.proofs.board.turn_at.Goals as goal
 
 pub take_turn-requires-clause-seated : goal.take_turn-requires-clause-seated
 take_turn-requires-clause-seated c =
-    (seated_at c.args.home.now.flash c.args.steps c.args.processes.now.items c.args.home.now c.args.slot c.index.result c.index_mut.result.now c.index.ensures.value c.requires.within c.requires.owns c.index_mut.ensures.value c.requires.seated).2
+    (seated_at c.args.home.now.flash c.args.steps c.args.processes.now.items c.args.home.now c.args.slot c.index.result c.index_mut-process.result.now c.index.ensures.value c.requires.within c.requires.owns c.index_mut-process.ensures.value c.requires.seated).2
 
 pub returns-clause-turn : goal.returns-clause-turn
 returns-clause-turn c =
     let home = c.args.home.now in
-    let process = c.index_mut.result.now in
-    let s = seated_at home.flash c.args.steps c.args.processes.now.items home c.args.slot c.index.result process c.index.ensures.value c.requires.within c.requires.owns c.index_mut.ensures.value c.requires.seated in
+    let process = c.index_mut-process.result.now in
+    let s = seated_at home.flash c.args.steps c.args.processes.now.items home c.args.slot c.index.result process c.index.ensures.value c.requires.within c.requires.owns c.index_mut-process.ensures.value c.requires.seated in
     record {
       before = (process, own_of home c.args.slot);
       after = (c.take_turn.new.process, own_of c.take_turn.new.home c.args.slot);

@@ -4,8 +4,11 @@ use Rattle.tbf_headers.specs.Objects.{object_at}
 use Rattle.tbf_headers.specs.Shown.{shown}
 use Rattle.process_layout.specs.Extents.{Extents}
 use Rattle.process_layout.specs.Ordered.{IsOrdered}
+use Rattle.process_own.specs.Own.{opened}
 use Rattle.process_record.specs.Process.{started}
-use Rattle.board_core.proofs.Crews.{application_known, starts, process_shown, process_seated}
+use Rattle.board_core.specs.Boot.{footprint_of}
+use Rattle.board_core.specs.Residents.{IsSeated}
+use Rattle.board_core.proofs.Crews.{application_known, starts, process_first, process_shown, process_seated}
 use Rattle.board_core.proofs.boot.first_process.Goals as goal
 use Rattle.board_core.proofs.boot.first_process.Goals.{After-start}
 
@@ -26,11 +29,17 @@ returns-clause-shown c =
     let a = application_known c.args.flash.now c.args.offset c.args.place.now c.requires.layout in
     process_shown c.args.flash.now c.args.offset c.args.place.now.layout a c.start.result (is_start (goal.at.returns-clause-shown c).After-start)
 
-pub returns-clause-seated : goal.returns-clause-seated
-returns-clause-seated c =
+-- it is as it is to be before the first step
+seated : (c : After-start) → IsSeated c.args.flash.now 0 (c.start.result, opened (footprint_of c.start.result c.args.place.now))
+seated c =
     let a = application_known c.args.flash.now c.args.offset c.args.place.now c.requires.layout in
     let f = c.requires.flash in
-    process_seated c.args.flash.now c.args.offset c.args.place.now.layout a c.start.result (is_start (goal.at.returns-clause-seated c).After-start) f.0 f.1 c.requires.short f.2 (subst (λ (e : Extents). e.brk ≤ e.end) c.layout.view_is (omega (arith, c.layout.invariant.grants, c.layout.invariant.end)))
+    process_seated c.args.flash.now c.args.offset c.args.place.now.layout a c.start.result (is_start c) f.0 f.1 c.requires.short f.2 (subst (λ (e : Extents). e.brk ≤ e.end) c.layout.view_is (omega (arith, c.layout.invariant.grants, c.layout.invariant.end)))
 
-pub returns-clause-ordered : goal.returns-clause-ordered
-returns-clause-ordered c = subst IsOrdered c.layout.view_is c.layout.invariant
+pub returns-clause-seated : goal.returns-clause-seated
+returns-clause-seated c = seated (goal.at.returns-clause-seated c).After-start
+
+pub returns-clause-first : goal.returns-clause-first
+returns-clause-first c =
+    let a = application_known c.args.flash.now c.args.offset c.args.place.now c.requires.layout in
+    process_first c.args.flash.now c.args.offset c.args.place.now.layout c.start.result a (subst IsOrdered c.layout.view_is c.layout.invariant) (seated (goal.at.returns-clause-first c).After-start)

@@ -5,4 +5,4 @@ use Rattle.board_report.proofs.report.write_all_unplaced.Given as goal
 
 -- the lines so far were written
 abbrev pub invariant-loop-app : goal.invariant-loop-app
-invariant-loop-app g l = WroteAll g.K.Sink.told g.K.Sink.faults l.initial.out l.out (unplaced_texts (take l.app-index l.apps))
+invariant-loop-app g l = WroteAll g.K.Sink.tells l.initial.out l.out (unplaced_texts (take l.app-index l.apps))

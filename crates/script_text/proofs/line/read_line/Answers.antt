@@ -1,14 +1,8 @@
-use Rattle.std.proofs.Common.{◌≡◌, [], ◌∷◌, sym, ap, ◌∙◌}
+use Rattle.std.proofs.Common.{sym, ap, ◌∙◌}
 use Rattle.script_text.specs.Text.{words}
-use Rattle.script_text.proofs.Rules.{gives_number}
+use Rattle.script_text.proofs.Rules.{bad_alone}
 use Rattle.script_text.proofs.line.read_line.Goals as goal
 
-pub returns : goal.returns
-returns c =
-    let first = c.in-Some.first.now in
-    let second = c.in-Some-None.second.now in
-    let one = c.in-Some.ensures.steps in
-    let two = c.in-Some-None.ensures.steps in
-    let end = c.in-Some-None.ensures'.steps.0 in
-    let all : words c.args.line.now ≡ first ∷ second ∷ [] = ap words (sym c.of-words.ensures) ∙ one ∙ ap (λ ws. first ∷ ws) (two ∙ ap (λ ws. second ∷ ws) end) in
-    gives_number c.args.line.now first second c.in-Some-named.setting c.in-Some-number_in.number all (sym c.is_comment.ensures ∙ c.if-is_comment.false) (sym c.in-Some-named.ensures) (sym c.in-Some-number_in.is ∙ c.number_in.ensures) (sym c.permits.ensures ∙ c.if-not-permits.false)
+pub returns-in-Some-broken_alone : goal.returns-in-Some-broken_alone
+returns-in-Some-broken_alone c =
+    bad_alone c.args.text.now c.in-Some.first.now (words c.next.new.self.rest.now) c.in-Some-line_in.line c.row.result.form c.in-Some-broken_alone.rule (ap words (sym c.of.ensures) ∙ c.in-Some.ensures.steps) (sym c.is_comment.ensures ∙ c.if-is_comment.false) (sym c.line_in.ensures ∙ c.in-Some-line_in.is) c.row.ensures.form (sym c.broken_alone.ensures ∙ c.in-Some-broken_alone.is)

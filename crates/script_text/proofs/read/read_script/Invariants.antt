@@ -2,7 +2,7 @@ use Rattle.std.proofs.Common.{◌≡◌, ◌+◌, ◌≤◌, length, take, drop}
 use Rattle.std.specs.List.{enumerate_from, filter_map}
 use Rattle.script_text.specs.Text.{lines}
 use Rattle.script_text.specs.Reading.{faults, fault_of}
-use Rattle.script_text.specs.Drafted.{Drafted}
+use Rattle.script_text.specs.Progress.{Made}
 use Rattle.script_text.proofs.read.read_script.Given as goal
 
 abbrev pub invariant-loop-line : goal.invariant-loop-line
@@ -13,5 +13,5 @@ invariant-loop-line l =
       passed : l.number ≤ length all;
       -- the faults of the lines that are left are those of all
       unbroken : filter_map (fault_of all) (enumerate_from (l.number + 1) (drop l.number all)) ≡ faults all;
-      drafted : Drafted (take l.number all) l.draft;
+      made : Made (take l.number all) l.draft;
     }

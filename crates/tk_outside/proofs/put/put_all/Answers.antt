@@ -5,7 +5,7 @@ use Rattle.tk_outside.proofs.WritesLemmas.{writes_part}
 use Rattle.tk_outside.proofs.put.put_all.Goals as goal
 
 pub loop-rest-init : goal.loop-rest-init
-loop-rest-init g c = sent_nothing _ _ _ _
+loop-rest-init g c = sent_nothing _ _ _
 
 pub returns-in_err-taken : goal.returns-in_err-taken
 returns-in_err-taken g c =

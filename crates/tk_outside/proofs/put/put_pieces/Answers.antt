@@ -4,7 +4,7 @@ use Rattle.tk_outside.proofs.WritesLemmas.{wrote_nothing, all_then_all, writes_p
 use Rattle.tk_outside.proofs.put.put_pieces.Goals as goal
 
 pub loop-piece-init : goal.loop-piece-init
-loop-piece-init g c = wrote_nothing _ _ _
+loop-piece-init g c = wrote_nothing _ _
 
 pub returns-in_err-put_all : goal.returns-in_err-put_all
 returns-in_err-put_all g c =

@@ -4,4 +4,4 @@ use Rattle.tk_outside.specs.Text.{text_of}
 use Rattle.tk_outside.proofs.put.put_pieces.Given as goal
 
 abbrev pub invariant-loop-piece : goal.invariant-loop-piece
-invariant-loop-piece g l = WroteAll g.K.Sink.told g.K.Sink.faults l.initial.out l.out (text_of (take l.piece-index l.pieces))
+invariant-loop-piece g l = WroteAll g.K.Sink.tells l.initial.out l.out (text_of (take l.piece-index l.pieces))

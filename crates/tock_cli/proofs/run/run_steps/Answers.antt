@@ -7,7 +7,7 @@ use Rattle.tock_cli.proofs.Running.{begins, over, made, part, world_on, one_more
 use Rattle.tock_cli.proofs.run.run_steps.Goals as goal
 
 pub loop-init : goal.loop-init
-loop-init g c = begins _ _ c.args.turns c.args.board.now c.args.out.now c.writes_compose.ensures
+loop-init g c = begins _ c.args.turns c.args.board.now c.args.out.now c.writes_compose.ensures
 
 pub returns-in_default-clause-prints : goal.returns-in_default-clause-prints
 returns-in_default-clause-prints g c = (over c.loop.invariant (sym c.in_default.ensures.next)).0

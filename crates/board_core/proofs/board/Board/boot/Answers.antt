@@ -2,46 +2,53 @@ use Rattle.std.proofs.Common.{◌≡◌, ◌≤◌, List, ℕ, None, Some, All, 
 use Rattle.std.specs.List.{AllPairs, filter_map, count_by, zip}
 use Rattle.std.specs.Prelude.{vec_len}
 use Rattle.std.proofs.lemmas.List.{length-map}
-use Rattle.process_layout.specs.Extents.{Extents}
+use Rattle.process_own.specs.declared.place.Footprint.{Footprint}
 use Rattle.process_layout.specs.Ordered.{IsOrdered}
 use Rattle.process_own.specs.Own.{opened}
 use Rattle.app_placement.specs.declared.placed.Placed.{Placed}
 use Rattle.app_placement.specs.Placement.{is_placed, LiesInFlash}
-use Rattle.grant_enter.specs.Homes.{Homes, EndsBefore, IsSettled}
-use Rattle.board_core.specs.Boot.{layout_at}
+use Rattle.grant_enter.specs.Homes.{Homes, CanMoveIn, EndsBefore, IsSettled}
+use Rattle.script_text.specs.Settings.{Settings as Script}
+use Rattle.board_core.specs.Boot.{IsFirst, layout_at}
 use Rattle.board_core.specs.Opening.{opening, places, record_at, unplaced_at}
 use Rattle.board_core.specs.Residents.{IsSeated, record_of}
-use Rattle.board_core.proofs.Crews.{all_apart, all_settled, few_processes, opening_shown}
+use Rattle.board_core.proofs.Crews.{all_apart, all_move_in, all_ordered, all_settled, all_stand_apart, few_processes, opening_shown}
 use Rattle.board_core.proofs.board.Board.boot.Goals as goal
 use Rattle.board_core.proofs.board.Board.boot.Goals.{After-deref-4, After-new}
 
 -- the layouts are those of the applications that are placed
-layouts : (c : After-deref-4) → c.deref-4.result.now ≡ filter_map layout_at c.placed_in-placed.result.items
-layouts c = c.deref-4.ensures.value ∙ c.in_ok-processes.ensures.layouts ∙ ap (filter_map layout_at) c.deref-3.ensures.0
+layouts : (c : After-deref-4) → map (λ (f : Footprint). f.layout) c.deref-4.result.now ≡ filter_map layout_at c.placed_in-placed.result.items
+layouts c = ap (map (λ (f : Footprint). f.layout)) c.deref-4.ensures.value ∙ c.in_ok-processes.ensures.layouts ∙ ap (filter_map layout_at) c.deref-3.ensures.0
+
+-- each begins its first life
+first : (c : After-deref-4) → All (IsFirst (length c.args.flash.items)) c.deref-4.result.now
+first c = subst (All (IsFirst (length c.args.flash.items))) (sym c.deref-4.ensures.value) (subst (λ (f : List ℕ). All (IsFirst (length f)) c.in_ok-processes.field-0.footprints.items) c.deref-2.ensures.value c.in_ok-processes.ensures.first)
 
 pub new-requires-clause-settled : goal.new-requires-clause-settled
 new-requires-clause-settled c =
+    let a = (goal.at.new-requires-clause-settled c).After-deref-4 in
     let flash = c.args.flash.items in
     let ram = c.script.inside.ram in
     let placed = c.placed_in-placed.result.items in
-    let crew = c.in_ok-processes.ensures in
     let n : vec_len c.args.flash ≡ length flash = omega (arith, c.args.flash.ok.0) in
     let in_flash : All (LiesInFlash flash) placed = subst (λ (f : List ℕ). All (LiesInFlash f) placed) c.deref.ensures.value c.placed_in-placed.ensures.flash in
-    let ordered : All IsOrdered (filter_map layout_at placed) = subst (All IsOrdered) (crew.layouts ∙ ap (filter_map layout_at) c.deref-3.ensures.0) crew.ordered in
-    let settled = all_settled flash ram placed in_flash c.placed_in-placed.ensures.ram ordered in
-    subst (λ (es : List Extents). All (IsSettled (vec_len c.args.flash) ram) es) (sym (layouts (goal.at.new-requires-clause-settled c).After-deref-4))
-    (subst (λ (k : ℕ). All (IsSettled k ram) (filter_map layout_at placed)) (sym n) settled)
+    let ordered : All IsOrdered (filter_map layout_at placed) = subst (All IsOrdered) (layouts a) (all_ordered (length flash) c.deref-4.result.now (first a)) in
+    let settled = all_settled flash ram placed (omega arith) in_flash c.placed_in-placed.ensures.ram ordered in
+    subst (λ (k : ℕ). All (CanMoveIn k ram) c.deref-4.result.now) (sym n)
+    (all_move_in (length flash) ram c.deref-4.result.now (subst (All (IsSettled (length flash) ram)) (sym (layouts a)) settled) (first a))
 
 pub new-requires-clause-apart : goal.new-requires-clause-apart
-new-requires-clause-apart c = subst (AllPairs EndsBefore) (sym (layouts (goal.at.new-requires-clause-apart c).After-deref-4)) (all_apart c.placed_in-placed.result.items c.placed_in-placed.ensures.apart)
+new-requires-clause-apart c =
+    let a = (goal.at.new-requires-clause-apart c).After-deref-4 in
+    all_stand_apart c.deref-4.result.now (subst (AllPairs EndsBefore) (sym (layouts a)) (all_apart c.placed_in-placed.result.items c.placed_in-placed.ensures.apart))
 
 pub invariant_of-result : goal.invariant_of-result
 invariant_of-result c =
     let crew = c.in_ok-processes.ensures in
     let processes = c.in_ok-processes.field-0.processes.items in
-    let es = c.in_ok-processes.field-0.layouts.items in
+    let es = c.in_ok-processes.field-0.footprints.items in
     let home_is : c.in-Ok.home ≡ record { flash = c.deref-2.result.now; owns = map opened es }
-    = c.in-Ok.ensures ∙ ap (λ (xs : List Extents). record { flash = c.args.flash.items; owns = map opened xs }) c.deref-4.ensures.value ∙ ap (λ (f : List ℕ). record { flash = f; owns = map opened es }) (sym c.deref-2.ensures.value) in
+    = c.in-Ok.ensures ∙ ap (λ (xs : List Footprint). record { flash = c.args.flash.items; owns = map opened xs }) c.deref-4.ensures.value ∙ ap (λ (f : List ℕ). record { flash = f; owns = map opened es }) (sym c.deref-2.ensures.value) in
     let few : count_by is_placed c.deref-3.result.now ≤ 8 = subst (λ (xs : List Placed). count_by is_placed xs ≤ 8) (sym c.deref-3.ensures.0) c.placed_in-placed.ensures.few in
     let owns : length (map opened es) ≡ length processes = length-map es opened ∙ sym crew.count in
     record {
@@ -51,6 +58,7 @@ invariant_of-result c =
       guard = record { protects = λ slot is. absurd (nobody_set slot (sym c.new-2.ensures ∙ is)) };
       steps = omega arith;
       time = omega arith;
+      slice = c.script.invariant.slice_least;
       used = omega arith;
     }
   where
@@ -63,11 +71,13 @@ returns c =
     let flash = c.args.flash.items in
     let ram = c.script.inside.ram in
     let processes = c.in_ok-processes.field-0.processes.items in
-    let es = c.in_ok-processes.field-0.layouts.items in
+    let es = c.in_ok-processes.field-0.footprints.items in
     let placed : c.placed_in-placed.result.items ≡ places ram flash = c.placed_in-placed.ensures.places ∙ ap (places ram) c.deref.ensures.value in
+    let script = c.script.inside in
+    let said : Script = record { ram = script.ram; leds = script.leds; slice = script.slice; start = script.start; uart = script.uart; storage = script.storage; policy = script.policy; faults = script.faults.items; words = script.words; events = script.events } in
     let shown = subst (λ (f : List ℕ). map (record_of f) (zip processes (map opened es)) ≡ filter_map (record_at f) c.deref-3.result.now) c.deref-2.ensures.value crew.shown in
-    opening_shown (record { ram = ram }) flash c.in-Ok.home es processes c.unplaced.result
-    (c.in-Ok.ensures ∙ ap (λ (xs : List Extents). record { flash = flash; owns = map opened xs }) c.deref-4.ensures.value)
+    opening_shown said flash c.in-Ok.home es processes c.unplaced.result
+    (c.in-Ok.ensures ∙ ap (λ (xs : List Footprint). record { flash = flash; owns = map opened xs }) c.deref-4.ensures.value)
     (shown ∙ ap (filter_map (record_at flash)) (c.deref-3.ensures.0 ∙ placed))
     (c.unplaced.ensures ∙ ap (filter_map unplaced_at) (c.deref-5.ensures.0 ∙ placed))
     ∙ ap (λ (s : _). opening s flash) c.script.view_is

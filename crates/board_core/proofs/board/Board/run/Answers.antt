@@ -21,12 +21,13 @@ invariant_of-self c =
     let same_length : length c.turn_at-shown.new.processes.items ≡ length b.processes.items = ap length t.is ∙ length-set b.processes.items c.args.slot t.after.0 in
     let same_owns : length c.turn_at-shown.new.home.owns ≡ length b.home.owns = ap (λ (h : Homes). length h.owns) t.own_is ∙ length-set b.home.owns c.args.slot t.after.1 in
     record {
-      seated = still_seated c.args.slot b.steps b.home c.turn_at-shown.new.home b.processes.items c.turn_at-shown.new.processes.items c.turn_at-shown.result t c.self.invariant.seated;
+      seated = still_seated b.policy c.args.slot b.steps b.home c.turn_at-shown.new.home b.processes.items c.turn_at-shown.new.processes.items c.turn_at-shown.result t c.self.invariant.seated;
       owns = same_owns ∙ c.self.invariant.owns ∙ sym same_length;
       few = omega (arith, same_length, c.self.invariant.few);
       guard = c.turn_at-shown.ensures.guard;
       steps = omega (arith, r.0);
       time = omega (arith, c.self.invariant.time);
+      slice = c.self.invariant.slice;
       used = c.used_after_turn-self-inside.ensures.within;
     }
 
@@ -37,4 +38,4 @@ returns-clause-ok c =
 
 pub returns-clause-shown : goal.returns-clause-shown
 returns-clause-shown c =
-    turn_shown c.args.slot c.self.inside.steps c.self.inside.home c.turn_at-shown.new.home c.self.inside.processes.items c.turn_at-shown.new.processes.items c.turn_at-shown.result c.turn_at-shown.ensures.turn c.args.self.now c.clear.new.self (ap (λ (w : World). w.settings) (sym c.self.view_is)) (ap (λ (w : World). w.records) (sym c.self.view_is)) c.clear.ensures
+    turn_shown c.self.inside.policy c.args.slot c.self.inside.steps c.self.inside.home c.turn_at-shown.new.home c.self.inside.processes.items c.turn_at-shown.new.processes.items c.turn_at-shown.result c.turn_at-shown.ensures.turn c.args.self.now c.clear.new.self (ap (λ (w : World). w.settings.policy) (sym c.self.view_is)) (ap (λ (w : World). w.records) (sym c.self.view_is)) c.clear.ensures

@@ -7,8 +7,7 @@ turn_in-requires c = stores c.a_store_is_put.ensures c.self.inside c.args.slot (
 
 pub invariant_of-self : goal.invariant_of-self
 invariant_of-self c =
-    let s = stores c.a_store_is_put.ensures c.self.inside c.args.slot (search rules) c.self.invariant c.args.pmp.now c.args.self.now c.self.view_is c.requires.protect in
-    home_after c.a_store_is_put.ensures c.self.inside c.args.pmp.now c.args.regs.now c.turn_in.new.memory c.self.invariant s c.writes_are_permitted.ensures c.turn_in.ensures.memory
+    home_after c.a_store_is_put.ensures c.self.inside c.args.slot (search rules) c.self.invariant c.args.pmp.now c.args.self.now c.turn_in.new.memory c.args.regs.now c.self.view_is c.requires.protect c.writes_are_permitted.ensures c.turn_in.ensures.memory
 
 pub returns-clause-made : goal.returns-clause-made
 returns-clause-made c =

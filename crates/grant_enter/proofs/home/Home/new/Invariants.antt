@@ -2,5 +2,5 @@ use Rattle.std.proofs.Common.{◌≡◌, map, take}
 use Rattle.grant_enter.specs.Seats.{first_seat}
 use Rattle.grant_enter.proofs.home.Home.new.Given as goal
 
-abbrev pub invariant-loop-layout : goal.invariant-loop-layout
-invariant-loop-layout l = l.seats.items ≡ map first_seat (take l.layout-index l.layouts)
+abbrev pub invariant-loop-footprint : goal.invariant-loop-footprint
+invariant-loop-footprint l = l.seats.items ≡ map first_seat (take l.footprint-index l.footprints)

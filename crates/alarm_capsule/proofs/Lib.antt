@@ -1,0 +1,2 @@
+mod Firing
+mod Slots

@@ -1,0 +1,24 @@
+-- The first slot with an alarm that is due.
+use Rattle.std.proofs.Common.{◌≡◌, ℕ, zero, suc, ◌+◌, ◌-◌, ◌<◌, ◌≤◌, Bool, true, false, find, None, Some, refl, sym, arith}
+use Rattle.std.specs.List.{range_with_len}
+
+passes_first : (p : ℕ → Bool) (from n m : ℕ) → n ≡ suc m → p from ≡ false → find p (range_with_len from n) ≡ find p (range_with_len (from + 1) m)
+passes_first p from n m e f = rw (e, f) refl
+
+-- a slot without one is passed
+pub passed : (p : ℕ → Bool) (slot to : ℕ) → slot < to → p slot ≡ false → find p (range_with_len (slot + 1) (to - (slot + 1))) ≡ find p (range_with_len slot (to - slot))
+passed p slot to h f = sym (passes_first p slot (to - slot) (to - (slot + 1)) (omega arith) f)
+
+here : (p : ℕ → Bool) (slot n m : ℕ) → n ≡ suc m → p slot ≡ true → find p (range_with_len slot n) ≡ Some slot
+here p slot n m e f = rw (e, f) refl
+
+-- a slot with one is the first
+pub found : (p : ℕ → Bool) (slot to : ℕ) → slot < to → p slot ≡ true → find p (range_with_len slot (to - slot)) ≡ Some slot
+found p slot to h f = here p slot (to - slot) (to - (slot + 1)) (omega arith) f
+
+no_more : (p : ℕ → Bool) (slot n : ℕ) → n ≡ zero → find p (range_with_len slot n) ≡ None
+no_more p slot n e = rw (e) refl
+
+-- past the last slot there is none
+pub none_left : (p : ℕ → Bool) (slot to : ℕ) → to ≤ slot → find p (range_with_len slot (to - slot)) ≡ None
+none_left p slot to h = no_more p slot (to - slot) (omega arith)

@@ -1,0 +1,8 @@
+use Rattle.std.proofs.Common.{◌≡◌, ◌-◌, find, slice_get}
+use Rattle.std.specs.List.{range_with_len}
+use Rattle.driver_model.specs.Alarm.{due_slot, has_due}
+use Rattle.alarm_capsule.proofs.answers.first_due.Given as goal
+
+-- what is first among the slots that are left is first among all
+abbrev pub invariant-loop-slot : goal.invariant-loop-slot
+invariant-loop-slot l = find (λ slot. has_due l.now (slice_get l.home.owns slot)) (range_with_len l.slot (8 - l.slot)) ≡ due_slot l.now l.home.owns

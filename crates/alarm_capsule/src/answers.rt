@@ -1,0 +1,93 @@
+//! An alarm that is due fires.
+ghost use Rattle.std.specs.Prelude.{◌≡◌, ◌+◌, ◌-◌, ◌<◌, ◌^◌, false, All, find, length, slice_get, is_some, option_and_then, IfSome};
+ghost use Rattle.std.specs.List.{range_with_len};
+ghost use Rattle.std.specs.Option.{option_map};
+ghost use Rattle.grant_enter.specs.Homes.{own_of, ChangesOnly};
+ghost use Rattle.grant_enter.specs.Visits.{is_stale};
+ghost use Rattle.driver_model.specs.Alarm.{answered, due_alarm, due_slot, has_due, is_due};
+ghost use Rattle.alarm_capsule.specs.Answers.{Answers};
+ghost use Rattle.alarm_capsule.specs.Due.{IsDue};
+
+use crate::commands::expiration;
+use crate::visits::{Fire, alarms};
+use grant_enter::Home;
+use grant_values::{Alarm, Armed};
+use tk_base::{ProcessId, Slot};
+
+/// An alarm that is due, and whose it is.
+#[derive(Clone, Copy)]
+pub(crate) struct Due {
+    pub id: ProcessId,
+    pub alarm: Armed,
+}
+
+/// Whether an alarm is due at a tick: its delta has passed since its reference.
+fn is_due(alarm: &Armed, now: u32) -> bool
+    ensures { result ≡ is_due now alarm.now }
+{
+    now.wrapping_sub(alarm.reference) >= alarm.delta
+}
+
+/// The alarm of a process, where it is due.
+fn due_alarm(home: &Home, id: &ProcessId, now: u32) -> Option<Armed>
+    requires slot { id.now.slot < length home.now.owns }
+    requires present { is_stale id.now.life (own_of home.now id.now.slot) ≡ false }
+    ensures { result ≡ due_alarm now (own_of home.now id.now.slot) }
+{
+    match alarms().peek(home, *id) {
+        Ok(Some(Alarm { armed: Some(alarm) })) if is_due(&alarm, now) => Some(alarm),
+        _ => None,
+    }
+}
+
+/// The alarm of the process that lives in a slot, where it is due.
+fn due_in(home: &Home, slot: Slot, now: u32) -> Option<Due>
+    ensures is { is_some result ≡ has_due now (slice_get home.now.owns slot) }
+    ensures due { IfSome result (IsDue now slot home.now) }
+{
+    let id = home.id(slot)?;
+    match due_alarm(home, &id, now) {
+        Some(alarm) => Some(Due { id, alarm }),
+        None => None,
+    }
+}
+
+/// The alarm that is due in the lowest slot.
+#[tactic(auto, unfolding(driver_model::specs::Alarm::due_slot), using(crate::proofs::Slots::passed))]
+fn first_due(home: &Home, now: u32) -> Option<Due>
+    ensures slot { option_map (λ due. due.id.slot) result ≡ due_slot now home.now.owns }
+    ensures due { IfSome result (λ due. IsDue now due.id.slot home.now due) }
+{
+    for slot in 0..Slot::COUNT {
+        if let Some(due) = due_in(home, Slot::new(slot), now) {
+            return Some(due);
+        }
+    }
+    None
+}
+
+/// Fires an alarm that is due.
+fn fire(home: &mut Home, due: &Due, now: u32)
+    requires due { IsDue now due.now.id.slot home.old due.now }
+    requires dropped { (own_of home.old due.now.id.slot).dropped + 1 < 2 ^ 32 }
+    ensures own { own_of home.new due.now.id.slot ≡ answered now (own_of home.old due.now.id.slot) }
+    ensures rest { ChangesOnly due.now.id.slot home.old home.new }
+{
+    let fire = Fire {
+        now,
+        expiration: expiration(&due.alarm),
+    };
+    let _ = alarms().visit(home, due.id, fire);
+}
+
+/// The alarm of the lowest slot whose alarm is due at a tick of the clock fires: it is disarmed, and upcall 0 is
+/// scheduled with that tick and its expiration. The answer is whose alarm it was; None exactly where no
+/// alarm of a process that lives is due. Nothing of another slot changes.
+pub fn answer(home: &mut Home, now: u32) -> Option<ProcessId>
+    requires dropped { All (λ own. own.dropped + 1 < 2 ^ 32) home.old.owns }
+    ensures { Answers now home.old result home.new }
+{
+    let due = first_due(home, now)?;
+    fire(home, &due, now);
+    Some(due.id)
+}

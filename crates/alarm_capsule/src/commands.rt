@@ -1,0 +1,106 @@
+//! Commands to the alarm (TRD 104, "Command").
+ghost use Rattle.std.specs.Prelude.{◌≡◌, ◌+◌, ◌%◌, ◌<◌, ◌^◌, false, length, is_some};
+ghost use Rattle.grant_enter.specs.Homes.{own_of, ChangesOnly};
+ghost use Rattle.grant_enter.specs.Visits.{is_stale};
+ghost use Rattle.driver_model.specs.Alarm.{alarm_in, arming, command, expiration, stopping};
+ghost use Rattle.alarm_capsule.specs.Answers.{commanded};
+
+use crate::visits::{Arm, Stop, alarms};
+use grant_enter::Home;
+use grant_values::{Alarm, Armed};
+use syscall_abi::Reply;
+use tk_base::{CallRule, ProcessId};
+
+/// Ticks of the clock in a second.
+const FREQUENCY: u32 = 1000;
+
+/// The tick at which an alarm expires.
+pub(crate) fn expiration(alarm: &Armed) -> u32
+    ensures { result ≡ expiration alarm.now }
+{
+    alarm.reference.wrapping_add(alarm.delta)
+}
+
+/// Arms an alarm of a process, in place of the one before.
+fn arm(home: &mut Home, id: ProcessId, alarm: Armed) -> Result<Reply, CallRule>
+    requires slot { id.slot < length home.old.owns }
+    requires present { is_stale id.life (own_of home.old id.slot) ≡ false }
+    ensures answer { commanded result (own_of home.new id.slot) ≡ arming alarm (own_of home.old id.slot) }
+    ensures rest { ChangesOnly id.slot home.old home.new }
+{
+    let reply = Reply::SuccessU32(expiration(&alarm));
+    match alarms().enter(home, id, Arm { alarm }) {
+        Ok(()) => Ok(reply),
+        Err(_) => Err(CallRule::NoRoom),
+    }
+}
+
+/// Whether a process has an alarm armed.
+fn is_armed(home: &Home, id: &ProcessId) -> bool
+    requires slot { id.now.slot < length home.now.owns }
+    requires present { is_stale id.now.life (own_of home.now id.now.slot) ≡ false }
+    ensures { result ≡ is_some (alarm_in (own_of home.now id.now.slot)) }
+{
+    matches!(alarms().peek(home, *id), Ok(Some(Alarm { armed: Some(_) })))
+}
+
+/// Stops the alarm of a process; it is refused where none is armed.
+fn stop(home: &mut Home, id: ProcessId) -> Result<Reply, CallRule>
+    requires slot { id.slot < length home.old.owns }
+    requires present { is_stale id.life (own_of home.old id.slot) ≡ false }
+    ensures answer { let own = own_of home.old id.slot in
+        commanded result (own_of home.new id.slot) ≡ stopping (alarm_in own) own }
+    ensures rest { ChangesOnly id.slot home.old home.new }
+{
+    if !is_armed(home, &id) {
+        return Err(CallRule::Nothing);
+    }
+    let _ = alarms().visit(home, id, Stop);
+    Ok(Reply::Success)
+}
+
+/// Serves a command of the process of an id to the alarm, at a tick of the clock: the reply, or the rule that
+/// refuses it. 0 asks whether the driver is there; 1 for its ticks a second, 2 for the clock; 3 stops the
+/// alarm, which is refused with [`CallRule::Nothing`] where none is armed; 5 arms it `a2` ticks from now on, and 6
+/// `a3` ticks from the reference `a2` on, with the tick of the expiration in the reply, or refused with
+/// [`CallRule::NoRoom`]. Any other number is refused with [`CallRule::NoCommand`]. Nothing of another process
+/// changes, and nothing at all where it is refused.
+#[tactic(auto, unfolding(driver_model::specs::Alarm::command, driver_model::specs::Alarm::commands))]
+pub fn command(
+    home: &mut Home,
+    now: u32,
+    id: ProcessId,
+    number: u32,
+    a2: u32,
+    a3: u32,
+) -> Result<Reply, CallRule>
+    requires slot { id.slot < length home.old.owns }
+    requires present { is_stale id.life (own_of home.old id.slot) ≡ false }
+    ensures answer { commanded result (own_of home.new id.slot)
+        ≡ command now number a2 a3 (own_of home.old id.slot) }
+    ensures rest { ChangesOnly id.slot home.old home.new }
+{
+    match number {
+        0 => Ok(Reply::Success),
+        1 => Ok(Reply::SuccessU32(FREQUENCY)),
+        2 => Ok(Reply::SuccessU32(now)),
+        3 => stop(home, id),
+        5 => arm(
+            home,
+            id,
+            Armed {
+                reference: now,
+                delta: a2,
+            },
+        ),
+        6 => arm(
+            home,
+            id,
+            Armed {
+                reference: a2,
+                delta: a3,
+            },
+        ),
+        _ => Err(CallRule::NoCommand),
+    }
+}

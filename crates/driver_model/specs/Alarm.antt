@@ -1,0 +1,85 @@
+-- The alarm (Tock's driver 0x0): a process arms one alarm by a reference and a delta, in ticks of a clock of 32 bits.
+use Rattle.std.specs.Prelude.{ℕ, ◌+◌, ◌-◌, ◌%◌, ◌^◌, nat_le, Bool, if◌then◌else◌, List, [], ◌∷◌, find, slice_get, Option, None, Some, is_some, option_and_then}
+use Rattle.std.specs.List.{range_with_len}
+use Rattle.tk_base.specs.declared.call.CallRule.TheVariants.{NoRoom, Nothing}
+use Rattle.grant_values.specs.declared.alarm.Armed.{Armed}
+use Rattle.grant_values.specs.Alarm.{alarm_words, alarm_of}
+use Rattle.syscall_abi.specs.declared.reply.Reply.TheVariants.{Success, SuccessU32}
+use Rattle.process_own.specs.Own.{Own}
+use Rattle.process_own.specs.Handed.{entering, has_place}
+use Rattle.process_own.specs.Served.{kept, scheduled, with_kept}
+use Rattle.driver_model.specs.Commands.{Commanded, accepted, refused, by_number}
+
+-- the tick at which an alarm expires
+abbrev pub expiration : Armed → ℕ
+expiration alarm = (alarm.reference + alarm.delta) % 2 ^ 32
+
+-- an alarm is due where its delta has passed since its reference
+abbrev pub is_due : ℕ → Armed → Bool
+is_due now alarm = nat_le alarm.delta ((now + (2 ^ 32 - alarm.reference)) % 2 ^ 32)
+
+-- the alarm that a process has armed, if it has
+abbrev pub armed_in : Option (List ℕ) → Option Armed
+armed_in None = None
+armed_in (Some words) = (alarm_of words).armed
+
+abbrev pub alarm_in : Own → Option Armed
+alarm_in own = armed_in (kept 0 own)
+
+-- a process with that alarm armed, or with none
+abbrev pub with_alarm : Option Armed → Own → Own
+with_alarm alarm own = with_kept 0 (alarm_words (record { armed = alarm })) own
+
+-- An alarm is armed in place of the one before, if there is room for the driver's grant; the reply is when it expires.
+abbrev pub arming : Armed → Own → Commanded
+arming alarm own =
+    if has_place 0 own then accepted (SuccessU32 (expiration alarm)) (with_alarm (Some alarm) (entering 0 own))
+    else refused NoRoom own
+
+-- an alarm that is armed is stopped
+abbrev pub stopping : Option Armed → Own → Commanded
+stopping None own = refused Nothing own
+stopping (Some alarm) own = accepted Success (with_alarm None own)
+
+-- its commands: the driver is there; ticks a second; the clock; stop the alarm; arm it from now on, or from a reference on
+unfoldable pub commands : ℕ → ℕ → ℕ → Own → List (ℕ × Commanded)
+commands now a2 a3 own =
+    (0, accepted Success own)
+    ∷ (1, accepted (SuccessU32 1000) own)
+    ∷ (2, accepted (SuccessU32 now) own)
+    ∷ (3, stopping (alarm_in own) own)
+    ∷ (5, arming (record { reference = now; delta = a2 }) own)
+    ∷ (6, arming (record { reference = a2; delta = a3 }) own)
+    ∷ []
+
+-- a command of a number with two arguments, when the clock shows so many ticks
+unfoldable pub command : ℕ → ℕ → ℕ → ℕ → Own → Commanded
+command now number a2 a3 own = by_number own (commands now a2 a3 own) number
+
+-- the alarm of a process that is due; none of one that has ended
+abbrev pub if_due : ℕ → Option Armed → Option Armed
+if_due now None = None
+if_due now (Some alarm) = if is_due now alarm then Some alarm else None
+
+abbrev pub due_alarm : ℕ → Own → Option Armed
+due_alarm now own = if own.lives then if_due now (alarm_in own) else None
+
+-- An alarm fires: upcall 0 is scheduled with the clock and the expiration, and the alarm is stopped.
+abbrev pub fired : ℕ → Armed → Own → Own
+fired now alarm own = with_alarm None (scheduled 0 0 (now ∷ expiration alarm ∷ 0 ∷ []) own)
+
+abbrev pub fired_if : ℕ → Own → Option Armed → Own
+fired_if now own None = own
+fired_if now own (Some alarm) = fired now alarm own
+
+-- what the clock's answer changes of a process: its alarm fires, where it is due
+unfoldable pub answered : ℕ → Own → Own
+answered now own = fired_if now own (due_alarm now own)
+
+-- whether the alarm of the process in a slot is due, if there is one
+abbrev pub has_due : ℕ → Option Own → Bool
+has_due now own = is_some (option_and_then (due_alarm now) own)
+
+-- the lowest slot with an alarm that is due
+unfoldable pub due_slot : ℕ → List Own → Option ℕ
+due_slot now owns = find (λ slot. has_due now (slice_get owns slot)) (range_with_len 0 8)

@@ -1,0 +1,13 @@
+use Rattle.std.proofs.Common.{refl}
+use Rattle.grant_enter.proofs.Serving.{still_lent}
+use Rattle.grant_enter.proofs.Writing.{buffer_written}
+use Rattle.grant_enter.proofs.laws.a_buffer_is_written.Goals as goal
+
+pub returns : goal.returns
+returns c = λ e n bytes l long.
+    let w = buffer_written e.driver n e.counts e.memory.now e.seat.now l bytes long in
+    record {
+      own = w.own;
+      lent = still_lent e.driver e.counts e.memory.now e.seat.now l _ e.seat.now w.serves;
+      framed = record { memory = refl; seat = refl; driver = refl; counts = refl; serves = w.serves };
+    }

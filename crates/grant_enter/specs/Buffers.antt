@@ -1,0 +1,40 @@
+-- How a read-write buffer that was lent comes back.
+use mir.Syntax.{named}
+use Rattle.std.specs.Prelude.{ℕ, ◌+◌, ◌≡◌, ◌==◌, [], List, length, if◌then◌else◌}
+use Rattle.std.specs.Borrow.{Lends, MutBor, Fml, u8, Array}
+use Rattle.process_layout.specs.Extents.{Extents}
+use Rattle.board_memory.specs.Memory.{with_run}
+use Rattle.grant_areas.specs.declared.kinds.PairKind.TheVariants.{ReadWrite}
+use Rattle.process_own.specs.Handed.{held}
+use Rattle.process_own.specs.Served.{ram_at, with_written}
+use Rattle.grant_enter.specs.Seen.{Framed, IsLent, own_entered}
+use Rattle.grant_enter.specs.declared.entered.Entered.{Entered}
+use Rattle.grant_enter.specs.contracts.entered.Entered.{the_row}
+
+-- where the bytes of a buffer begin; where it has none, at the block's start
+abbrev pub first_of : Extents → ℕ × ℕ → ℕ
+first_of e buffer = if buffer.1 == 0 then e.start else buffer.0
+
+-- where they end
+abbrev pub last_of : Extents → ℕ × ℕ → ℕ
+last_of e buffer = if buffer.1 == 0 then e.start else buffer.0 + buffer.1
+
+-- a process whose read-write buffer has these bytes
+abbrev pub with_buffer : Entered → ℕ → List ℕ → Entered
+with_buffer e n bytes = record e { memory = record e.memory { now = with_run e.memory.now (first_of e.seat.now.layout (held ReadWrite e.driver n (own_entered e))) bytes } }
+
+abbrev pub LendsBuffer : MutBor Entered → ℕ → MutBor (List ℕ) → Fml
+LendsBuffer entered n buffer =
+    Lends (the_row (record { mir = named 1; lft = [] })) (Array u8 0) entered buffer (with_buffer entered.now n)
+
+-- other bytes stand in a read-write buffer that was lent: the process's own has them there, it is lent as before, and no
+-- more has changed than a visitor may
+pub record HasBuffer (e : Entered) (n : ℕ) (bytes : List ℕ) : Type 0 where
+  pub own : own_entered (with_buffer e n bytes) ≡ with_written e.driver n 0 bytes (own_entered e)
+  pub lent : IsLent (with_buffer e n bytes)
+  pub framed : Framed e (with_buffer e n bytes)
+
+abbrev pub ABufferIsWritten : Type 0
+ABufferIsWritten =
+    (e : Entered) (n : ℕ) (bytes : List ℕ) → IsLent e
+    → length bytes ≡ length (ram_at (own_entered e) (held ReadWrite e.driver n (own_entered e))) → HasBuffer e n bytes

@@ -1,0 +1,197 @@
+//! A process while a driver visits its grant.
+ghost use Rattle.std.specs.Prelude.{◌≡◌, ◌+◌, ◌-◌, ◌==◌, ◌<◌, ◌≤◌, ◌^◌, ◌&&◌, not, min, length, take, slice_range};
+ghost use Rattle.std.specs.Borrow.{sem};
+ghost use Rattle.tk_base.specs.declared.access.TheConstants.{FLASH_START, RAM_START};
+ghost use Rattle.board_memory.specs.Memory.{ram_between};
+ghost use Rattle.grant_areas.specs.declared.kinds.PairKind.TheVariants.{ReadOnly, ReadWrite};
+ghost use Rattle.process_own.specs.Handed.{held};
+ghost use Rattle.upcall_queue.specs.Pending.{has_room};
+ghost use Rattle.process_own.specs.Served.{bytes_at, is_queued, over, ram_at, scheduled, upcall_of, with_written};
+ghost use Rattle.grant_enter.specs.Buffers.{LendsBuffer, first_of, last_of};
+ghost use Rattle.grant_enter.specs.Homes.{IsSettled};
+ghost use Rattle.grant_enter.specs.Seats.{MayBeRead, own_in, queued, readable};
+ghost use Rattle.grant_enter.specs.Seen.{Framed, IsLent, IsLentTo, own_entered};
+
+use crate::kept::kernel_of;
+use crate::seat::{Pending, Seat};
+use board_memory::Memory;
+use process_layout::Layout;
+use swap_tables::{buffer_ro, buffer_rw, upcall};
+use tk_base::{Addr, Counts, FLASH_START, Upcall};
+
+/// A process while a driver visits its grant: the buffers that it has allowed the driver, which are lent and
+/// never copied, and the upcalls that it has subscribed (Levy et al., SOSP 2017, section 4).
+#[derive(Drop)]
+pub struct Entered<'a> {
+    pub(crate) memory: &'a mut Memory,
+    pub(crate) seat: &'a mut Seat,
+    pub(crate) driver: u32,
+    pub(crate) counts: Counts,
+}
+
+/// Puts an upcall last, where it is not the null upcall and there is room; where there is none it is counted.
+fn queue(pending: &mut Pending, upcall: Upcall) -> bool
+    requires { pending.old.dropped + 1 < 2 ^ 32 }
+    ensures answer { result ≡ (not (upcall.function == 0) && has_room pending.old.queue) }
+    ensures pending { pending.new ≡ queued upcall pending.old }
+{
+    if upcall.function == 0 {
+        return false;
+    }
+    if pending.queue.schedule(upcall) {
+        return true;
+    }
+    pending.dropped += 1;
+    false
+}
+
+/// The bytes of flash from one address up to another.
+fn flash_part(flash: &[u8], from: Addr, to: Addr) -> &[u8]
+    requires from { FLASH_START ≤ from }
+    requires order { from ≤ to }
+    requires to { to ≤ FLASH_START + length flash.now }
+    ensures { result.now ≡ slice_range flash.now (from - FLASH_START) (to - FLASH_START) }
+{
+    &flash[(from - FLASH_START) as usize..(to - FLASH_START) as usize]
+}
+
+/// The bytes of a buffer that may be read.
+fn buffer_at<'a>(memory: &'a Memory, layout: &Layout, at: Addr, size: u32) -> &'a [u8]
+    requires settled { IsSettled (length memory.now.flash) (length memory.now.ram) layout.now }
+    requires may { MayBeRead layout.now (at, size) }
+    ensures { result.now ≡ readable memory.now layout.now (at, size) }
+{
+    if size == 0 {
+        return &[];
+    }
+    if layout.in_ram(at, size) {
+        return memory.part(at, at + size);
+    }
+    flash_part(memory.flash(), at, at + size)
+}
+
+/// The addresses of a buffer: its first, and the first after it.
+fn ends_of(layout: &Layout, buffer: (u32, u32)) -> (Addr, Addr)
+    requires { buffer.0 + buffer.1 < 2 ^ 32 }
+    ensures { result ≡ (first_of layout.now buffer, last_of layout.now buffer) }
+{
+    let (at, size) = buffer;
+    if size == 0 {
+        return (layout.start, layout.start);
+    }
+    (at, at + size)
+}
+
+/// The addresses of the read-write buffer of a number.
+fn rw_ends(memory: &Memory, seat: &Seat, driver: u32, counts: &Counts, n: u32) -> (Addr, Addr)
+    requires lent { IsLentTo driver counts.now memory.now seat.now }
+    requires number { n < counts.now.rw }
+    ensures ends { result ≡ (
+      first_of seat.now.layout (held ReadWrite driver n (own_in memory.now.ram seat.now)),
+      last_of seat.now.layout (held ReadWrite driver n (own_in memory.now.ram seat.now)),
+    ) }
+    ensures from { RAM_START ≤ result.0 }
+    ensures order { result.0 ≤ result.1 }
+    ensures to { result.1 ≤ RAM_START + length memory.now.ram }
+    ensures bytes { ram_between memory.now.ram result.0 result.1
+        ≡ ram_at (own_in memory.now.ram seat.now) (held ReadWrite driver n (own_in memory.now.ram seat.now)) }
+{
+    let buffer = buffer_rw(kernel_of(memory, &seat.layout), driver, counts, n);
+    ends_of(&seat.layout, buffer)
+}
+
+impl Entered<'_> {
+    /// The read-only buffer of a number that the process has allowed the driver (TRD 104, "Read-Only Allow").
+    /// It is lent from the process's RAM, or from flash where it lies there; it has no bytes where the
+    /// process has allowed none.
+    pub fn read_only(&self, n: u32) -> &[u8]
+        requires lent { IsLent self.now }
+        requires number { n < self.now.counts.ro }
+        ensures { result.now ≡ bytes_at self.now.memory.now.flash (own_entered self.now)
+            (held ReadOnly self.now.driver n (own_entered self.now)) }
+    {
+        let (at, size) = buffer_ro(
+            kernel_of(self.memory, &self.seat.layout),
+            self.driver,
+            &self.counts,
+            n,
+        );
+        buffer_at(self.memory, &self.seat.layout, at, size)
+    }
+
+    /// The read-write buffer of a number that the process has allowed the driver (TRD 104, "Read-Write
+    /// Allow"), lent to be written; it has no bytes where the process has allowed none.
+    pub fn read_write(&mut self, n: u32) -> &mut [u8]
+        requires lent { IsLent self.old }
+        requires number { n < self.old.counts.rw }
+        ensures* writes_back { sem 𝓛 (LendsBuffer self.entry n result) }
+        ensures bytes { result.now ≡ ram_at (own_entered self.old)
+            (held ReadWrite self.old.driver n (own_entered self.old)) }
+    {
+        let (from, to) = rw_ends(self.memory, self.seat, self.driver, &self.counts, n);
+        let memory = &mut *self.memory;
+        memory.part_mut(from, to)
+    }
+
+    /// Writes bytes into the read-write buffer of a number, from an offset in it on, as many as fit, and
+    /// says how many.
+    pub fn write(&mut self, n: u32, offset: u32, bytes: &[u8]) -> usize
+        requires lent { IsLent self.old }
+        requires number { n < self.old.counts.rw }
+        ensures count { result ≡ min (length bytes.now)
+            ((held ReadWrite self.old.driver n (own_entered self.old)).1 - offset) }
+        ensures own { own_entered self.new
+            ≡ with_written self.old.driver n offset bytes.now (own_entered self.old) }
+        // what a visitor owes
+        ensures lent { IsLent self.new }
+        ensures framed { Framed self.old self.new }
+    {
+        put_from(self.read_write(n), offset as usize, bytes)
+    }
+
+    /// Schedules the upcall of a number with three arguments (TRD 104, "Subscribe", "Yield"), and says whether
+    /// it waits now. The null upcall is not scheduled, and not counted; one that finds ten waiting is
+    /// dropped and counted.
+    pub fn schedule(&mut self, n: u32, args: [u32; 3]) -> bool
+        requires lent { IsLent self.old }
+        requires number { n < self.old.counts.upcalls }
+        requires dropped { (own_entered self.old).dropped + 1 < 2 ^ 32 }
+        ensures answer { result
+            ≡ is_queued (upcall_of self.old.driver n args (own_entered self.old)) (own_entered self.old) }
+        ensures own { own_entered self.new ≡ scheduled self.old.driver n args (own_entered self.old) }
+        // what a visitor owes
+        ensures lent { IsLent self.new }
+        ensures framed { Framed self.old self.new }
+    {
+        let (function, app) = upcall(
+            kernel_of(self.memory, &self.seat.layout),
+            self.driver,
+            &self.counts,
+            n,
+        );
+        let upcall = Upcall {
+            driver: self.driver,
+            number: n,
+            function,
+            app,
+            args,
+        };
+        queue(&mut self.seat.pending, upcall)
+    }
+}
+
+/// Puts bytes into a buffer from an offset on, as many as fit, and says how many.
+fn put_from(buffer: &mut [u8], offset: usize, bytes: &[u8]) -> usize
+    ensures count { result ≡ min (length bytes.now) (length buffer.old - offset) }
+    ensures buffer { buffer.new ≡ over buffer.old offset (take (length buffer.old - offset) bytes.now) }
+{
+    if offset >= buffer.len() {
+        return 0;
+    }
+    let (_, rest) = buffer.split_at_mut(offset);
+    let count = bytes.len().min(rest.len());
+    let (front, _) = rest.split_at_mut(count);
+    let (some, _) = bytes.split_at(count);
+    front.copy_from_slice(some);
+    count
+}

@@ -1,0 +1,100 @@
+//! The grants of a driver.
+ghost use Rattle.std.specs.Prelude.{◌≡◌, ◌<◌, not, length, is_ok, IfOk, Some, option_map};
+ghost use Rattle.grant_values.specs.Drivers.{counting, counts_of};
+ghost use Rattle.process_own.specs.Handed.{entering};
+ghost use Rattle.process_own.specs.Served.{kept};
+ghost use Rattle.grant_enter.specs.Homes.{ChangesOnly, own_of};
+ghost use Rattle.grant_enter.specs.Visits.{Asks, Enters, Visits, is_stale};
+
+use crate::home::Home;
+use crate::visit::{EnterError, Stale, Visit};
+use grant_values::{GrantValue, counts};
+use std::marker::PhantomData;
+use tk_base::{Counts, ProcessId};
+
+/// The grants that processes keep for one driver (Levy et al., SOSP 2017, section 4): the type of their
+/// value, and how many upcalls, read-only buffers and read-write buffers they have.
+#[derive(Drop)]
+pub struct Grant<T: GrantValue, const UP: usize, const RO: usize, const RW: usize> {
+    /// The driver's number.
+    pub driver: u32,
+    counts: Counts,
+    value: PhantomData<T>,
+    ghost counts_are: { counts ≡ counting UP RO RW T.SIZE },
+    ghost known: { counts_of driver ≡ Some counts },
+}
+
+impl<T: GrantValue, const UP: usize, const RO: usize, const RW: usize> Grant<T, UP, RO, RW> {
+    /// The grants of a driver, whose counts are those of the type.
+    pub fn of(driver: u32) -> Grant<T, UP, RO, RW>
+        requires { counts_of driver ≡ Some (counting UP RO RW T.SIZE) }
+        ensures { result.driver ≡ driver }
+    {
+        match counts(driver) {
+            Some(counts) => Grant {
+                driver,
+                counts,
+                value: PhantomData,
+            },
+            None => unreachable!(),
+        }
+    }
+
+    /// Enters the grant that a process keeps for the driver, which is made, fresh, at first use: the visitor
+    /// is given the value that is kept, which is what its last visit left, and the value that it leaves
+    /// is kept. What it leaves by its own contract is then the process's; all else of the process, and all of
+    /// another slot, stays.
+    ///
+    /// It is stale exactly where the process has ended or is in another life; otherwise there is no room
+    /// exactly where the driver is not entered and the kernel break less the cost of its grant is below
+    /// the break. Then nothing changes.
+    pub fn enter<V: Visit<T> + Drop>(
+        &self,
+        home: &mut Home,
+        id: ProcessId,
+        visitor: V,
+    ) -> Result<V::Answer, EnterError>
+        requires slot { id.slot < length home.old.owns }
+        requires asks { Asks (V.asks visitor) T.value self.now.driver (counting UP RO RW T.SIZE)
+            home.old.flash (entering self.now.driver (own_of home.old id.slot)) }
+        ensures enters { Enters (V.leaves visitor) T.value T.words self.now.driver
+            (counting UP RO RW T.SIZE) id.life home.old.flash
+            (own_of home.old id.slot) result (own_of home.new id.slot) }
+        ensures rest { ChangesOnly id.slot home.old home.new }
+    {
+        home.enter::<T, V>(id, self.driver, self.counts, visitor)
+    }
+
+    /// Visits the grant that a process keeps for the driver, as [`Grant::enter`], and makes nothing. The
+    /// answer is None exactly where the process has not entered the driver in this life.
+    ///
+    /// It is stale exactly where the process has ended or is in another life. Where no visitor was run
+    /// nothing changes.
+    pub fn visit<V: Visit<T> + Drop>(
+        &self,
+        home: &mut Home,
+        id: ProcessId,
+        visitor: V,
+    ) -> Result<Option<V::Answer>, Stale>
+        requires slot { id.slot < length home.old.owns }
+        requires asks { Asks (V.asks visitor) T.value self.now.driver (counting UP RO RW T.SIZE)
+            home.old.flash (own_of home.old id.slot) }
+        ensures visits { Visits (V.leaves visitor) T.value T.words self.now.driver
+            (counting UP RO RW T.SIZE) id.life home.old.flash
+            (own_of home.old id.slot) result (own_of home.new id.slot) }
+        ensures rest { ChangesOnly id.slot home.old home.new }
+    {
+        home.visit::<T, V>(id, self.driver, self.counts, visitor)
+    }
+
+    /// The value that a process keeps for the driver; None exactly where it has not entered the driver in
+    /// this life. It is stale exactly where the process has ended or is in another life.
+    pub fn peek(&self, home: &Home, id: ProcessId) -> Result<Option<T>, Stale>
+        requires slot { id.slot < length home.now.owns }
+        ensures stale { is_ok result ≡ not (is_stale id.life (own_of home.now id.slot)) }
+        ensures kept { IfOk result
+            (λ value. value ≡ option_map T.value (kept self.now.driver (own_of home.now id.slot))) }
+    {
+        home.peek::<T>(id, self.driver, self.counts)
+    }
+}

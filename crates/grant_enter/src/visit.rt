@@ -1,0 +1,293 @@
+//! Visits of a driver to the grants that processes keep for it.
+ghost use Rattle.std.specs.Prelude.{◌≡◌, ◌==◌, ◌&&◌, not, ◌<◌, ◌^◌, length, option_map, is_ok, IfOk, OnOk, OnErr, IfSome, IfNone, Some, None};
+ghost use Rattle.process_layout.specs.Ordered.{IsOrdered};
+ghost use Rattle.grant_values.specs.Drivers.{counts_of};
+ghost use Rattle.grant_areas.specs.Grants.{grant_of};
+ghost use Rattle.grant_areas.specs.Laid.{IsLaid, read_back};
+ghost use Rattle.grant_region.specs.Region.{Costs};
+ghost use Rattle.process_own.specs.Own.{Own, block_of};
+ghost use Rattle.process_own.specs.Handed.{entering, has_place};
+ghost use Rattle.process_own.specs.Served.{kept};
+ghost use Rattle.grant_enter.specs.Homes.{IsSettled};
+ghost use Rattle.grant_enter.specs.Seats.{IsKept, IsSeated, Reseats, MakesRoom, kernel_in, own_in, fits_in};
+ghost use Rattle.grant_enter.specs.Seen.{Seen, Framed, IsLent, IsLentTo, ServesIn, seen, own_entered, seen_of};
+ghost use Rattle.grant_enter.specs.Visits.{Asks, Enters, Visited, Visits, is_stale};
+
+use crate::entered::Entered;
+use crate::handing::in_order;
+use crate::kept::{keep_value, kernel_of, value_at, value_place};
+use crate::seat::Seat;
+use board_memory::{Block, Halves, Memory};
+use grant_areas::Area;
+use grant_region::{NoRoom, make_room};
+use grant_values::{GrantValue, cost_of, counts};
+use process_layout::Layout;
+use tk_base::{Addr, Counts};
+
+/// What a driver does with the value that a process keeps for it, and with what the process has handed to
+/// it. A visitor says itself what it asks, and what it leaves.
+pub trait Visit<T> {
+    /// What it answers.
+    type Answer;
+
+    /// What it asks of the value and of what it sees.
+    ghost asks: { Self → T → Seen → Type 0 };
+
+    /// What it leaves of a value and of what it sees: an answer, a value, and what is the process's own.
+    ghost leaves: { Self → T → Seen → Self.Answer → T → Own → Type 0 };
+
+    /// Visits a process.
+    fn run(self, value: &mut T, entered: &mut Entered<'_>) -> Self::Answer
+        requires lent { IsLent entered.old }
+        requires asks { asks self value.old (seen entered.old) }
+        ensures leaves { leaves self value.old (seen entered.old) result value.new (own_entered entered.new) }
+        ensures framed { Framed entered.old entered.new };
+}
+
+/// Why a driver did not enter a process.
+#[derive(Clone, Copy, Debug, PartialEq, Eq)]
+pub enum EnterError {
+    /// The driver is not entered, and the kernel break less the cost of its grant is below the break.
+    NoRoom,
+    /// The process has ended, or is in another life.
+    Stale,
+}
+
+/// The process of an id is not there: it has ended, or is in another life.
+#[derive(Clone, Copy, Debug, PartialEq, Eq)]
+pub struct Stale;
+
+/// Has a visitor run over a process in its seat.
+fn run_visit<T, V: Visit<T>>(
+    memory: &mut Memory,
+    seat: &mut Seat,
+    driver: u32,
+    counts: Counts,
+    value: &mut T,
+    visitor: V,
+) -> V::Answer
+    requires lent { IsLentTo driver counts memory.old seat.old }
+    requires asks { V.asks visitor value.old
+        (seen_of driver counts memory.old.flash (own_in memory.old.ram seat.old)) }
+    ensures left { V.leaves visitor value.old
+        (seen_of driver counts memory.old.flash (own_in memory.old.ram seat.old))
+        result value.new (own_in memory.new.ram seat.new) }
+    ensures serves { ServesIn driver memory.old seat.old memory.new seat.new }
+{
+    let mut entered = Entered {
+        memory,
+        seat,
+        driver,
+        counts,
+    };
+    visitor.run(value, &mut entered)
+}
+
+/// Visits the value that the process in a seat keeps for a driver; None where it keeps none.
+pub(crate) fn visit_at<T: GrantValue, V: Visit<T> + Drop>(
+    memory: &mut Memory,
+    seat: &mut Seat,
+    driver: u32,
+    counts: Counts,
+    visitor: V,
+) -> Option<V::Answer>
+    requires settled { IsSettled (length memory.old.flash) (length memory.old.ram) seat.old.layout }
+    requires seated { IsSeated (length memory.old.flash) memory.old.ram seat.old }
+    requires counts { counts_of driver ≡ Some counts }
+    requires value { T.SIZE ≡ counts.value }
+    requires asks { Asks (V.asks visitor) T.value driver counts memory.old.flash
+        (own_in memory.old.ram seat.old) }
+    ensures visited { IfSome result (λ answer. Visited (V.leaves visitor) T.value T.words driver counts
+        memory.old.flash (own_in memory.old.ram seat.old) answer (own_in memory.new.ram seat.new)) }
+    ensures none { IfNone result (kept driver (own_in memory.old.ram seat.old) ≡ None) }
+    ensures same { IfNone result ((memory.new ≡ memory.old) × (seat.new ≡ seat.old)) }
+    ensures reseats { Reseats memory.old seat.old memory.new seat.new }
+{
+    let at = value_place(kernel_of(memory, &seat.layout), driver, &counts)?;
+    let mut value = value_at::<T>(kernel_of(memory, &seat.layout), at);
+    let answer = run_visit::<T, V>(memory, seat, driver, counts, &mut value, visitor);
+    keep_value::<T>(memory, &seat.layout, at, &value);
+    Some(answer)
+}
+
+/// What the grant of a driver with these counts costs.
+fn driver_cost(driver: u32, known: &Counts) -> u32
+    requires { counts_of driver ≡ Some known.now }
+    ensures { Costs driver result }
+{
+    match counts(driver) {
+        Some(found) => cost_of(&found),
+        None => unreachable!(),
+    }
+}
+
+/// Makes room in a block of memory for a driver's grant, where the driver is not entered.
+fn make_room_in(
+    memory: &mut Memory,
+    layout: &mut Layout,
+    driver: u32,
+    counts: &Counts,
+) -> Result<Area, NoRoom>
+    requires settled { IsSettled (length memory.old.flash) (length memory.old.ram) layout.old }
+    requires kept { IsKept layout.old (kernel_in memory.old.ram layout.old) }
+    requires counts { counts_of driver ≡ Some counts.now }
+    ensures room { is_ok result ≡ fits_in driver memory.old.ram layout.old }
+    ensures made { OnOk result (MakesRoom driver memory.old layout.old memory.new layout.new) }
+    ensures refused { OnErr result ((memory.new ≡ memory.old) × (layout.new ≡ layout.old)) }
+    // as always
+    ensures ordered { IsOrdered layout.new }
+{
+    let Block {
+        flash: _,
+        bytes,
+        cut,
+    } = memory.lend_block(layout);
+    let Halves { app, kernel } = Halves::of(bytes, cut);
+    let made = make_room(layout, app, kernel, driver, driver_cost(driver, counts));
+    in_order(layout);
+    made
+}
+
+/// Visits the value that the process in a seat keeps for a driver, or a fresh one, for which room is made.
+pub(crate) fn enter_at<T: GrantValue, V: Visit<T> + Drop>(
+    memory: &mut Memory,
+    seat: &mut Seat,
+    driver: u32,
+    counts: Counts,
+    visitor: V,
+) -> Result<V::Answer, NoRoom>
+    requires settled { IsSettled (length memory.old.flash) (length memory.old.ram) seat.old.layout }
+    requires seated { IsSeated (length memory.old.flash) memory.old.ram seat.old }
+    requires counts { counts_of driver ≡ Some counts }
+    requires value { T.SIZE ≡ counts.value }
+    requires asks { Asks (V.asks visitor) T.value driver counts memory.old.flash
+        (entering driver (own_in memory.old.ram seat.old)) }
+    ensures room { is_ok result ≡ has_place driver (own_in memory.old.ram seat.old) }
+    ensures visited { IfOk result (λ answer. Visited (V.leaves visitor) T.value T.words driver counts
+        memory.old.flash (entering driver (own_in memory.old.ram seat.old)) answer
+        (own_in memory.new.ram seat.new)) }
+    ensures same { OnErr result ((memory.new ≡ memory.old) × (seat.new ≡ seat.old)) }
+    ensures reseats { Reseats memory.old seat.old memory.new seat.new }
+{
+    make_room_in(memory, &mut seat.layout, driver, &counts)?;
+    match visit_at::<T, V>(memory, seat, driver, counts, visitor) {
+        Some(answer) => Ok(answer),
+        None => unreachable!(),
+    }
+}
+
+/// Whether the process of a seat has ended, or is in another life.
+fn is_gone(seat: &Seat, life: u32) -> bool
+    ensures { result ≡ not (seat.now.lives && seat.now.life == life) }
+{
+    !(seat.lives && seat.life == life)
+}
+
+/// A driver enters the process of a life in a seat.
+pub(crate) fn enter_seat<T: GrantValue, V: Visit<T> + Drop>(
+    memory: &mut Memory,
+    seat: &mut Seat,
+    life: u32,
+    driver: u32,
+    counts: Counts,
+    visitor: V,
+) -> Result<V::Answer, EnterError>
+    requires settled { IsSettled (length memory.old.flash) (length memory.old.ram) seat.old.layout }
+    requires seated { IsSeated (length memory.old.flash) memory.old.ram seat.old }
+    requires counts { counts_of driver ≡ Some counts }
+    requires value { T.SIZE ≡ counts.value }
+    requires asks { Asks (V.asks visitor) T.value driver counts memory.old.flash
+        (entering driver (own_in memory.old.ram seat.old)) }
+    ensures enters { Enters (V.leaves visitor) T.value T.words driver counts life
+        memory.old.flash (own_in memory.old.ram seat.old) result (own_in memory.new.ram seat.new) }
+    ensures reseats { Reseats memory.old seat.old memory.new seat.new }
+{
+    if is_gone(seat, life) {
+        return Err(EnterError::Stale);
+    }
+    match enter_at::<T, V>(memory, seat, driver, counts, visitor) {
+        Ok(answer) => Ok(answer),
+        Err(_) => Err(EnterError::NoRoom),
+    }
+}
+
+/// A driver visits the process of a life in a seat.
+pub(crate) fn visit_seat<T: GrantValue, V: Visit<T> + Drop>(
+    memory: &mut Memory,
+    seat: &mut Seat,
+    life: u32,
+    driver: u32,
+    counts: Counts,
+    visitor: V,
+) -> Result<Option<V::Answer>, Stale>
+    requires settled { IsSettled (length memory.old.flash) (length memory.old.ram) seat.old.layout }
+    requires seated { IsSeated (length memory.old.flash) memory.old.ram seat.old }
+    requires counts { counts_of driver ≡ Some counts }
+    requires value { T.SIZE ≡ counts.value }
+    requires asks { Asks (V.asks visitor) T.value driver counts memory.old.flash
+        (own_in memory.old.ram seat.old) }
+    ensures visits { Visits (V.leaves visitor) T.value T.words driver counts life
+        memory.old.flash (own_in memory.old.ram seat.old) result (own_in memory.new.ram seat.new) }
+    ensures reseats { Reseats memory.old seat.old memory.new seat.new }
+{
+    if is_gone(seat, life) {
+        return Err(Stale);
+    }
+    match visit_at::<T, V>(memory, seat, driver, counts, visitor) {
+        Some(answer) => Ok(Some(answer)),
+        None => Ok(None),
+    }
+}
+
+/// The value that the process of a life in a seat keeps for a driver.
+pub(crate) fn peek_seat<T: GrantValue>(
+    memory: &Memory,
+    seat: &Seat,
+    life: u32,
+    driver: u32,
+    counts: Counts,
+) -> Result<Option<T>, Stale>
+    requires settled { IsSettled (length memory.now.flash) (length memory.now.ram) seat.now.layout }
+    requires seated { IsSeated (length memory.now.flash) memory.now.ram seat.now }
+    requires counts { counts_of driver ≡ Some counts }
+    requires value { T.SIZE ≡ counts.value }
+    ensures stale { is_ok result ≡ not (is_stale life (own_in memory.now.ram seat.now)) }
+    ensures kept { IfOk result
+        (λ value. value ≡ option_map T.value (kept driver (own_in memory.now.ram seat.now))) }
+{
+    if is_gone(seat, life) {
+        return Err(Stale);
+    }
+    Ok(kept_in::<T>(kernel_of(memory, &seat.layout), driver, &counts))
+}
+
+/// The value that is kept for a driver in the areas.
+fn kept_in<T: GrantValue>(kernel: &[u8], driver: u32, counts: &Counts) -> Option<T>
+    requires laid { IsLaid kernel.now }
+    requires small { length kernel.now < 2 ^ 32 }
+    requires counts { counts_of driver ≡ Some counts.now }
+    requires value { T.SIZE ≡ counts.now.value }
+    ensures { result ≡ option_map (λ g. T.value g.value) (grant_of driver (read_back kernel.now)) }
+{
+    let at = value_place(kernel, driver, counts)?;
+    Some(value_at::<T>(kernel, at))
+}
+
+/// The block of the process in a seat.
+pub(crate) fn block_at<'a>(memory: &'a Memory, seat: &Seat) -> &'a [u8]
+    requires settled { IsSettled (length memory.now.flash) (length memory.now.ram) seat.now.layout }
+    requires seated { IsSeated (length memory.now.flash) memory.now.ram seat.now }
+    ensures { result.now ≡ block_of (own_in memory.now.ram seat.now) }
+{
+    let (from, to) = block_ends(&seat.layout);
+    memory.part(from, to)
+}
+
+/// From where to where a block lies.
+fn block_ends(layout: &Layout) -> (Addr, Addr)
+    ensures ends { result ≡ (layout.now.start, layout.now.end) }
+    // as always
+    ensures ordered { IsOrdered layout.now }
+{
+    (layout.start, layout.end)
+}

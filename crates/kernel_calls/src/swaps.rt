@@ -1,0 +1,111 @@
+//! Subscribe and the allows: a process hands upcalls and buffers to drivers (TRD 104, "Subscribe", "Read-Only
+//! Allow", "Read-Write Allow").
+ghost use Rattle.std.specs.Prelude.{◌≡◌, ◌+◌, ◌≤◌, ◌<◌, ◌^◌, ℕ, List, length, true, IfOk, OnOk, OnErr};
+ghost use Rattle.process_own.specs.Handed.{handing, held, may_hand};
+ghost use Rattle.grant_enter.specs.Homes.{own_of, ChangesOnly};
+ghost use Rattle.kernel_model.specs.Record.{Record, with_process};
+ghost use Rattle.kernel_model.specs.Calls.{refused_with, swap, swap_refusal};
+ghost use Rattle.kernel_calls.specs.Own.{IsOwn};
+ghost use Rattle.kernel_calls.specs.Outcomes.{broken_by, record_at, Stays};
+
+use crate::replies::give;
+use grant_areas::PairKind;
+use grant_enter::Home;
+use grant_values::counts;
+use process_layout::Layout;
+use process_record::{Outcome, Process};
+use syscall_abi::Reply;
+use tk_base::{CallRule, Slot};
+
+/// Whether a process may hand a pair: a null upcall, or a function of which 4 bytes lie in accessible RAM or
+/// flash; a buffer without bytes, or one that lies in accessible RAM, or, read-only, in accessible flash.
+fn may_hand(kind: PairKind, layout: &Layout, pair: (u32, u32)) -> bool
+    ensures { result ≡ may_hand kind layout.now pair }
+{
+    let (at, size) = pair;
+    match kind {
+        PairKind::Upcall => {
+            let function = at / 2 * 2;
+            at == 0 || layout.in_ram(function, 4) || layout.in_flash(function, 4)
+        }
+        PairKind::ReadOnly => size == 0 || layout.in_ram(at, size) || layout.in_flash(at, size),
+        PairKind::ReadWrite => size == 0 || layout.in_ram(at, size),
+    }
+}
+
+/// Hands a pair of the process in a slot to a driver and gives the former one, or says which rule refuses it.
+#[tactic(auto, unfolding(kernel_model::specs::Calls::swap_refusal, grant_areas::specs::Grants::shape_of))]
+fn hand(
+    home: &mut Home,
+    slot: Slot,
+    kind: PairKind,
+    driver: u32,
+    number: u32,
+    pair: (u32, u32),
+) -> Result<(u32, u32), CallRule>
+    requires { slot < length home.old.owns }
+    ensures refusal { broken_by result ≡ swap_refusal kind driver number pair (own_of home.old slot) }
+    ensures former { IfOk result (λ former. former ≡ held kind driver number (own_of home.old slot)) }
+    ensures handed { OnOk result
+        (own_of home.new slot ≡ handing kind driver number pair (own_of home.old slot)) }
+    ensures refused { OnErr result (home.new ≡ home.old) }
+    ensures rest { ChangesOnly slot home.old home.new }
+{
+    let Some(counts) = counts(driver) else {
+        return Err(CallRule::NoDriver);
+    };
+    if number >= kind.count(&counts) {
+        return Err(CallRule::NoNumber);
+    }
+    let layout = home.layout(slot);
+    if !may_hand(kind, &layout, pair) {
+        return Err(CallRule::Outside);
+    }
+    match home.hand(slot, kind, driver, &counts, number, pair) {
+        Ok(former) => Ok(former),
+        Err(_) => Err(CallRule::NoRoom),
+    }
+}
+
+/// Refuses a call by the rule that it broke, with a failure.
+fn refuse(process: &mut Process, rule: CallRule, reply: Reply) -> Outcome
+    ensures refuses { (r : Record) → refused_with (with_process r process.old) rule reply
+        ≡ record { after = with_process r process.new; outcome = result } }
+    ensures stays { process.new
+        ≡ record process.old { regs = process.new.regs; refusal = process.new.refusal } }
+{
+    process.refuse(rule, &reply);
+    Outcome::Replied {
+        reply,
+        rule: Some(rule),
+    }
+}
+
+/// Serves a subscribe or an allow of the process in a slot: the reply has the former pair, and a refusal the
+/// passed one.
+pub fn swap(
+    home: &mut Home,
+    process: &mut Process,
+    slot: Slot,
+    kind: PairKind,
+    driver: u32,
+    number: u32,
+    pair: (u32, u32),
+) -> Outcome
+    requires slot { slot < length home.old.owns }
+    requires own { IsOwn home.old.flash process.old (own_of home.old slot) }
+    ensures serves { (storage : List ℕ) → swap (record_at home.old slot process.old storage) kind driver number pair
+        ≡ record { after = record_at home.new slot process.new storage; outcome = result } }
+    ensures own { IsOwn home.new.flash process.new (own_of home.new slot) }
+    ensures stays { Stays process.old process.new }
+    ensures rest { ChangesOnly slot home.old home.new }
+{
+    match hand(home, slot, kind, driver, number, pair) {
+        Ok((first, second)) => give(process, Ok(Reply::SuccessU32U32(first, second))),
+        Err(rule) => {
+            let (first, second) = pair;
+            let reply = Reply::FailureU32U32(rule.error(), first, second);
+            refuse(process, rule, reply)
+        }
+    }
+}

@@ -1,0 +1,98 @@
+//! Yield, and the delivery of upcalls (TRD 104, "Yield").
+ghost use Rattle.std.specs.Prelude.{◌≡◌, ◌<◌, ℕ, List, length, true};
+ghost use Rattle.syscall_abi.specs.declared.call.Call.TheVariants.{Yield};
+ghost use Rattle.process_record.specs.Process.{after_call};
+ghost use Rattle.grant_enter.specs.Homes.{own_of, ChangesOnly};
+ghost use Rattle.kernel_model.specs.Calls.{flagged, yield_now};
+ghost use Rattle.kernel_calls.specs.Own.{IsOwn};
+ghost use Rattle.kernel_calls.specs.Outcomes.{record_at, DeliversAt, ServesAt, Stays};
+
+use grant_enter::Home;
+use process_record::{Outcome, Process};
+use tk_base::{Addr, Slot};
+
+/// Delivers the first upcall that waits for the process in a slot (TRD 104, "Yield"): the process runs, with
+/// the registers of the upcall. Where none waits nothing changes.
+pub fn deliver(home: &mut Home, process: &mut Process, slot: Slot)
+    requires slot { slot < length home.old.owns }
+    requires own { IsOwn home.old.flash process.old (own_of home.old slot) }
+    requires lives { (own_of home.old slot).lives ≡ true }
+    ensures delivers { DeliversAt slot home.old process.old home.new process.new }
+    ensures layout { (own_of home.new slot).layout ≡ (own_of home.old slot).layout }
+    ensures own { IsOwn home.new.flash process.new (own_of home.new slot) }
+    ensures stays { Stays process.old process.new }
+    ensures rest { ChangesOnly slot home.old home.new }
+{
+    if let Some(upcall) = home.take_pending(slot) {
+        process.deliver(&upcall);
+    }
+}
+
+/// Writes the flag of a yield of the process in a slot, and moves its pc past the `ecall`.
+fn flag(home: &mut Home, process: &mut Process, slot: Slot, at: Addr, byte: u8)
+    requires slot { slot < length home.old.owns }
+    requires own { IsOwn home.old.flash process.old (own_of home.old slot) }
+    ensures flags { (storage : List ℕ) → record_at home.new slot process.new storage
+        ≡ flagged (record_at home.old slot process.old storage) at byte }
+    ensures own { IsOwn home.new.flash process.new (own_of home.new slot) }
+    ensures lives { (own_of home.new slot).lives ≡ (own_of home.old slot).lives }
+    ensures pending { (own_of home.new slot).pending ≡ (own_of home.old slot).pending }
+    ensures process { process.new ≡ after_call process.old }
+    ensures rest { ChangesOnly slot home.old home.new }
+{
+    home.put_flag(slot, at, byte);
+    process.go_on();
+}
+
+/// A yield that does not wait.
+fn yield_at_once(home: &mut Home, process: &mut Process, slot: Slot, at: Addr) -> Outcome
+    requires slot { slot < length home.old.owns }
+    requires own { IsOwn home.old.flash process.old (own_of home.old slot) }
+    requires lives { (own_of home.old slot).lives ≡ true }
+    ensures serves { (storage : List ℕ) → let r = record_at home.old slot process.old storage in
+        yield_now r at r.own.pending
+        ≡ record { after = record_at home.new slot process.new storage; outcome = result } }
+    ensures own { IsOwn home.new.flash process.new (own_of home.new slot) }
+    ensures stays { Stays process.old process.new }
+    ensures rest { ChangesOnly slot home.old home.new }
+{
+    if !home.has_pending(slot) {
+        flag(home, process, slot, at, 0);
+        return Outcome::GoesOn;
+    }
+    flag(home, process, slot, at, 1);
+    deliver(home, process, slot);
+    Outcome::Delivered
+}
+
+/// Serves a yield of the process in a slot: 0 does not wait, and 1 waits for an upcall; with any other number
+/// the process goes on.
+#[tactic(auto, unfolding(kernel_model::specs::Calls::served, kernel_model::specs::Calls::yielding))]
+pub fn give_way(
+    home: &mut Home,
+    process: &mut Process,
+    slot: Slot,
+    number: u32,
+    a1: u32,
+    a2: u32,
+) -> Outcome
+    requires slot { slot < length home.old.owns }
+    requires own { IsOwn home.old.flash process.old (own_of home.old slot) }
+    requires lives { (own_of home.old slot).lives ≡ true }
+    ensures serves { ServesAt slot home.old process.old (Yield number a1 a2) home.new process.new result }
+    ensures own { IsOwn home.new.flash process.new (own_of home.new slot) }
+    ensures stays { Stays process.old process.new }
+    ensures rest { ChangesOnly slot home.old home.new }
+{
+    match number {
+        0 => yield_at_once(home, process, slot, a1),
+        1 => {
+            process.wait();
+            Outcome::Waits
+        }
+        _ => {
+            process.go_on();
+            Outcome::GoesOn
+        }
+    }
+}

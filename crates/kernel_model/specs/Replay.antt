@@ -1,0 +1,53 @@
+-- A process's history: what happened to it, one after another. Its record is the replay of that alone.
+use Rattle.std.specs.Prelude.{◌≡◌, ℕ, zero, suc, ◌==◌, if◌then◌else◌, List, [], ◌∷◌, ◌++◌, slice_get}
+use Rattle.std.specs.Option.{option_map}
+use Rattle.tk_base.specs.declared.process.Choice.{Choice}
+use Rattle.tk_base.specs.declared.process.Choice.TheVariants.{Run, Device, Pass}
+use Rattle.kernel_model.specs.Record.{Record, Settings}
+use Rattle.kernel_model.specs.Turn.{Event, Turn, apply}
+use Rattle.kernel_model.specs.World.{World, after}
+use Rattle.kernel_model.specs.Run.{next, on_choice, round}
+
+-- what a step does to the process in a slot: its turn, if it is the one that has it
+abbrev pub events : ℕ → World → Choice → List Event
+events slot w (Run other) = if other == slot then Turn w.clock.time ∷ [] else []
+events slot w (Device device) = []
+events slot w (Pass ticks) = []
+
+-- the world after any choices, one after another
+abbrev pub after_all : World → List Choice → World
+after_all w [] = w
+after_all w (choice ∷ choices) = after_all (after w choice) choices
+
+-- what happens to the process in a slot meanwhile
+abbrev pub history : ℕ → World → List Choice → List Event
+history slot w [] = []
+history slot w (choice ∷ choices) = events slot w choice ++ history slot (after w choice) choices
+
+-- a record after its events, each read by itself
+abbrev pub replay : Settings → List Event → Record → Record
+replay settings [] r = r
+replay settings (event ∷ rest) r = replay settings rest (apply settings event r)
+
+-- after any choices, ready or not, a process's record is the replay of its own turns
+abbrev pub RecordIsReplay : Type 0
+RecordIsReplay = (w : World) (choices : List Choice) (slot : ℕ) →
+    slice_get (after_all w choices).records slot
+    ≡ option_map (replay w.settings (history slot w choices)) (slice_get w.records slot)
+
+-- In any two worlds in which a process has the same record under the same settings, and after any choices in which it has
+-- the same turns, it has the same record: of all other processes, devices and slots nothing counts.
+abbrev pub SameHistorySameRecord : Type 0
+SameHistorySameRecord = (v w : World) (choices others : List Choice) (slot place : ℕ) →
+    v.settings ≡ w.settings → slice_get v.records slot ≡ slice_get w.records place →
+    history slot v choices ≡ history place w others →
+    slice_get (after_all v choices).records slot ≡ slice_get (after_all w others).records place
+
+-- the choices of the round robin, as many as a run of n steps makes
+unfoldable pub chosen : ℕ → World → List Choice
+chosen zero w = []
+chosen (suc n) w = on_choice [] (λ choice. choice ∷ chosen n (after w choice)) (next w)
+
+-- a run by round robin leads where its choices lead
+abbrev pub RoundFollowsChoices : Type 0
+RoundFollowsChoices = (n : ℕ) (w : World) → (round n w).world ≡ after_all w (chosen n w)

@@ -1,0 +1,6 @@
+use Rattle.std.proofs.Common.{◌≡◌, drop}
+use Rattle.script_text.specs.Text.{words}
+use Rattle.script_text.proofs.text.words_from.Given as goal
+
+abbrev pub invariant-loop : goal.invariant-loop
+invariant-loop l = words l.words.rest.now ≡ drop l.counter (words l.line)

@@ -1,0 +1,56 @@
+-- Only proofs use this: what is kept of the lines so far.
+use Rattle.std.specs.Prelude.{◌≡◌, ℕ, Bool, List, [], ◌∷◌, ◌++◌, map, drop, Some, None, Result, Ok, Err}
+use Rattle.script_text.specs.declared.draft.Draft.{Draft}
+use Rattle.script_text.specs.declared.draft.Trouble.{Trouble}
+use Rattle.script_text.specs.declared.draft.Trouble.TheVariants.{Breaks, Memory}
+use Rattle.script_text.specs.declared.table.Line.{Line}
+use Rattle.script_text.specs.declared.table.Line.TheVariants.{Ram, Leds, Slice, Start, Uart, Storage, Stop, StorageFault, Random, Input}
+use Rattle.decimal_number.specs.Number.{number}
+use Rattle.script_text.specs.Settings.{Settings, AreSound}
+use Rattle.script_text.specs.Text.{word}
+use Rattle.script_text.specs.Rules.{broken}
+use Rattle.script_text.specs.Said.{settings, stands, policy_by, hex_word, hex_bytes}
+
+-- the settings so far
+abbrev pub said_by : Draft → Settings
+said_by d = record {
+  ram = d.ram;
+  leds = d.leds;
+  slice = d.slice;
+  start = d.start;
+  uart = d.uart;
+  storage = d.storage;
+  policy = d.policy;
+  faults = d.faults.items;
+  words = d.words.items;
+  events = d.events.items;
+}
+
+-- which of them stand among lines
+abbrev pub stood_in : List (List ℕ) → List Bool
+stood_in all = stands Ram all ∷ stands Leds all ∷ stands Slice all ∷ stands Start all ∷ stands Uart all ∷ stands Storage all ∷ stands Stop all ∷ []
+
+-- a draft has what these lines say
+pub record Made (before : List (List ℕ)) (draft : Draft) : Type 0 where
+  pub said : said_by draft ≡ settings before
+  pub stood : draft.stood ≡ stood_in before
+  pub sound : AreSound (settings before)
+
+-- the settings with what a line more says
+abbrev pub with_line : Line → List (List ℕ) → Settings → Settings
+with_line Ram ws said = record said { ram = number (word ws 1) }
+with_line Leds ws said = record said { leds = number (word ws 1) }
+with_line Slice ws said = record said { slice = number (word ws 1) }
+with_line Start ws said = record said { start = number (word ws 1) }
+with_line Uart ws said = record said { uart = number (word ws 1) }
+with_line Storage ws said = record said { storage = number (word ws 1) }
+with_line StorageFault ws said = record said { faults = said.faults ++ number (word ws 1) ∷ [] }
+with_line Random ws said = record said { words = said.words ++ map hex_word (drop 1 ws) }
+with_line Input ws said = record said { events = said.events ++ record { time = number (word ws 1); bytes = hex_bytes (word ws 3) } ∷ [] }
+with_line line ws said = record said { policy = policy_by line ws }
+
+-- a line was added, or the first rule that it breaks was found
+abbrev pub Adds : List (List ℕ) → List ℕ → Draft → Result (Unit {0}) Trouble → Type 0
+Adds before text p (Ok done) = (broken before text ≡ None) × Made (before ++ text ∷ []) p
+Adds before text p (Err (Breaks rule)) = broken before text ≡ Some rule
+Adds before text p (Err Memory) = Unit {0}

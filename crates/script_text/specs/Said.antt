@@ -1,0 +1,76 @@
+-- What lines say that have no fault.
+use Rattle.std.specs.Prelude.{ℕ, ◌-◌, Bool, nat_lt, List, [], map, filter, flat_map, length, drop, slice_index, slice_index_or}
+use Rattle.std.specs.Int.{w32, from_be_bytes}
+use Rattle.std.specs.Option.{option_map_or}
+use Rattle.std.specs.Result.{result_unwrap_or}
+use Rattle.std.specs.Str.{bytes_eq}
+use Rattle.hex.specs.Hex.{decode_of}
+use Rattle.decimal_number.specs.Number.{number}
+use Rattle.fault_policy.specs.declared.Policy.{Policy}
+use Rattle.fault_policy.specs.declared.Policy.TheVariants as policies
+use Rattle.script_text.specs.declared.table.Line.{Line}
+use Rattle.script_text.specs.declared.table.Line.TheVariants.{Ram, Leds, Slice, Start, Uart, Storage, Stop, Restart, Threshold, StorageFault, Random, Input}
+use Rattle.script_text.specs.Settings.{Settings, Event}
+use Rattle.script_text.specs.Table.{row, line_of}
+use Rattle.script_text.specs.Text.{words, word}
+
+-- those that begin with the name of a line of the table
+unfoldable pub lines_of : Line → List (List ℕ) → List (List ℕ)
+lines_of line all = filter (λ text. bytes_eq (word (words text) 0) (row line).name) all
+
+abbrev pub stands : Line → List (List ℕ) → Bool
+stands line all = nat_lt 0 (length (lines_of line all))
+
+-- the number that comes second in a line
+abbrev pub number_on : List ℕ → ℕ
+number_on text = number (word (words text) 1)
+
+abbrev pub numbers_of : Line → List (List ℕ) → List ℕ
+numbers_of line all = map number_on (lines_of line all)
+
+-- the number that the first such line gives, or that holds where there is none
+abbrev pub given : Line → List (List ℕ) → ℕ
+given line all = slice_index_or (numbers_of line all) 0 (row line).default
+
+-- the policy that a line names
+abbrev pub policy_by : Line → List (List ℕ) → Policy
+policy_by Restart ws = policies.Restart
+policy_by Threshold ws = policies.Threshold (number (word ws 2))
+policy_by line ws = policies.Stop
+
+abbrev pub policy_on : List ℕ → Policy
+policy_on text = option_map_or (λ line. policy_by line (words text)) (line_of (words text)) policies.Stop
+
+-- the bytes that hex digits write, two for each
+unfoldable pub hex_bytes : List ℕ → List ℕ
+hex_bytes w = result_unwrap_or (decode_of w) []
+
+-- the number that eight hex digits write
+abbrev pub hex_word : List ℕ → ℕ
+hex_word w = from_be_bytes w32 (hex_bytes w)
+
+-- the words that a `random` line gives, and the event of an `at` line
+abbrev pub words_on : List ℕ → List ℕ
+words_on text = map hex_word (drop 1 (words text))
+
+abbrev pub event_on : List ℕ → Event
+event_on text = record { time = number_on text; bytes = hex_bytes (word (words text) 3) }
+
+-- the settings of all lines
+abbrev pub settings : List (List ℕ) → Settings
+settings all = record {
+  ram = given Ram all;
+  leds = given Leds all;
+  slice = given Slice all;
+  start = given Start all;
+  uart = given Uart all;
+  storage = given Storage all;
+  policy = slice_index_or (map policy_on (lines_of Stop all)) 0 policies.Stop;
+  faults = numbers_of StorageFault all;
+  words = flat_map words_on (lines_of Random all);
+  events = map event_on (lines_of Input all);
+}
+
+-- the last of some numbers, or 0
+abbrev pub last : List ℕ → ℕ
+last xs = slice_index xs (length xs - 1)

@@ -1,0 +1,95 @@
+-- The table of lines: the words of each, which numbers may stand in it, and the number that holds where no line gives
+-- it. Places count from 0.
+use Rattle.std.specs.Prelude.{ℕ, ◌%◌, ◌==◌, Bool, true, false, ◌&&◌, ◌||◌, nat_le, List, [], ◌∷◌, length, find, codes, Option, Some, None}
+use Rattle.std.specs.Option.{option_map_or}
+use Rattle.std.specs.Str.{bytes_eq}
+use Rattle.tk_base.specs.declared.limits.TheConstants.{RAM_LEAST, RAM_LIMIT, RAM_UNIT}
+use Rattle.script_text.specs.declared.table.Form.{Form}
+use Rattle.script_text.specs.declared.table.Key.{Key as KeyWord}
+use Rattle.script_text.specs.declared.table.Line.{Line}
+use Rattle.script_text.specs.declared.table.Line.TheVariants.{Ram, Leds, Slice, Start, Uart, Storage, Stop, Restart, Threshold, StorageFault, Random, Input}
+use Rattle.script_text.specs.declared.table.NumberAt.{NumberAt}
+use Rattle.script_text.specs.declared.table.Range.{Range}
+use Rattle.script_text.specs.Text.{word}
+
+-- The lines that are served so far. Every other one is refused as one with an unknown word. A line is added here, and
+-- in `SERVED` of `src/table.rt`.
+abbrev pub served : List Line
+served = Ram ∷ Leds ∷ Slice ∷ Stop ∷ Restart ∷ Threshold ∷ []
+
+-- the word that tells a line from others of its name, and its place
+pub record Key : Type 0 where
+  pub place : ℕ
+  pub word : List ℕ
+
+pub record Row : Type 0 where
+  pub name : List ℕ
+  pub key : Option Key
+  pub form : Form
+  pub default : ℕ
+
+-- numbers from one to another, both among them
+abbrev pub from_to : ℕ → ℕ → Range
+from_to least most = record { least = least; most = most; multiple = 1 }
+
+-- a line of a name and a number
+abbrev pub numbered : List ℕ → Range → ℕ → Row
+numbered name range default = record {
+  name = name;
+  key = None;
+  form = record { words = 2; more = false; number = Some (record { place = 1; range = range }); hex = None };
+  default = default;
+}
+
+-- a line of the fault policy: the policy's word comes second
+abbrev pub policy : List ℕ → ℕ → Option NumberAt → Row
+policy word words number = record {
+  name = codes "policy";
+  key = Some (record { place = 1; word = word });
+  form = record { words = words; more = false; number = number; hex = None };
+  default = 0;
+}
+
+abbrev pub row : Line → Row
+row Ram = numbered (codes "ram") (record { least = RAM_LEAST; most = RAM_LIMIT; multiple = RAM_UNIT }) 65536
+row Leds = numbered (codes "leds") (from_to 0 16) 4
+row Slice = numbered (codes "slice") (from_to 1 1000000) 100
+row Start = numbered (codes "start") (from_to 0 4294967295) 0
+row Uart = numbered (codes "uart") (from_to 0 1000) 1
+row Storage = numbered (codes "storage") (from_to 0 4096) 512
+row Stop = policy (codes "stop") 2 None
+row Restart = policy (codes "restart") 2 None
+row Threshold = policy (codes "threshold") 3 (Some (record { place = 2; range = from_to 0 4294967295 }))
+row StorageFault = numbered (codes "storage-fault") (from_to 1 4294967295) 0
+row Random = record {
+  name = codes "random";
+  key = None;
+  form = record { words = 2; more = true; number = None; hex = Some (record { place = 1; digits = Some 8 }) };
+  default = 0;
+}
+row Input = record {
+  name = codes "at";
+  key = Some (record { place = 2; word = codes "input" });
+  form = record { words = 4; more = false; number = Some (record { place = 1; range = from_to 0 4294967295 }); hex = Some (record { place = 3; digits = None }) };
+  default = 0;
+}
+
+-- a number may stand in a line
+abbrev pub permits : Range → ℕ → Bool
+permits range n = nat_le range.least n && nat_le n range.most && n % range.multiple == 0
+
+-- what the code has of a key
+abbrev pub key_of : KeyWord → Key
+key_of k = record { place = k.place; word = k.word.now }
+
+-- the word of a key stands in its place, or none does
+abbrev pub is_key : List (List ℕ) → Key → Bool
+is_key ws key = nat_le (length ws) key.place || bytes_eq (word ws key.place) key.word
+
+-- a line's words are those of a row, as far as its name and its key go
+abbrev pub fits : List (List ℕ) → Line → Bool
+fits ws line = bytes_eq (word ws 0) (row line).name && option_map_or (is_key ws) (row line).key true
+
+-- the line of the table that words are: the first one that is served and fits
+unfoldable pub line_of : List (List ℕ) → Option Line
+line_of ws = find (fits ws) served

@@ -1,0 +1,117 @@
+//! What a script says.
+ghost use Rattle.std.specs.Prelude.{◌≡◌};
+
+use arrayvec::ArrayVec;
+use fault_policy::Policy;
+use std::marker::Model;
+use tk_base::WordList;
+
+/// Bytes that the serial line gets, and when. Contracts see the time and the list of bytes.
+#[derive(Drop)]
+pub struct TimedEvent {
+    pub time: u32,
+    pub bytes: ArrayVec<u8, 64>,
+}
+
+impl Model for TimedEvent {
+    ghost use Rattle.script_text.specs.Settings.{Event};
+
+    ghost Value = { Event };
+
+    ghost view = { λ e. record { time = e.time; bytes = e.bytes.items } };
+}
+
+/// Events, the first one first. Contracts see the list.
+#[derive(Drop)]
+pub struct EventList {
+    events: Vec<TimedEvent>,
+}
+
+impl Model for EventList {
+    ghost use Rattle.std.specs.Prelude.{List};
+    ghost use Rattle.script_text.specs.Settings.{Event};
+
+    ghost Value = { List Event };
+
+    ghost view = { λ l. l.events.items };
+}
+
+impl EventList {
+    /// The list of the events of a `Vec`. It takes no memory.
+    pub fn new(events: Vec<TimedEvent>) -> EventList
+        ensures { result ≡ events.items }
+    {
+        EventList { events }
+    }
+
+    /// The events, the first one first.
+    pub fn as_slice(&self) -> &[TimedEvent]
+        ensures { result.now ≡ self.now }
+    {
+        &self.events
+    }
+
+    /// The `Vec` that has the events. It takes no memory.
+    pub fn into_vec(self) -> Vec<TimedEvent>
+        ensures { result.items ≡ self }
+    {
+        self.events
+    }
+}
+
+/// What a script says. Contracts see the settings.
+///
+/// Every setting is in its range, and every list in its order and within its limit: see `AreSound`.
+#[derive(Drop)]
+pub struct Script {
+    /// The bytes of RAM that the board has.
+    pub ram: u32,
+    /// The number of LEDs.
+    pub leds: u32,
+    /// How many turns a process has before the next one.
+    pub slice: u32,
+    /// Where the alarm's clock starts.
+    pub start: u32,
+    /// The ticks that the serial line takes for a byte.
+    pub uart: u32,
+    /// The bytes of storage of each slot.
+    pub storage: u32,
+    pub policy: Policy,
+    /// The numbers of the storage requests that fail, counted from 1.
+    pub faults: ArrayVec<u32, 64>,
+    /// The words that the source of random words gives.
+    pub words: WordList,
+    pub events: EventList,
+}
+
+impl Model for Script {
+    ghost use Rattle.script_text.specs.Settings.{Settings, AreSound};
+
+    ghost Value = { Settings };
+
+    ghost view = { λ s. record {
+      ram = s.ram;
+      leds = s.leds;
+      slice = s.slice;
+      start = s.start;
+      uart = s.uart;
+      storage = s.storage;
+      policy = s.policy;
+      faults = s.faults.items;
+      words = s.words;
+      events = s.events;
+    } };
+
+    ghost invariant = { λ s. AreSound (record {
+      ram = s.ram;
+      leds = s.leds;
+      slice = s.slice;
+      start = s.start;
+      uart = s.uart;
+      storage = s.storage;
+      policy = s.policy;
+      faults = s.faults.items;
+      words = s.words;
+      events = s.events;
+    }) };
+}
