@@ -4,7 +4,9 @@
 
 mod answers;
 mod commands;
+mod next;
 mod visits;
 
 pub use answers::answer;
 pub use commands::command;
+pub use next::next_due;

@@ -7,6 +7,7 @@ use Rattle.process_own.specs.Own.{Own}
 use Rattle.process_own.specs.Instruction.{with_write}
 use Rattle.process_record.specs.Process.{after_turn, after_fault}
 use Rattle.process_record.specs.Name.{name_of}
+use Rattle.process_record.specs.declared.emit.Emit.{Emit}
 use Rattle.process_record.specs.declared.process.Process.{Process}
 use Rattle.process_record.specs.declared.summary.SlotLine.{SlotLine}
 use Rattle.grant_enter.specs.Homes.{Homes, own_of}
@@ -33,6 +34,16 @@ resident home slot process = (process, own_of home slot)
 -- what an instruction leaves of both, and that it counts as a turn
 abbrev pub after_instruction : Resident → UserTurn → Resident
 after_instruction r t = (record (after_turn r.0) { regs = t.regs }, with_write r.1 t)
+
+-- what a turn told in what a step shows, if it told anything
+abbrev pub shown_in : Emit → Shown
+shown_in emit = record { call = emit.made; denial = emit.denial }
+
+abbrev pub with_shown : Emit → Shown → Emit
+with_shown emit shown = record emit { made = shown.call; denial = shown.denial }
+
+abbrev pub nothing_shown : Shown
+nothing_shown = record { call = None; denial = None }
 
 -- what a turn shows; it asks the board for nothing
 pub record Shows (t : Turned) (shown : Shown) : Type 0 where

@@ -12,11 +12,11 @@ ghost use Rattle.kernel_model.specs.Run.{next, situation_of};
 ghost use Rattle.kernel_model.specs.Shown.{shown_by, summary_of};
 ghost use Rattle.board_core.specs.Opening.{opening};
 ghost use Rattle.board_core.specs.Guards.{GuardsOnly};
-ghost use Rattle.board_core.specs.Residents.{IsSeated, InFlash, TurnsAt, resident_turns, slot_turns, line_in};
+ghost use Rattle.board_core.specs.Residents.{IsSeated, InFlash, TurnsAt, nothing_shown, resident_turns, shown_in, slot_turns, line_in, with_shown};
 
 use crate::boot::{Crew, first_crew, placed_in, unplaced};
 use crate::guard::Guard;
-use crate::turn::{Shown, can_turn, take_turn};
+use crate::turn::{can_turn, take_turn};
 use arrayvec::ArrayVec;
 use fault_policy::Policy;
 use grant_enter::Home;
@@ -93,7 +93,20 @@ fn used_after_turn(present: Option<Slot>, used: u32, slice: u32, slot: Slot) -> 
     used_after(present, used, slice, slot)
 }
 
-/// One turn of the process in a slot.
+/// Takes back what the last step told of a call or a denial. It is seldom there, and writing it takes time.
+#[inline(always)]
+fn forget(emit: &mut Emit)
+    ensures { emit.new ≡ with_shown emit.old nothing_shown }
+{
+    if emit.made.is_some() {
+        emit.made = None;
+    }
+    if emit.denial.is_some() {
+        emit.denial = None;
+    }
+}
+
+/// One turn of the process in a slot, which tells in `emit` what it shows.
 fn turn_at(
     home: &mut Home,
     processes: &mut Vec<Process>,
@@ -101,17 +114,21 @@ fn turn_at(
     slot: Slot,
     policy: Policy,
     steps: u64,
-) -> Shown
+    emit: &mut Emit,
+)
     requires within { slot < length processes.old.items }
     requires owns { length home.old.owns ≡ length processes.old.items }
     requires seated { All (IsSeated home.old.flash steps) (zip processes.old.items home.old.owns) }
     requires limit { steps < STEP_LIMIT }
     requires guard { GuardsOnly guard.old home.old }
-    ensures turn { TurnsAt policy slot steps home.old home.new processes.old.items processes.new.items result }
+    requires quiet { shown_in emit.old ≡ nothing_shown }
+    ensures turn { TurnsAt policy slot steps home.old home.new
+        processes.old.items processes.new.items (shown_in emit.new) }
     ensures guard { GuardsOnly guard.new home.new }
+    ensures emit { emit.new ≡ with_shown emit.old (shown_in emit.new) }
 {
     let process = &mut processes[slot.index()];
-    take_turn(home, process, guard, slot, policy, steps)
+    take_turn(home, process, guard, slot, policy, steps, emit);
 }
 
 /// Adds for each slot whether it is ready. The table is filled where it lies: moving it would cost more
@@ -220,22 +237,22 @@ impl Board {
         if !self.may_run(slot) {
             return Err(NotReady);
         }
-        let shown = turn_at(
+        emit.printed.clear();
+        emit.slot = Some(slot);
+        forget(emit);
+        turn_at(
             &mut self.home,
             &mut self.processes,
             &mut self.guard,
             slot,
             self.policy,
             self.steps,
+            emit,
         );
         self.used = used_after_turn(self.present, self.used, self.slice, slot);
         self.present = Some(slot);
         self.time += 1;
         self.steps += 1;
-        emit.printed.clear();
-        emit.slot = Some(slot);
-        emit.made = shown.call;
-        emit.denial = shown.denial;
         Ok(())
     }
 

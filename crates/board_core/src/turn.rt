@@ -11,13 +11,13 @@ ghost use Rattle.kernel_model.specs.Calls.{restart};
 ghost use Rattle.kernel_model.specs.Record.{instruction};
 ghost use Rattle.kernel_model.specs.Turn.{arguments, made, unknown_call};
 ghost use Rattle.board_core.specs.Guards.{GuardsOnly, IsSetFor};
-ghost use Rattle.board_core.specs.Residents.{IsSeated, Serves, Settles, Turns, record_of, resident, resident_turns};
+ghost use Rattle.board_core.specs.Residents.{IsSeated, Serves, Settles, Turns, nothing_shown, record_of, resident, resident_turns, shown_in, with_shown};
 
 use crate::guard::Guard;
 use fault_policy::{Action, Policy, decide};
 use grant_enter::Home;
 use kernel_calls::{deliver, kernel_call, restart_process};
-use process_record::{CallMade, Outcome, Process, State};
+use process_record::{CallMade, Emit, Outcome, Process, State};
 use rv32_model::TurnEnd;
 use syscall_abi::Call;
 use tk_base::{Access, Denial, Regs, Rule, Slot};
@@ -27,6 +27,15 @@ use tk_base::{Access, Denial, Regs, Rule, Slot};
 pub struct Shown {
     pub call: Option<CallMade>,
     pub denial: Option<Denial>,
+}
+
+/// Tells in `emit` what a turn showed.
+#[inline(never)]
+fn tell(emit: &mut Emit, shown: Shown)
+    ensures { emit.new ≡ with_shown emit.old shown }
+{
+    emit.made = shown.call;
+    emit.denial = shown.denial;
 }
 
 /// The arguments of a call, or its reply: a0 to a3.
@@ -241,7 +250,8 @@ fn make_instruction(
     home.instruct(slot, &guard.pmp, &mut process.regs)
 }
 
-/// The turn of a process that runs: an instruction of it, and what a system call or a denial asks for.
+/// The turn of a process that runs: an instruction of it, and what a system call or a denial asks for. What it
+/// shows is told in `emit`, where nothing was told before: most turns show nothing, and write nothing there.
 fn run_on(
     home: &mut Home,
     process: &mut Process,
@@ -249,30 +259,36 @@ fn run_on(
     slot: Slot,
     policy: Policy,
     steps: u64,
-) -> Shown
+    emit: &mut Emit,
+)
     requires slot { slot < length home.old.owns }
     requires runs { process.old.state ≡ Running }
     requires seated { IsSeated home.old.flash steps (resident home.old slot process.old) }
     requires limit { steps < STEP_LIMIT }
     requires guard { GuardsOnly guard.old home.old }
+    requires quiet { shown_in emit.old ≡ nothing_shown }
     ensures turns { Turns policy home.old.flash (resident home.old slot process.old)
-        (resident home.new slot process.new) result }
+        (resident home.new slot process.new) (shown_in emit.new) }
     ensures seated { IsSeated home.old.flash (steps + 1) (resident home.new slot process.new) }
     ensures rest { ChangesOnly slot home.old home.new }
     ensures guard { IsSetFor slot guard.new home.new }
+    ensures emit { emit.new ≡ with_shown emit.old (shown_in emit.new) }
 {
     match make_instruction(home, process, guard, slot, steps) {
-        TurnEnd::Went => Shown {
-            call: None,
-            denial: None,
-        },
-        TurnEnd::Call => serve_call(home, process, guard, slot, policy, steps),
-        TurnEnd::Trap(denial) => fault_at(home, process, guard, slot, policy, denial, steps),
+        TurnEnd::Went => {}
+        TurnEnd::Call => {
+            let shown = serve_call(home, process, guard, slot, policy, steps);
+            tell(emit, shown);
+        }
+        TurnEnd::Trap(denial) => {
+            let shown = fault_at(home, process, guard, slot, policy, denial, steps);
+            tell(emit, shown);
+        }
     }
 }
 
 /// The turn of a process that waits: the first of its pending upcalls is delivered, if there is one. The
-/// registers are set for it, since it is the next to run.
+/// registers are set for it, since it is the next to run. It shows nothing.
 fn wake(
     home: &mut Home,
     process: &mut Process,
@@ -280,14 +296,14 @@ fn wake(
     slot: Slot,
     policy: Policy,
     steps: u64,
-) -> Shown
+)
     requires slot { slot < length home.old.owns }
     requires waits { process.old.state ≡ Yielded }
     requires seated { IsSeated home.old.flash steps (resident home.old slot process.old) }
     requires limit { steps < STEP_LIMIT }
     requires guard { GuardsOnly guard.old home.old }
     ensures turns { Turns policy home.old.flash (resident home.old slot process.old)
-        (resident home.new slot process.new) result }
+        (resident home.new slot process.new) nothing_shown }
     ensures seated { IsSeated home.old.flash (steps + 1) (resident home.new slot process.new) }
     ensures rest { ChangesOnly slot home.old home.new }
     ensures guard { IsSetFor slot guard.new home.new }
@@ -297,13 +313,10 @@ fn wake(
         process.count_turn();
         deliver(home, process, slot);
     }
-    Shown {
-        call: None,
-        denial: None,
-    }
 }
 
-/// One turn of the process in a slot. One that has ended has none, and nothing changes.
+/// One turn of the process in a slot, which tells in `emit` what it shows. One that has ended has none, and
+/// nothing changes.
 pub fn take_turn(
     home: &mut Home,
     process: &mut Process,
@@ -311,23 +324,23 @@ pub fn take_turn(
     slot: Slot,
     policy: Policy,
     steps: u64,
-) -> Shown
+    emit: &mut Emit,
+)
     requires slot { slot < length home.old.owns }
     requires seated { IsSeated home.old.flash steps (resident home.old slot process.old) }
     requires limit { steps < STEP_LIMIT }
     requires guard { GuardsOnly guard.old home.old }
+    requires quiet { shown_in emit.old ≡ nothing_shown }
     ensures turns { Turns policy home.old.flash (resident home.old slot process.old)
-        (resident home.new slot process.new) result }
+        (resident home.new slot process.new) (shown_in emit.new) }
     ensures seated { IsSeated home.old.flash (steps + 1) (resident home.new slot process.new) }
     ensures rest { ChangesOnly slot home.old home.new }
     ensures guard { GuardsOnly guard.new home.new }
+    ensures emit { emit.new ≡ with_shown emit.old (shown_in emit.new) }
 {
     match process.state {
-        State::Running => run_on(home, process, guard, slot, policy, steps),
+        State::Running => run_on(home, process, guard, slot, policy, steps, emit),
         State::Yielded => wake(home, process, guard, slot, policy, steps),
-        State::Faulted | State::Terminated(_) => Shown {
-            call: None,
-            denial: None,
-        },
+        State::Faulted | State::Terminated(_) => {}
     }
 }

@@ -1,5 +1,5 @@
 //! The source of random words.
-ghost use Rattle.std.specs.Prelude.{◌≡◌, ◌<◌, ◌∷◌, length};
+ghost use Rattle.std.specs.Prelude.{◌≡◌, ◌<◌, ◌∷◌, length, slice_get};
 
 use std::marker::Model;
 use tk_base::WordList;
@@ -34,6 +34,16 @@ impl Words {
         ensures { result ≡ length self.now }
     {
         self.words.as_slice().len() - self.drawn
+    }
+
+    /// The next word, which stays. None exactly where none is left.
+    pub fn peek(&self) -> Option<u32>
+        ensures { result ≡ slice_get self.now 0 }
+    {
+        if self.left() == 0 {
+            return None;
+        }
+        Some(self.words.as_slice()[self.drawn])
     }
 
     /// Takes the next word. It asks that one is left.

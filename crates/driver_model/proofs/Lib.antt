@@ -1,1 +1,4 @@
 mod Refusals
+mod Nearing
+mod Bits
+mod Owns

@@ -1,15 +1,16 @@
 -- A refused command, by the rows of its driver's table.
-use Rattle.std.proofs.Common.{◌≡◌, ℕ, ◌==◌, Bool, true, false, cond, List, [], ◌∷◌, find, Option, None, Some, Result, Ok, Err, ap}
+use Rattle.std.proofs.Common.{◌≡◌, ℕ, ◌==◌, nat_lt, Bool, true, false, not, cond, List, [], ◌∷◌, find, Option, None, Some, Result, Ok, Err, ap}
 use Rattle.tk_base.specs.declared.call.CallRule.{CallRule}
-use Rattle.tk_base.specs.declared.call.CallRule.TheVariants.{NoCommand, NoRoom, Nothing}
+use Rattle.tk_base.specs.declared.call.CallRule.TheVariants.{NoCommand, NoRoom, Nothing, Range}
 use Rattle.grant_values.specs.declared.alarm.Armed.{Armed}
 use Rattle.syscall_abi.specs.declared.reply.Reply.{Reply}
 use Rattle.syscall_abi.specs.declared.reply.Reply.TheVariants.{Success, SuccessU32}
 use Rattle.process_own.specs.Own.{Own}
 use Rattle.process_own.specs.Handed.{has_place}
-use Rattle.driver_model.specs.Commands.{Commanded, accepted, refused, row_or_refused}
+use Rattle.driver_model.specs.Commands.{Commanded, Lights, accepted, refused, row_or_refused}
 use Rattle.driver_model.specs.Alarm.{alarm_in, arming, stopping, commands, command}
-use Rattle.driver_model.specs.Laws.{RefusedChangesNothing}
+use Rattle.driver_model.specs.Leds.{is_lit, lighting, command as led_command, commands as led_commands}
+use Rattle.driver_model.specs.Laws.{RefusedChangesNothing, RefusedLightsNothing}
 
 -- where it is refused, it is a refusal alone
 abbrev Keeps : Own → Commanded → Type 0
@@ -54,3 +55,15 @@ unfolding Each command commands
 refused_changes_nothing now number a2 a3 own =
     keeps_found own (λ row. row.0 == number) (commands now a2 a3 own)
     (keeps_accepted own own Success, (keeps_accepted own own (SuccessU32 1000), (keeps_accepted own own (SuccessU32 now), (keeps_stopping own (alarm_in own), (keeps_arming own _, (keeps_arming own _, tt))))))
+
+keeps_lit : (own : Own) (led : ℕ) (on : Bool) → Keeps own (record { answer = Ok Success; own = own; acts = Lights led on ∷ [] })
+keeps_lit own led on rule e = absurd (no_refusal Success rule e)
+
+keeps_lighting : (count led : ℕ) (on : Bool) (own : Own) → Keeps own (lighting count led on own)
+keeps_lighting count led on own = keeps_test own (nat_lt led count) _ _ (keeps_lit own led on) (keeps_refused own Range)
+
+pub refused_lights_nothing : RefusedLightsNothing
+unfolding Each led_command led_commands
+refused_lights_nothing count leds number led own =
+    keeps_found own (λ row. row.0 == number) (led_commands count leds led own)
+    (keeps_accepted own own (SuccessU32 count), (keeps_lighting count led true own, (keeps_lighting count led false own, (keeps_lighting count led (not (is_lit leds led)) own, tt))))

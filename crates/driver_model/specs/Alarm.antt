@@ -1,5 +1,5 @@
 -- The alarm (Tock's driver 0x0): a process arms one alarm by a reference and a delta, in ticks of a clock of 32 bits.
-use Rattle.std.specs.Prelude.{ℕ, ◌+◌, ◌-◌, ◌%◌, ◌^◌, nat_le, Bool, if◌then◌else◌, List, [], ◌∷◌, find, slice_get, Option, None, Some, is_some, option_and_then}
+use Rattle.std.specs.Prelude.{ℕ, ◌+◌, ◌-◌, ◌%◌, ◌^◌, min, nat_le, Bool, if◌then◌else◌, List, [], ◌∷◌, find, fold, slice_get, Option, None, Some, is_some, option_and_then}
 use Rattle.std.specs.List.{range_with_len}
 use Rattle.tk_base.specs.declared.call.CallRule.TheVariants.{NoRoom, Nothing}
 use Rattle.grant_values.specs.declared.alarm.Armed.{Armed}
@@ -83,3 +83,33 @@ has_due now own = is_some (option_and_then (due_alarm now) own)
 -- the lowest slot with an alarm that is due
 unfoldable pub due_slot : ℕ → List Own → Option ℕ
 due_slot now owns = find (λ slot. has_due now (slice_get owns slot)) (range_with_len 0 8)
+
+-- how many ticks are left until an alarm becomes due: 0 where it is due
+abbrev pub ticks_left : ℕ → Armed → ℕ
+ticks_left now alarm = alarm.delta - (now + (2 ^ 32 - alarm.reference)) % 2 ^ 32
+
+abbrev pub left_if : ℕ → Option Armed → Option ℕ
+left_if now None = None
+left_if now (Some alarm) = Some (ticks_left now alarm)
+
+-- the ticks that are left of a process's alarm; none of one that has ended, or has none armed
+abbrev pub left_of : ℕ → Own → Option ℕ
+left_of now own = if own.lives then left_if now (alarm_in own) else None
+
+-- the ticks that are left of the alarm of the process in a slot, if there is one
+abbrev pub left_in : ℕ → List Own → ℕ → Option ℕ
+left_in now owns slot = option_and_then (left_of now) (slice_get owns slot)
+
+-- the lesser of two numbers of ticks, where there are two
+abbrev pub nearer : Option ℕ → Option ℕ → Option ℕ
+nearer None other = other
+nearer (Some ticks) None = Some ticks
+nearer (Some ticks) (Some other) = Some (min ticks other)
+
+-- the least so far, and then with one slot more
+abbrev pub nearer_with : ℕ → List Own → Option ℕ → ℕ → Option ℕ
+nearer_with now owns least slot = nearer least (left_in now owns slot)
+
+-- the ticks that are left until the next alarm becomes due: the least over all slots
+unfoldable pub next_left : ℕ → List Own → Option ℕ
+next_left now owns = fold (nearer_with now owns) None (range_with_len 0 8)

@@ -1,23 +1,23 @@
 -- What a refused call changes, by cases on the call.
-use Rattle.std.proofs.Common.{◌≡◌, ℕ, ◌+◌, ◌==◌, Bool, true, false, cond, List, [], ◌∷◌, find, Option, None, Some, refl, ap, sym, ◌∙◌}
+use Rattle.std.proofs.Common.{◌≡◌, ℕ, ◌==◌, List, [], ◌∷◌, Option, None, Some, refl, ap, sym, ◌∙◌}
 use Rattle.tk_base.specs.declared.call.CallRule.{CallRule}
-use Rattle.tk_base.specs.declared.call.CallRule.TheVariants.{Break, Index, NoDriver, NoOperation}
+use Rattle.tk_base.specs.declared.call.CallRule.TheVariants.{NoDriver, NoOperation}
 use Rattle.tk_base.specs.declared.upcall.Upcall.{Upcall as Scheduled}
 use Rattle.tk_base.specs.Call.{error_of}
 use Rattle.grant_areas.specs.declared.kinds.PairKind.{PairKind}
 use Rattle.grant_areas.specs.declared.kinds.PairKind.TheVariants.{Upcall, ReadOnly, ReadWrite}
-use Rattle.process_layout.specs.Extents.{permits_break}
 use Rattle.syscall_abi.specs.declared.call.Call.{Call as SystemCall}
 use Rattle.syscall_abi.specs.declared.call.Call.TheVariants.{Yield, Subscribe, Command, AllowRw, AllowRo, Memop, Exit}
 use Rattle.syscall_abi.specs.declared.reply.Reply.{Reply}
-use Rattle.syscall_abi.specs.declared.reply.Reply.TheVariants.{Failure, FailureU32U32, Success, SuccessU32}
+use Rattle.syscall_abi.specs.declared.reply.Reply.TheVariants.{Failure, FailureU32U32}
 use Rattle.process_record.specs.Process.{after_call, after_exit, waiting}
 use Rattle.process_record.specs.declared.outcome.Outcome.TheVariants as outcomes
 use Rattle.process_own.specs.Own.{ended}
 use Rattle.kernel_model.specs.Record.{Record, with_process}
 use Rattle.kernel_model.specs.Turn.{rule_shown}
-use Rattle.kernel_model.specs.Calls.{Served, replied, refused, refused_with, failure_of, swap_by, swap_refusal, yielding, yield_now, break_moved, with_break_at, moved_by, region, region_end, memops, memop, or_refused, restart, exit, served}
+use Rattle.kernel_model.specs.Calls.{Served, replied, refused, refused_with, failure_of, swap_by, swap_refusal, yielding, yield_now, with_break_at, memop, restart, exit, served}
 use Rattle.kernel_model.specs.Laws.{RefusedChangesNothingElse}
+use Rattle.kernel_model.proofs.Memops.{by_test, memop_gives}
 
 -- an answer that is a refusal is that of its rule alone, with this failure
 IsRefusedBy : (CallRule → Reply) → Record → Served → Type 0
@@ -44,49 +44,22 @@ unbroken failure r a none rule e = absurd (no_rule (sym none ∙ e))
 plain_unbroken : (r : Record) (a : Served) → rule_shown a.outcome ≡ None → IsPlain r a
 plain_unbroken r a none = unbroken plain r a none
 
-plain_test : (r : Record) (b : Bool) (x y : Served) → IsPlain r x → IsPlain r y → IsPlain r (cond b x y)
-plain_test r true x y p q = p
-plain_test r false x y p q = q
-
-plain_break : (r : Record) (new : Option ℕ) (reply : Reply) → IsPlain r (break_moved r new reply)
-plain_break r None reply = plain_refused r Break
-plain_break r (Some new) reply = plain_test r (permits_break r.own.layout new) _ _ (plain_unbroken r (replied (with_break_at r new) reply) refl) (plain_refused r Break)
-
-plain_region : (r : Record) (offset : ℕ × ℕ → ℕ) (region : Option (ℕ × ℕ)) → IsPlain r (region_end r offset region)
-plain_region r offset None = plain_refused r Index
-plain_region r offset (Some region) = plain_unbroken r (region_end r offset (Some region)) refl
-
--- what holds of each row holds of the one that is found
-Each : Record → List (ℕ × Served) → Type 0
-Each r [] = Unit {0}
-Each r (row ∷ rows) = IsPlain r row.1 × Each r rows
-
-plain_found : (r : Record) (p : ℕ × Served → Bool) (rows : List (ℕ × Served)) → Each r rows → IsPlain r (or_refused r (find p rows))
-unfolding Each
-plain_found r p [] each = plain_refused r NoOperation
-plain_found r p (row ∷ rows) each = by_test (p row) each.0 (plain_found r p rows each.1)
-  where
-    by_test : (b : Bool) → IsPlain r row.1 → IsPlain r (or_refused r (find p rows)) → IsPlain r (or_refused r (cond b (Some row) (find p rows)))
-    by_test true here later = here
-    by_test false here later = later
-
 plain_memop : (r : Record) (operation argument : ℕ) → IsPlain r (memop r operation argument)
-unfolding Each memop memops
 plain_memop r operation argument =
-    plain_found r (λ row. row.0 == operation) (memops r argument)
-    (plain_break r (Some argument) Success, (plain_break r (moved_by r.own.layout.brk argument) (SuccessU32 r.own.layout.brk), (plain_unbroken r _ refl, (plain_unbroken r _ refl, (plain_unbroken r _ refl, (plain_unbroken r _ refl, (plain_unbroken r _ refl, (plain_unbroken r _ refl, (plain_region r (λ p. p.0) (region r argument), (plain_region r (λ p. p.0 + p.1) (region r argument), (plain_unbroken r _ refl, (plain_unbroken r _ refl, tt))))))))))))
+    memop_gives (IsPlain r) r operation argument (plain_refused r) (λ reply. plain_unbroken r (replied r reply) refl)
+    (λ new reply. plain_unbroken r (replied (with_break_at r new) reply) refl)
 
 plain_exit : (r : Record) (kind code : ℕ) → IsPlain r (exit r kind code)
 unfolding exit
 plain_exit r kind code =
-    plain_test r (kind == 0) _ _ (plain_unbroken r (record { after = record r { process = after_exit r.process code; own = ended r.own }; outcome = outcomes.Ended }) refl)
-    (plain_test r (kind == 1) _ _ (plain_unbroken r (record { after = restart r; outcome = outcomes.Again }) refl) (plain_refused r NoOperation))
+    by_test (IsPlain r) (kind == 0) _ _ (plain_unbroken r (record { after = record r { process = after_exit r.process code; own = ended r.own }; outcome = outcomes.Ended }) refl)
+    (by_test (IsPlain r) (kind == 1) _ _ (plain_unbroken r (record { after = restart r; outcome = outcomes.Again }) refl) (plain_refused r NoOperation))
 
 plain_yield : (r : Record) (number at : ℕ) → IsPlain r (yielding r number at)
 unfolding yielding
 plain_yield r number at =
-    plain_test r (number == 0) _ _ (by_pending r.own.pending)
-    (plain_test r (number == 1) _ _ (plain_unbroken r (record { after = with_process r (waiting r.process); outcome = outcomes.Waits }) refl) (plain_unbroken r (record { after = with_process r (after_call r.process); outcome = outcomes.GoesOn }) refl))
+    by_test (IsPlain r) (number == 0) _ _ (by_pending r.own.pending)
+    (by_test (IsPlain r) (number == 1) _ _ (plain_unbroken r (record { after = with_process r (waiting r.process); outcome = outcomes.Waits }) refl) (plain_unbroken r (record { after = with_process r (after_call r.process); outcome = outcomes.GoesOn }) refl))
   where
     by_pending : (pending : List Scheduled) → IsPlain r (yield_now r at pending)
     by_pending [] = plain_unbroken r (yield_now r at []) refl

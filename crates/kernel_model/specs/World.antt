@@ -1,11 +1,12 @@
 -- The world only routes: a step finds whose turn it is, and applies that event to that one record.
-use Rattle.std.specs.Prelude.{ℕ, ◌+◌, ◌-◌, ◌*◌, ◌/◌, ◌%◌, ◌^◌, ◌==◌, Bool, false, not, ◌&&◌, nat_lt, if◌then◌else◌, List, [], ◌∷◌, ◌++◌, filter, slice_get, slice_set, Option, None, Some}
+use Rattle.std.specs.Prelude.{ℕ, ◌+◌, ◌==◌, Bool, false, not, ◌&&◌, nat_lt, List, [], ◌∷◌, ◌++◌, filter, slice_get, slice_set, Option, None, Some}
 use Rattle.tk_base.specs.declared.limits.TheConstants.{STEP_LIMIT}
 use Rattle.tk_base.specs.declared.process.Choice.{Choice}
 use Rattle.tk_base.specs.declared.process.Choice.TheVariants.{Run, Device, Pass}
 use Rattle.process_record.specs.declared.summary.Unplaced.{Unplaced}
 use Rattle.turn_scheduler.specs.RoundRobin.{used_after}
 use Rattle.kernel_model.specs.Record.{Record, Settings}
+use Rattle.driver_model.specs.Leds.{with_led}
 use Rattle.driver_model.specs.Commands.{Act, Waits, Leaves, Lights, Line, Writes, Reads, Randoms, Stores}
 use Rattle.kernel_model.specs.Turn.{Told, Turned, turned, may_turn}
 
@@ -71,10 +72,6 @@ stop_wait slot Writes d = record d { writes = without slot d.writes }
 stop_wait slot Reads d = record d { reads = without slot d.reads }
 stop_wait slot Randoms d = record d { randoms = without slot d.randoms }
 stop_wait slot Stores d = record d { stores = without slot d.stores }
-
--- the LEDs with one on or off
-abbrev pub with_led : ℕ → ℕ → Bool → ℕ
-with_led leds n on = leds - leds / 2 ^ n % 2 * 2 ^ n + (if on then 2 ^ n else 0)
 
 abbrev pub acted : ℕ → Act → Devices → Devices
 acted slot (Waits line) d = begin_wait slot line d

@@ -1,5 +1,5 @@
 //! Laws of the definitions, each the contract of a function that does nothing.
-ghost use Rattle.kernel_model.specs.Laws.{NextIsReady, OnlyItsOwnTurn, RefusedChangesNothingElse};
+ghost use Rattle.kernel_model.specs.Laws.{GrantsChangeAtCalls, NextIsReady, NoTurnDrops, OnlyItsOwnTurn, RefusedChangesNothingElse};
 ghost use Rattle.kernel_model.specs.Replay.{RecordIsReplay, RoundFollowsChoices, SameHistorySameRecord};
 
 /// A step changes the record of no process but the one whose turn it is, and that one by its turn.
@@ -26,4 +26,12 @@ pub fn a_record_is_the_replay_of_its_turns()
     ensures replay { RecordIsReplay }
     ensures same { SameHistorySameRecord }
     ensures round { RoundFollowsChoices }
+{}
+
+/// What drivers keep of a process changes at its own calls, at a fault, and by what a driver answers it. A
+/// turn without a call or a denial leaves its grants, and no turn drops an upcall (Levy et al., SOSP 2017).
+#[tactic(auto, using(crate::proofs::Kept::grants_change_at_calls, crate::proofs::Kept::no_turn_drops))]
+pub fn grants_change_at_calls()
+    ensures grants { GrantsChangeAtCalls }
+    ensures drops { NoTurnDrops }
 {}

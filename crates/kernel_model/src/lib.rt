@@ -5,7 +5,7 @@
 mod laws;
 
 pub use laws::{
-    a_record_is_the_replay_of_its_turns, next_is_ready, only_its_own_turn,
+    a_record_is_the_replay_of_its_turns, grants_change_at_calls, next_is_ready, only_its_own_turn,
     refused_changes_nothing_else,
 };
 

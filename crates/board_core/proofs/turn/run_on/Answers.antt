@@ -1,11 +1,12 @@
-use Rattle.std.proofs.Common.{◌≡◌, ◌+◌, List, ℕ, None, ap, ap₂, sym, subst, ◌∙◌}
+use Rattle.std.proofs.Common.{◌≡◌, ◌+◌, List, ℕ, ap, ap₂, sym, subst, ◌∙◌}
 use Rattle.process_own.specs.Own.{Own}
+use Rattle.process_record.specs.declared.emit.Emit.{Emit}
 use Rattle.process_record.specs.declared.process.Process.{Process}
 use Rattle.grant_enter.specs.Homes.{own_of}
 use Rattle.kernel_calls.specs.Own.{is_alive}
 use Rattle.kernel_model.specs.Record.{instruction}
 use Rattle.board_core.specs.declared.turn.Shown.{Shown}
-use Rattle.board_core.specs.Residents.{Resident, IsSeated, Serves, Settles, Turns, after_instruction, record_of, resident}
+use Rattle.board_core.specs.Residents.{Resident, IsSeated, Serves, Settles, Turns, after_instruction, nothing_shown, record_of, resident, shown_in}
 use Rattle.board_core.proofs.Turns.{instruction_seated, makes_call, only_flash, only_twice, trapped, went}
 use Rattle.board_core.proofs.turn.run_on.Goals as goal
 use Rattle.board_core.proofs.turn.run_on.Goals.{After-make_instruction}
@@ -31,57 +32,60 @@ pub returns-in-Went-clause-turns : goal.returns-in-Went-clause-turns
 unfolding before
 returns-in-Went-clause-turns c =
     let a = (goal.at.returns-in-Went-clause-turns c).After-make_instruction in
-    subst (λ (r : Resident). Turns c.args.policy c.args.home.now.flash (before a) r (record { call = None; denial = None })) (sym (made a)) (went c.args.policy c.args.home.now.flash (before a) c.requires.runs (sym c.make_instruction.ensures.end ∙ c.in-Went.is))
+    subst (λ (s : Shown). Turns c.args.policy c.args.home.now.flash (before a) (resident c.make_instruction.new.home c.args.slot c.make_instruction.new.process) s) (sym c.requires.quiet)
+    (subst (λ (r : Resident). Turns c.args.policy c.args.home.now.flash (before a) r nothing_shown) (sym (made a)) (went c.args.policy c.args.home.now.flash (before a) c.requires.runs (sym c.make_instruction.ensures.end ∙ c.in-Went.is)))
 
 pub returns-in-Went-clause-seated : goal.returns-in-Went-clause-seated
 returns-in-Went-clause-seated c = still (goal.at.returns-in-Went-clause-seated c).After-make_instruction
 
-pub serve_call-requires-clause-seated : goal.serve_call-requires-clause-seated
-serve_call-requires-clause-seated c =
-    let a = (goal.at.serve_call-requires-clause-seated c).After-make_instruction in
+pub serve_call-shown-requires-clause-seated : goal.serve_call-shown-requires-clause-seated
+serve_call-shown-requires-clause-seated c =
+    let a = (goal.at.serve_call-shown-requires-clause-seated c).After-make_instruction in
     subst (λ (f : List ℕ). IsSeated f (c.args.steps + 1) (resident c.make_instruction.new.home c.args.slot c.make_instruction.new.process)) (sym (same_flash a)) (still a)
 
 -- it lives
-pub serve_call-requires-clause-lives : goal.serve_call-requires-clause-lives
-serve_call-requires-clause-lives c =
+pub serve_call-shown-requires-clause-lives : goal.serve_call-shown-requires-clause-lives
+serve_call-shown-requires-clause-lives c =
     ap (λ (o : Own). o.lives) c.make_instruction.ensures.own ∙ c.requires.seated.own.lives ∙ ap is_alive c.requires.runs
 
 pub returns-in-Call-clause-turns : goal.returns-in-Call-clause-turns
 unfolding before
 returns-in-Call-clause-turns c =
     let a = (goal.at.returns-in-Call-clause-turns c).After-make_instruction in
-    let new : Resident = resident c.serve_call.new.home c.args.slot c.serve_call.new.process in
-    let served = subst (λ (f : List ℕ). Serves c.args.policy f (resident c.make_instruction.new.home c.args.slot c.make_instruction.new.process) new c.serve_call.result) (same_flash a) c.serve_call.ensures.serves in
-    makes_call c.args.policy c.args.home.now.flash (before a) new c.serve_call.result c.requires.runs (sym c.make_instruction.ensures.end ∙ c.in-Call.is)
-    (subst (λ (r : Resident). Serves c.args.policy c.args.home.now.flash r new c.serve_call.result) (made a) served)
+    let new : Resident = resident c.serve_call-shown.new.home c.args.slot c.serve_call-shown.new.process in
+    let served = subst (λ (f : List ℕ). Serves c.args.policy f (resident c.make_instruction.new.home c.args.slot c.make_instruction.new.process) new c.serve_call-shown.result) (same_flash a) c.serve_call-shown.ensures.serves in
+    subst (λ (e : Emit). Turns c.args.policy c.args.home.now.flash (before a) new (shown_in e)) (sym c.tell.ensures)
+    (makes_call c.args.policy c.args.home.now.flash (before a) new c.serve_call-shown.result c.requires.runs (sym c.make_instruction.ensures.end ∙ c.in-Call.is)
+    (subst (λ (r : Resident). Serves c.args.policy c.args.home.now.flash r new c.serve_call-shown.result) (made a) served))
 
 pub returns-in-Call-clause-seated : goal.returns-in-Call-clause-seated
 returns-in-Call-clause-seated c =
     let a = (goal.at.returns-in-Call-clause-seated c).After-make_instruction in
-    subst (λ (f : List ℕ). IsSeated f (c.args.steps + 1) (resident c.serve_call.new.home c.args.slot c.serve_call.new.process)) (only_flash c.args.slot c.make_instruction.new.home c.serve_call.new.home c.serve_call.ensures.rest ∙ same_flash a) c.serve_call.ensures.seated
+    subst (λ (f : List ℕ). IsSeated f (c.args.steps + 1) (resident c.serve_call-shown.new.home c.args.slot c.serve_call-shown.new.process)) (only_flash c.args.slot c.make_instruction.new.home c.serve_call-shown.new.home c.serve_call-shown.ensures.rest ∙ same_flash a) c.serve_call-shown.ensures.seated
 
 pub returns-in-Call-clause-rest : goal.returns-in-Call-clause-rest
-returns-in-Call-clause-rest c = only_twice c.args.slot c.args.home.now c.make_instruction.new.home c.serve_call.new.home c.make_instruction.ensures.rest c.serve_call.ensures.rest
+returns-in-Call-clause-rest c = only_twice c.args.slot c.args.home.now c.make_instruction.new.home c.serve_call-shown.new.home c.make_instruction.ensures.rest c.serve_call-shown.ensures.rest
 
-pub fault_at-requires-clause-seated : goal.fault_at-requires-clause-seated
-fault_at-requires-clause-seated c =
-    let a = (goal.at.fault_at-requires-clause-seated c).After-make_instruction in
+pub fault_at-shown-requires-clause-seated : goal.fault_at-shown-requires-clause-seated
+fault_at-shown-requires-clause-seated c =
+    let a = (goal.at.fault_at-shown-requires-clause-seated c).After-make_instruction in
     subst (λ (f : List ℕ). IsSeated f (c.args.steps + 1) (resident c.make_instruction.new.home c.args.slot c.make_instruction.new.process)) (sym (same_flash a)) (still a)
 
 pub returns-in-Trap-clause-turns : goal.returns-in-Trap-clause-turns
 unfolding before
 returns-in-Trap-clause-turns c =
     let a = (goal.at.returns-in-Trap-clause-turns c).After-make_instruction in
-    let new : Resident = resident c.fault_at.new.home c.args.slot c.fault_at.new.process in
-    let settles = subst (λ (f : List ℕ). Settles c.args.policy f c.make_instruction.new.process (own_of c.make_instruction.new.home c.args.slot) c.in-Trap.denial new) (same_flash a) c.fault_at.ensures.settles in
-    subst (λ (s : Shown). Turns c.args.policy c.args.home.now.flash (before a) new s) (sym c.fault_at.ensures.shown)
+    let new : Resident = resident c.fault_at-shown.new.home c.args.slot c.fault_at-shown.new.process in
+    let settles = subst (λ (f : List ℕ). Settles c.args.policy f c.make_instruction.new.process (own_of c.make_instruction.new.home c.args.slot) c.in-Trap.denial new) (same_flash a) c.fault_at-shown.ensures.settles in
+    subst (λ (e : Emit). Turns c.args.policy c.args.home.now.flash (before a) new (shown_in e)) (sym c.tell-in-Trap.ensures)
+    (subst (λ (s : Shown). Turns c.args.policy c.args.home.now.flash (before a) new s) (sym c.fault_at-shown.ensures.shown)
     (trapped c.args.policy c.args.home.now.flash (before a) new c.in-Trap.denial c.requires.runs (sym c.make_instruction.ensures.end ∙ c.in-Trap.is)
-    (subst (λ (r : Resident). Settles c.args.policy c.args.home.now.flash r.0 r.1 c.in-Trap.denial new) (made a) settles))
+    (subst (λ (r : Resident). Settles c.args.policy c.args.home.now.flash r.0 r.1 c.in-Trap.denial new) (made a) settles)))
 
 pub returns-in-Trap-clause-seated : goal.returns-in-Trap-clause-seated
 returns-in-Trap-clause-seated c =
     let a = (goal.at.returns-in-Trap-clause-seated c).After-make_instruction in
-    subst (λ (f : List ℕ). IsSeated f (c.args.steps + 1) (resident c.fault_at.new.home c.args.slot c.fault_at.new.process)) (same_flash a) c.fault_at.ensures.seated
+    subst (λ (f : List ℕ). IsSeated f (c.args.steps + 1) (resident c.fault_at-shown.new.home c.args.slot c.fault_at-shown.new.process)) (same_flash a) c.fault_at-shown.ensures.seated
 
 pub returns-in-Trap-clause-rest : goal.returns-in-Trap-clause-rest
-returns-in-Trap-clause-rest c = only_twice c.args.slot c.args.home.now c.make_instruction.new.home c.fault_at.new.home c.make_instruction.ensures.rest c.fault_at.ensures.rest
+returns-in-Trap-clause-rest c = only_twice c.args.slot c.args.home.now c.make_instruction.new.home c.fault_at-shown.new.home c.make_instruction.ensures.rest c.fault_at-shown.ensures.rest

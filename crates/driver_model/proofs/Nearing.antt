@@ -1,0 +1,93 @@
+-- The ticks that are left of alarms.
+use Rattle.std.proofs.Common.{◌≡◌, ◌<◌, ◌≤◌, ℕ, ◌+◌, ◌-◌, ◌%◌, ◌^◌, ◌==◌, min, nat_le, Bool, true, false, cond, ◌||◌, List, [], ◌∷◌, find, fold, slice_get, is_some, option_and_then, Option, None, Some, refl, ap, sym, ◌∙◌, arith, eqb-true}
+use Rattle.std.proofs.lemmas.Bool.{false≢true}
+use Rattle.std.proofs.lemmas.Bool.Decides.{nat_tests}
+use Rattle.std.specs.List.{range_with_len}
+use Rattle.grant_values.specs.declared.alarm.Armed.{Armed}
+use Rattle.process_own.specs.Own.{Own}
+use Rattle.driver_model.specs.Alarm.{alarm_in, due_slot, has_due, if_due, is_due, left_if, left_in, left_of, nearer, nearer_with, next_left}
+use Rattle.driver_model.specs.Laws.{IsDueWhereNoneAreLeft, TimeBringsNearer}
+
+-- whether there is a number of ticks, and it is 0
+is_now : Option ℕ → Bool
+is_now None = false
+is_now (Some ticks) = ticks == 0
+
+or_false : (a : Bool) → a ≡ a || false
+or_false true = refl
+or_false false = refl
+
+least_zero : (m n : ℕ) → (min m n == 0) ≡ (m == 0) || (n == 0)
+least_zero m n = grind (arith, nat_tests)
+
+nearer_now : (a b : Option ℕ) → is_now (nearer a b) ≡ is_now a || is_now b
+unfolding is_now
+nearer_now None b = refl
+nearer_now (Some m) None = or_false (m == 0)
+nearer_now (Some m) (Some n) = least_zero m n
+
+zero_where_passed : (d e : ℕ) → (d - e == 0) ≡ nat_le d e
+zero_where_passed d e = grind (arith, nat_tests)
+
+some_if : (b : Bool) (alarm : Armed) → b ≡ is_some (cond b (Some alarm) None)
+some_if true alarm = refl
+some_if false alarm = refl
+
+armed_now : (now : ℕ) (lives : Bool) (armed : Option Armed) → is_now (cond lives (left_if now armed) None) ≡ is_some (cond lives (if_due now armed) None)
+unfolding is_now
+armed_now now false armed = refl
+armed_now now true None = refl
+armed_now now true (Some alarm) = zero_where_passed alarm.delta ((now + (2 ^ 32 - alarm.reference)) % 2 ^ 32) ∙ some_if (is_due now alarm) alarm
+
+slot_now : (now : ℕ) (own : Option Own) → is_now (option_and_then (left_of now) own) ≡ has_due now own
+unfolding is_now
+slot_now now None = refl
+slot_now now (Some own) = armed_now now own.lives (alarm_in own)
+
+one_more : (a b : Bool) (slot : ℕ) (rest : Option ℕ) → (a || b) || is_some rest ≡ a || is_some (cond b (Some slot) rest)
+one_more true b slot rest = refl
+one_more false true slot rest = refl
+one_more false false slot rest = refl
+
+folded_now : (now : ℕ) (owns : List Own) (slots : List ℕ) (least : Option ℕ) → is_now (fold (nearer_with now owns) least slots) ≡ is_now least || is_some (find (λ slot. has_due now (slice_get owns slot)) slots)
+folded_now now owns [] least = or_false (is_now least)
+folded_now now owns (slot ∷ slots) least =
+    let rest = find (λ slot. has_due now (slice_get owns slot)) slots in
+    folded_now now owns slots (nearer_with now owns least slot)
+    ∙ ap (λ (a : Bool). a || is_some rest) (nearer_now least (left_in now owns slot) ∙ ap (λ (b : Bool). is_now least || b) (slot_now now (slice_get owns slot)))
+    ∙ one_more (is_now least) (has_due now (slice_get owns slot)) slot rest
+
+next_now : (now : ℕ) (owns : List Own) → is_now (next_left now owns) ≡ is_some (due_slot now owns)
+unfolding is_now next_left due_slot
+next_now now owns = folded_now now owns (range_with_len 0 8) None
+
+zero_if_now : (least : Option ℕ) → is_now least ≡ true → least ≡ Some 0
+unfolding is_now
+zero_if_now None e = absurd (false≢true e)
+zero_if_now (Some ticks) e = ap Some (eqb-true ticks 0 e)
+
+now_if_zero : (least : Option ℕ) → least ≡ Some 0 → is_now least ≡ true
+unfolding is_now
+now_if_zero least e = ap is_now e
+
+pub is_due_where_none_are_left : IsDueWhereNoneAreLeft
+is_due_where_none_are_left now owns =
+    (λ zero. sym (next_now now owns) ∙ now_if_zero (next_left now owns) zero, λ due. zero_if_now (next_left now owns) (next_now now owns ∙ due))
+
+elapsed : (now passed from : ℕ) → now < 2 ^ 32 → from < 2 ^ 32 → (now + (2 ^ 32 - from)) % 2 ^ 32 + passed < 2 ^ 32 → ((now + passed) % 2 ^ 32 + (2 ^ 32 - from)) % 2 ^ 32 ≡ (now + (2 ^ 32 - from)) % 2 ^ 32 + passed
+elapsed now passed from n f fits = omega arith
+
+fewer : (d e passed later : ℕ) → later ≡ e + passed → d - later ≡ d - e - passed
+fewer d e passed later is = omega arith
+
+fits_still : (d e passed : ℕ) → d < 2 ^ 32 → e < 2 ^ 32 → passed ≤ d - e → e + passed < 2 ^ 32
+fits_still d e passed small below left = omega arith
+
+below_limit : (n : ℕ) → n % 2 ^ 32 < 2 ^ 32
+below_limit n = omega arith
+
+pub time_brings_nearer : TimeBringsNearer
+time_brings_nearer now passed alarm n r d left =
+    let e = (now + (2 ^ 32 - alarm.reference)) % 2 ^ 32 in
+    let fits = fits_still alarm.delta e passed d (below_limit (now + (2 ^ 32 - alarm.reference))) left in
+    fewer alarm.delta e passed _ (elapsed now passed alarm.reference n r fits)

@@ -1,0 +1,116 @@
+-- The source of random bytes (Tock's driver 0x40001): a process asks for a count of bytes, and they are written
+-- into its read-write buffer 0, a word at a time.
+use Rattle.std.specs.Prelude.{ℕ, ◌+◌, ◌-◌, ◌==◌, Bool, true, false, ◌&&◌, min, nat_le, if◌then◌else◌, List, [], ◌∷◌, drop, length, slice_get, take, Option, None, Some, is_none, Ok}
+use Rattle.std.specs.Int.{w32, to_le_bytes}
+use Rattle.tk_base.specs.declared.call.CallRule.TheVariants.{Busy, NoRoom}
+use Rattle.grant_values.specs.declared.random.RandomRequest.{RandomRequest}
+use Rattle.grant_values.specs.Random.{random_of, random_words}
+use Rattle.syscall_abi.specs.declared.reply.Reply.TheVariants.{Success}
+use Rattle.grant_areas.specs.declared.kinds.PairKind.TheVariants.{ReadWrite}
+use Rattle.process_own.specs.Own.{Own}
+use Rattle.process_own.specs.Handed.{entering, has_place, held}
+use Rattle.process_own.specs.Served.{kept, ram_at, scheduled, with_kept, with_written}
+use Rattle.driver_model.specs.Commands.{Commanded, Waits, Randoms, accepted, refused, by_number}
+
+-- the number of the driver
+abbrev pub random : ℕ
+random = 0x40001
+
+-- the request of a process that waits, if one does
+abbrev pub request_of : Option (List ℕ) → Option RandomRequest
+request_of None = None
+request_of (Some words) = (random_of words).request
+
+abbrev pub request_in : Own → Option RandomRequest
+request_in own = request_of (kept random own)
+
+-- a process with that request, or with none
+abbrev pub with_request : Option RandomRequest → Own → Own
+with_request request own = with_kept random (random_words (record { request = request })) own
+
+-- a request for so many bytes begins to wait, if there is room for the driver's grant
+abbrev pub beginning : ℕ → Own → Commanded
+beginning count own =
+    if has_place random own then record {
+      answer = Ok Success;
+      own = with_request (Some (record { count = count; written = 0 })) (entering random own);
+      acts = Waits Randoms ∷ [];
+    }
+    else refused NoRoom own
+
+-- where one waits already there is none more
+abbrev pub asking : Option RandomRequest → ℕ → Own → Commanded
+asking None count own = beginning count own
+asking (Some request) count own = refused Busy own
+
+-- its commands: the driver is there; a request for so many bytes
+unfoldable pub commands : ℕ → Own → List (ℕ × Commanded)
+commands count own = (0, accepted Success own) ∷ (1, asking (request_in own) count own) ∷ []
+
+-- a command of a number with its first argument
+unfoldable pub command : ℕ → ℕ → Own → Commanded
+command number count own = by_number own (commands count own) number
+
+-- how many bytes a request gets: as many as it asks for, and no more than the buffer has that is held now
+abbrev pub wanted : RandomRequest → Own → ℕ
+wanted request own = min request.count (length (ram_at own (held ReadWrite random 0 own)))
+
+-- What one step of a request comes to: what waits of it still, none where it completed; what is then the process's
+-- own, beside the request; whether it took a word.
+pub record Progress : Type 0 where
+  pub rest : Option RandomRequest
+  pub own : Own
+  pub took : Bool
+
+-- a request completes: upcall 0 tells how (1 where no word was left for it, else 0), and how many bytes were
+-- written
+abbrev pub completing : Bool → ℕ → ℕ → Own → Progress
+completing took outcome bytes own =
+    record { rest = None; own = scheduled random 0 (outcome ∷ bytes ∷ 0 ∷ []) own; took = took }
+
+-- a process with the first bytes of a word, the lowest first, after those that were written so far
+abbrev pub with_word : ℕ → ℕ → RandomRequest → Own → Own
+with_word word left request own =
+    with_written random 0 request.written (take (min 4 left) (to_le_bytes w32 word)) own
+
+-- the next word is drawn for a request that wants so many bytes more; it completes where these are no more than
+-- four, and where no word is left
+abbrev pub drawing : ℕ → RandomRequest → Own → Option ℕ → Progress
+drawing left request own None = completing false 1 request.written own
+drawing left request own (Some word) =
+    let o = with_word word left request own in
+    if nat_le left 4 then completing true 0 (request.written + left) o
+    else record { rest = Some (record request { written = request.written + 4 }); own = o; took = true }
+
+-- one step of a request, with the next word, if one is left
+abbrev pub progress : Option ℕ → RandomRequest → Own → Progress
+progress word request own =
+    if nat_le (wanted request own) request.written then completing false 0 request.written own
+    else drawing (wanted request own - request.written) request own word
+
+-- What the source's answer to a process changes: what is the process's own; the words that are left; whether the
+-- request completed, so that the process waits no more.
+pub record Answered : Type 0 where
+  pub own : Own
+  pub words : List ℕ
+  pub completed : Bool
+
+abbrev pub unanswered : List ℕ → Own → Answered
+unanswered words own = record { own = own; words = words; completed = false }
+
+abbrev pub advanced : List ℕ → Progress → Answered
+advanced words p = record {
+  own = with_request p.rest p.own;
+  words = if p.took then drop 1 words else words;
+  completed = is_none p.rest;
+}
+
+abbrev pub answering : List ℕ → Own → Option RandomRequest → Answered
+answering words own None = unanswered words own
+answering words own (Some request) = advanced words (progress (slice_get words 0) request own)
+
+-- the answer to a process of a life, with these words left; nothing changes where it is not there, or has no
+-- request
+unfoldable pub answered : List ℕ → ℕ → Own → Answered
+answered words life own =
+    if own.lives && own.life == life then answering words own (request_in own) else unanswered words own

@@ -1,0 +1,127 @@
+-- The storage (driver 0x50001 in Tock's list of drivers): each slot has bytes of its own, which outlive its
+-- process. It asks to read some of them into its read-write buffer 0, or to write over some from its read-only
+-- buffer 0.
+use Rattle.std.specs.Prelude.{ℕ, ◌+◌, ◌==◌, Bool, true, false, ◌&&◌, min, nat_le, if◌then◌else◌, List, [], ◌∷◌, length, slice_range, take, Option, None, Some, Ok}
+use Rattle.tk_base.specs.declared.call.CallRule.TheVariants.{Busy, NoRoom, Range}
+use Rattle.grant_areas.specs.declared.kinds.PairKind.TheVariants.{ReadOnly, ReadWrite}
+use Rattle.grant_values.specs.declared.storage.StorageKind.{StorageKind}
+use Rattle.grant_values.specs.declared.storage.StorageKind.TheVariants.{Read, Write}
+use Rattle.grant_values.specs.declared.storage.StorageRequest.{StorageRequest}
+use Rattle.grant_values.specs.Storage.{storage_of, storage_words}
+use Rattle.syscall_abi.specs.declared.reply.Reply.TheVariants.{Success, SuccessU32}
+use Rattle.process_own.specs.Own.{Own}
+use Rattle.process_own.specs.Handed.{entering, has_place, held}
+use Rattle.process_own.specs.Served.{bytes_at, kept, ram_at, scheduled, with_kept, with_written}
+use Rattle.driver_model.specs.Commands.{Commanded, Waits, Stores, accepted, refused, by_number}
+
+-- the number of the driver
+abbrev pub storage : ℕ
+storage = 0x50001
+
+-- the request of a process that waits, if one does
+abbrev pub request_of : Option (List ℕ) → Option StorageRequest
+request_of None = None
+request_of (Some words) = (storage_of words).request
+
+abbrev pub request_in : Own → Option StorageRequest
+request_in own = request_of (kept storage own)
+
+-- a process with that request, or with none
+abbrev pub with_request : Option StorageRequest → Own → Own
+with_request request own = with_kept storage (storage_words (record { request = request })) own
+
+-- a request begins to wait, if there is room for the driver's grant
+abbrev pub beginning : StorageRequest → Own → Commanded
+beginning request own =
+    if has_place storage own then record {
+      answer = Ok Success;
+      own = with_request (Some request) (entering storage own);
+      acts = Waits Stores ∷ [];
+    }
+    else refused NoRoom own
+
+-- where one waits already, of either kind, there is none more
+abbrev pub asking : Option StorageRequest → StorageRequest → Own → Commanded
+asking None request own = beginning request own
+asking (Some waiting) request own = refused Busy own
+
+-- a request for bytes of a slot's storage, which has so many; those that are asked for must lie in it
+abbrev pub requesting : ℕ → StorageRequest → Own → Commanded
+requesting size request own =
+    if nat_le (request.offset + request.length) size then asking (request_in own) request own
+    else refused Range own
+
+-- its commands: the driver is there; the bytes of a slot's storage; read, and write, at an offset so many bytes
+unfoldable pub commands : ℕ → ℕ → ℕ → Own → List (ℕ × Commanded)
+commands size a2 a3 own =
+    (0, accepted Success own)
+    ∷ (1, accepted (SuccessU32 size) own)
+    ∷ (2, requesting size (record { kind = Read; offset = a2; length = a3 }) own)
+    ∷ (3, requesting size (record { kind = Write; offset = a2; length = a3 }) own)
+    ∷ []
+
+-- a command of a number with two arguments, where a slot's storage has so many bytes
+unfoldable pub command : ℕ → ℕ → ℕ → ℕ → Own → Commanded
+command size number a2 a3 own = by_number own (commands size a2 a3 own) number
+
+-- What serving a request comes to: what is then the process's own, beside the request; and what is written over
+-- the slot's storage, from an offset on, if anything is.
+pub record Served : Type 0 where
+  pub own : Own
+  pub written : Option (ℕ × List ℕ)
+
+-- a read completes by upcall 0, a write by upcall 1
+abbrev pub upcall_for : StorageKind → ℕ
+upcall_for Read = 0
+upcall_for Write = 1
+
+-- A request completes: its upcall tells how many bytes were moved, and how (0, or 1 for a fault).
+abbrev pub completing : StorageKind → ℕ → ℕ → Own → Own
+completing kind count outcome own = scheduled storage (upcall_for kind) (count ∷ outcome ∷ 0 ∷ []) own
+
+-- bytes of the slot's storage are copied to the start of the buffer that is held now, and no more than it has
+abbrev pub reading : List ℕ → StorageRequest → Own → Served
+reading bytes request own =
+    let count = min request.length (length (ram_at own (held ReadWrite storage 0 own))) in
+    let copied = slice_range bytes request.offset (request.offset + count) in
+    record { own = completing Read count 0 (with_written storage 0 0 copied own); written = None }
+
+-- bytes from the start of the buffer that is held now, and no more than it has, are to be written over the storage
+abbrev pub writing : List ℕ → StorageRequest → Own → Served
+writing flash request own =
+    let buffer = bytes_at flash own (held ReadOnly storage 0 own) in
+    let count = min request.length (length buffer) in
+    record { own = completing Write count 0 own; written = Some (request.offset, take count buffer) }
+
+abbrev pub moving : StorageKind → List ℕ → List ℕ → StorageRequest → Own → Served
+moving Read flash bytes request own = reading bytes request own
+moving Write flash bytes request own = writing flash request own
+
+-- a request is served, with flash and the bytes of the slot's storage; on a fault it moves nothing
+abbrev pub served : Bool → List ℕ → List ℕ → StorageRequest → Own → Served
+served fault flash bytes request own =
+    if fault then record { own = completing request.kind 0 1 own; written = None }
+    else moving request.kind flash bytes request own
+
+-- What the storage's answer to a process changes: what is the process's own; what is written over the slot's
+-- storage; whether a request completed, so that the process waits no more.
+pub record Answered : Type 0 where
+  pub own : Own
+  pub written : Option (ℕ × List ℕ)
+  pub completed : Bool
+
+abbrev pub unanswered : Own → Answered
+unanswered own = record { own = own; written = None; completed = false }
+
+-- a request that was served waits no more
+abbrev pub answer_of : Served → Answered
+answer_of s = record { own = with_request None s.own; written = s.written; completed = true }
+
+abbrev pub answering : Bool → List ℕ → List ℕ → Own → Option StorageRequest → Answered
+answering fault flash bytes own None = unanswered own
+answering fault flash bytes own (Some request) = answer_of (served fault flash bytes request own)
+
+-- the answer to a process of a life; nothing changes where it is not there, or has no request
+unfoldable pub answered : Bool → List ℕ → List ℕ → ℕ → Own → Answered
+answered fault flash bytes life own =
+    if own.lives && own.life == life then answering fault flash bytes own (request_in own) else unanswered own

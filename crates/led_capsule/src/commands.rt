@@ -1,0 +1,61 @@
+//! Commands to the LEDs (TRD 104, "Command").
+ghost use Rattle.std.specs.Prelude.{◌≡◌, length, not, OnErr};
+ghost use Rattle.process_own.specs.Own.{Own};
+ghost use Rattle.driver_model.specs.Leds.{bits_of, command, is_lit, lighting};
+ghost use Rattle.led_capsule.specs.Obeys.{Obeys};
+
+use board_devices::Leds;
+use driver_model::leds_are_bits;
+use syscall_abi::Reply;
+use tk_base::CallRule;
+
+/// Whether an LED is on. One that there is not is off.
+fn is_on(leds: &Leds, led: u32) -> bool
+    ensures { result ≡ is_lit (bits_of leds.now) led }
+{
+    leds_are_bits();
+    led < leds.len() && leds.is_on(led)
+}
+
+/// Turns an LED on or off; it is refused where there is none of that number.
+fn light(leds: &mut Leds, led: u32, on: bool) -> Result<Reply, CallRule>
+    ensures obeys { (own : Own) →
+        Obeys (lighting (length leds.old) led on own) leds.old result leds.new }
+    ensures kept { OnErr result (leds.new ≡ leds.old) }
+{
+    leds_are_bits();
+    if led >= leds.len() {
+        return Err(CallRule::Range);
+    }
+    leds.set(led, on);
+    Ok(Reply::Success)
+}
+
+/// Turns an LED to what it is not; it is refused where there is none of that number.
+fn toggle(leds: &mut Leds, led: u32) -> Result<Reply, CallRule>
+    ensures obeys { (own : Own) → let on = not (is_lit (bits_of leds.old) led) in
+        Obeys (lighting (length leds.old) led on own) leds.old result leds.new }
+    ensures kept { OnErr result (leds.new ≡ leds.old) }
+{
+    let on = !is_on(leds, led);
+    light(leds, led, on)
+}
+
+/// Serves a command of a process to the LEDs: the reply, or the rule that refuses it. 0 asks for the number of
+/// LEDs; 1 turns LED `a2` on, 2 turns it off, 3 turns it to what it is not, each refused with
+/// [`CallRule::Range`] where there is no LED of that number. Any other number is refused with
+/// [`CallRule::NoCommand`]. No LED but `a2` changes, and none where it is refused.
+#[tactic(auto, unfolding(driver_model::specs::Leds::command, driver_model::specs::Leds::commands))]
+pub fn command(leds: &mut Leds, number: u32, a2: u32) -> Result<Reply, CallRule>
+    ensures obeys { (own : Own) → let lit = leds.old in
+        Obeys (command (length lit) (bits_of lit) number a2 own) lit result leds.new }
+    ensures kept { OnErr result (leds.new ≡ leds.old) }
+{
+    match number {
+        0 => Ok(Reply::SuccessU32(leds.len())),
+        1 => light(leds, a2, true),
+        2 => light(leds, a2, false),
+        3 => toggle(leds, a2),
+        _ => Err(CallRule::NoCommand),
+    }
+}

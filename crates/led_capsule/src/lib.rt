@@ -1,0 +1,7 @@
+//! The LEDs (Tock's driver 0x2): a process turns any LED of the board on or off. The driver keeps nothing of a
+//! process, and has no upcalls and no buffers.
+#![tactic(auto)]
+
+mod commands;
+
+pub use commands::command;

@@ -1,0 +1,3 @@
+pub mod Waiting
+pub mod Steps
+pub mod Answers

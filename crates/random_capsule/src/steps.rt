@@ -1,0 +1,66 @@
+//! A step of the request of the process that waits longest.
+ghost use Rattle.std.specs.Prelude.{◌≡◌, ◌+◌, ◌<◌, ◌^◌, ◌&&◌, true, false, not, drop, if◌then◌else◌, length, is_some, IfSome};
+ghost use Rattle.grant_enter.specs.Homes.{own_of, ChangesOnly};
+ghost use Rattle.grant_enter.specs.Visits.{is_stale};
+ghost use Rattle.driver_model.specs.Random.{answered, request_in};
+ghost use Rattle.random_capsule.specs.Steps.{Advances};
+
+use crate::visits::{Advance, Step, randoms};
+use board_devices::Words;
+use grant_enter::Home;
+use grant_values::Random;
+use tk_base::ProcessId;
+
+/// Whether the process of an id is there, and a request of it waits.
+fn has_request(home: &Home, id: &ProcessId) -> bool
+    requires slot { id.now.slot < length home.now.owns }
+    ensures { let own = own_of home.now id.now.slot in
+        result ≡ (not (is_stale id.now.life own) && is_some (request_in own)) }
+{
+    matches!(
+        randoms().peek(home, *id),
+        Ok(Some(Random { request: Some(_) }))
+    )
+}
+
+/// A step of the request of a process, with the next word, where one is left.
+fn step_of(home: &mut Home, id: ProcessId, word: Option<u32>) -> Step
+    requires slot { id.slot < length home.old.owns }
+    requires present { is_stale id.life (own_of home.old id.slot) ≡ false }
+    requires request { is_some (request_in (own_of home.old id.slot)) ≡ true }
+    requires dropped { (own_of home.old id.slot).dropped + 1 < 2 ^ 32 }
+    ensures step { let own = own_of home.old id.slot in
+        IfSome (request_in own) (Advances word own result (own_of home.new id.slot)) }
+    ensures rest { ChangesOnly id.slot home.old home.new }
+{
+    match randoms().visit(home, id, Advance { word }) {
+        Ok(Some(step)) => step,
+        _ => unreachable!(),
+    }
+}
+
+/// Takes the next word away, where it was taken.
+fn draw_if(words: &mut Words, took: bool)
+    requires { took ≡ true → 0 < length words.old }
+    ensures { words.new ≡ (if took then drop 1 words.old else words.old) }
+{
+    if took {
+        words.draw();
+    }
+}
+
+/// A step of the request of a process, if it is there and has one, and whether the request completed.
+pub(crate) fn serve(home: &mut Home, id: &ProcessId, words: &mut Words) -> bool
+    requires slot { id.now.slot < length home.old.owns }
+    requires dropped { (own_of home.old id.now.slot).dropped + 1 < 2 ^ 32 }
+    ensures answered { let a = answered words.old id.now.life (own_of home.old id.now.slot) in
+        (result ≡ a.completed) × (own_of home.new id.now.slot ≡ a.own) × (words.new ≡ a.words) }
+    ensures rest { ChangesOnly id.now.slot home.old home.new }
+{
+    if !has_request(home, id) {
+        return false;
+    }
+    let step = step_of(home, *id, words.peek());
+    draw_if(words, step.took);
+    step.rest.is_none()
+}

@@ -1,0 +1,178 @@
+//! What the source does with the value that a process keeps for it.
+ghost use Rattle.std.specs.Prelude.{◌≡◌, ◌+◌, ◌-◌, ◌<◌, ◌≤◌, ◌^◌};
+ghost use Rattle.grant_enter.specs.Seen.{Framed, IsLent, own_entered};
+ghost use Rattle.driver_model.specs.Random.{completing, drawing, progress, wanted};
+ghost use Rattle.random_capsule.specs.Steps.{stepped};
+
+use grant_enter::{Entered, Grant, Visit, a_buffer_is_written, frames_join};
+use grant_values::{RANDOM, Random, RandomRequest};
+
+/// Bytes of a word.
+const WORD: u32 = 4;
+
+/// How upcall 0 tells that all bytes that were wanted are written.
+const WRITTEN: u32 = 0;
+
+/// How it tells that no word was left.
+const NO_WORD: u32 = 1;
+
+/// The grants that processes keep for the source.
+#[tactic(auto, unfolding(grant_values::specs::Drivers::counts_of, grant_values::specs::Drivers::drivers))]
+pub(crate) fn randoms() -> Grant<Random, 1, 0, 1>
+    ensures { result.driver ≡ 0x40001 }
+{
+    Grant::of(RANDOM)
+}
+
+/// Has a request begin to wait.
+#[derive(Drop)]
+pub(crate) struct Begin {
+    pub count: u32,
+}
+
+impl Visit<Random> for Begin {
+    ghost use Rattle.std.specs.Prelude.{◌≡◌, Some};
+
+    type Answer = ();
+
+    ghost asks = { λ begin value seen. Unit {0} };
+
+    ghost leaves = { λ begin value seen answer value' own.
+        (value' ≡ record { request = Some (record { count = begin.count; written = 0 }) })
+        × (own ≡ seen.own) };
+
+    fn run(self, value: &mut Random, _entered: &mut Entered<'_>) {
+        frames_join();
+        value.request = Some(RandomRequest {
+            count: self.count,
+            written: 0,
+        });
+    }
+}
+
+/// What a step of a request came to.
+#[derive(Clone, Copy)]
+pub(crate) struct Step {
+    /// What waits of it still; None where it completed.
+    pub rest: Option<RandomRequest>,
+    /// Whether it took a word.
+    pub took: bool,
+}
+
+/// Takes a step of the request that waits, with the next word, where one is left.
+#[derive(Drop)]
+pub(crate) struct Advance {
+    pub word: Option<u32>,
+}
+
+impl Visit<Random> for Advance {
+    ghost use Rattle.std.specs.Prelude.{◌≡◌, ◌+◌, ◌<◌, ◌^◌};
+    ghost use Rattle.random_capsule.specs.Steps.{Steps};
+
+    type Answer = Step;
+
+    ghost asks = { λ advance value seen. (seen.driver ≡ 0x40001) × (0 < seen.counts.upcalls)
+        × (0 < seen.counts.rw) × (seen.own.dropped + 1 < 2 ^ 32) };
+
+    ghost leaves = { λ advance value seen answer value' own.
+        Steps advance.word value.request seen.own answer value' own };
+
+    fn run(self, value: &mut Random, entered: &mut Entered<'_>) -> Step {
+        frames_join();
+        let Some(request) = value.request else {
+            return Step {
+                rest: None,
+                took: false,
+            };
+        };
+        let step = take_step(entered, &request, self.word);
+        value.request = step.rest;
+        step
+    }
+}
+
+/// How many bytes a request gets.
+fn wanted(entered: &mut Entered<'_>, request: &RandomRequest) -> u32
+    requires lent { IsLent entered.old }
+    requires driver { entered.old.driver ≡ 0x40001 }
+    requires buffer { 0 < entered.old.counts.rw }
+    ensures count { result ≡ wanted request.now (own_entered entered.old) }
+    ensures own { own_entered entered.new ≡ own_entered entered.old }
+    // what a visitor owes
+    ensures lent { IsLent entered.new }
+    ensures framed { Framed entered.old entered.new }
+{
+    a_buffer_is_written();
+    let length = entered.read_write(0).len();
+    (request.count as usize).min(length) as u32
+}
+
+/// A request completes.
+fn complete(entered: &mut Entered<'_>, took: bool, outcome: u32, bytes: u32) -> Step
+    requires lent { IsLent entered.old }
+    requires driver { entered.old.driver ≡ 0x40001 }
+    requires upcall { 0 < entered.old.counts.upcalls }
+    requires dropped { (own_entered entered.old).dropped + 1 < 2 ^ 32 }
+    ensures step { stepped result (own_entered entered.new)
+        ≡ completing took outcome bytes (own_entered entered.old) }
+    // what a visitor owes
+    ensures lent { IsLent entered.new }
+    ensures framed { Framed entered.old entered.new }
+{
+    entered.schedule(0, [outcome, bytes, 0]);
+    Step { rest: None, took }
+}
+
+/// A word is drawn for a request that wants so many bytes more.
+fn draw(entered: &mut Entered<'_>, request: &RandomRequest, left: u32, word: u32) -> Step
+    requires lent { IsLent entered.old }
+    requires driver { entered.old.driver ≡ 0x40001 }
+    requires upcall { 0 < entered.old.counts.upcalls }
+    requires buffer { 0 < entered.old.counts.rw }
+    requires dropped { (own_entered entered.old).dropped + 1 < 2 ^ 32 }
+    requires left { request.now.written + left < 2 ^ 32 }
+    ensures step { stepped result (own_entered entered.new)
+        ≡ drawing left request.now (own_entered entered.old) (Some word) }
+    // what a visitor owes
+    ensures lent { IsLent entered.new }
+    ensures framed { Framed entered.old entered.new }
+{
+    frames_join();
+    let bytes = word.to_le_bytes();
+    let (part, _) = bytes.split_at(WORD.min(left) as usize);
+    entered.write(0, request.written, part);
+    if left <= WORD {
+        return complete(entered, true, WRITTEN, request.written + left);
+    }
+    Step {
+        rest: Some(RandomRequest {
+            count: request.count,
+            written: request.written + WORD,
+        }),
+        took: true,
+    }
+}
+
+/// One step of a request, with the next word, where one is left.
+fn take_step(entered: &mut Entered<'_>, request: &RandomRequest, word: Option<u32>) -> Step
+    requires lent { IsLent entered.old }
+    requires driver { entered.old.driver ≡ 0x40001 }
+    requires upcall { 0 < entered.old.counts.upcalls }
+    requires buffer { 0 < entered.old.counts.rw }
+    requires dropped { (own_entered entered.old).dropped + 1 < 2 ^ 32 }
+    ensures step { stepped result (own_entered entered.new)
+        ≡ progress word request.now (own_entered entered.old) }
+    // what a visitor owes
+    ensures lent { IsLent entered.new }
+    ensures framed { Framed entered.old entered.new }
+{
+    frames_join();
+    let wanted = wanted(entered, request);
+    if wanted <= request.written {
+        return complete(entered, false, WRITTEN, request.written);
+    }
+    match word {
+        Some(word) => draw(entered, request, wanted - request.written, word),
+        None => complete(entered, false, NO_WORD, request.written),
+    }
+}

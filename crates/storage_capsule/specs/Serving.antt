@@ -1,0 +1,34 @@
+-- What serving a request to the storage leaves.
+use Rattle.std.specs.Prelude.{◌≡◌, ℕ, Bool, List, Option, None, Some}
+use Rattle.tk_outside.specs.Count.{counted}
+use Rattle.grant_values.specs.declared.storage.Storage.{Storage as Value}
+use Rattle.grant_values.specs.declared.storage.StorageRequest.{StorageRequest}
+use Rattle.board_devices.specs.Storage.{Storage, is_fault, slot_bytes, with_bytes}
+use Rattle.process_own.specs.Own.{Own}
+use Rattle.driver_model.specs.Storage.{served, with_request}
+
+-- the storage with bytes written over those of a slot, from an offset on, if any are
+abbrev pub stored : ℕ → Option (ℕ × List ℕ) → Storage → Storage
+stored slot None s = s
+stored slot (Some written) s = with_bytes s slot written.0 written.1
+
+-- the storage after it counted one more request
+abbrev pub after_count : Storage → Storage
+after_count s = record s { served = counted s.served }
+
+-- whether the next request that is served fails
+abbrev pub fails_next : Storage → Bool
+fails_next s = is_fault s.faults (counted s.served)
+
+-- what a visit to a process leaves that has a request: it is served, and waits no more
+abbrev pub Serves : ℕ → Bool → List ℕ → Storage → Option StorageRequest → Own → Storage → Value → Own → Type 0
+Serves slot fault flash old None own new value own' = Unit {0}
+Serves slot fault flash old (Some request) own new value own' =
+    let s = served fault flash (slot_bytes old slot) request own in
+    (own' ≡ s.own) × (new ≡ stored slot s.written old) × (value ≡ record { request = None })
+
+-- what serving a process's request leaves of it, and of the storage, which counts it
+abbrev pub Completes : ℕ → List ℕ → Storage → Own → Storage → Own → StorageRequest → Type 0
+Completes slot flash old own new own' request =
+    let s = served (fails_next old) flash (slot_bytes old slot) request own in
+    (own' ≡ with_request None s.own) × (new ≡ stored slot s.written (after_count old))

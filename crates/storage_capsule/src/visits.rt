@@ -1,0 +1,183 @@
+//! What the storage does with the value that a process keeps for it.
+ghost use Rattle.std.specs.Prelude.{◌≡◌, ◌+◌, ◌<◌, ◌≤◌, ◌^◌, min, length};
+ghost use Rattle.grant_areas.specs.declared.kinds.PairKind.TheVariants.{ReadWrite};
+ghost use Rattle.process_own.specs.Handed.{held};
+ghost use Rattle.board_devices.specs.Storage.{bytes_from, slot_bytes};
+ghost use Rattle.process_own.specs.Served.{ram_at, with_written};
+ghost use Rattle.grant_enter.specs.Seen.{Framed, IsLent, own_entered};
+ghost use Rattle.driver_model.specs.Storage.{completing, moving, served};
+ghost use Rattle.storage_capsule.specs.Serving.{stored};
+
+use crate::moves::{fill, put};
+use board_devices::Stores;
+use grant_enter::{Entered, Grant, Visit, a_buffer_is_written, frames_join};
+use grant_values::{STORAGE, Storage, StorageKind, StorageRequest};
+use tk_base::Slot;
+
+/// How an upcall tells that bytes were moved.
+const MOVED: u32 = 0;
+
+/// How it tells of a fault.
+const FAULT: u32 = 1;
+
+/// The grants that processes keep for the storage.
+#[tactic(auto, unfolding(grant_values::specs::Drivers::counts_of, grant_values::specs::Drivers::drivers))]
+pub(crate) fn storages() -> Grant<Storage, 2, 1, 1>
+    ensures { result.driver ≡ 0x50001 }
+{
+    Grant::of(STORAGE)
+}
+
+/// Has a request begin to wait.
+#[derive(Drop)]
+pub(crate) struct Begin {
+    pub request: StorageRequest,
+}
+
+impl Visit<Storage> for Begin {
+    ghost use Rattle.std.specs.Prelude.{◌≡◌, Some};
+
+    type Answer = ();
+
+    ghost asks = { λ begin value seen. Unit {0} };
+
+    ghost leaves = { λ begin value seen answer value' own.
+        (value' ≡ record { request = Some begin.request }) × (own ≡ seen.own) };
+
+    fn run(self, value: &mut Storage, _entered: &mut Entered<'_>) {
+        frames_join();
+        value.request = Some(self.request);
+    }
+}
+
+/// Serves the request that waits, over the storage of a slot; on a fault it moves nothing. It hands the
+/// storage back.
+#[derive(Drop)]
+pub(crate) struct Serve<'a> {
+    pub stores: &'a mut Stores,
+    pub slot: Slot,
+    pub fault: bool,
+}
+
+impl<'a> Visit<Storage> for Serve<'a> {
+    ghost use Rattle.std.specs.Prelude.{◌≡◌, ◌+◌, ◌<◌, ◌≤◌, ◌^◌, IfSome};
+    ghost use Rattle.storage_capsule.specs.Serving.{Serves};
+
+    type Answer = &'a mut Stores;
+
+    ghost asks = { λ serve value seen. (seen.driver ≡ 0x50001) × (1 < seen.counts.upcalls)
+        × (0 < seen.counts.ro) × (0 < seen.counts.rw) × (seen.own.dropped + 1 < 2 ^ 32)
+        × IfSome value.request (λ request. request.offset + request.length ≤ serve.stores.now.size) };
+
+    ghost leaves = { λ serve value seen stores value' own. (stores.ghost_name ≡ serve.stores.ghost_name)
+        × Serves serve.slot serve.fault seen.flash serve.stores.now value.request seen.own
+        stores.now value' own };
+
+    fn run(self, value: &mut Storage, entered: &mut Entered<'_>) -> &'a mut Stores {
+        frames_join();
+        let Serve {
+            stores,
+            slot,
+            fault,
+        } = self;
+        if let Some(request) = value.request {
+            serve_request(entered, stores, slot, &request, fault);
+            value.request = None;
+        }
+        stores
+    }
+}
+
+/// Copies bytes of the storage into the buffer of a process. The answer is how many.
+fn read(entered: &mut Entered<'_>, stores: &Stores, slot: Slot, request: &StorageRequest) -> u32
+    requires lent { IsLent entered.old }
+    requires driver { entered.old.driver ≡ 0x50001 }
+    requires buffer { 0 < entered.old.counts.rw }
+    requires within { request.now.offset + request.now.length ≤ stores.now.size }
+    ensures count { result ≡ min request.now.length
+        (length (ram_at (own_entered entered.old) (held ReadWrite 0x50001 0 (own_entered entered.old)))) }
+    ensures own { own_entered entered.new ≡ with_written 0x50001 0 0
+        (bytes_from stores.now slot request.now.offset result) (own_entered entered.old) }
+    // what a visitor owes
+    ensures lent { IsLent entered.new }
+    ensures framed { Framed entered.old entered.new }
+{
+    a_buffer_is_written();
+    fill(entered.read_write(0), stores, slot, request)
+}
+
+/// Moves the bytes of a request. The answer is how many.
+fn move_bytes(
+    entered: &mut Entered<'_>,
+    stores: &mut Stores,
+    slot: Slot,
+    request: &StorageRequest,
+) -> u32
+    requires lent { IsLent entered.old }
+    requires driver { entered.old.driver ≡ 0x50001 }
+    requires read { 0 < entered.old.counts.ro }
+    requires write { 0 < entered.old.counts.rw }
+    requires within { request.now.offset + request.now.length ≤ stores.old.size }
+    ensures moved { let s = moving request.now.kind entered.old.memory.now.flash
+        (slot_bytes stores.old slot) request.now (own_entered entered.old) in
+        (completing request.now.kind result 0 (own_entered entered.new) ≡ s.own)
+        × (stores.new ≡ stored slot s.written stores.old) }
+    ensures dropped { (own_entered entered.new).dropped ≡ (own_entered entered.old).dropped }
+    // what a visitor owes
+    ensures lent { IsLent entered.new }
+    ensures framed { Framed entered.old entered.new }
+{
+    frames_join();
+    match request.kind {
+        StorageKind::Read => read(entered, stores, slot, request),
+        StorageKind::Write => put(stores, slot, request, entered.read_only(0)),
+    }
+}
+
+/// Has a request complete: its upcall tells how many bytes were moved, and how.
+fn complete(entered: &mut Entered<'_>, kind: StorageKind, count: u32, outcome: u32)
+    requires lent { IsLent entered.old }
+    requires driver { entered.old.driver ≡ 0x50001 }
+    requires upcalls { 1 < entered.old.counts.upcalls }
+    requires dropped { (own_entered entered.old).dropped + 1 < 2 ^ 32 }
+    ensures own { own_entered entered.new ≡ completing kind count outcome (own_entered entered.old) }
+    // what a visitor owes
+    ensures lent { IsLent entered.new }
+    ensures framed { Framed entered.old entered.new }
+{
+    match kind {
+        StorageKind::Read => entered.schedule(0, [count, outcome, 0]),
+        StorageKind::Write => entered.schedule(1, [count, outcome, 0]),
+    };
+}
+
+/// Serves a request; on a fault it moves nothing.
+fn serve_request(
+    entered: &mut Entered<'_>,
+    stores: &mut Stores,
+    slot: Slot,
+    request: &StorageRequest,
+    fault: bool,
+)
+    requires lent { IsLent entered.old }
+    requires driver { entered.old.driver ≡ 0x50001 }
+    requires upcalls { 1 < entered.old.counts.upcalls }
+    requires read { 0 < entered.old.counts.ro }
+    requires write { 0 < entered.old.counts.rw }
+    requires dropped { (own_entered entered.old).dropped + 1 < 2 ^ 32 }
+    requires within { request.now.offset + request.now.length ≤ stores.old.size }
+    ensures served { let s = served fault entered.old.memory.now.flash
+        (slot_bytes stores.old slot) request.now (own_entered entered.old) in
+        (own_entered entered.new ≡ s.own) × (stores.new ≡ stored slot s.written stores.old) }
+    // what a visitor owes
+    ensures lent { IsLent entered.new }
+    ensures framed { Framed entered.old entered.new }
+{
+    frames_join();
+    if fault {
+        complete(entered, request.kind, 0, FAULT);
+        return;
+    }
+    let count = move_bytes(entered, stores, slot, request);
+    complete(entered, request.kind, count, MOVED);
+}
