@@ -33,6 +33,16 @@ def boot(name, shows, flash, text, script=b"", turns=1000, status=0):
     return Case(name, shows, ["boot", "flash", "script", "--turns", str(turns)], status, text, flash, script)
 
 
+def trace(name, shows, flash, text, script=b"", turns=1000, status=0):
+    """A run with these two files that tells its calls and denials."""
+    return Case(name, shows, ["trace", "flash", "script", "--turns", str(turns)], status, text, flash, script)
+
+
+def soak(name, shows, number, turns, text):
+    """A run of the applications that are generated from a number; there is no file."""
+    return Case(name, shows, ["soak", number, "--turns", str(turns)], 0, text)
+
+
 def listing(name, shows, flash, text, status=0):
     """A list of this flash file; there is no script."""
     return Case(name, shows, ["list", "flash"], status, text, flash, None)
@@ -63,6 +73,11 @@ def swap(kind, driver, number, first, second):
     """Subscribe (class 1) or an allow (3 for read-write, 4 for read-only) of a pair."""
     pair = li(A2, first) + li(A3, second)
     return li(A4, kind) + li(A0, driver) + li(A1, number) + pair + ecall
+
+
+def command(driver, number, first=0, second=0):
+    """The system call command, with two arguments."""
+    return li(A4, 2) + li(A0, driver) + li(A1, number) + li(A2, first) + li(A3, second) + ecall
 
 
 def yields(number):
@@ -262,7 +277,7 @@ CALLS = [
 # starts at RAM, and its break is RAM + 256. After a swap a0 is 130, and a1 and a2 the former pair; after its
 # refusal a0 is 2, a1 the error's code, and a2 and a3 the passed pair.
 SUBSCRIBE, READ_WRITE, READ_ONLY = 1, 3, 4
-ALARM, CONSOLE, NO_DRIVER = 0, 1, 3
+ALARM, CONSOLE, LED, NO_DRIVER, RANDOM, STORAGE = 0, 1, 2, 3, 0x40001, 0x50001
 CODE, BREAK, TOP = FLASH + 32, RAM + 256, RAM + 1024
 # Three subscribes, of seven, seven and six turns.
 FIRST = swap(SUBSCRIBE, ALARM, 0, CODE, 1)
@@ -362,6 +377,271 @@ YIELDS = [
     tells("flag-above-the-break", "elsewhere no flag is written", 7, mv(A1, A3), yields(0), li(A1, 7)),
     tells("flag-in-flash", "nor in flash", 5, mv(S0, A0), li(T0, 5), mv(A1, A0), yields(0), mv(A1, T0)),
     tells("yield-of-another-number", "any other number changes nothing", 5, li(A1, 5), yields(3)),
+]
+
+# Exits with the first argument of the upcall of the alarm that it arms 60 ticks from tick 0 on.
+ALARM_AT_60 = app(mv(S0, A0), li(A4, SUBSCRIBE), li(A0, ALARM), li(A1, 0), addi(A2, S0, offset("rings")),
+                  li(A3, 0), ecall, command(ALARM, 6, 0, 60), yields(1), "rings", mv(A1, A0), exits())
+
+ALARMS = [
+    tells("alarm-is-there", "a driver that is there says so", 128, command(ALARM, 0), mv(A1, A0)),
+    tells("alarm-frequency", "a second has 1000 ticks", 1000, command(ALARM, 1)),
+    tells("clock-of-the-start", "the clock shows the script's start and the time of the step", 12,
+          command(ALARM, 2), script=b"start 7"),
+    tells("clock-that-wraps", "modulo 2^32", 4, command(ALARM, 2), script=b"start 4294967295"),
+    tells("alarm-from-now-on", "the reply is the tick of the expiration", 25, command(ALARM, 5, 20)),
+    tells("alarm-from-a-reference", "counted from the reference", 901, command(ALARM, 6, 1, 900)),
+    boot("alarm-from-a-later-reference", "which, where it is later than the clock, was long ago: it is due at once",
+         app(command(ALARM, 6, 100, 20), exits()), """
+        ==
+        slot 0 - terminated 120 turns 9 restarts 0
+        leds 0000
+        end done steps 10 time 9
+    """),
+    tells("expiration-that-wraps", "modulo 2^32", 19, command(ALARM, 6, -1, 20)),
+    tells("stop-of-no-alarm", "none is armed at first", 3, command(ALARM, 3)),
+    tells("stop-of-an-alarm", "an alarm that is armed is stopped", 128,
+          command(ALARM, 5, 900), command(ALARM, 3), mv(A1, A0)),
+    tells("stop-of-a-stopped-alarm", "and then none is armed", 3,
+          command(ALARM, 5, 900), command(ALARM, 3), command(ALARM, 3)),
+    tells("no-such-command", "a number that the alarm does not know", 10, command(ALARM, 4)),
+    tells("command-to-no-driver", "a number without a driver", 11, command(NO_DRIVER, 0)),
+    tells("no-room-for-an-alarm", "an alarm needs room for its grant", 9, memop(0, TOP), command(ALARM, 5, 1)),
+    boot("alarm-near-the-clocks-end", "the clock wraps while a process waits: the upcall tells tick 15",
+         app(mv(S0, A0), li(A4, SUBSCRIBE), li(A0, ALARM), li(A1, 0), addi(A2, S0, offset("rings")), li(A3, 0),
+             ecall, li(A4, 2), li(A0, ALARM), li(A1, 5), li(A2, 20), ecall, yields(1),
+             "rings", mv(A1, A0), exits()),
+         script=b"start 4294967280", text="""
+        ==
+        slot 0 - terminated 15 turns 20 restarts 0
+        leds 0000
+        end done steps 22 time 36
+    """),
+    boot("alarms-due-together", "alarms fire one after another, and take no time", ALARM_AT_60 + ALARM_AT_60, """
+        ==
+        slot 0 - terminated 60 turns 21 restarts 0
+        slot 1 - terminated 60 turns 21 restarts 0
+        leds 0000
+        end done steps 45 time 70
+    """),
+    boot("alarm-of-one-that-ended", "an alarm of a process that ended wakes nobody", 
+         app(command(ALARM, 5, 100), li(A1, 5), exits()), """
+        ==
+        slot 0 - terminated 5 turns 10 restarts 0
+        leds 0000
+        end done steps 10 time 10
+    """),
+    boot("alarm-without-an-upcall", "a null upcall wakes nobody either", app(command(ALARM, 5, 100), yields(1)), """
+        ==
+        slot 0 - yielded turns 9 restarts 0
+        leds 0000
+        end done steps 11 time 105
+    """),
+    boot("permission-before-no-driver", "what the object does not permit is refused before all else",
+         app(command(NO_DRIVER, 3), exits(), elements=[permissions_tlv((1, 0, 2))]), """
+        ==
+        slot 0 - terminated 11 turns 9 restarts 0
+        leds 0000
+        end done steps 9 time 9
+    """),
+]
+
+def hands(kind, driver, number, label, second=0):
+    """A swap whose first word is the address of a label; s0 holds where the code begins."""
+    return [li(A4, kind) + li(A0, driver) + li(A1, number), addi(A2, S0, offset(label)), li(A3, second) + ecall]
+
+
+def lends(kind, driver, number, size, place=0):
+    """An allow of bytes of RAM; s1 holds where the block begins."""
+    return li(A4, kind) + li(A0, driver) + li(A1, number) + addi(A2, S1, place) + li(A3, size) + ecall
+
+
+def prints(text):
+    """An application that prints a text and exits with the count of bytes that the UART took."""
+    return app(mv(S0, A0), *hands(SUBSCRIBE, CONSOLE, 1, "told"), *hands(READ_ONLY, CONSOLE, 1, "text", len(text)),
+               command(CONSOLE, 1, len(text)), yields(1), "told", mv(A1, A0), exits(), "text", text)
+
+
+# Prints a line, and exits with the count of its bytes.
+PRINTS = prints(b"hello, world\n")
+
+# Prints back what comes in, up to 16 bytes at a time. It waits from time 35 on.
+ECHO = app(mv(S0, A0), mv(S1, A1), lends(READ_WRITE, CONSOLE, 1, 16), lends(READ_ONLY, CONSOLE, 1, 16),
+           *hands(SUBSCRIBE, CONSOLE, 2, "came"), *hands(SUBSCRIBE, CONSOLE, 1, "sent"), command(CONSOLE, 2, 16),
+           "waits", yields(1), jal(ZERO, "waits"),
+           "came", mv(A2, A1), li(A4, 2), li(A0, CONSOLE), li(A1, 1), li(A3, 0), ecall, jalr(ZERO, RA),
+           "sent", command(CONSOLE, 2, 16), jalr(ZERO, RA))
+
+
+def reads(count, size, exit_code):
+    """An application that asks for so many bytes into a buffer of a size, and exits with what the part puts in a1
+    once the upcall came; it waits from time 22 on."""
+    return app(mv(S0, A0), mv(S1, A1), *hands(SUBSCRIBE, CONSOLE, 2, "came"), lends(READ_WRITE, CONSOLE, 1, size),
+               command(CONSOLE, 2, count), yields(1), "came", exit_code, exits())
+
+
+CONSOLES = [
+    boot("write-of-70-bytes", "the UART takes 64 bytes at most, and a byte takes a tick", prints(b"p" * 70), """
+        %s==
+        slot 0 - terminated 70 turns 27 restarts 0
+        leds 0000
+        end done steps 32 time 94
+    """ % ("p" * 70)),
+    boot("write-of-a-line", "an application prints", PRINTS, """
+        hello, world
+        ==
+        slot 0 - terminated 13 turns 27 restarts 0
+        leds 0000
+        end done steps 30 time 37
+    """),
+    boot("write-from-another-buffer", "each step takes bytes of the buffer that is held then, and no more than it has",
+         app(mv(S0, A0), *hands(READ_ONLY, CONSOLE, 1, "first", 100), command(CONSOLE, 1, 100),
+             *hands(READ_ONLY, CONSOLE, 1, "second", 70), *hands(SUBSCRIBE, CONSOLE, 1, "told"), yields(1),
+             "told", mv(A1, A0), exits(), "first", b"a" * 100, "second", b"b" * 70), """
+        %s==
+        slot 0 - terminated 70 turns 33 restarts 0
+        leds 0000
+        end done steps 38 time 88
+    """ % ("a" * 64 + "b" * 6)),
+    boot("two-writers", "writes are taken in the order in which they were asked for", prints(b"p" * 70) + prints(b"pong"), """
+        %spong==
+        slot 0 - terminated 70 turns 27 restarts 0
+        slot 1 - terminated 4 turns 27 restarts 0
+        leds 0000
+        end done steps 61 time 99
+    """ % ("p" * 70)),
+    boot("echo", "what comes in is printed back", ECHO, script=b"at 50 input 6869", text="""
+        hi==
+        slot 0 - yielded turns 59 restarts 0
+        leds 0000
+        end done steps 64 time 74
+    """),
+    boot("input-for-a-read", "a read gets the bytes that came in", reads(4, 8, lhu(A1, S1)), script=b"at 50 input 6869",
+         text="""
+        ==
+        slot 0 - terminated 26984 turns 28 restarts 0
+        leds 0000
+        end done steps 31 time 55
+    """),
+    boot("read-without-a-buffer", "a read whose buffer has no bytes is told the status of a size", reads(4, 0, mv(A1, A0)),
+         script=b"at 50 input 41", text="""
+        ==
+        slot 0 - terminated 7 turns 28 restarts 0
+        leds 0000
+        end done steps 31 time 55
+    """),
+    boot("lost-input", "of 300 bytes that come in at once the newest 256 are kept", reads(1, 8, lbu(A1, S1)),
+         script=b"".join(b"at 5 input %s\n" % bytes(i % 256 for i in range(at, min(at + 64, 300))).hex().encode()
+                         for at in range(0, 300, 64)), text="""
+        ==
+        slot 0 - terminated 44 turns 28 restarts 0
+        leds 0000
+        end done steps 34 time 28
+    """),
+    boot("read-that-is-dropped", "a read that is dropped is told so",
+         app(mv(S0, A0), *hands(SUBSCRIBE, CONSOLE, 2, "came"), command(CONSOLE, 2, 4), command(CONSOLE, 3), yields(1),
+             "came", mv(A1, A0), exits()), """
+        ==
+        slot 0 - terminated 8 turns 27 restarts 0
+        leds 0000
+        end done steps 27 time 27
+    """),
+    boot("restart-with-a-read-waiting", "a process that starts again waits for no bytes, and has none that came in",
+         app(mv(S0, A1), li(A4, 2), li(A0, ALARM), li(A1, 2), ecall, li(T0, 12), bltu(T0, A1, "later"),
+             li(A4, READ_WRITE), li(A0, CONSOLE), li(A1, 1), mv(A2, S0), li(A3, 4), ecall,
+             li(A4, 2), li(A0, CONSOLE), li(A1, 2), li(A2, 4), ecall, li(A4, 6), li(A0, 1), ecall,
+             "later", lbu(A1, S0), exits()), script=b"at 24 input 41", text="""
+        ==
+        slot 0 - terminated 0 turns 32 restarts 1
+        leds 0000
+        end done steps 33 time 32
+    """),
+    boot("input-for-nobody", "bytes come in where nobody reads", b"", script=b"at 5 input 41", text="""
+        ==
+        leds 0000
+        end done steps 2 time 5
+    """),
+    tells("second-read", "a process has one read at a time", 2, command(CONSOLE, 2, 4), command(CONSOLE, 2, 4)),
+]
+
+LEDS = [
+    boot("leds-that-are-lit", "LEDs are turned on, off, and to what they are not",
+         app(command(LED, 1, 1), command(LED, 1, 2), command(LED, 2, 2), command(LED, 3, 3), command(LED, 3, 3),
+             command(LED, 3, 0), li(A1, 0), exits()), """
+        ==
+        slot 0 - terminated 0 turns 40 restarts 0
+        leds 1100
+        end done steps 40 time 40
+    """),
+    boot("last-of-16-leds", "the last of sixteen", app(command(LED, 1, 15), command(LED, 0), exits()), script=b"leds 16",
+         text="""
+        ==
+        slot 0 - terminated 16 turns 15 restarts 0
+        leds 0000000000000001
+        end done steps 15 time 15
+    """),
+    tells("no-such-led", "a number beyond the LEDs is refused", 6, command(LED, 1, 4)),
+    boot("led-of-none", "all are where there are none", app(command(LED, 1, 0), exits()), script=b"leds 0", text="""
+        ==
+        slot 0 - terminated 6 turns 9 restarts 0
+        leds -
+        end done steps 9 time 9
+    """),
+]
+
+
+def draws(count, size, exit_code):
+    """An application that asks for random bytes into a buffer of a size."""
+    return app(mv(S0, A0), mv(S1, A1), lends(READ_WRITE, RANDOM, 0, size), *hands(SUBSCRIBE, RANDOM, 0, "told"),
+               command(RANDOM, 1, count), yields(1), "told", exit_code, exits())
+
+
+RANDOMS = [
+    boot("random-%s" % name, shows, draws(6, 8, exit_code), script=b"random 11223344", text="""
+        ==
+        slot 0 - terminated %d turns 31 restarts 0
+        leds 0000
+        end done steps 33 time 31
+    """ % code) for name, shows, exit_code, code in [
+        ("status", "where no word is left for a request it is told so", mv(A1, A0), 1),
+        ("bytes", "with the count of bytes that it got", addi(A1, A1, 0), 4),
+        ("word", "a word's lowest byte comes first", lw(A1, S1), 0x11223344),
+        ("rest", "and nothing else is written", lw(A1, S1, 4), 0)]
+] + [
+    boot("eleven-upcalls", "ten upcalls may be pending, and one more is dropped",
+         app(mv(S0, A0), li(S1, 11), li(S2, RANDOM), li(A4, 1), mv(A0, S2), li(A1, 0), mv(A2, S0), li(A3, 0), ecall,
+             li(A4, 2), "again", mv(A0, S2), li(A1, 1), li(A2, 0), ecall, addi(S1, S1, -1), bne(S1, ZERO, "again"),
+             li(A4, 6), li(A0, 0), li(A1, 0), ecall), """
+        ==
+        slot 0 - terminated 0 turns 81 restarts 0 dropped 1
+        leds 0000
+        end done steps 92 time 81
+    """),
+]
+
+STORAGES = [
+    tells("storage-size", "a script says how many bytes of storage a slot has", 4096, command(STORAGE, 1),
+          script=b"storage 4096"),
+    tells("no-storage", "there may be none", 0, command(STORAGE, 1), script=b"storage 0"),
+    tells("storage-range", "bytes beyond them are refused", 6, command(STORAGE, 3, 12, 8), script=b"storage 16"),
+    boot("bytes-in-storage", "bytes are written and read back",
+         app(mv(S0, A0), mv(S1, A1), li(T0, 0x55), sb(T0, S1), lends(READ_ONLY, STORAGE, 0, 4),
+             lends(READ_WRITE, STORAGE, 0, 4, 8), *hands(SUBSCRIBE, STORAGE, 0, "back"),
+             *hands(SUBSCRIBE, STORAGE, 1, "back"), command(STORAGE, 3, 4, 4), yields(1), command(STORAGE, 2, 4, 4),
+             yields(1), lbu(A1, S1, 8), exits(), "back", jalr(ZERO, RA)), script=b"storage 16", text="""
+        ==
+        slot 0 - terminated 85 turns 60 restarts 0
+        leds 0000
+        end done steps 62 time 60
+    """),
+    boot("storage-fault", "a request that fails is told so",
+         app(mv(S0, A0), *hands(SUBSCRIBE, STORAGE, 0, "told"), command(STORAGE, 2, 0, 4), yields(1), "told", exits()),
+         script=b"storage 16\nstorage-fault 1", text="""
+        ==
+        slot 0 - terminated 1 turns 22 restarts 0
+        leds 0000
+        end done steps 23 time 22
+    """),
 ]
 
 # The first process keeps a word that it exits with; the second strays to where that word is. The store is the
@@ -613,10 +893,8 @@ SCRIPTS = [
          script=b"ram 8192\nram 8192", text="script 2 repeated"),
     boot("unknown-event", "an event has a name", EXIT_7, status=5,
          script=b"at 5 output 00", text="script 1 unknown-word"),
-    boot("at-is-no-line-yet", "the line comes with the events", EXIT_7, status=5,
-         script=b"# c\nat 1 input 00", text="script 2 unknown-word"),
-    boot("start-is-no-line-yet", "the line comes with the alarm", EXIT_7, status=5,
-         script=b"# c\nstart 4", text="script 2 unknown-word"),
+    boot("input-that-is-no-hex", "bytes that come in are hex; lines that are skipped count", EXIT_7, status=5,
+         script=b"# c\n\nat 5 input 0g", text="script 3 bad-hex"),
     boot("policy-by-itself", "a policy is named", EXIT_7, status=5,
          script=b"policy", text="script 1 words"),
     boot("slice-of-0", "a slice has one turn at least", EXIT_7, status=5,
@@ -678,11 +956,176 @@ FILES = [
             text="file flash too long"),
 ]
 
+# The time of a line is that before its step. Registers that a reply does not use stay as they were: at first a0 is the
+# application's address, a1 RAM, a2 the block's 1024 bytes and a3 the break.
+TRACES = [
+    trace("trace-of-no-step", "where nothing runs there is the report alone", b"", """
+        ==
+        leds 0000
+        end done steps 0 time 0
+    """),
+    trace("trace-of-three-applications", "an exit, a store past the break, and a call with its reply",
+          THREE, script=b"# 16 KiB of RAM\nram 16384\n", text="""
+        @3 0 call 6 00000000 00000007 00000400 80000100
+        @5 1 denied store 80000500 no-region
+        @8 2 call 5 00000003 80000800 00000400 80000900 = 00000081 80000c00 00000400 80000900
+        @11 2 call 6 00000000 80000c00 00000400 80000900
+        ==
+        slot 0 hello terminated 7 turns 4 restarts 0
+        slot 1 stray faulted store 80000500 no-region turns 2 restarts 0
+        slot 2 memop terminated 2147486720 turns 6 restarts 0
+        leds 0000
+        end done steps 12 time 12
+    """),
+    trace("trace-of-a-refused-allow", "a refusal tells its rule after the registers of the reply",
+          app(swap(READ_WRITE, CONSOLE, 1, -16, 32), swap(READ_WRITE, CONSOLE, 1, -16, 0), exits()), """
+        @5 0 call 3 00000001 00000001 fffffff0 00000020 = 00000002 00000006 fffffff0 00000020 outside
+        @11 0 call 3 00000001 00000001 fffffff0 00000000 = 00000082 00000000 00000000 00000000
+        @14 0 call 6 00000000 00000000 00000000 00000000
+        ==
+        slot 0 - terminated 0 turns 15 restarts 0
+        leds 0000
+        end done steps 15 time 15
+    """),
+    trace("trace-of-former-buffers", "each allow gives the buffer before it, and the break stays above the last",
+          app(mv(S0, A1), li(A4, READ_WRITE),
+              li(A0, CONSOLE), li(A1, 1), mv(A2, S0), li(A3, 16), ecall,
+              li(A0, CONSOLE), li(A1, 1), addi(A2, S0, 32), li(A3, 8), ecall,
+              li(A0, CONSOLE), li(A1, 1), li(A2, 0), li(A3, 0), ecall,
+              li(A4, 5), li(A0, 0), addi(A1, S0, 36), ecall, exits()), """
+        @6 0 call 3 00000001 00000001 80000000 00000010 = 00000082 00000000 00000000 00000010
+        @11 0 call 3 00000001 00000001 80000020 00000008 = 00000082 80000000 00000010 00000008
+        @16 0 call 3 00000001 00000001 00000000 00000000 = 00000082 80000020 00000008 00000000
+        @20 0 call 5 00000000 80000024 00000008 00000000 = 00000000 00000009 00000008 00000000 break
+        @23 0 call 6 00000000 00000009 00000008 00000000
+        ==
+        slot 0 - terminated 9 turns 24 restarts 0
+        leds 0000
+        end done steps 24 time 24
+    """),
+    trace("trace-of-no-room", "a grant has no room below the break, and has it once the break went down",
+          app(mv(S0, A1), li(A4, 5), li(A0, 0), addi(A1, S0, 1024), ecall,
+              swap(SUBSCRIBE, CONSOLE, 1, 0, 0),
+              li(A4, 5), li(A0, 1), li(A1, -96), ecall,
+              swap(SUBSCRIBE, CONSOLE, 1, 0, 0), word(0)), """
+        @4 0 call 5 00000000 80000400 00000400 80000100 = 00000080 80000400 00000400 80000100
+        @10 0 call 1 00000001 00000001 00000000 00000000 = 00000002 00000009 00000000 00000000 no-room
+        @14 0 call 5 00000001 ffffffa0 00000000 00000000 = 00000081 80000400 00000000 00000000
+        @20 0 call 1 00000001 00000001 00000000 00000000 = 00000082 00000000 00000000 00000000
+        @21 0 denied fetch 20000074 illegal
+        ==
+        slot 0 - faulted fetch 20000074 illegal turns 22 restarts 0
+        leds 0000
+        end done steps 22 time 22
+    """),
+    trace("trace-of-subscribes", "each subscribe gives the upcall before it; the alarm has one",
+          app(mv(S0, A0), *(li(A4, SUBSCRIBE) + li(A0, ALARM) + li(A1, number) + function + li(A3, data) + ecall
+                            for number, function, data in [(0, addi(A2, S0, 64), 1), (0, addi(A2, S0, 68), 2),
+                                                           (0, li(A2, 0), 3), (1, li(A2, 0), 4)])), """
+        @6 0 call 1 00000000 00000000 20000060 00000001 = 00000082 00000000 00000000 00000001
+        @12 0 call 1 00000000 00000000 20000064 00000002 = 00000082 20000060 00000001 00000002
+        @18 0 call 1 00000000 00000000 00000000 00000003 = 00000082 20000064 00000002 00000003
+        @24 0 call 1 00000000 00000001 00000000 00000004 = 00000002 0000000a 00000000 00000004 no-number
+        @25 0 denied fetch 20000084 no-region
+        ==
+        slot 0 - faulted fetch 20000084 no-region turns 26 restarts 0
+        leds 0000
+        end done steps 26 time 26
+    """),
+    trace("trace-of-a-yield", "a yield has no reply", app(yields(1)), """
+        @2 0 call 0 00000001 80000000 00000400 80000100
+        ==
+        slot 0 - yielded turns 3 restarts 0
+        leds 0000
+        end done steps 3 time 3
+    """),
+    trace("trace-of-restarts", "nor has an exit that starts the process again", app(exits(1)), turns=6, text="""
+        @2 0 call 6 00000001 80000000 00000400 80000100
+        @5 0 call 6 00000001 80000000 00000400 80000100
+        ==
+        slot 0 - running turns 6 restarts 2
+        leds 0000
+        end turns steps 6 time 6
+    """),
+    trace("trace-of-an-unknown-class", "a class that there is not is a denial, and no call", app(li(A4, 7), ecall), """
+        @1 0 denied fetch 20000024 unknown-class
+        ==
+        slot 0 - faulted fetch 20000024 unknown-class turns 2 restarts 0
+        leds 0000
+        end done steps 2 time 2
+    """),
+    trace("trace-of-three-slots", "each line tells whose step it was",
+          app("again", jal(ZERO, "again"), word(0)) + BREAKPOINT + EXIT_7, turns=14,
+          script=b"slice 2\npolicy threshold 2\n", text="""
+        @2 1 denied fetch 20000048 breakpoint
+        @3 1 denied fetch 20000048 breakpoint
+        @8 1 denied fetch 20000048 breakpoint
+        @10 2 call 6 00000000 00000007 00000400 80000900
+        ==
+        slot 0 - running turns 7 restarts 0
+        slot 1 - faulted fetch 20000048 breakpoint turns 3 restarts 2
+        slot 2 - terminated 7 turns 4 restarts 0
+        leds 0000
+        end turns steps 14 time 14
+    """),
+    trace("trace-without-a-flash-file", "the files are asked for as those of boot are", None, status=3,
+          text="file flash fault"),
+]
+
+# The eight applications do the same until they spin, each in slices of 16 turns: number 0 gives `slice 16`.
+SOAKS = [
+    soak("soak-of-no-turn", "nothing was printed before the first turn", "0", 0, """
+        printed 0 sum 0
+        ==
+        slot 0 - running turns 0 restarts 0
+        slot 1 - running turns 0 restarts 0
+        slot 2 - running turns 0 restarts 0
+        slot 3 - running turns 0 restarts 0
+        slot 4 - running turns 0 restarts 0
+        slot 5 - running turns 0 restarts 0
+        slot 6 - running turns 0 restarts 0
+        slot 7 - running turns 0 restarts 0
+        leds 0000
+        end turns steps 0 time 0
+    """),
+    soak("soak-of-a-hundred-turns", "six slices of 16, and 4 turns of the seventh", "0", 100, """
+        printed 0 sum 0
+        ==
+        slot 0 - running turns 16 restarts 0
+        slot 1 - running turns 16 restarts 0
+        slot 2 - running turns 16 restarts 0
+        slot 3 - running turns 16 restarts 0
+        slot 4 - running turns 16 restarts 0
+        slot 5 - running turns 16 restarts 0
+        slot 6 - running turns 4 restarts 0
+        slot 7 - running turns 0 restarts 0
+        leds 0000
+        end turns steps 100 time 100
+    """),
+    soak("soak-of-the-greatest-number", "the number has at most 32 bits", "4294967295", 1, """
+        printed 0 sum 0
+        ==
+        slot 0 - running turns 1 restarts 0
+        slot 1 - running turns 0 restarts 0
+        slot 2 - running turns 0 restarts 0
+        slot 3 - running turns 0 restarts 0
+        slot 4 - running turns 0 restarts 0
+        slot 5 - running turns 0 restarts 0
+        slot 6 - running turns 0 restarts 0
+        slot 7 - running turns 0 restarts 0
+        leds 0000
+        end turns steps 1 time 1
+    """),
+]
+
 COMMAND_LINES = [
     no_command("too-few-words", "boot wants its words", "boot", "a"),
     no_command("list-with-another-word", "list names one file", "list", "flash", "script"),
-    no_command("trace-is-no-command-yet", "trace is named and not there", "trace", "a", "b", "--turns", "1"),
-    no_command("soak-is-no-command-yet", "soak is named and not there", "soak", "1", "--turns", "1"),
+    no_command("trace-without-turns", "trace wants all words of boot", "trace", "a", "b"),
+    no_command("trace-with-another-flag", "each word as it is", "trace", "a", "b", "--turn", "1"),
+    no_command("soak-of-a-file", "soak takes no file", "soak", "flash", "--turns", "1"),
+    no_command("soak-of-33-bits", "its number ends at 32 bits", "soak", "4294967296", "--turns", "1"),
+    no_command("soak-of-eleven-digits", "and has at most 10 digits", "soak", "00000000001", "--turns", "1"),
     no_command("pack-is-no-command-yet", "other words are no command", "pack", "a"),
     no_command("word-that-is-not-utf-8", "a word is UTF-8", b"\xff"),
     no_command("file-that-is-not-utf-8", "so is the name of a file", "list", b"flash\xff"),
@@ -690,4 +1133,5 @@ COMMAND_LINES = [
                "boot", "flash", "script", "--turns", b"\xff"),
 ]
 
-CASES = RUNS + DENIALS + INSTRUCTIONS + CALLS + SWAPS + YIELDS + SEVERAL + IMAGES + SCRIPTS + FILES + COMMAND_LINES
+CASES = RUNS + DENIALS + INSTRUCTIONS + CALLS + SWAPS + YIELDS + ALARMS + CONSOLES + LEDS + RANDOMS + STORAGES + SEVERAL + IMAGES + SCRIPTS + FILES + TRACES + SOAKS
+CASES += COMMAND_LINES

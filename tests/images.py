@@ -240,6 +240,13 @@ def package_name_tlv(name):
     return tlv(3, name.encode())
 
 
+def permissions_tlv(*entries):
+    """Permissions: for each entry a driver, an offset and the 64 commands from 64 times that on, bit n for the
+    n-th."""
+    content = struct.pack("<H", len(entries)) + b"".join(struct.pack("<IIQ", *entry) for entry in entries)
+    return tlv(6, content)
+
+
 def fixed_addresses_tlv(ram=NO_FIXED_ADDRESS, flash=NO_FIXED_ADDRESS):
     return tlv(5, word(ram) + word(flash))
 

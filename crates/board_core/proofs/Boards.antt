@@ -1,58 +1,68 @@
 -- What a board shows.
-use Rattle.std.proofs.Common.{◌≡◌, ℕ, zero, suc, ◌+◌, ◌<◌, ◌≤◌, Bool, true, false, List, [], ◌∷◌, ◌++◌, length, map, take, slice_get, slice_set, slice_index_or, All, find, nat_lt, ◌&&◌, if◌then◌else◌, Option, None, Some, IfSome, IsTrue, refl, sym, ap, subst, ◌∙◌, add-one, arith}
+use Rattle.std.proofs.Common.{◌≡◌, ℕ, zero, suc, ◌+◌, ◌-◌, ◌^◌, ◌<◌, ◌≤◌, Bool, true, false, List, [], ◌∷◌, ◌++◌, length, map, take, slice_get, slice_index_or, All, find, nat_lt, ◌&&◌, if◌then◌else◌, Option, None, Some, IfSome, IsTrue, refl, sym, ap, ap₂, subst, ◌∙◌, add-one, arith}
 use Rattle.std.specs.List.{zip}
 use Rattle.std.specs.Option.{option_map, option_or}
 use Rattle.std.proofs.lemmas.Bool.Decides.{nat_tests}
 use Rattle.std.proofs.Math.Seq.{take-suc}
-use Rattle.std.proofs.lemmas.List.{map-append, map-set, take_all}
-use Rattle.std.proofs.lemmas.List.Elements.{All-set, All-weaker}
+use Rattle.std.proofs.lemmas.List.{map-append, take_all}
 use Rattle.std.proofs.lemmas.Option.{slice_get-map, slice_get-get_or, slice_get_within, get_or_from_slice_get}
 use Rattle.arrayvec.specs.ArrayVec.{ArrayVec}
-use Rattle.tk_base.specs.declared.access.Denial.{Denial}
 use Rattle.tk_base.specs.declared.limits.TheConstants.{STEP_LIMIT}
-use Rattle.tk_base.specs.declared.process.Choice.TheVariants.{Run}
+use Rattle.tk_base.specs.declared.process.Choice.TheVariants.{Run, Device, Pass}
 use Rattle.tk_base.specs.declared.process.Choice.{Choice}
 use Rattle.turn_scheduler.specs.Situation.{Situation}
-use Rattle.turn_scheduler.specs.RoundRobin.{choice, is_ready as is_ready_at, next_slot, ready_device, slots_after, used_after}
+use Rattle.turn_scheduler.specs.RoundRobin.{IsNextAhead, choice, is_ready as is_ready_at, next_slot, ready_device, slots_after}
 use Rattle.process_own.specs.Own.{Own}
 use Rattle.process_record.specs.Name.{name_of}
 use Rattle.kernel_calls.specs.Own.{object_in}
-use Rattle.process_record.specs.declared.emit.CallMade.{CallMade}
-use Rattle.process_record.specs.declared.emit.Emit.{Emit}
 use Rattle.process_record.specs.declared.process.Process.{Process}
 use Rattle.process_record.specs.declared.summary.SlotLine.{SlotLine}
 use Rattle.process_record.specs.declared.summary.Summary.{Summary}
 use Rattle.process_record.specs.declared.summary.Unplaced.{Unplaced}
+use Rattle.driver_model.specs.Leds.{bits_of}
 use Rattle.grant_enter.specs.Homes.{Homes, nobody, own_of}
-use Rattle.fault_policy.specs.declared.Policy.{Policy}
-use Rattle.kernel_model.specs.Record.{Record, Settings}
-use Rattle.kernel_model.specs.Turn.{turned, may_turn}
-use Rattle.kernel_model.specs.World.{World, Devices, is_ready, can_run, stepped, ran, after, labels, after_turn_of, routed}
-use Rattle.kernel_model.specs.Laws.{NextIsReady}
-use Rattle.kernel_model.specs.Run.{next, ready_slots, situation_of}
-use Rattle.kernel_model.specs.Shown.{summary_of, line_of, shown_by}
+use Rattle.kernel_model.specs.Record.{Record}
+use Rattle.kernel_model.specs.Turn.{may_turn}
+use Rattle.kernel_model.specs.World.{World, is_ready, may_be_made, can_run}
+use Rattle.kernel_model.specs.Laws.{NextIsReady, NextLiesAhead}
+use Rattle.kernel_model.specs.Run.{next, next_time, ready_devices, ready_slots, situation_of}
+use Rattle.kernel_model.specs.Shown.{summary_of, line_of}
 use Rattle.board_core.specs.declared.board.Board.TheInside.{Inside}
-use Rattle.board_core.specs.declared.turn.Shown.{Shown}
-use Rattle.board_core.specs.Residents.{Resident, record_of, resident_turns, slot_turns, line_in, TurnsAt, IsSeated}
-use Rattle.board_core.specs.Settings.{settings, pace}
-use Rattle.board_core.specs.Shows.{world_of, residents}
-use Rattle.board_core.proofs.Pairs.{zip-set, zip-get, get_or-zip, length-firsts}
+use Rattle.board_core.specs.Residents.{Resident, record_of, resident_turns, slot_turns, line_in, IsSeated}
+use Rattle.board_core.specs.Shows.{IsBoard, world_of, residents}
+use Rattle.board_core.proofs.Records.{beside_get, reads_shown}
+use Rattle.board_core.proofs.Pairs.{zip-get, get_or-zip, length-firsts}
 
-map-map : {X Y Z : Type 0} (f : Y → Z) (g : X → Y) (xs : List X) → map f (map g xs) ≡ map (λ x. f (g x)) xs
-map-map f g [] = refl
-map-map f g (x ∷ xs) = ap (λ ys. f (g x) ∷ ys) (map-map f g xs)
+-- each process has storage
+pub has_storage : (b : Inside) → IsBoard b → length (residents b) ≤ length b.drivers.stores.slots
+has_storage b board = omega (arith, board.few, board.driven.slots, length-firsts b.processes.items b.home.owns board.owns)
+
+-- what each process has as its own
+pub owns_shown : (flash : List ℕ) (processes : List Process) (owns : List Own) (slots : List (List ℕ)) → length owns ≡ length processes → length (zip processes owns) ≤ length slots → map (λ (r : Record). r.own) (map (record_of flash) (zip (zip processes owns) slots)) ≡ owns
+owns_shown flash processes owns slots n stored = reads_shown (λ (r : Record). r.own) (λ (r : Resident). r.1) flash (zip processes owns) slots stored (λ p. refl) ∙ seconds processes owns n
+  where
+    seconds : (ps : List Process) (os : List Own) → length os ≡ length ps → map (λ (r : Resident). r.1) (zip ps os) ≡ os
+    seconds [] [] n = refl
+    seconds [] (o ∷ os) n = cc
+    seconds (p ∷ ps) [] n = cc
+    seconds (p ∷ ps) (o ∷ os) n = ap (λ (xs : List Own). o ∷ xs) (seconds ps os (omega (arith, n)))
+
+-- which slots are ready
+ready_slots_shown : (b : Inside) → IsBoard b → ready_slots (world_of b) ≡ map resident_turns (residents b)
+ready_slots_shown b board = reads_shown may_turn resident_turns b.home.flash (residents b) b.drivers.stores.slots (has_storage b board) (λ p. refl)
 
 -- the status of the world that a board shows
-pub status_shown : (b : Inside) (ready : List Bool) → ready ≡ map resident_turns (residents b) → ◌≡◌ {A = Situation} (record { ready = ready; devices = []; next = None; time = b.time; present = b.present; used = b.used; slice = b.slice }) (situation_of (world_of b))
-status_shown b ready e =
-    ap (λ (xs : List Bool). record { ready = xs; devices = []; next = None; time = b.time; present = b.present; used = b.used; slice = b.slice }) (e ∙ sym (map-map may_turn (record_of b.home.flash) (residents b)))
+pub status_shown : (b : Inside) (ready devices : List Bool) (nearest : Option ℕ) → IsBoard b → ready ≡ map resident_turns (residents b) → devices ≡ ready_devices (world_of b) → nearest ≡ next_time (world_of b) → ◌≡◌ {A = Situation} (record { ready = ready; devices = devices; next = nearest; time = b.moment.time; present = b.present; used = b.used; slice = b.slice }) (situation_of (world_of b))
+status_shown b ready devices nearest board e f g =
+    ap (λ (xs : List Bool). record { ready = xs; devices = devices; next = nearest; time = b.moment.time; present = b.present; used = b.used; slice = b.slice }) (e ∙ sym (ready_slots_shown b board))
+    ∙ ap₂ (λ (xs : List Bool) (at : Option ℕ). record { ready = ready_slots (world_of b); devices = xs; next = at; time = b.moment.time; present = b.present; used = b.used; slice = b.slice }) f g
 
 -- its summary
-pub summary_shown : (b : Inside) (lines : ArrayVec SlotLine) (unplaced : ArrayVec Unplaced) → lines.items ≡ map (line_in b.home.flash) (residents b) → unplaced.items ≡ b.unplaced.items → ◌≡◌ {A = Summary} (record { slots = lines; unplaced = unplaced; leds = 0; led_count = b.leds; steps = b.steps; time = b.time }) (summary_of (world_of b))
+pub summary_shown : (b : Inside) (lines : ArrayVec SlotLine) (unplaced : ArrayVec Unplaced) (leds : ℕ) → IsBoard b → lines.items ≡ map (line_in b.home.flash) (residents b) → unplaced.items ≡ b.unplaced.items → leds ≡ bits_of b.drivers.leds → ◌≡◌ {A = Summary} (record { slots = lines; unplaced = unplaced; leds = leds; led_count = b.moment.settings.leds; steps = b.moment.steps; time = b.moment.time }) (summary_of (world_of b))
 unfolding summary_of
-summary_shown b lines unplaced e f =
-    ap (λ (xs : List SlotLine). record { slots = record { items = xs }; unplaced = unplaced; leds = 0; led_count = b.leds; steps = b.steps; time = b.time }) (e ∙ sym (map-map line_of (record_of b.home.flash) (residents b)))
-    ∙ ap (λ (xs : List Unplaced). record { slots = record { items = map line_of (world_of b).records }; unplaced = record { items = xs }; leds = 0; led_count = b.leds; steps = b.steps; time = b.time }) f
+summary_shown b lines unplaced leds board e f lit =
+    ap (λ (xs : List SlotLine). record { slots = record { items = xs }; unplaced = unplaced; leds = leds; led_count = b.moment.settings.leds; steps = b.moment.steps; time = b.moment.time }) (e ∙ sym (reads_shown line_of (line_in b.home.flash) b.home.flash (residents b) b.drivers.stores.slots (has_storage b board) (λ p. refl)))
+    ∙ ap₂ (λ (xs : List Unplaced) (bits : ℕ). record { slots = record { items = map line_of (world_of b).records }; unplaced = record { items = xs }; leds = bits; led_count = b.moment.settings.leds; steps = b.moment.steps; time = b.moment.time }) f lit
 
 -- the line that was made of a slot
 pub line_is : (home : Homes) (ps : List Process) (d : Process) (slot known : ℕ) (flash name : List ℕ) (dropped : ℕ) → let p = slice_index_or ps slot d in name ≡ name_of (object_in flash p.object) → flash ≡ home.flash → known ≡ slot → dropped ≡ (own_of home known).dropped → record { name = record { items = name }; state = p.state; denial = p.denial; turns = p.turns; restarts = p.restarts; dropped = dropped } ≡ line_in home.flash (p, slice_index_or home.owns slot nobody)
@@ -83,14 +93,17 @@ pub lines_all : {X : Type 0} (f : Resident → X) (ps : List Process) (owns : Li
 lines_all f ps owns i lines n h so = so ∙ ap (map f) (take_all i (zip ps owns) (omega (arith, h, length-firsts ps owns n)))
 
 -- whether a slot can run, by the residents
-pub ready_shown : (b : Inside) (slot : ℕ) → is_ready (world_of b) (Run slot) ≡ (nat_lt b.steps STEP_LIMIT && slot_turns (slice_get (residents b) slot))
-unfolding is_ready
-ready_shown b slot =
-    ap (λ (c : Bool). nat_lt b.steps STEP_LIMIT && c) (ap can_run (slice_get-map (record_of b.home.flash) (residents b) slot) ∙ of_resident (slice_get (residents b) slot))
+pub ready_shown : (b : Inside) (slot : ℕ) → IsBoard b → is_ready (world_of b) (Run slot) ≡ (nat_lt b.moment.steps STEP_LIMIT && slot_turns (slice_get (residents b) slot))
+unfolding may_be_made
+ready_shown b slot board =
+    let slots = b.drivers.stores.slots in
+    ap (λ (c : Bool). nat_lt b.moment.steps STEP_LIMIT && c)
+    (ap can_run (slice_get-map (record_of b.home.flash) (zip (residents b) slots) slot ∙ ap (option_map (record_of b.home.flash)) (beside_get (residents b) slots slot (has_storage b board)))
+    ∙ of_resident (slice_index_or slots slot []) (slice_get (residents b) slot))
   where
-    of_resident : (o : Option Resident) → can_run (option_map (record_of b.home.flash) o) ≡ slot_turns o
-    of_resident None = refl
-    of_resident (Some h) = refl
+    of_resident : (storage : List ℕ) (o : Option Resident) → can_run (option_map (record_of b.home.flash) (option_map (λ (r : Resident). (r, storage)) o)) ≡ slot_turns o
+    of_resident storage None = refl
+    of_resident storage (Some r) = refl
 
 -- the resident of a slot that was looked at
 pub slot_found : (home : Homes) (processes : List Process) (slot index : ℕ) (process : Process) → length home.owns ≡ length processes → index ≡ slot → true ≡ nat_lt index (length processes) → process ≡ slice_index_or processes index process → slice_get (zip processes home.owns) slot ≡ Some (process, own_of home slot)
@@ -110,60 +123,18 @@ slot_missing home processes slot index n i lt =
     past (x ∷ xs) zero h = absurd (omega arith)
     past (x ∷ xs) (suc k) h = past xs k (omega arith)
 
-module _ (policy : Policy) (i steps : ℕ) (home home_after : Homes) (old new : List Process) (shown : Shown) (t : TurnsAt policy i steps home home_after old new shown) where
-  -- the residents after the turn
-  residents_after : zip new home_after.owns ≡ slice_set (zip old home.owns) i t.after
-  residents_after = ap (λ (h : Homes). zip new h.owns) t.own_is ∙ ap (λ (xs : List Process). zip xs (slice_set home.owns i t.after.1)) t.is ∙ zip-set old home.owns i t.after.0 t.after.1
-
-  resident_was : slice_get (zip old home.owns) i ≡ Some t.before
-  resident_was = zip-get old home.owns i t.before.0 t.before.1 t.was t.own_was
-
-  flash_is : home_after.flash ≡ home.flash
-  flash_is = ap (λ (h : Homes). h.flash) t.own_is
-
-  pub found : slice_get (map (record_of home.flash) (zip old home.owns)) i ≡ Some (record_of home.flash t.before)
-  found = slice_get-map (record_of home.flash) (zip old home.owns) i ∙ ap (option_map (record_of home.flash)) resident_was
-
-  -- the records after the turn
-  pub turned_records : (settings : Settings) → settings.policy ≡ policy → (time : ℕ) → map (record_of home_after.flash) (zip new home_after.owns) ≡ slice_set (map (record_of home.flash) (zip old home.owns)) i (turned settings time (record_of home.flash t.before)).after
-  turned_records settings same time =
-      ap (λ (f : List ℕ). map (record_of f) (zip new home_after.owns)) flash_is
-      ∙ ap (map (record_of home.flash)) residents_after
-      ∙ map-set (record_of home.flash) (zip old home.owns) i t.after
-      ∙ ap (slice_set (map (record_of home.flash) (zip old home.owns)) i) (sym (t.turns settings same time).0)
-
-  -- what the turn shows
-  pub turn_shown : (w : World) (printed : ArrayVec ℕ) → w.settings.policy ≡ policy → w.records ≡ map (record_of home.flash) (zip old home.owns) → printed.items ≡ [] → ◌≡◌ {A = Emit} (record { printed = printed; slot = Some i; made = shown.call; denial = shown.denial }) (shown_by (labels w (Run i)))
-  unfolding stepped shown_by
-  turn_shown w printed s e p =
-      let shows = (t.turns w.settings s w.clock.time).1 in
-      ap (λ (xs : List ℕ). record { printed = record { items = xs }; slot = Some i; made = shown.call; denial = shown.denial }) p
-      ∙ ap (λ (c : Option CallMade). record { printed = record { items = [] }; slot = Some i; made = c; denial = shown.denial }) (sym shows.call)
-      ∙ ap (λ (d : Option Denial). record { printed = record { items = [] }; slot = Some i; made = (turned w.settings w.clock.time (record_of home.flash t.before)).told.call; denial = d }) (sym shows.denial)
-      ∙ sym (ap (λ (o : Option Record). shown_by (ran w i o).labels) (ap (λ (rs : List Record). slice_get rs i) e ∙ found))
-
-  -- the processes after it
-  pub still_seated : All (IsSeated home.flash steps) (zip old home.owns) → All (IsSeated home_after.flash (steps + 1)) (zip new home_after.owns)
-  still_seated h =
-      subst (λ (f : List ℕ). All (IsSeated f (steps + 1)) (zip new home_after.owns)) (sym flash_is)
-      (subst (λ (xs : List Resident). All (IsSeated home.flash (steps + 1)) xs) (sym residents_after)
-      (All-set (IsSeated home.flash (steps + 1)) (zip old home.owns) i t.after t.seated (All-weaker (IsSeated home.flash steps) (IsSeated home.flash (steps + 1)) (λ s q. later s q) (zip old home.owns) h)))
-    where
-      later : (s : Resident) → IsSeated home.flash steps s → IsSeated home.flash (steps + 1) s
-      later s q = record { own = q.own; turns = omega (arith, q.turns); restarts = omega (arith, q.restarts) }
-
 -- at the limit of steps nothing is ready
-pub limit_reached : (b : Inside) (slot : ℕ) → STEP_LIMIT ≤ b.steps → false ≡ is_ready (world_of b) (Run slot)
-limit_reached b slot h = sym (ready_shown b slot ∙ at_limit (slot_turns (slice_get (residents b) slot)))
+pub limit_reached : (b : Inside) (slot : ℕ) → IsBoard b → STEP_LIMIT ≤ b.moment.steps → false ≡ is_ready (world_of b) (Run slot)
+limit_reached b slot board h = sym (ready_shown b slot board ∙ at_limit (slot_turns (slice_get (residents b) slot)))
   where
-    at_limit : (c : Bool) → (nat_lt b.steps STEP_LIMIT && c) ≡ false
+    at_limit : (c : Bool) → (nat_lt b.moment.steps STEP_LIMIT && c) ≡ false
     at_limit c = grind (arith, nat_tests)
 
 -- below it the process decides
-pub below_limit : (b : Inside) (slot : ℕ) → b.steps < STEP_LIMIT → slot_turns (slice_get (residents b) slot) ≡ is_ready (world_of b) (Run slot)
-below_limit b slot h = sym (ready_shown b slot ∙ under (slot_turns (slice_get (residents b) slot)))
+pub below_limit : (b : Inside) (slot : ℕ) → IsBoard b → b.moment.steps < STEP_LIMIT → slot_turns (slice_get (residents b) slot) ≡ is_ready (world_of b) (Run slot)
+below_limit b slot board h = sym (ready_shown b slot board ∙ under (slot_turns (slice_get (residents b) slot)))
   where
-    under : (c : Bool) → (nat_lt b.steps STEP_LIMIT && c) ≡ c
+    under : (c : Bool) → (nat_lt b.moment.steps STEP_LIMIT && c) ≡ c
     under c = grind (arith, nat_tests)
 
 both : (b c : Bool) → (b && c) ≡ true → (b ≡ true) × (c ≡ true)
@@ -171,42 +142,33 @@ both true c e = (refl, e)
 both false c e = cc
 
 -- a slot that is ready is one of the table's
-pub ready_within : (b : Inside) (slot : ℕ) → length b.home.owns ≡ length b.processes.items → is_ready (world_of b) (Run slot) ≡ true → (b.steps < STEP_LIMIT) × (slot < length b.processes.items)
-ready_within b slot n e =
-    let t = both (nat_lt b.steps STEP_LIMIT) (slot_turns (slice_get (residents b) slot)) (sym (ready_shown b slot) ∙ e) in
+pub ready_within : (b : Inside) (slot : ℕ) → IsBoard b → is_ready (world_of b) (Run slot) ≡ true → (b.moment.steps < STEP_LIMIT) × (slot < length b.processes.items)
+ready_within b slot board e =
+    let t = both (nat_lt b.moment.steps STEP_LIMIT) (slot_turns (slice_get (residents b) slot)) (sym (ready_shown b slot board) ∙ e) in
     let within : slot < length (residents b) = resident (slice_get (residents b) slot) refl t.1 in
-    (below t.0, omega (arith, within, length-firsts b.processes.items b.home.owns n))
+    (below t.0, omega (arith, within, length-firsts b.processes.items b.home.owns board.owns))
   where
-    below : nat_lt b.steps STEP_LIMIT ≡ true → b.steps < STEP_LIMIT
+    below : nat_lt b.moment.steps STEP_LIMIT ≡ true → b.moment.steps < STEP_LIMIT
     below h = grind (arith, nat_tests)
 
     resident : (o : Option Resident) → slice_get (residents b) slot ≡ o → slot_turns o ≡ true → slot < length (residents b)
     resident None f h = cc
     resident (Some s) f h = slice_get_within (residents b) slot s f
 
--- the world after the turn
-pub world_after : (b : Inside) (slot : ℕ) (home : Homes) (processes : List Process) (shown : Shown) (used : ℕ) → TurnsAt b.policy slot b.steps b.home home b.processes.items processes shown → used ≡ used_after b.present b.used b.slice slot → ◌≡◌ {A = World} (record { records = map (record_of home.flash) (zip processes home.owns); unplaced = b.unplaced.items; settings = settings b.leds b.policy; pace = pace b.slice; devices = record { writes = []; reads = []; randoms = []; stores = []; leds = 0 }; clock = record { time = b.time + 1; steps = b.steps + 1 }; present = record { slot = Some slot; used = used } }) (after (world_of b) (Run slot))
-unfolding stepped
-world_after b slot home processes shown used t u =
-    let old = record_of b.home.flash t.before in
-    let turn = turned (settings b.leds b.policy) b.time old in
-    let idle : Devices = record { writes = []; reads = []; randoms = []; stores = []; leds = 0 } in
-    ap (λ (rs : List Record). record { records = rs; unplaced = b.unplaced.items; settings = settings b.leds b.policy; pace = pace b.slice; devices = idle; clock = record { time = b.time + 1; steps = b.steps + 1 }; present = record { slot = Some slot; used = used } }) (turned_records b.policy slot b.steps b.home home b.processes.items processes shown t (settings b.leds b.policy) refl b.time)
-    ∙ ap (λ (n : ℕ). record { records = slice_set (world_of b).records slot turn.after; unplaced = b.unplaced.items; settings = settings b.leds b.policy; pace = pace b.slice; devices = idle; clock = record { time = b.time + 1; steps = b.steps + 1 }; present = record { slot = Some slot; used = n } }) u
-    ∙ ap (λ (acts : List _). record (after_turn_of (world_of b) slot turn) { devices = routed slot acts idle }) (sym (t.turns (settings b.leds b.policy) refl b.time).1.acts)
-    ∙ sym (ap (λ (o : Option Record). (ran (world_of b) slot o).after) (found b.policy slot b.steps b.home home b.processes.items processes shown t))
-
--- a present slot that goes on is the next choice
-pub goes_on_next : (b : Inside) (slot : ℕ) → b.present ≡ Some slot → b.used < b.slice → slot_turns (slice_get (residents b) slot) ≡ true → Some (Run slot) ≡ next (world_of b)
+-- where no device step is ready, a present slot that goes on is the next choice
+pub goes_on_next : (b : Inside) (slot : ℕ) → IsBoard b → ready_devices (world_of b) ≡ false ∷ false ∷ false ∷ false ∷ false ∷ false ∷ [] → b.present ≡ Some slot → b.used < b.slice → slot_turns (slice_get (residents b) slot) ≡ true → Some (Run slot) ≡ next (world_of b)
 unfolding next choice ready_device next_slot
-goes_on_next b slot p u c = sym (ap (λ (o : Option ℕ). option_or (option_map Run o) None) (subst (λ (o : Option ℕ). next_slot (ready_slots (world_of b)) o b.used b.slice ≡ Some slot) (sym p) stays))
+goes_on_next b slot board calm p u c =
+    let passes : Option Choice = option_map (λ at. Pass (at - b.moment.time)) (next_time (world_of b)) in
+    sym (ap (λ (ds : List Bool). option_or (option_map Device (ready_device ds)) (option_or (option_map Run (next_slot (ready_slots (world_of b)) b.present b.used b.slice)) passes)) calm
+    ∙ ap (λ (o : Option ℕ). option_or (option_map Run o) passes) (subst (λ (o : Option ℕ). next_slot (ready_slots (world_of b)) o b.used b.slice ≡ Some slot) (sym p) stays))
   where
     of_resident : (o : Option Resident) → slice_get (residents b) slot ≡ o → slot_turns o ≡ true → is_ready_at (map resident_turns (residents b)) slot ≡ true
     of_resident None f h = cc
     of_resident (Some s) f h = get_or_from_slice_get (map resident_turns (residents b)) slot true false (slice_get-map resident_turns (residents b) slot ∙ ap (option_map resident_turns) f ∙ ap Some h)
 
     ready : is_ready_at (ready_slots (world_of b)) slot ≡ true
-    ready = ap (λ (xs : List Bool). is_ready_at xs slot) (map-map may_turn (record_of b.home.flash) (residents b)) ∙ of_resident (slice_get (residents b) slot) refl c
+    ready = ap (λ (xs : List Bool). is_ready_at xs slot) (ready_slots_shown b board) ∙ of_resident (slice_get (residents b) slot) refl c
 
     left : (true && nat_lt b.used b.slice) ≡ true
     left = grind (arith, nat_tests)
@@ -218,6 +180,15 @@ goes_on_next b slot p u c = sym (ap (λ (o : Option ℕ). option_or (option_map 
 pub next_may : (w : World) (o : Option Choice) → NextIsReady → o ≡ next w → IfSome o (λ choice. w.clock.steps < STEP_LIMIT → IsTrue (is_ready w choice))
 next_may w None law e = tt
 next_may w (Some choice) law e = law w choice (sym e)
+
+-- the nearest time that a status tells lies ahead
+pub next_ahead : (s : Situation) (w : World) → s ≡ situation_of w → IfSome s.next (λ at. at - s.time < 2 ^ 32) → NextLiesAhead → IsNextAhead s
+next_ahead s w e near law none at is =
+    let none_ready : ready_device (ready_devices w) ≡ None = ap (λ (x : Situation). ready_device x.devices) (sym e) ∙ none in
+    let later : IfSome s.next (λ n. w.clock.time < n) = subst (λ (o : Option ℕ). IfSome o (λ n. w.clock.time < n)) (ap (λ (x : Situation). x.next) (sym e)) (law w none_ready) in
+    let ahead : w.clock.time < at = subst (λ (o : Option ℕ). IfSome o (λ n. w.clock.time < n)) is later in
+    let same : s.time ≡ w.clock.time = ap (λ (x : Situation). x.time) e in
+    (omega (arith, ahead, same), subst (λ (o : Option ℕ). IfSome o (λ n. n - s.time < 2 ^ 32)) is near)
 
 -- the process at a place, and what is its own
 pub seated_at : (flash : List ℕ) (steps : ℕ) (processes : List Process) (home : Homes) (slot index : ℕ) (process : Process) → index ≡ slot → slot < length processes → length home.owns ≡ length processes → process ≡ slice_index_or processes index process → All (IsSeated flash steps) (zip processes home.owns) → (slice_get processes slot ≡ Some process) × (slice_get home.owns slot ≡ Some (own_of home slot)) × IsSeated flash steps (process, own_of home slot)

@@ -36,12 +36,16 @@ use Rattle.script_text.specs.Settings.{Settings as Script}
 use Rattle.grant_enter.specs.Homes.{Homes, CanMoveIn, IsSettled, EndsBefore, LiesBefore as StandsBefore}
 use Rattle.kernel_calls.specs.Own.{object_in, CanStart, HasStart, IsApplication}
 use Rattle.kernel_model.specs.Record.{Record}
-use Rattle.kernel_model.specs.World.{World}
+use Rattle.kernel_model.specs.World.{World, Devices}
+use Rattle.board_core.specs.declared.drivers.Drivers.{Drivers}
+use Rattle.board_core.specs.Driven.{AreFresh, devices_of}
+use Rattle.board_core.proofs.Fresh.{devices_fresh, records_fresh}
 use Rattle.board_core.specs.declared.boot.Crew.{Crew}
-use Rattle.board_core.specs.Boot.{IsCrew, IsFirst, footprint_of, layout_at, layout_in}
+use Rattle.board_core.specs.Boot.{IsCrew, IsFirst, footprint_of, fresh_record, layout_at, layout_in}
 use Rattle.board_core.specs.Opening.{opened, opened_by, record_at, record_in, unplaced_at, places, opening}
 use Rattle.board_core.specs.Residents.{IsSeated, record_of}
-use Rattle.board_core.specs.Settings.{settings, pace, fresh_storage}
+use Rattle.kernel_model.specs.declared.settings.Settings.{Settings}
+use Rattle.board_core.specs.Settings.{erased, settings, pace}
 use Rattle.board_core.proofs.Pairs.{zip-more, length-firsts}
 
 -- a byte of an object is one of flash
@@ -169,12 +173,12 @@ whole_object flash offset size total e =
 
 module _ (flash : List ℕ) (offset : ℕ) (e : Extents) (a : KnownApplication flash offset e) (p : Process) (s : p ≡ started (FLASH_START + offset) a.h a.m e.start (e.end - e.start) e.brk) where
   -- the record of the process in its place
-  pub process_shown : Some (record_of flash (p, own_opened (record { object = p.object; layout = e }))) ≡ opened_by flash offset e (reading (object_bytes flash offset))
+  pub process_shown : (storage : ℕ) → Some (fresh_record storage flash (p, own_opened (record { object = p.object; layout = e }))) ≡ opened_by storage flash offset e (reading (object_bytes flash offset))
   unfolding opened
-  process_shown =
-      ap (λ (q : Process). Some (record_of flash (q, own_opened (record { object = q.object; layout = e })))) s
-      ∙ ap (λ (o : List ℕ). Some (record { process = started (FLASH_START + offset) a.h a.m e.start (e.end - e.start) e.brk; object = o; own = own_opened (record { object = record { address = FLASH_START + offset; size = a.h.total_size }; layout = e }); storage = fresh_storage })) (whole_object flash offset (size_at flash offset) a.h.total_size a.total)
-      ∙ sym (ap (opened_by flash offset e) a.read ∙ ap (option_map (opened flash offset e a.h)) a.main)
+  process_shown storage =
+      ap (λ (q : Process). Some (fresh_record storage flash (q, own_opened (record { object = q.object; layout = e })))) s
+      ∙ ap (λ (o : List ℕ). Some (record { process = started (FLASH_START + offset) a.h a.m e.start (e.end - e.start) e.brk; object = o; own = own_opened (record { object = record { address = FLASH_START + offset; size = a.h.total_size }; layout = e }); storage = erased storage })) (whole_object flash offset (size_at flash offset) a.h.total_size a.total)
+      ∙ sym (ap (opened_by storage flash offset e) a.read ∙ ap (option_map (opened storage flash offset e a.h)) a.main)
 
   pub process_seated : IsAccessible offset (size_at flash offset) e.flash_start e.flash_end → offset + size_at flash offset ≤ length flash → length flash ≤ FLASH_LIMIT → e.flash_end ≤ RAM_START → e.brk ≤ e.end → IsSeated flash 0 (p, own_opened (record { object = p.object; layout = e }))
   process_seated access within short below end =
@@ -232,12 +236,12 @@ module _ (flash : List ℕ) (processes : List Process) (layouts : List Footprint
   residents_more : zip (processes ++ process ∷ []) (map own_opened (layouts ++ e ∷ [])) ≡ zip processes (map own_opened layouts) ++ (process, own_opened e) ∷ []
   residents_more = ap (λ (owns : List Own). zip (processes ++ process ∷ []) owns) owns_more ∙ zip-more processes (map own_opened layouts) process (own_opened e) (length-map layouts own_opened ∙ sym same)
 
-  pub records_more : (placed : List Placed) (i : ℕ) (d : Placed) (at : Option Record) → i < length placed → record_at flash (get_or placed i d) ≡ at → Some (record_of flash (process, own_opened e)) ≡ at → map (record_of flash) (zip processes (map own_opened layouts)) ≡ filter_map (record_at flash) (take i placed) → map (record_of flash) (zip (processes ++ process ∷ []) (map own_opened (layouts ++ e ∷ []))) ≡ filter_map (record_at flash) (take (i + 1) placed)
-  records_more placed i d at h is f so =
-      ap (map (record_of flash)) residents_more
-      ∙ map-append (record_of flash) (zip processes (map own_opened layouts)) ((process, own_opened e) ∷ [])
-      ∙ ap (λ rs. rs ++ record_of flash (process, own_opened e) ∷ []) so
-      ∙ sym (filter_map-take (record_at flash) placed i d (Some (record_of flash (process, own_opened e))) h (is ∙ sym f))
+  pub records_more : (storage : ℕ) (placed : List Placed) (i : ℕ) (d : Placed) (at : Option Record) → i < length placed → record_at storage flash (get_or placed i d) ≡ at → Some (fresh_record storage flash (process, own_opened e)) ≡ at → map (fresh_record storage flash) (zip processes (map own_opened layouts)) ≡ filter_map (record_at storage flash) (take i placed) → map (fresh_record storage flash) (zip (processes ++ process ∷ []) (map own_opened (layouts ++ e ∷ []))) ≡ filter_map (record_at storage flash) (take (i + 1) placed)
+  records_more storage placed i d at h is f so =
+      ap (map (fresh_record storage flash)) residents_more
+      ∙ map-append (fresh_record storage flash) (zip processes (map own_opened layouts)) ((process, own_opened e) ∷ [])
+      ∙ ap (λ rs. rs ++ fresh_record storage flash (process, own_opened e) ∷ []) so
+      ∙ sym (filter_map-take (record_at storage flash) placed i d (Some (fresh_record storage flash (process, own_opened e))) h (is ∙ sym f))
 
   pub seated_more : All (IsSeated flash 0) (zip processes (map own_opened layouts)) → IsSeated flash 0 (process, own_opened e) → All (IsSeated flash 0) (zip (processes ++ process ∷ []) (map own_opened (layouts ++ e ∷ [])))
   seated_more all s = subst (All (IsSeated flash 0)) (sym residents_more) (All-push (IsSeated flash 0) (zip processes (map own_opened layouts)) (process, own_opened e) all s)
@@ -257,7 +261,7 @@ crew_empty flash crew processes footprints =
       layouts = ap (map (λ (f : Footprint). f.layout)) footprints;
       first = subst (All (IsFirst (length flash))) (sym footprints) (λ i d h. absurd (omega arith));
       count = ap length processes ∙ sym (ap length footprints);
-      shown = ap (map (record_of flash)) pairs;
+      shown = λ storage. ap (map (fresh_record storage flash)) pairs;
       seated = subst (All (IsSeated flash 0)) (sym pairs) (λ i d h. absurd (omega arith));
     }
 
@@ -267,12 +271,12 @@ crew_none flash placed i d crew h is fault f c = record {
   layouts = pass_none layout_at placed i d _ h (ap layout_at is ∙ ap layout_in f) c.layouts;
   first = c.first;
   count = c.count;
-  shown = pass_none (record_at flash) placed i d _ h (ap (record_at flash) is ∙ ap (record_in flash d.offset) f) c.shown;
+  shown = λ storage. pass_none (record_at storage flash) placed i d _ h (ap (record_at storage flash) is ∙ ap (record_in storage flash d.offset) f) (c.shown storage);
   seated = c.seated;
 }
 
 -- one that has adds its process and what it takes up
-pub crew_more : (flash : List ℕ) (placed : List Placed) (i : ℕ) (d : Placed) (crew more : Crew) (process : Process) (place : Place) → i < length placed → get_or placed i d ≡ d → d.place ≡ Ok place → IsCrew flash (take i placed) crew → more.processes.items ≡ crew.processes.items ++ process ∷ [] → more.footprints.items ≡ crew.footprints.items ++ footprint_of process place ∷ [] → Some (record_of flash (process, own_opened (footprint_of process place))) ≡ record_in flash d.offset (Ok place) → IsSeated flash 0 (process, own_opened (footprint_of process place)) → IsFirst (length flash) (footprint_of process place) → IsCrew flash (take (i + 1) placed) more
+pub crew_more : (flash : List ℕ) (placed : List Placed) (i : ℕ) (d : Placed) (crew more : Crew) (process : Process) (place : Place) → i < length placed → get_or placed i d ≡ d → d.place ≡ Ok place → IsCrew flash (take i placed) crew → more.processes.items ≡ crew.processes.items ++ process ∷ [] → more.footprints.items ≡ crew.footprints.items ++ footprint_of process place ∷ [] → ((storage : ℕ) → Some (fresh_record storage flash (process, own_opened (footprint_of process place))) ≡ record_in storage flash d.offset (Ok place)) → IsSeated flash 0 (process, own_opened (footprint_of process place)) → IsFirst (length flash) (footprint_of process place) → IsCrew flash (take (i + 1) placed) more
 crew_more flash placed i d crew more process place h is f c processes footprints shown seated first =
     let e = footprint_of process place in
     let fs = crew.footprints.items in
@@ -281,7 +285,7 @@ crew_more flash placed i d crew more process place h is f c processes footprints
       layouts = ap (map (λ (f : Footprint). f.layout)) footprints ∙ map-append (λ (f : Footprint). f.layout) fs (e ∷ []) ∙ pass_some layout_at placed i d place.layout (map (λ (f : Footprint). f.layout) fs) h (ap layout_at is ∙ ap layout_in f) c.layouts;
       first = subst (All (IsFirst (length flash))) (sym footprints) (All-push (IsFirst (length flash)) fs e c.first first);
       count = ap length processes ∙ length-append crew.processes.items (process ∷ []) ∙ ap (λ (n : ℕ). n + 1) c.count ∙ sym (length-append fs (e ∷ [])) ∙ sym (ap length footprints);
-      shown = ap (map (record_of flash)) pairs ∙ records_more flash crew.processes.items fs process e c.count placed i d (record_in flash d.offset (Ok place)) h (ap (record_at flash) is ∙ ap (record_in flash d.offset) f) shown c.shown;
+      shown = λ storage. ap (map (fresh_record storage flash)) pairs ∙ records_more flash crew.processes.items fs process e c.count storage placed i d (record_in storage flash d.offset (Ok place)) h (ap (record_at storage flash) is ∙ ap (record_in storage flash d.offset) f) (shown storage) (c.shown storage);
       seated = subst (All (IsSeated flash 0)) (sym pairs) (seated_more flash crew.processes.items fs process e c.count c.seated seated);
     }
 
@@ -290,21 +294,21 @@ one_record : (o : Option Record) (rest : List Record) (n : ℕ) → length rest 
 one_record None rest n h = omega (arith, h)
 one_record (Some r) rest n h = omega (arith, h)
 
-one_placed : (flash : List ℕ) (offset : ℕ) (r : Result Place PlaceFault) (rest : List Record) (n : ℕ) → length rest ≤ n → length (cons_option (record_in flash offset r) rest) ≤ cond (is_ok r) 1 0 + n
-one_placed flash offset (Err fault) rest n h = omega (arith, h)
-one_placed flash offset (Ok place) rest n h = one_record (record_in flash offset (Ok place)) rest n h
+one_placed : (storage : ℕ) (flash : List ℕ) (offset : ℕ) (r : Result Place PlaceFault) (rest : List Record) (n : ℕ) → length rest ≤ n → length (cons_option (record_in storage flash offset r) rest) ≤ cond (is_ok r) 1 0 + n
+one_placed storage flash offset (Err fault) rest n h = omega (arith, h)
+one_placed storage flash offset (Ok place) rest n h = one_record (record_in storage flash offset (Ok place)) rest n h
 
-few_records : (flash : List ℕ) (placed : List Placed) → length (filter_map (record_at flash) placed) ≤ count_by is_placed placed
-few_records flash [] = omega arith
-few_records flash (p ∷ ps) =
+few_records : (storage : ℕ) (flash : List ℕ) (placed : List Placed) → length (filter_map (record_at storage flash) placed) ≤ count_by is_placed placed
+few_records storage flash [] = omega arith
+few_records storage flash (p ∷ ps) =
     let count = sum_by-cons (λ (q : Placed). cond (is_placed q) 1 0) p ps in
-    let one = one_placed flash p.offset p.place (filter_map (record_at flash) ps) (count_by is_placed ps) (few_records flash ps) in
+    let one = one_placed storage flash p.offset p.place (filter_map (record_at storage flash) ps) (count_by is_placed ps) (few_records storage flash ps) in
     omega (arith, count, one)
 
-pub few_processes : (flash : List ℕ) (placed : List Placed) (processes : List Process) (owns : List Own) → length owns ≡ length processes → map (record_of flash) (zip processes owns) ≡ filter_map (record_at flash) placed → count_by is_placed placed ≤ 8 → length processes ≤ 8
-few_processes flash placed processes owns n e few =
-    let records : length (zip processes owns) ≡ length (filter_map (record_at flash) placed) = sym (length-map (zip processes owns) (record_of flash)) ∙ ap length e in
-    omega (arith, few_records flash placed, records, few, length-firsts processes owns n)
+pub few_processes : (storage : ℕ) (flash : List ℕ) (placed : List Placed) (processes : List Process) (owns : List Own) → length owns ≡ length processes → map (fresh_record storage flash) (zip processes owns) ≡ filter_map (record_at storage flash) placed → count_by is_placed placed ≤ 8 → length processes ≤ 8
+few_processes storage flash placed processes owns n e few =
+    let records : length (zip processes owns) ≡ length (filter_map (record_at storage flash) placed) = sym (length-map (zip processes owns) (fresh_record storage flash)) ∙ ap length e in
+    omega (arith, few_records storage flash placed, records, few, length-firsts processes owns n)
 
 all_cons : {X : Type 0} (P : X → Type 0) (x : X) (xs : List X) → P x → All P xs → All P (x ∷ xs)
 all_cons P x xs here rest zero d h = here
@@ -379,8 +383,17 @@ all_ordered flash fs first i d h =
     subst IsOrdered (sym (get_or-map (λ (f : Footprint). f.layout) fs i f d within)) (first i f within).ordered
 
 -- the world of a board before its first step
-pub opening_shown : (script : Script) (flash : List ℕ) (home : Homes) (footprints : List Footprint) (processes : List Process) (unplaced : ArrayVec Unplaced) → home ≡ record { flash = flash; owns = map own_opened footprints } → map (record_of flash) (zip processes (map own_opened footprints)) ≡ filter_map (record_at flash) (places script.ram flash) → unplaced.items ≡ filter_map unplaced_at (places script.ram flash) → ◌≡◌ {A = World} (record { records = map (record_of home.flash) (zip processes home.owns); unplaced = unplaced.items; settings = settings script.leds script.policy; pace = pace script.slice; devices = record { writes = []; reads = []; randoms = []; stores = []; leds = 0 }; clock = record { time = 0; steps = 0 }; present = record { slot = None; used = 0 } }) (opening script flash)
-unfolding opening
-opening_shown script flash home footprints processes unplaced h e u =
-    ap₂ (λ (rs : List Record) (us : List Unplaced). record { records = rs; unplaced = us; settings = settings script.leds script.policy; pace = pace script.slice; devices = record { writes = []; reads = []; randoms = []; stores = []; leds = 0 }; clock = record { time = 0; steps = 0 }; present = record { slot = None; used = 0 } })
-    (ap (λ (x : Homes). map (record_of x.flash) (zip processes x.owns)) h ∙ e) u
+module _ (script : Script) (flash : List ℕ) where
+  abbrev world_with : List Record → List Unplaced → Settings → Devices → World
+  world_with records unplaced visible devices = record { records = records; unplaced = unplaced; settings = visible; pace = pace script.slice; devices = devices; clock = record { time = 0; steps = 0 }; present = record { slot = None; used = 0 } }
+
+  pub opening_shown : (home : Homes) (footprints : List Footprint) (processes : List Process) (unplaced : ArrayVec Unplaced) (visible : Settings) (d : Drivers) → home ≡ record { flash = flash; owns = map own_opened footprints } → length processes ≡ length footprints → length processes ≤ 8 → map (fresh_record script.storage flash) (zip processes (map own_opened footprints)) ≡ filter_map (record_at script.storage flash) (places script.ram flash) → unplaced.items ≡ filter_map unplaced_at (places script.ram flash) → visible ≡ settings script.leds script.start script.storage script.policy → AreFresh script d → world_with (map (record_of home.flash) (zip (zip processes home.owns) d.stores.slots)) unplaced.items visible (devices_of d) ≡ opening script flash
+  unfolding opening
+  opening_shown home footprints processes unplaced visible d h count few e u v fresh =
+      let owns = map own_opened footprints in
+      let residents : length (zip processes owns) ≤ 8 = omega (arith, few, length-firsts processes owns (length-map footprints own_opened ∙ sym count)) in
+      let records : map (record_of home.flash) (zip (zip processes home.owns) d.stores.slots) ≡ filter_map (record_at script.storage flash) (places script.ram flash) =
+      ap (λ (x : Homes). map (record_of x.flash) (zip (zip processes x.owns) d.stores.slots)) h
+      ∙ records_fresh script d flash (zip processes owns) residents fresh ∙ e in
+      ap₂ (λ (rs : List Record) (us : List Unplaced). world_with rs us visible (devices_of d)) records u
+      ∙ ap₂ (λ (s : Settings) (ds : Devices). world_with (filter_map (record_at script.storage flash) (places script.ram flash)) (filter_map unplaced_at (places script.ram flash)) s ds) v (devices_fresh script d fresh)

@@ -1,14 +1,14 @@
 -- The bytes that a record tells are those that its process sees.
-use Rattle.std.proofs.Common.{◌≡◌, ℕ, ◌+◌, ◌-◌, ◌<◌, ◌≤◌, ◌&&◌, nat_le, nat_lt, if◌then◌else◌, List, length, slice_index, ap, ◌∙◌, arith}
+use Rattle.std.proofs.Common.{◌≡◌, ℕ, ◌+◌, ◌-◌, ◌<◌, ◌≤◌, ◌&&◌, nat_le, nat_lt, if◌then◌else◌, List, [], length, slice_index, ap, ◌∙◌, arith}
 use Rattle.std.proofs.lemmas.Bool.Decides.{nat_tests}
 use Rattle.std.proofs.lemmas.List.{get_or-take, get_or-drop}
 use Rattle.tk_base.specs.declared.access.TheConstants.{FLASH_START}
 use Rattle.tbf_headers.specs.Objects.{object_at}
 use Rattle.process_own.specs.Instruction.{Sees}
 use Rattle.grant_enter.specs.Homes.{IsInPlace}
-use Rattle.kernel_calls.specs.Own.{IsOwnObject}
+use Rattle.kernel_calls.specs.Own.{IsOwnObject, record_in}
 use Rattle.kernel_model.specs.Record.{byte_at}
-use Rattle.board_core.specs.Residents.{Resident, record_of}
+use Rattle.board_core.specs.Residents.{Resident}
 
 -- a byte of an object is one of flash
 in_object : (flash : List ℕ) (from size k : ℕ) → k < size → slice_index (object_at flash from size) k ≡ slice_index flash (from + k)
@@ -20,7 +20,7 @@ flash_side start n object a x y below from = grind (arith, nat_tests)
 ram_side : (start n object a x y : ℕ) → start ≤ a → a < start + n → (if nat_le start a && nat_lt a (start + n) then x else (if nat_le object a then y else 0)) ≡ x
 ram_side start n object a x y from below = grind (arith, nat_tests)
 
-pub sees_record : (flash : List ℕ) (r : Resident) → IsOwnObject flash r.0.object r.1.layout → IsInPlace r.1 → Sees flash r.1 (byte_at (record_of flash r))
+pub sees_record : (flash : List ℕ) (r : Resident) → IsOwnObject flash r.0.object r.1.layout → IsInPlace r.1 → Sees flash r.1 (byte_at (record_in flash r.0 r.1 []))
 sees_record flash r own place =
     let e = r.1.layout in
     let object = r.0.object in

@@ -1,11 +1,9 @@
 -- The turn of a process.
-use Rattle.std.proofs.Common.{◌≡◌, ℕ, ◌+◌, ◌==◌, ◌⊎◌, inl, inr, Bool, true, false, not, List, [], ◌∷◌, length, Option, None, Some, Result, Ok, Err, refl, sym, ap, ◌∙◌, arith}
+use Rattle.std.proofs.Common.{◌≡◌, ◌≤◌, ℕ, ◌+◌, ◌==◌, ◌⊎◌, inl, inr, Bool, true, false, not, List, [], ◌∷◌, length, Option, None, Some, Result, Ok, Err, refl, sym, ap, subst, ◌∙◌, arith}
 use Rattle.std.proofs.lemmas.Bool.{eqb-true}
 use Rattle.std.proofs.lemmas.List.{set-set}
 use Rattle.tk_base.specs.declared.access.Denial.{Denial}
 use Rattle.tk_base.specs.declared.upcall.Upcall.{Upcall}
-use Rattle.fault_policy.specs.Policy.{decision}
-use Rattle.fault_policy.specs.declared.Policy.{Policy}
 use Rattle.tbf_headers.specs.declared.fault.HeaderFault.{HeaderFault}
 use Rattle.tbf_headers.specs.declared.program.Main.{Main}
 use Rattle.tbf_headers.specs.Meaning.{Meaning, reading}
@@ -16,20 +14,22 @@ use Rattle.process_record.specs.declared.process.State.TheVariants.{Running, Yie
 use Rattle.rv32_model.specs.declared.turn_end.TurnEnd.{TurnEnd}
 use Rattle.rv32_model.specs.declared.turn_end.TurnEnd.TheVariants.{Went, Call, Trap}
 use Rattle.rv32_model.specs.UserTurn.{UserTurn}
-use Rattle.syscall_abi.specs.Call.{call_of}
-use Rattle.syscall_abi.specs.declared.call.Call.{Call as SystemCall}
-use Rattle.process_own.specs.Own.{Own, ended as own_ended}
-use Rattle.process_record.specs.declared.emit.CallMade.{CallMade}
-use Rattle.process_record.specs.declared.outcome.Outcome.{Outcome}
+use Rattle.process_own.specs.Instruction.{with_write}
+use Rattle.process_own.specs.Own.{Own}
 use Rattle.process_record.specs.Process.{after_fault, after_turn}
 use Rattle.grant_enter.specs.Homes.{Homes, ChangesOnly, own_of, with_own}
-use Rattle.kernel_calls.specs.Outcomes.{Serves as CallServes}
-use Rattle.kernel_calls.specs.Own.{IsOwn, IsApplication, HasStart}
-use Rattle.kernel_model.specs.Record.{Record, Settings, instruction, with_process}
+use Rattle.kernel_calls.specs.Own.{IsOwn, IsApplication, HasStart, object_in, record_in}
+use Rattle.kernel_model.specs.Record.{Record, instruction, with_process}
 use Rattle.kernel_model.specs.Calls.{deliver, deliver_by, restart, restarted_by, restarted_main}
-use Rattle.kernel_model.specs.Turn.{Turned, called, calls, counted, delivery, ended, faulted, idle, is_pending, made, settled, turn_in, turned, unknown_call}
+use Rattle.kernel_model.specs.Turn.{Turned, counted, delivery, ended, idle, is_pending, turn_in, turned}
+use Rattle.driver_model.specs.Commands.{gone}
+use Rattle.board_core.specs.declared.drivers.Drivers.{Drivers}
+use Rattle.board_core.specs.declared.moment.Moment.{Moment}
 use Rattle.board_core.specs.declared.turn.Shown.{Shown}
-use Rattle.board_core.specs.Residents.{Resident, IsSeated, Serves, Settles, Shows, Turns, after_instruction, record_of}
+use Rattle.kernel_model.specs.Laws.{DropsAtMostOne, GrantsChangeAtCalls}
+use Rattle.board_core.specs.Driven.{Drives, MayServe}
+use Rattle.board_core.specs.Residents.{Resident, IsSeated, Serves, Settles, Shows, Turns, after_instruction, id_of, nothing_shown}
+use Rattle.board_core.proofs.Orders.{drives_nothing}
 
 -- a change of one slot after another is one
 pub only_twice : (slot : ℕ) (a b c : Homes) → ChangesOnly slot a b → ChangesOnly slot b c → ChangesOnly slot a c
@@ -41,56 +41,44 @@ only_twice slot a b c first second =
 pub only_flash : (slot : ℕ) (a b : Homes) → ChangesOnly slot a b → b.flash ≡ a.flash
 only_flash slot a b only = ap (λ (h : Homes). h.flash) only
 
--- what was told, where it is that of a turn
-pub shown_by : (t u : Turned) (shown : Shown) → t ≡ u → Shows u shown → Shows t shown
-shown_by t u shown e s = record {
-  call = ap (λ (x : Turned). x.told.call) e ∙ s.call;
-  denial = ap (λ (x : Turned). x.told.denial) e ∙ s.denial;
-  acts = ap (λ (x : Turned). x.acts) e ∙ s.acts;
-}
+-- what a turn leaves of the process in a slot, shows, and has the drivers do
+abbrev Leaves : ℕ → List ℕ → Resident → Resident → Shown → Drivers → Drivers → List ℕ → Turned → Type 0
+Leaves slot flash old new shown d d' storage t = (t.after ≡ record_in flash new.0 new.1 storage) × Shows t shown × Drives (id_of slot old.1) t.acts d d'
+
+-- it is that of the turn that it is
+as_known : (slot : ℕ) (flash : List ℕ) (old new : Resident) (shown : Shown) (d d' : Drivers) (storage : List ℕ) (t u : Turned) → t ≡ u → Leaves slot flash old new shown d d' storage u → Leaves slot flash old new shown d d' storage t
+as_known slot flash old new shown d d' storage t u e h = subst (λ (x : Turned). Leaves slot flash old new shown d d' storage x) (sym e) h
+
+-- the instruction of a process, which its storage is not part of
+abbrev pub next : List ℕ → Resident → UserTurn
+next flash r = instruction (record_in flash r.0 r.1 [])
 
 -- the turn of a record that runs, by the end of its instruction
-by_end : (settings : Settings) (flash : List ℕ) (r : Resident) (time : ℕ) (end : TurnEnd) → r.0.state ≡ Running → (instruction (record_of flash r)).end ≡ end → turned settings time (record_of flash r) ≡ ended settings (record_of flash (after_instruction r (instruction (record_of flash r)))) (instruction (record_of flash r)).accesses end
+by_end : (m : Moment) (flash : List ℕ) (r : Resident) (storage : List ℕ) (end : TurnEnd) → r.0.state ≡ Running → (next flash r).end ≡ end
+    → (let a = after_instruction r (next flash r) in turned m.settings m.time (record_in flash r.0 r.1 storage) ≡ ended m.settings m.time (record_in flash a.0 a.1 storage) (next flash r).accesses end)
 unfolding turned
-by_end settings flash r time end runs e =
-    ap (λ (s : State). turn_in settings s (record_of flash r)) runs
-    ∙ ap (ended settings (record_of flash (after_instruction r (instruction (record_of flash r)))) (instruction (record_of flash r)).accesses) e
+by_end m flash r storage end runs e =
+    let a = after_instruction r (next flash r) in
+    ap (λ (s : State). turn_in m.settings m.time s (record_in flash r.0 r.1 storage)) runs
+    ∙ ap (ended m.settings m.time (record_in flash a.0 a.1 storage) (next flash r).accesses) e
 
--- an instruction with nothing more to do
-pub went : (policy : Policy) (flash : List ℕ) (r : Resident) → r.0.state ≡ Running → (instruction (record_of flash r)).end ≡ Went → Turns policy flash r (after_instruction r (instruction (record_of flash r))) (record { call = None; denial = None })
-went policy flash r runs e settings same time =
-    let t = by_end settings flash r time Went runs e in
-    (ap (λ (x : Turned). x.after) t, shown_by _ _ _ t (record { call = refl; denial = refl; acts = refl }))
+module _ (m : Moment) (slot : ℕ) (flash : List ℕ) where
+  -- an instruction with nothing more to do
+  pub went : (r : Resident) (d : Drivers) → r.0.state ≡ Running → (next flash r).end ≡ Went → Turns m slot flash r (after_instruction r (next flash r)) nothing_shown d d
+  went r d runs e = λ storage.
+      as_known slot flash r _ nothing_shown d d storage _ _ (by_end m flash r storage Went runs e) (refl, record { call = refl; denial = refl }, drives_nothing (id_of slot r.1) d)
 
--- a fault that is settled as a policy decides, under settings with it
-settled_so : (settings : Settings) (policy : Policy) (flash : List ℕ) (process : Process) (own : Own) (denial : Denial) (new : Resident) → settings.policy ≡ policy → Settles policy flash process own denial new → (faulted settings (record_of flash (process, own)) denial).after ≡ record_of flash new
-settled_so settings policy flash process own denial new same h = ap (λ (p : Policy). settled (record_of flash (after_fault process denial, own)) (decision p process.restarts)) same ∙ h
+  -- one that is denied
+  pub trapped : (r new : Resident) (denial : Denial) (d d' : Drivers) → r.0.state ≡ Running → (next flash r).end ≡ Trap denial
+      → (let a = after_instruction r (next flash r) in Settles m.settings.policy flash a.0 a.1 denial new → Drives (id_of slot a.1) gone d d' → Turns m slot flash r new (record { call = None; denial = Some denial }) d d')
+  trapped r new denial d d' runs e settles drives = λ storage.
+      as_known slot flash r new _ d d' storage _ _ (by_end m flash r storage (Trap denial) runs e) (settles storage, record { call = refl; denial = refl }, drives)
 
--- one that is denied
-pub trapped : (policy : Policy) (flash : List ℕ) (r new : Resident) (denial : Denial) → r.0.state ≡ Running → (instruction (record_of flash r)).end ≡ Trap denial → let a = after_instruction r (instruction (record_of flash r)) in Settles policy flash a.0 a.1 denial new → Turns policy flash r new (record { call = None; denial = Some denial })
-trapped policy flash r new denial runs e h settings same time =
-    let t = by_end settings flash r time (Trap denial) runs e in
-    let a = after_instruction r (instruction (record_of flash r)) in
-    (ap (λ (x : Turned). x.after) t ∙ settled_so settings policy flash a.0 a.1 denial new same h, shown_by _ _ _ t (record { call = refl; denial = refl; acts = refl }))
-
--- one that makes a system call
-pub makes_call : (policy : Policy) (flash : List ℕ) (r new : Resident) (shown : Shown) → r.0.state ≡ Running → (instruction (record_of flash r)).end ≡ Call → Serves policy flash (after_instruction r (instruction (record_of flash r))) new shown → Turns policy flash r new shown
-makes_call policy flash r new shown runs e serves settings same time =
-    let t = by_end settings flash r time Call runs e in
-    let s = serves settings same (instruction (record_of flash r)).accesses in
-    (ap (λ (x : Turned). x.after) t ∙ s.0, shown_by _ _ _ t s.1)
-
--- a call that was made
-pub served_known : (policy : Policy) (flash : List ℕ) (old new : Resident) (call : SystemCall) (outcome : Outcome) (shown : CallMade) → call_of old.0.regs ≡ Some call → CallServes (record_of flash old) call (record_of flash new) outcome → shown ≡ made old.0.regs outcome → Serves policy flash old new (record { call = Some shown; denial = None })
-served_known policy flash old new call outcome shown c a s settings same accesses =
-    let t = ap (calls settings (record_of flash old) accesses) c ∙ ap (called (record_of flash old) accesses call) a in
-    (ap (λ (x : Turned). x.after) t, shown_by _ _ _ t (record { call = ap Some (sym s); denial = refl; acts = refl }))
-
--- a class that is unknown
-pub served_none : (policy : Policy) (flash : List ℕ) (old new : Resident) → call_of old.0.regs ≡ None → Settles policy flash old.0 old.1 (unknown_call old.0) new → Serves policy flash old new (record { call = None; denial = Some (unknown_call old.0) })
-served_none policy flash old new c h settings same accesses =
-    let t = ap (calls settings (record_of flash old) accesses) c in
-    (ap (λ (x : Turned). x.after) t ∙ settled_so settings policy flash old.0 old.1 (unknown_call old.0) new same h, shown_by _ _ _ t (record { call = refl; denial = refl; acts = refl }))
+  -- one that makes a system call
+  pub makes_call : (r new : Resident) (shown : Shown) (d d' : Drivers) → r.0.state ≡ Running → (next flash r).end ≡ Call
+      → Serves m slot flash (after_instruction r (next flash r)) new shown d d' → Turns m slot flash r new shown d d'
+  makes_call r new shown d d' runs e serves = λ storage.
+      as_known slot flash r new shown d d' storage _ _ (by_end m flash r storage Call runs e) (serves (next flash r).accesses storage)
 
 -- the start again of a process that faulted is that of one whose denial was recorded
 restarted_same : (r : Record) (denial : Denial) (e : Extents) (address : ℕ) (read : Result Meaning HeaderFault) → reading r.object ≡ read → IsApplication address e read → restarted_by (with_process r (record r.process { denial = Some denial })) read ≡ restarted_by (with_process r (after_fault r.process denial)) read
@@ -101,11 +89,10 @@ restarted_same r denial e address (Ok meaning) h a = by_main meaning.main a
     by_main None b = absurd b
     by_main (Some m) b = refl
 
-pub starts_again : (flash : List ℕ) (process : Process) (own : Own) (denial : Denial) → IsOwn flash process own → restart (record_of flash (after_fault process denial, own)) ≡ restart (record_of flash (record process { denial = Some denial }, own))
+pub starts_again : (flash : List ℕ) (process : Process) (own : Own) (storage : List ℕ) (denial : Denial) → IsOwn flash process own → restart (record_in flash (after_fault process denial) own storage) ≡ restart (record_in flash (record process { denial = Some denial }) own storage)
 unfolding restart
-starts_again flash process own denial h =
-    let r = record_of flash (process, own) in
-    sym (restarted_same r denial own.layout process.object.address (reading r.object) refl h.object.application)
+starts_again flash process own storage denial h =
+    sym (restarted_same (record_in flash process own storage) denial own.layout process.object.address (reading (object_in flash process.object)) refl h.object.application)
 
 -- the turn of a process that waits
 by_pending : (r : Record) (pending : List Upcall) → is_pending pending ≡ true → delivery r pending ≡ idle (deliver_by (counted r) pending)
@@ -120,33 +107,44 @@ none_pending r (u ∷ us) e = absurd (some (length (u ∷ us) == 0) refl e)
     some true zero_is f = let none_is : length (u ∷ us) ≡ 0 = eqb-true (length (u ∷ us)) 0 zero_is in omega arith
     some false zero_is f = absurd (cc)
 
--- where an upcall is pending it is delivered
-pub woken : (policy : Policy) (flash : List ℕ) (old new : Resident) → old.0.state ≡ Yielded → is_pending old.1.pending ≡ true → record_of flash new ≡ deliver (record_of flash (after_turn old.0, old.1)) → Turns policy flash old new (record { call = None; denial = None })
-unfolding turned
-woken policy flash old new waits some delivers settings same time =
-    let r = record_of flash old in
-    let t : turned settings time r ≡ idle (deliver (counted r)) = ap (λ (s : State). turn_in settings s r) waits ∙ by_pending r old.1.pending some in
-    (ap (λ (x : Turned). x.after) t ∙ sym delivers, shown_by _ _ _ t (record { call = refl; denial = refl; acts = refl }))
+module _ (m : Moment) (slot : ℕ) (flash : List ℕ) where
+  -- a turn in which a process may be changed, and no more
+  is_quiet : (old new : Resident) (d : Drivers) → ((storage : List ℕ) → turned m.settings m.time (record_in flash old.0 old.1 storage) ≡ idle (record_in flash new.0 new.1 storage)) → Turns m slot flash old new nothing_shown d d
+  is_quiet old new d t = λ storage.
+      as_known slot flash old new nothing_shown d d storage _ _ (t storage) (refl, record { call = refl; denial = refl }, drives_nothing (id_of slot old.1) d)
 
--- and where none is nothing happens
-pub waits_on : (policy : Policy) (flash : List ℕ) (r : Resident) → r.0.state ≡ Yielded → is_pending r.1.pending ≡ false → Turns policy flash r r (record { call = None; denial = None })
-unfolding turned
-waits_on policy flash r waits none settings same time =
-    let t : turned settings time (record_of flash r) ≡ idle (record_of flash r) = ap (λ (s : State). turn_in settings s (record_of flash r)) waits ∙ none_pending (record_of flash r) r.1.pending none in
-    (ap (λ (x : Turned). x.after) t, shown_by _ _ _ t (record { call = refl; denial = refl; acts = refl }))
+  -- where an upcall is pending it is delivered
+  pub woken : (old new : Resident) (d : Drivers) → old.0.state ≡ Yielded → is_pending old.1.pending ≡ true
+      → ((storage : List ℕ) → record_in flash new.0 new.1 storage ≡ deliver (record_in flash (after_turn old.0) old.1 storage)) → Turns m slot flash old new nothing_shown d d
+  unfolding turned
+  woken old new d waits some delivers = is_quiet old new d (λ storage.
+      let r = record_in flash old.0 old.1 storage in
+      ap (λ (s : State). turn_in m.settings m.time s r) waits ∙ by_pending r old.1.pending some ∙ ap idle (sym (delivers storage)))
 
--- a process that ended has no turn
-pub has_ended : (policy : Policy) (flash : List ℕ) (r : Resident) (settings : Settings) (time : ℕ) → turned settings time (record_of flash r) ≡ idle (record_of flash r) → ((turned settings time (record_of flash r)).after ≡ record_of flash r) × Shows (turned settings time (record_of flash r)) (record { call = None; denial = None })
-has_ended policy flash r settings time t = (ap (λ (x : Turned). x.after) t, shown_by _ _ _ t (record { call = refl; denial = refl; acts = refl }))
+  -- where none is pending nothing happens
+  pub waits_on : (r : Resident) (d : Drivers) → r.0.state ≡ Yielded → is_pending r.1.pending ≡ false → Turns m slot flash r r nothing_shown d d
+  unfolding turned
+  waits_on r d waits none = is_quiet r r d (λ storage.
+      ap (λ (s : State). turn_in m.settings m.time s (record_in flash r.0 r.1 storage)) waits ∙ none_pending (record_in flash r.0 r.1 storage) r.1.pending none)
 
-pub rests : (policy : Policy) (flash : List ℕ) (r : Resident) → (r.0.state ≡ Faulted) ⊎ ((code : ℕ) × (r.0.state ≡ Terminated code)) → Turns policy flash r r (record { call = None; denial = None })
-unfolding turned
-rests policy flash r (inl is) settings same time = has_ended policy flash r settings time (ap (λ (s : State). turn_in settings s (record_of flash r)) is)
-rests policy flash r (inr is) settings same time = has_ended policy flash r settings time (ap (λ (s : State). turn_in settings s (record_of flash r)) is.1)
+  -- a process that ended has no turn
+  pub rests : (r : Resident) (d : Drivers) → (r.0.state ≡ Faulted) ⊎ ((code : ℕ) × (r.0.state ≡ Terminated code)) → Turns m slot flash r r nothing_shown d d
+  unfolding turned
+  rests r d (inl is) = is_quiet r r d (λ storage. ap (λ (s : State). turn_in m.settings m.time s (record_in flash r.0 r.1 storage)) is)
+  rests r d (inr is) = is_quiet r r d (λ storage. ap (λ (s : State). turn_in m.settings m.time s (record_in flash r.0 r.1 storage)) is.1)
 
 -- a process that had no turn is as it is to be, a step later
 pub rests_seated : (flash : List ℕ) (steps : ℕ) (r : Resident) → IsSeated flash steps r → IsSeated flash (steps + 1) r
 rests_seated flash steps r s = record { own = s.own; turns = omega (arith, s.turns); restarts = omega (arith, s.restarts) }
+
+-- an instruction leaves what a process asks of drivers
+pub may_serve_still : (m : Moment) (d : Drivers) (slot : ℕ) (own : Own) (t : UserTurn) → MayServe m d slot own → MayServe m d slot (with_write own t)
+may_serve_still m d slot own t may = record {
+  asks = record { writes = may.asks.writes; reads = may.asks.reads; randoms = may.asks.randoms; stores = may.asks.stores };
+  lost = may.lost;
+  leds = may.leds;
+  size = may.size;
+}
 
 -- an instruction leaves a process as it is to be, a step later
 pub instruction_seated : (flash : List ℕ) (steps : ℕ) (r : Resident) (t : UserTurn) → IsSeated flash steps r → IsSeated flash (steps + 1) (after_instruction r t)
@@ -156,10 +154,16 @@ instruction_seated flash steps r t s = record {
   restarts = omega (arith, s.restarts);
 }
 
--- and so does a denial
-pub faulted_seated : (flash : List ℕ) (steps : ℕ) (r : Resident) (denial : Denial) → IsSeated flash steps r → IsSeated flash steps (after_fault r.0 denial, own_ended r.1)
-faulted_seated flash steps r denial s = record {
-  own = record { object = s.own.object; object_is = s.own.object_is; lives = refl; life = s.own.life };
-  turns = s.turns;
-  restarts = s.restarts;
-}
+module _ (m : Moment) (slot : ℕ) (flash : List ℕ) (old new : Resident) (shown : Shown) (d d' : Drivers) where
+  -- a turn that shows nothing leaves what drivers keep of its process, and that it lives
+  pub keeps_quiet : GrantsChangeAtCalls → shown ≡ nothing_shown → Turns m slot flash old new shown d d' → (new.1.grants ≡ old.1.grants) × (new.1.lives ≡ old.1.lives)
+  keeps_quiet law quiet turns =
+      let t = turns [] in
+      let keeps = law m.settings m.time (record_in flash old.0 old.1 []) (t.1.call ∙ ap (λ (s : Shown). s.call) quiet) (t.1.denial ∙ ap (λ (s : Shown). s.denial) quiet) in
+      let own : (turned m.settings m.time (record_in flash old.0 old.1 [])).after.own ≡ new.1 = ap (λ (r : Record). r.own) t.0 in
+      (sym (ap (λ (o : Own). o.grants) own) ∙ keeps.0, sym (ap (λ (o : Own). o.lives) own) ∙ keeps.1)
+
+  -- and any turn drops one upcall at most
+  pub loses_one : DropsAtMostOne → Turns m slot flash old new shown d d' → new.1.dropped ≤ old.1.dropped + 1
+  loses_one law turns =
+      subst (λ (r : Record). r.own.dropped ≤ old.1.dropped + 1) (turns []).0 (law m.settings m.time (record_in flash old.0 old.1 [])).not_more

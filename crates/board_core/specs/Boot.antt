@@ -8,12 +8,14 @@ use Rattle.process_layout.specs.Ordered.{IsOrdered}
 use Rattle.process_own.specs.declared.place.Footprint.{Footprint}
 use Rattle.process_own.specs.Own.{opened}
 use Rattle.process_record.specs.declared.process.Process.{Process}
-use Rattle.grant_enter.specs.Homes.{HasObject}
+use Rattle.process_own.specs.Flash.{HasObject}
 use Rattle.app_placement.specs.declared.placed.Place.{Place}
 use Rattle.app_placement.specs.declared.placed.Placed.{Placed}
 use Rattle.board_core.specs.declared.boot.Crew.{Crew}
+use Rattle.kernel_model.specs.Record.{Record}
 use Rattle.board_core.specs.Opening.{record_at}
-use Rattle.board_core.specs.Residents.{IsSeated, record_of}
+use Rattle.board_core.specs.Residents.{IsSeated, Resident, record_of}
+use Rattle.board_core.specs.Settings.{erased}
 
 -- the application at an offset has this place
 abbrev pub at_offset : ℕ → Place → Placed
@@ -34,16 +36,22 @@ layout_at p = layout_in p.place
 abbrev pub footprint_of : Process → Place → Footprint
 footprint_of process place = record { object = process.object; layout = place.layout }
 
+-- the record that a process shows with what is its own, and so many bytes of storage that nobody wrote yet
+abbrev pub fresh_record : ℕ → List ℕ → Resident → Record
+fresh_record storage flash r = record_of flash (r, erased storage)
+
 -- a footprint lies where a process may begin its first life, in so many bytes of flash, but for its block in RAM
 pub record IsFirst (flash : ℕ) (f : Footprint) : Type 0 where
   pub ordered : IsOrdered f.layout
   pub object : HasObject flash f.object f.layout
   pub no_grants : f.layout.kernel_break ≡ f.layout.end
 
--- a process for each application that is placed, at its start, with what it takes up
+-- a process for each application that is placed, at its start, with what it takes up, whatever the size of its storage
 pub record IsCrew (flash : List ℕ) (placed : List Placed) (crew : Crew) : Type 0 where
   pub layouts : map (λ f. f.layout) crew.footprints.items ≡ filter_map layout_at placed
   pub first : All (IsFirst (length flash)) crew.footprints.items
   pub count : length crew.processes.items ≡ length crew.footprints.items
-  pub shown : map (record_of flash) (zip crew.processes.items (map opened crew.footprints.items)) ≡ filter_map (record_at flash) placed
+  pub shown : (storage : ℕ) →
+      map (fresh_record storage flash) (zip crew.processes.items (map opened crew.footprints.items))
+      ≡ filter_map (record_at storage flash) placed
   pub seated : All (IsSeated flash 0) (zip crew.processes.items (map opened crew.footprints.items))

@@ -1,6 +1,9 @@
 pub mod Settings
 pub mod Opening
 pub mod Guards
+pub mod Driven
+pub mod Calm
 pub mod Residents
 pub mod Boot
 pub mod Shows
+pub mod Makes

@@ -17,28 +17,29 @@ use Rattle.process_record.specs.declared.summary.Unplaced.{Unplaced}
 use Rattle.script_text.specs.Settings.{Settings as Script}
 use Rattle.kernel_model.specs.Record.{Record}
 use Rattle.kernel_model.specs.World.{World}
-use Rattle.board_core.specs.Settings.{settings, pace, fresh_storage}
+use Rattle.board_core.specs.Settings.{erased, settings, pace}
 
--- the record of an application whose object stands at an offset: at its start, its block zeroed
-unfoldable pub opened : List ℕ → ℕ → Extents → Meaning → Main → Record
-opened flash offset e h m = record {
+-- the record of an application whose object stands at an offset: at its start, its block zeroed, so many bytes of storage
+-- erased
+unfoldable pub opened : ℕ → List ℕ → ℕ → Extents → Meaning → Main → Record
+opened storage flash offset e h m = record {
   process = started (FLASH_START + offset) h m e.start (e.end - e.start) e.brk;
   object = object_bytes flash offset;
   own = own.opened (record { object = record { address = FLASH_START + offset; size = h.total_size }; layout = e });
-  storage = fresh_storage;
+  storage = erased storage;
 }
 
-abbrev pub opened_by : List ℕ → ℕ → Extents → Result Meaning HeaderFault → Option Record
-opened_by flash offset e (Ok h) = option_map (opened flash offset e h) h.main
-opened_by flash offset e (Err fault) = None
+abbrev pub opened_by : ℕ → List ℕ → ℕ → Extents → Result Meaning HeaderFault → Option Record
+opened_by storage flash offset e (Ok h) = option_map (opened storage flash offset e h) h.main
+opened_by storage flash offset e (Err fault) = None
 
 -- the record of one that has a place
-abbrev pub record_in : List ℕ → ℕ → Result Place PlaceFault → Option Record
-record_in flash offset (Ok place) = opened_by flash offset place.layout (reading (object_bytes flash offset))
-record_in flash offset (Err fault) = None
+abbrev pub record_in : ℕ → List ℕ → ℕ → Result Place PlaceFault → Option Record
+record_in storage flash offset (Ok place) = opened_by storage flash offset place.layout (reading (object_bytes flash offset))
+record_in storage flash offset (Err fault) = None
 
-abbrev pub record_at : List ℕ → Placed → Option Record
-record_at flash p = record_in flash p.offset p.place
+abbrev pub record_at : ℕ → List ℕ → Placed → Option Record
+record_at storage flash p = record_in storage flash p.offset p.place
 
 -- and one that has none
 abbrev pub unplaced_in : ℕ → Result Place PlaceFault → Option Unplaced
@@ -52,14 +53,26 @@ unplaced_at p = unplaced_in p.offset p.place
 abbrev pub places : ℕ → List ℕ → List Placed
 places ram flash = placements ram (applications flash)
 
--- the world before the first step: time and all counts are 0, nobody waits, all LEDs are off, and no slot is present
+-- the world before the first step: time and all counts are 0, nobody waits, all LEDs are off, nothing came in, and no slot
+-- is present
 unfoldable pub opening : Script → List ℕ → World
 opening script flash = record {
-  records = filter_map (record_at flash) (places script.ram flash);
+  records = filter_map (record_at script.storage flash) (places script.ram flash);
   unplaced = filter_map unplaced_at (places script.ram flash);
-  settings = settings script.leds script.policy;
+  settings = settings script.leds script.start script.storage script.policy;
   pace = pace script.slice;
-  devices = record { writes = []; reads = []; randoms = []; stores = []; leds = 0 };
+  devices = record {
+    writes = [];
+    reads = [];
+    randoms = [];
+    stores = [];
+    leds = 0;
+    line = record { ring = []; ticks = script.uart; free = 0 };
+    arrivals = script.events;
+    words = script.words;
+    served = 0;
+    faults = script.faults;
+  };
   clock = record { time = 0; steps = 0 };
   present = record { slot = None; used = 0 };
 }

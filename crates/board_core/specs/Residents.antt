@@ -1,5 +1,5 @@
 -- A process with what is its own: the record that it shows, and its turns. Only proofs use this.
-use Rattle.std.specs.Prelude.{◌≡◌, ℕ, ◌+◌, ◌≤◌, Bool, false, List, [], length, slice_get, slice_set, Option, None, Some}
+use Rattle.std.specs.Prelude.{◌≡◌, ℕ, ◌+◌, ◌≤◌, Bool, false, List, length, slice_get, slice_set, Option, None, Some}
 use Rattle.tk_base.specs.declared.access.TheConstants.{FLASH_START}
 use Rattle.rv32_model.specs.UserTurn.{Touch, UserTurn}
 use Rattle.syscall_abi.specs.Call.{call_of}
@@ -14,18 +14,27 @@ use Rattle.grant_enter.specs.Homes.{Homes, own_of}
 use Rattle.tk_base.specs.declared.access.Denial.{Denial}
 use Rattle.fault_policy.specs.Policy.{decision}
 use Rattle.fault_policy.specs.declared.Policy.{Policy}
-use Rattle.kernel_model.specs.Record.{Record, Settings}
-use Rattle.kernel_model.specs.Turn.{Turned, calls, settled, turned, has_turn, is_pending}
+use Rattle.kernel_model.specs.Record.{Record}
+use Rattle.kernel_model.specs.Turn.{Turned, calls, settled, surroundings, turned, has_turn, is_pending}
 use Rattle.kernel_calls.specs.Own.{IsOwn, object_in, record_in}
+use Rattle.kernel_calls.specs.Outcomes.{record_at}
+use Rattle.kernel_model.specs.Calls.{served}
+use Rattle.syscall_abi.specs.declared.call.Call.{Call}
+use Rattle.process_record.specs.declared.outcome.Outcome.{Outcome}
+use Rattle.board_core.specs.declared.moment.Moment.{Moment}
 use Rattle.board_core.specs.declared.turn.Shown.{Shown}
-use Rattle.board_core.specs.Settings.{fresh_storage}
+use Rattle.board_core.specs.declared.drivers.Drivers.{Drivers}
+use Rattle.board_core.specs.Driven.{Drives}
+use Rattle.driver_model.specs.Commands.{Act}
+use Rattle.tk_base.specs.declared.process.ProcessId.{ProcessId}
 
 -- a process with what is its own
 abbrev pub Resident : Type 0
 Resident = Process × Own
 
-abbrev pub record_of : List ℕ → Resident → Record
-record_of flash r = record_in flash r.0 r.1 fresh_storage
+-- the record that it shows, with its storage
+abbrev pub record_of : List ℕ → Resident × List ℕ → Record
+record_of flash r = record_in flash r.0.0 r.0.1 r.1
 
 -- the process in a slot, with what is its own
 abbrev pub resident : Homes → ℕ → Process → Resident
@@ -45,28 +54,44 @@ with_shown emit shown = record emit { made = shown.call; denial = shown.denial }
 abbrev pub nothing_shown : Shown
 nothing_shown = record { call = None; denial = None }
 
--- what a turn shows; it asks the board for nothing
+-- what a turn shows
 pub record Shows (t : Turned) (shown : Shown) : Type 0 where
   pub call : t.told.call ≡ shown.call
   pub denial : t.told.denial ≡ shown.denial
-  pub acts : t.acts ≡ []
 
--- what serving the call of a process leaves and shows, under settings with that fault policy
-abbrev pub Serves : Policy → List ℕ → Resident → Resident → Shown → Type 0
-Serves policy flash old new shown = (settings : Settings) → settings.policy ≡ policy → (accesses : List Touch) →
-    let t = calls settings (record_of flash old) accesses (call_of old.0.regs) in
-    (t.after ≡ record_of flash new) × Shows t shown
+-- the id of a process in its life
+abbrev pub id_of : ℕ → Own → ProcessId
+id_of slot own = record { slot = slot; life = own.life }
+
+-- A turn, or a part of it, of the process in a slot leaves this, shows this, and has the drivers do what it asks of them,
+-- whatever the process's storage is.
+abbrev pub Does : (List ℕ → Turned) → ℕ → List ℕ → Resident → Resident → Shown → Drivers → Drivers → Type 0
+Does turn slot flash old new shown d d_after = (storage : List ℕ) →
+    let t = turn storage in
+    (t.after ≡ record_in flash new.0 new.1 storage) × Shows t shown × Drives (id_of slot old.1) t.acts d d_after
+
+-- what serving the call of a process does at a moment
+abbrev pub Serves : Moment → ℕ → List ℕ → Resident → Resident → Shown → Drivers → Drivers → Type 0
+Serves m slot flash old new shown d d_after = (accesses : List Touch) →
+    Does (λ storage. calls m.settings m.time (record_in flash old.0 old.1 storage) accesses (call_of old.0.regs)) slot flash old new shown d d_after
 
 -- a fault of a process is settled as a policy decides
 abbrev pub Settles : Policy → List ℕ → Process → Own → Denial → Resident → Type 0
-Settles policy flash process own denial new =
-    settled (record_of flash (after_fault process denial, own)) (decision policy process.restarts) ≡ record_of flash new
+Settles policy flash process own denial new = (storage : List ℕ) →
+    settled (record_in flash (after_fault process denial) own storage) (decision policy process.restarts) ≡ record_in flash new.0 new.1 storage
 
--- what a turn of a process leaves and shows, under settings with that fault policy
-abbrev pub Turns : Policy → List ℕ → Resident → Resident → Shown → Type 0
-Turns policy flash old new shown = (settings : Settings) → settings.policy ≡ policy → (time : ℕ) →
-    let t = turned settings time (record_of flash old) in
-    (t.after ≡ record_of flash new) × Shows t shown
+-- what a turn of a process does at a moment
+abbrev pub Turns : Moment → ℕ → List ℕ → Resident → Resident → Shown → Drivers → Drivers → Type 0
+Turns m slot flash old new shown d d_after =
+    Does (λ storage. turned m.settings m.time (record_in flash old.0 old.1 storage)) slot flash old new shown d d_after
+
+-- what a call of the process in a slot leaves at a moment, what comes of it, and what the drivers do for it
+pub record Finishes (m : Moment) (slot : ℕ) (home : Homes) (process : Process) (call : Call) (home_after : Homes) (process_after : Process) (outcome : Outcome) (d d_after : Drivers) : Type 0 where
+  pub acts : List Act
+  pub serves : (storage : List ℕ) →
+      served (surroundings m.settings m.time) (record_at home slot process storage) call
+      ≡ record { after = record_at home_after slot process_after storage; outcome = outcome; acts = acts }
+  pub drives : Drives (id_of slot (own_of home slot)) acts d d_after
 
 -- a process's object lies in flash
 pub record InFlash (flash : List ℕ) (process : Process) : Type 0 where
@@ -80,16 +105,24 @@ pub record IsSeated (flash : List ℕ) (steps : ℕ) (r : Resident) : Type 0 whe
   pub turns : r.0.turns ≤ steps
   pub restarts : r.0.restarts ≤ steps
 
--- one turn of the process in a slot, and of no other
-pub record TurnsAt (policy : Policy) (slot steps : ℕ) (home home_after : Homes) (processes processes_after : List Process) (shown : Shown) : Type 0 where
+-- it lost at most as many upcalls as there were steps
+abbrev pub HasLost : ℕ → Own → Type 0
+HasLost steps own = own.dropped ≤ steps
+
+-- nothing but the process in one slot, and what is its own, has changed
+pub record ChangesAt (slot : ℕ) (home home_after : Homes) (processes processes_after : List Process) : Type 0 where
   pub before : Resident
   pub after : Resident
   pub was : slice_get processes slot ≡ Some before.0
   pub own_was : slice_get home.owns slot ≡ Some before.1
   pub is : processes_after ≡ slice_set processes slot after.0
   pub own_is : home_after ≡ record home { owns = slice_set home.owns slot after.1 }
-  pub turns : Turns policy home.flash before after shown
-  pub seated : IsSeated home.flash (steps + 1) after
+
+-- one turn of the process in a slot, and of no other
+pub record TurnsAt (m : Moment) (slot : ℕ) (home home_after : Homes) (processes processes_after : List Process) (shown : Shown) (d d_after : Drivers) : Type 0 where
+  pub at : ChangesAt slot home home_after processes processes_after
+  pub turns : Turns m slot home.flash at.before at.after shown d d_after
+  pub seated : IsSeated home.flash (m.steps + 1) at.after
 
 -- whether a process can have a turn, and whether that in a slot can, if there is one
 abbrev pub resident_turns : Resident → Bool

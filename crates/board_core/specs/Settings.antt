@@ -1,17 +1,18 @@
--- The settings of a board under a script, as far as its lines are served.
+-- The settings of a board under a script.
 use Rattle.std.specs.Prelude.{ℕ, List, replicate}
 use Rattle.fault_policy.specs.declared.Policy.{Policy}
-use Rattle.kernel_model.specs.Record.{Settings}
+use Rattle.kernel_model.specs.declared.settings.Settings.{Settings}
 use Rattle.kernel_model.specs.World.{Pace}
 
--- so many LEDs, and a policy for processes that fault; an alarm that starts at 0, 512 bytes of storage for each slot
-abbrev pub settings : ℕ → Policy → Settings
-settings leds policy = record { leds = leds; start = 0; storage = 512; policy = policy }
+-- so many LEDs, an alarm's clock that shows a number at time 0, so many bytes of storage for each slot, and a policy for
+-- processes that fault
+abbrev pub settings : ℕ → ℕ → ℕ → Policy → Settings
+settings leds start storage policy = record { leds = leds; start = start; storage = storage; policy = policy }
 
--- slices of so many turns, a tick for each byte that the UART sends
+-- slices of so many turns
 abbrev pub pace : ℕ → Pace
-pace slice = record { slice = slice; uart = 1 }
+pace slice = record { slice = slice }
 
--- storage that nobody wrote yet
-abbrev pub fresh_storage : List ℕ
-fresh_storage = replicate 512 255
+-- so many bytes of storage that nobody wrote yet
+abbrev pub erased : ℕ → List ℕ
+erased size = replicate size 0xFF

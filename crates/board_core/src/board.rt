@@ -1,33 +1,48 @@
 //! The board.
-ghost use Rattle.std.specs.Prelude.{◌≡◌, ◌+◌, [], ◌≤◌, ◌<◌, ◌↔◌, All, map, length, slice_get, IsOk, IsTrue, IfOk, IfSome, Some, OnOk, OnErr, vec_len};
+ghost use Rattle.std.specs.Prelude.{◌≡◌, ◌+◌, ◌-◌, ◌^◌, [], ◌∷◌, false, ◌≤◌, ◌<◌, ◌↔◌, All, map, length, slice_get, IsOk, IsTrue, IfOk, IfSome, Some, OnOk, OnErr, vec_len};
 ghost use Rattle.std.specs.List.{zip};
-ghost use Rattle.tk_base.specs.declared.process.Choice.TheVariants.{Run};
+ghost use Rattle.tk_base.specs.declared.process.Choice.TheVariants.{Run, Device, Pass};
+ghost use Rattle.tk_base.specs.declared.process.Dev.TheVariants.{Event, Alarm, Uart, Receive, Random, Store};
 ghost use Rattle.tk_base.specs.declared.limits.TheConstants.{STEP_LIMIT};
 ghost use Rattle.turn_scheduler.specs.RoundRobin.{used_after};
 ghost use Rattle.turn_scheduler.specs.Status.{situation_of as status_situation};
+ghost use Rattle.process_record.specs.Emit.{nothing};
 ghost use Rattle.process_record.specs.Name.{name_of};
 ghost use Rattle.kernel_calls.specs.Own.{object_in};
 ghost use Rattle.kernel_model.specs.World.{is_ready, after, labels};
 ghost use Rattle.kernel_model.specs.Run.{next, situation_of};
 ghost use Rattle.kernel_model.specs.Shown.{shown_by, summary_of};
 ghost use Rattle.board_core.specs.Opening.{opening};
+ghost use Rattle.board_core.specs.Settings.{settings};
+ghost use Rattle.board_core.specs.Calm.{IsCalm};
+ghost use Rattle.driver_model.specs.Laws.{IsDueWhereNoneAreLeft};
+ghost use Rattle.board_core.specs.Driven.{MayServe};
+ghost use Rattle.grant_enter.specs.Homes.{own_of};
+ghost use Rattle.board_core.specs.Makes.{Makes, ready_in, shown_printed};
 ghost use Rattle.board_core.specs.Guards.{GuardsOnly};
 ghost use Rattle.board_core.specs.Residents.{IsSeated, InFlash, TurnsAt, nothing_shown, resident_turns, shown_in, slot_turns, line_in, with_shown};
 
 use crate::boot::{Crew, first_crew, placed_in, unplaced};
+use crate::drivers::Drivers;
 use crate::guard::Guard;
+use crate::moment::Moment;
 use crate::turn::{can_turn, take_turn};
+use alarm_capsule::{answer, next_due};
 use arrayvec::ArrayVec;
-use fault_policy::Policy;
+use driver_model::{
+    a_due_slot_is_there, an_alarm_is_due_where_no_ticks_are_left, events_tell_steps,
+    lines_follow_answers,
+};
 use grant_enter::Home;
-use kernel_model::next_is_ready;
-use process_own::Object;
+use kernel_model::{Settings, grants_change_at_calls, next_is_ready, turns_keep_lines};
+use led_capsule::bits;
+use process_own::{Object, reads_own_flash};
 use process_record::{Emit, Process, SlotLine, Summary, Unplaced, object_name};
 use script_text::Script;
 use std::alloc::Global;
 use std::marker::Model;
 use tbf_headers::object_at;
-use tk_base::{Choice, FLASH_LIMIT, FLASH_START, STEP_LIMIT, Slot};
+use tk_base::{Choice, Dev, FLASH_LIMIT, FLASH_START, STEP_LIMIT, Slot};
 use tk_outside::NoMemory;
 use turn_scheduler::{Status, next_choice, used_after};
 
@@ -46,15 +61,14 @@ pub struct Board {
     guard: Guard,
     /// The applications that have no place.
     unplaced: ArrayVec<Unplaced, 64>,
-    /// How many LEDs there are.
-    leds: u32,
-    /// What becomes of processes that fault.
-    policy: Policy,
+    /// The settings, the time and the steps so far.
+    moment: Moment,
+    /// The drivers, with who waits for them and the devices that they serve.
+    drivers: Drivers,
+    /// A time up to which no device step is ready.
+    calm: u64,
     /// How many turns a process may have in a row while another is ready.
     slice: u32,
-    /// In ticks.
-    time: u64,
-    steps: u64,
     /// The slot that had the last turn, and how many turns of its slice it has used.
     present: Option<Slot>,
     used: u32,
@@ -93,11 +107,13 @@ fn used_after_turn(present: Option<Slot>, used: u32, slice: u32, slot: Slot) -> 
     used_after(present, used, slice, slot)
 }
 
-/// Takes back what the last step told of a call or a denial. It is seldom there, and writing it takes time.
+/// Takes back what the last step told, but for whose turn it was. What it printed, a call or a denial is seldom
+/// there, and writing it takes time.
 #[inline(always)]
-fn forget(emit: &mut Emit)
-    ensures { emit.new ≡ with_shown emit.old nothing_shown }
+fn clear(emit: &mut Emit)
+    ensures { emit.new ≡ record nothing { slot = emit.old.slot } }
 {
+    emit.printed.clear();
     if emit.made.is_some() {
         emit.made = None;
     }
@@ -106,29 +122,101 @@ fn forget(emit: &mut Emit)
     }
 }
 
+/// The step shows nothing.
+fn hide(emit: &mut Emit)
+    ensures { emit.new ≡ nothing }
+{
+    clear(emit);
+    emit.slot = None;
+}
+
+/// The step printed bytes for a slot's process, if it printed any.
+fn show(emit: &mut Emit, slot: Slot, printed: ArrayVec<u8, 64>)
+    ensures { emit.new ≡ shown_printed slot printed.items }
+{
+    hide(emit);
+    if !printed.is_empty() {
+        emit.slot = Some(slot);
+    }
+    emit.printed = printed;
+}
+
+/// Which device steps are ready at a moment.
+fn devices_ready(home: &Home, drivers: &Drivers, moment: &Moment) -> ArrayVec<bool, 6>
+    ensures { (law : IsDueWhereNoneAreLeft) → result.items ≡ ready_in moment.now home.now.owns drivers.now }
+{
+    let alarm = is_now(next_due(home, moment.tick()));
+    let sends = drivers.console.has_writes() && drivers.uart.free() <= moment.time;
+    let receives = drivers.console.has_reads() && drivers.uart.held() > 0;
+    ArrayVec::from([
+        drivers.arrivals.is_time(moment.time),
+        alarm,
+        sends,
+        receives,
+        drivers.random.is_waited_for(),
+        drivers.storage.is_waited_for(),
+    ])
+}
+
+/// Whether no ticks are left.
+fn is_now(left: Option<u32>) -> bool
+    ensures { IsTrue result ↔ (left ≡ Some 0) }
+{
+    matches!(left, Some(0))
+}
+
+/// What of a script's settings processes can see.
+fn settings_of(script: &Script) -> Settings
+    ensures { result ≡ settings script.now.leds script.now.start script.now.storage script.now.policy }
+{
+    Settings {
+        leds: script.leds,
+        start: script.start,
+        storage: script.storage,
+        policy: script.policy,
+    }
+}
+
+/// A time up to which no device step is ready after a turn, by what it showed. It asks that the one so far holds
+/// on where it showed nothing.
+#[inline(always)]
+fn calm_after(calm: u64, moment: &Moment, home: &Home, drivers: &Drivers, emit: &Emit) -> u64
+    requires time { moment.now.time + 2 ^ 32 ≤ 2 ^ 64 }
+    requires free { drivers.now.uart.free ≤ moment.now.time + 64000 }
+    requires calm { shown_in emit.now ≡ nothing_shown
+        → IsCalm moment.now.settings.start moment.now.time calm home.now.owns drivers.now }
+    ensures { IsCalm moment.now.settings.start moment.now.time result home.now.owns drivers.now }
+{
+    if emit.made.is_some() || emit.denial.is_some() {
+        return moment.calm(home, drivers);
+    }
+    calm
+}
+
 /// One turn of the process in a slot, which tells in `emit` what it shows.
 fn turn_at(
     home: &mut Home,
     processes: &mut Vec<Process>,
     guard: &mut Guard,
+    drivers: &mut Drivers,
     slot: Slot,
-    policy: Policy,
-    steps: u64,
+    moment: &Moment,
     emit: &mut Emit,
 )
     requires within { slot < length processes.old.items }
     requires owns { length home.old.owns ≡ length processes.old.items }
-    requires seated { All (IsSeated home.old.flash steps) (zip processes.old.items home.old.owns) }
-    requires limit { steps < STEP_LIMIT }
+    requires seated { All (IsSeated home.old.flash moment.now.steps) (zip processes.old.items home.old.owns) }
+    requires limit { moment.now.steps < STEP_LIMIT }
     requires guard { GuardsOnly guard.old home.old }
+    requires may { MayServe moment.now drivers.old slot (own_of home.old slot) }
     requires quiet { shown_in emit.old ≡ nothing_shown }
-    ensures turn { TurnsAt policy slot steps home.old home.new
-        processes.old.items processes.new.items (shown_in emit.new) }
+    ensures turn { TurnsAt moment.now slot home.old home.new
+        processes.old.items processes.new.items (shown_in emit.new) drivers.old drivers.new }
     ensures guard { GuardsOnly guard.new home.new }
     ensures emit { emit.new ≡ with_shown emit.old (shown_in emit.new) }
 {
     let process = &mut processes[slot.index()];
-    take_turn(home, process, guard, slot, policy, steps, emit);
+    take_turn(home, process, guard, drivers, slot, moment, emit);
 }
 
 /// Adds for each slot whether it is ready. The table is filled where it lies: moving it would cost more
@@ -202,16 +290,23 @@ impl Board {
         let Ok(home) = Home::new(alloc, flash, script.ram, &footprints) else {
             return Err(NoMemory);
         };
+        let moment = Moment {
+            settings: settings_of(&script),
+            time: 0,
+            steps: 0,
+        };
+        let slice = script.slice;
+        let drivers = Drivers::new(alloc, script)?;
+        let calm = moment.calm(&home, &drivers);
         Ok(Board {
             home,
             processes,
             guard: Guard::new(),
             unplaced: unplaced(&placed),
-            leds: script.leds,
-            policy: script.policy,
-            slice: script.slice,
-            time: 0,
-            steps: 0,
+            moment,
+            drivers,
+            calm,
+            slice,
             present: None,
             used: 0,
         })
@@ -221,46 +316,216 @@ impl Board {
     fn may_run(&self, slot: Slot) -> bool
         ensures { result ≡ is_ready self.now (Run slot) }
     {
-        if self.steps >= STEP_LIMIT {
+        if self.moment.steps >= STEP_LIMIT {
             return false;
         }
         can_run(&self.home, &self.processes, slot)
     }
 
-    /// A turn of the process in a slot.
+    /// A turn of the process in a slot. Whether an alarm is due is looked at again where it showed something:
+    /// what processes keep for the alarm, and that they live, changes at calls and denials alone.
+    #[inline(always)]
     fn run(&mut self, slot: Slot, emit: &mut Emit) -> Result<(), NotReady>
-        ensures ready { IsOk result ↔ IsTrue (is_ready self.old (Run slot)) }
-        ensures ok { OnOk result (self.new ≡ after self.old (Run slot)) }
-        ensures shown { OnOk result (emit.new ≡ shown_by (labels self.old (Run slot))) }
-        ensures refused { OnErr result ((self.new ≡ self.old) × (emit.new ≡ emit.old)) }
+        ensures { Makes (Run slot) self.old self.new emit.old emit.new result }
     {
+        grants_change_at_calls();
+        turns_keep_lines();
         if !self.may_run(slot) {
             return Err(NotReady);
         }
-        emit.printed.clear();
+        clear(emit);
         emit.slot = Some(slot);
-        forget(emit);
         turn_at(
             &mut self.home,
             &mut self.processes,
             &mut self.guard,
+            &mut self.drivers,
             slot,
-            self.policy,
-            self.steps,
+            &self.moment,
             emit,
         );
         self.used = used_after_turn(self.present, self.used, self.slice, slot);
         self.present = Some(slot);
-        self.time += 1;
-        self.steps += 1;
+        self.moment.time += 1;
+        self.moment.steps += 1;
+        self.calm = calm_after(self.calm, &self.moment, &self.home, &self.drivers, emit);
+        Ok(())
+    }
+
+    /// The next bytes come in on the serial line.
+    fn arrive(&mut self, emit: &mut Emit) -> Result<(), NotReady>
+        ensures { Makes (Device Event) self.old self.new emit.old emit.new result }
+    {
+        if self.moment.steps >= STEP_LIMIT {
+            return Err(NotReady);
+        }
+        if !self.drivers.arrivals.is_time(self.moment.time) {
+            return Err(NotReady);
+        }
+        self.drivers.arrivals.arrive(&mut self.drivers.uart);
+        hide(emit);
+        self.moment.steps += 1;
+        self.calm = self.moment.calm(&self.home, &self.drivers);
+        Ok(())
+    }
+
+    /// The alarm of the lowest slot whose alarm is due fires.
+    fn fire(&mut self, emit: &mut Emit) -> Result<(), NotReady>
+        ensures { Makes (Device Alarm) self.old self.new emit.old emit.new result }
+    {
+        a_due_slot_is_there();
+        lines_follow_answers();
+        events_tell_steps();
+        if self.moment.steps >= STEP_LIMIT {
+            return Err(NotReady);
+        }
+        let Some(_) = answer(&mut self.home, self.moment.tick()) else {
+            return Err(NotReady);
+        };
+        hide(emit);
+        self.moment.steps += 1;
+        self.calm = self.moment.calm(&self.home, &self.drivers);
+        Ok(())
+    }
+
+    /// The UART takes the next bytes of the write that waits longest, or that write completes.
+    fn transmit(&mut self, emit: &mut Emit) -> Result<(), NotReady>
+        ensures { Makes (Device Uart) self.old self.new emit.old emit.new result }
+    {
+        lines_follow_answers();
+        events_tell_steps();
+        reads_own_flash();
+        self.home.held_buffers_lie_in_place();
+        if self.moment.steps >= STEP_LIMIT {
+            return Err(NotReady);
+        }
+        let mut printed = ArrayVec::new();
+        let Some(id) = self.drivers.console.transmit(
+            &mut self.home,
+            &mut self.drivers.uart,
+            self.moment.time,
+            &mut printed,
+        )
+        else {
+            return Err(NotReady);
+        };
+        show(emit, id.slot, printed);
+        self.moment.steps += 1;
+        self.calm = self.moment.calm(&self.home, &self.drivers);
+        Ok(())
+    }
+
+    /// The bytes that came in go to the read that waits longest.
+    fn receive(&mut self, emit: &mut Emit) -> Result<(), NotReady>
+        ensures { Makes (Device Receive) self.old self.new emit.old emit.new result }
+    {
+        lines_follow_answers();
+        events_tell_steps();
+        if self.moment.steps >= STEP_LIMIT {
+            return Err(NotReady);
+        }
+        let Some(_) = self
+            .drivers
+            .console
+            .receive(&mut self.home, &mut self.drivers.uart)
+        else {
+            return Err(NotReady);
+        };
+        hide(emit);
+        self.moment.steps += 1;
+        self.calm = self.moment.calm(&self.home, &self.drivers);
+        Ok(())
+    }
+
+    /// A word is drawn for the request for random bytes that waits longest, or it completes.
+    fn draw(&mut self, emit: &mut Emit) -> Result<(), NotReady>
+        ensures { Makes (Device Random) self.old self.new emit.old emit.new result }
+    {
+        lines_follow_answers();
+        events_tell_steps();
+        if self.moment.steps >= STEP_LIMIT {
+            return Err(NotReady);
+        }
+        let Some(_) = self
+            .drivers
+            .random
+            .answer(&mut self.home, &mut self.drivers.words)
+        else {
+            return Err(NotReady);
+        };
+        hide(emit);
+        self.moment.steps += 1;
+        self.calm = self.moment.calm(&self.home, &self.drivers);
+        Ok(())
+    }
+
+    /// The storage serves the request that waits longest, or it fails.
+    fn store(&mut self, emit: &mut Emit) -> Result<(), NotReady>
+        ensures { Makes (Device Store) self.old self.new emit.old emit.new result }
+    {
+        lines_follow_answers();
+        events_tell_steps();
+        reads_own_flash();
+        self.home.held_buffers_lie_in_place();
+        if self.moment.steps >= STEP_LIMIT {
+            return Err(NotReady);
+        }
+        let Some(_) = self
+            .drivers
+            .storage
+            .answer(&mut self.home, &mut self.drivers.stores)
+        else {
+            return Err(NotReady);
+        };
+        hide(emit);
+        self.moment.steps += 1;
+        self.calm = self.moment.calm(&self.home, &self.drivers);
+        Ok(())
+    }
+
+    /// A device acts.
+    #[inline(never)]
+    fn act(&mut self, device: Dev, emit: &mut Emit) -> Result<(), NotReady>
+        ensures { Makes (Device device) self.old self.new emit.old emit.new result }
+    {
+        match device {
+            Dev::Event => self.arrive(emit),
+            Dev::Alarm => self.fire(emit),
+            Dev::Uart => self.transmit(emit),
+            Dev::Receive => self.receive(emit),
+            Dev::Random => self.draw(emit),
+            Dev::Store => self.store(emit),
+        }
+    }
+
+    /// Whether so many ticks may pass.
+    #[tactic(auto, unfolding(kernel_model::specs::World::may_be_made))]
+    fn may_pass(&self, ticks: u32) -> bool
+        ensures { result ≡ is_ready self.now (Pass ticks) }
+    {
+        self.moment.steps < STEP_LIMIT && ticks > 0
+    }
+
+    /// So many ticks pass, in which nothing acts.
+    #[inline(never)]
+    fn pass(&mut self, ticks: u32, emit: &mut Emit) -> Result<(), NotReady>
+        ensures { Makes (Pass ticks) self.old self.new emit.old emit.new result }
+    {
+        if !self.may_pass(ticks) {
+            return Err(NotReady);
+        }
+        hide(emit);
+        self.moment.time += u64::from(ticks);
+        self.moment.steps += 1;
         Ok(())
     }
 
     /// Makes one step, and shows it in `emit`. Afterwards the board shows the world after the abstract
     /// kernel's step. `NotReady` comes exactly where the choice may not be made: its slot holds no
-    /// process that can have a turn, it is not a slot's turn, or 4,000,000,000 steps were made; nothing has
-    /// changed then.
-    #[tactic(auto, unfolding(kernel_model::specs::World::is_ready))]
+    /// process that can have a turn, its device has nothing to do (the alarm, where none is due), a pass takes no
+    /// ticks, or 4,000,000,000 steps were made; nothing has changed then.
+    #[inline(always)]
+    #[tactic(auto, unfolding(kernel_model::specs::World::may_be_made))]
     pub fn step(&mut self, choice: Choice, emit: &mut Emit) -> Result<(), NotReady>
         ensures ready { IsOk result ↔ IsTrue (is_ready self.old choice) }
         ensures ok { OnOk result (self.new ≡ after self.old choice) }
@@ -269,20 +534,24 @@ impl Board {
     {
         match choice {
             Choice::Run(slot) => self.run(slot, emit),
-            Choice::Device(_) | Choice::Pass(_) => Err(NotReady),
+            Choice::Device(device) => self.act(device, emit),
+            Choice::Pass(ticks) => self.pass(ticks, emit),
         }
     }
 
     /// What the round robin reads of the board.
     #[inline(never)]
+    #[tactic(auto, unfolding(kernel_model::specs::Run::ready_devices))]
     pub fn status(&self) -> Status
-        ensures { status_situation result ≡ situation_of self.now }
+        ensures status { status_situation result ≡ situation_of self.now }
+        ensures near { IfSome result.next (λ at. at - result.time < 2 ^ 32) }
     {
+        an_alarm_is_due_where_no_ticks_are_left();
         let mut status = Status {
             ready: ArrayVec::new(),
-            devices: ArrayVec::new(),
-            next: None,
-            time: self.time,
+            devices: devices_ready(&self.home, &self.drivers, &self.moment),
+            next: self.moment.next_time(&self.home, &self.drivers),
+            time: self.moment.time,
             present: self.present,
             used: self.used,
             slice: self.slice,
@@ -291,22 +560,23 @@ impl Board {
         status
     }
 
-    /// The present slot, where it keeps its turn: it can have one, and has turns left in its slice.
+    /// The present slot, where it keeps its turn: no device is ready, the slot can have a turn, and has turns
+    /// left in its slice.
     #[inline(always)]
     fn keeps_turn(&self) -> Option<Slot>
         ensures { IfSome result (λ slot. Some (Run slot) ≡ next self.now) }
     {
         match self.present {
             Some(present)
-                if self.used < self.slice && can_run(&self.home, &self.processes, present) => Some(
-                present,
-            ),
+                if self.moment.time < self.calm
+                    && self.used < self.slice
+                    && can_run(&self.home, &self.processes, present) => Some(present),
             _ => None,
         }
     }
 
-    /// The next choice of the round robin; None exactly where no process can have a turn. It may be made
-    /// while fewer than 4,000,000,000 steps were made.
+    /// The next choice of the round robin; None exactly where no process can have a turn and no alarm is armed. It
+    /// may be made while fewer than 4,000,000,000 steps were made.
     // Inlined, it saves 4 to 8 machine instructions a turn.
     #[inline(always)]
     pub fn next_choice(&self) -> Option<Choice>
@@ -329,10 +599,10 @@ impl Board {
         Summary {
             slots: slot_lines(&self.home, &self.processes),
             unplaced: copied(&self.unplaced),
-            leds: 0,
-            led_count: self.leds,
-            steps: self.steps,
-            time: self.time,
+            leds: bits(&self.drivers.leds),
+            led_count: self.moment.settings.leds,
+            steps: self.moment.steps,
+            time: self.moment.time,
         }
     }
 }

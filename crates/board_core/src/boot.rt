@@ -1,10 +1,10 @@
 //! The applications of a flash image in their slots, before the first step.
-ghost use Rattle.std.specs.Prelude.{◌≡◌, ◌≤◌, All, AllPairs, count_by, length, filter_map, Ok, Some, IfOk};
+ghost use Rattle.std.specs.Prelude.{◌≡◌, ◌≤◌, ℕ, All, AllPairs, count_by, length, filter_map, Ok, Some, IfOk};
 ghost use Rattle.process_own.specs.Own.{opened};
 ghost use Rattle.app_placement.specs.Placement.{LiesBefore, LiesInFlash, LiesInRam, IsLaidOut, is_placed};
-ghost use Rattle.board_core.specs.Opening.{places, record_at, record_in, unplaced_at};
-ghost use Rattle.board_core.specs.Residents.{IsSeated, record_of};
-ghost use Rattle.board_core.specs.Boot.{at_offset, footprint_of, IsCrew, IsFirst, StartsInRam};
+ghost use Rattle.board_core.specs.Opening.{places, record_in, unplaced_at};
+ghost use Rattle.board_core.specs.Residents.{IsSeated};
+ghost use Rattle.board_core.specs.Boot.{at_offset, footprint_of, fresh_record, IsCrew, IsFirst, StartsInRam};
 
 use app_placement::{Place, Placed, place};
 use arrayvec::ArrayVec;
@@ -46,8 +46,9 @@ fn first_process(flash: &[u8], offset: u32, place: &Place) -> Process
     requires flash { LiesInFlash flash.now (at_offset offset place.now) }
     requires ram { StartsInRam (at_offset offset place.now) }
     requires layout { IsLaidOut flash.now (at_offset offset place.now) }
-    ensures shown { Some (record_of flash.now (result, opened (footprint_of result place.now)))
-        ≡ record_in flash.now offset (Ok place.now) }
+    ensures shown { (storage : ℕ) →
+        Some (fresh_record storage flash.now (result, opened (footprint_of result place.now)))
+        ≡ record_in storage flash.now offset (Ok place.now) }
     ensures seated { IsSeated flash.now 0 (result, opened (footprint_of result place.now)) }
     ensures first { IsFirst (length flash.now) (footprint_of result place.now) }
 {

@@ -4,7 +4,9 @@
 
 mod board;
 mod boot;
+mod drivers;
 mod guard;
+mod moment;
 mod turn;
 
 pub use board::{Board, NotReady};

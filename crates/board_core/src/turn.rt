@@ -1,22 +1,29 @@
 //! One turn of the process in a slot.
-ghost use Rattle.std.specs.Prelude.{◌≡◌, ◌+◌, ◌<◌, ◌≤◌, length, true, None, Some};
+ghost use Rattle.std.specs.Prelude.{◌≡◌, ◌+◌, ◌<◌, ◌≤◌, ℕ, List, [], length, true, false, None, Some};
 ghost use Rattle.process_record.specs.declared.process.State.TheVariants.{Running, Yielded};
 ghost use Rattle.tk_base.specs.declared.limits.TheConstants.{STEP_LIMIT};
 ghost use Rattle.process_own.specs.Own.{ended};
 ghost use Rattle.process_own.specs.Instruction.{with_write};
 ghost use Rattle.process_record.specs.Process.{after_fault, after_turn};
 ghost use Rattle.grant_enter.specs.Homes.{own_of, ChangesOnly};
-ghost use Rattle.kernel_calls.specs.Outcomes.{ServesAt};
+ghost use Rattle.driver_model.specs.Commands.{gone};
+ghost use Rattle.kernel_calls.specs.Outcomes.{acts_for, is_for_driver};
+ghost use Rattle.kernel_calls.specs.Own.{object_in, record_in};
+ghost use Rattle.board_core.specs.Driven.{Drives, MayServe};
+ghost use Rattle.board_core.specs.declared.drivers.Drivers.{Drivers};
 ghost use Rattle.kernel_model.specs.Calls.{restart};
 ghost use Rattle.kernel_model.specs.Record.{instruction};
 ghost use Rattle.kernel_model.specs.Turn.{arguments, made, unknown_call};
 ghost use Rattle.board_core.specs.Guards.{GuardsOnly, IsSetFor};
-ghost use Rattle.board_core.specs.Residents.{IsSeated, Serves, Settles, Turns, nothing_shown, record_of, resident, resident_turns, shown_in, with_shown};
+ghost use Rattle.board_core.specs.Residents.{Finishes, IsSeated, Serves, Settles, Turns, id_of, nothing_shown, resident, resident_turns, shown_in, with_shown};
 
+use crate::drivers::{Drivers, Order};
 use crate::guard::Guard;
-use fault_policy::{Action, Policy, decide};
+use crate::moment::Moment;
+use driver_model::commands_stay_in_place;
+use fault_policy::{Action, decide};
 use grant_enter::Home;
-use kernel_calls::{deliver, kernel_call, restart_process};
+use kernel_calls::{deliver, give, kernel_call, restart_process};
 use process_record::{CallMade, Emit, Outcome, Process, State};
 use rv32_model::TurnEnd;
 use syscall_abi::Call;
@@ -55,9 +62,12 @@ fn call_shown(before: &Regs, outcome: Outcome) -> CallMade
             reply.put(&mut after);
             (Some(arguments_of(&after)), rule)
         }
-        Outcome::Waits | Outcome::Delivered | Outcome::GoesOn | Outcome::Ended | Outcome::Again => (
-            None, None,
-        ),
+        Outcome::ToDriver
+        | Outcome::Waits
+        | Outcome::Delivered
+        | Outcome::GoesOn
+        | Outcome::Ended
+        | Outcome::Again => (None, None),
     };
     CallMade {
         class: before.get(Call::CLASS),
@@ -102,16 +112,17 @@ fn restart_at(
     guard: &mut Guard,
     slot: Slot,
     denial: Denial,
-    steps: u64,
+    moment: &Moment,
 ) -> Shown
     requires slot { slot < length home.old.owns }
-    requires seated { IsSeated home.old.flash (steps + 1) (resident home.old slot process.old) }
-    requires restarts { process.old.restarts ≤ steps }
-    requires limit { steps < STEP_LIMIT }
+    requires seated { IsSeated home.old.flash (moment.now.steps + 1) (resident home.old slot process.old) }
+    requires restarts { process.old.restarts ≤ moment.now.steps }
+    requires limit { moment.now.steps < STEP_LIMIT }
     requires guard { IsSetFor slot guard.old home.old }
-    ensures restarted { restart (record_of home.old.flash (after_fault process.old denial, own_of home.old slot))
-        ≡ record_of home.old.flash (resident home.new slot process.new) }
-    ensures seated { IsSeated home.old.flash (steps + 1) (resident home.new slot process.new) }
+    ensures restarted { (storage : List ℕ) →
+        restart (record_in home.old.flash (after_fault process.old denial) (own_of home.old slot) storage)
+        ≡ record_in home.old.flash process.new (own_of home.new slot) storage }
+    ensures seated { IsSeated home.old.flash (moment.now.steps + 1) (resident home.new slot process.new) }
     ensures rest { ChangesOnly slot home.old home.new }
     ensures guard { IsSetFor slot guard.new home.new }
     ensures shown { result ≡ record { call = None; denial = Some denial } }
@@ -131,26 +142,28 @@ fn fault_at(
     home: &mut Home,
     process: &mut Process,
     guard: &mut Guard,
+    drivers: &mut Drivers,
     slot: Slot,
-    policy: Policy,
     denial: Denial,
-    steps: u64,
+    moment: &Moment,
 ) -> Shown
     requires slot { slot < length home.old.owns }
-    requires seated { IsSeated home.old.flash (steps + 1) (resident home.old slot process.old) }
-    requires restarts { process.old.restarts ≤ steps }
-    requires limit { steps < STEP_LIMIT }
+    requires seated { IsSeated home.old.flash (moment.now.steps + 1) (resident home.old slot process.old) }
+    requires restarts { process.old.restarts ≤ moment.now.steps }
+    requires limit { moment.now.steps < STEP_LIMIT }
     requires guard { IsSetFor slot guard.old home.old }
-    ensures settles { Settles policy home.old.flash process.old (own_of home.old slot) denial
+    ensures settles { Settles moment.now.settings.policy home.old.flash process.old (own_of home.old slot) denial
         (resident home.new slot process.new) }
-    ensures seated { IsSeated home.old.flash (steps + 1) (resident home.new slot process.new) }
+    ensures gone { Drives (id_of slot (own_of home.old slot)) gone drivers.old drivers.new }
+    ensures seated { IsSeated home.old.flash (moment.now.steps + 1) (resident home.new slot process.new) }
     ensures rest { ChangesOnly slot home.old home.new }
     ensures guard { IsSetFor slot guard.new home.new }
     ensures shown { result ≡ record { call = None; denial = Some denial } }
 {
-    match decide(policy, process.restarts) {
+    drivers.gone(slot);
+    match decide(moment.settings.policy, process.restarts) {
         Action::Stop => stop_at(home, process, slot, denial),
-        Action::Restart => restart_at(home, process, guard, slot, denial, steps),
+        Action::Restart => restart_at(home, process, guard, slot, denial, moment),
     }
 }
 
@@ -165,28 +178,91 @@ fn unknown_class(process: &Process) -> Denial
     }
 }
 
+/// The driver of a command of the process in a slot, which the kernel left to it, replies to it or refuses it.
+#[inline(never)]
+fn command_driver(
+    home: &mut Home,
+    process: &mut Process,
+    drivers: &mut Drivers,
+    slot: Slot,
+    call: &Call,
+    moment: &Moment,
+) -> Outcome
+    requires slot { slot < length home.old.owns }
+    requires seated { IsSeated home.old.flash (moment.now.steps + 1) (resident home.old slot process.old) }
+    requires lives { (own_of home.old slot).lives ≡ true }
+    requires may { MayServe moment.now drivers.old slot (own_of home.old slot) }
+    requires limit { moment.now.steps < STEP_LIMIT }
+    requires left { is_for_driver (object_in home.old.flash process.old.object) call.now ≡ true }
+    ensures serves { Finishes moment.now slot home.old process.old call.now home.new process.new result
+        drivers.old drivers.new }
+    ensures seated { IsSeated home.new.flash (moment.now.steps + 1) (resident home.new slot process.new) }
+    ensures rest { ChangesOnly slot home.old home.new }
+{
+    commands_stay_in_place();
+    let Call::Command {
+        driver,
+        command,
+        a2,
+        a3,
+    } = *call
+    else {
+        unreachable!()
+    };
+    let Some(id) = home.id(slot) else {
+        unreachable!()
+    };
+    let order = Order {
+        driver,
+        number: command,
+        a2,
+        a3,
+    };
+    let answer = drivers.command(home, moment.tick(), id, &order);
+    give(process, answer)
+}
+
+/// Whether the process has ended, or starts again.
+fn is_gone(outcome: Outcome) -> bool
+    ensures gone { result ≡ true → acts_for outcome ≡ gone }
+    ensures none { result ≡ false → acts_for outcome ≡ [] }
+{
+    matches!(outcome, Outcome::Ended | Outcome::Again)
+}
+
 /// Serves a system call, and protects the process as its layout is afterwards.
 fn serve(
     home: &mut Home,
     process: &mut Process,
     guard: &mut Guard,
+    drivers: &mut Drivers,
     slot: Slot,
     call: &Call,
-    steps: u64,
+    moment: &Moment,
 ) -> Outcome
     requires slot { slot < length home.old.owns }
-    requires seated { IsSeated home.old.flash (steps + 1) (resident home.old slot process.old) }
+    requires seated { IsSeated home.old.flash (moment.now.steps + 1) (resident home.old slot process.old) }
     requires lives { (own_of home.old slot).lives ≡ true }
-    requires restarts { process.old.restarts ≤ steps }
-    requires limit { steps < STEP_LIMIT }
+    requires may { MayServe moment.now drivers.old slot (own_of home.old slot) }
+    requires restarts { process.old.restarts ≤ moment.now.steps }
+    requires limit { moment.now.steps < STEP_LIMIT }
     requires guard { IsSetFor slot guard.old home.old }
-    ensures serves { ServesAt slot home.old process.old call.now home.new process.new result }
-    ensures seated { IsSeated home.new.flash (steps + 1) (resident home.new slot process.new) }
+    ensures serves { Finishes moment.now slot home.old process.old call.now home.new process.new result
+        drivers.old drivers.new }
+    ensures seated { IsSeated home.new.flash (moment.now.steps + 1) (resident home.new slot process.new) }
     ensures rest { ChangesOnly slot home.old home.new }
     ensures guard { IsSetFor slot guard.new home.new }
 {
     let layout = home.layout(slot);
-    let outcome = kernel_call(home, process, slot, call);
+    let outcome = match kernel_call(home, process, slot, call) {
+        Outcome::ToDriver => command_driver(home, process, drivers, slot, call, moment),
+        outcome => {
+            if is_gone(outcome) {
+                drivers.gone(slot);
+            }
+            outcome
+        }
+    };
     guard.follow(home, slot, &layout);
     outcome
 }
@@ -196,28 +272,29 @@ fn serve_call(
     home: &mut Home,
     process: &mut Process,
     guard: &mut Guard,
+    drivers: &mut Drivers,
     slot: Slot,
-    policy: Policy,
-    steps: u64,
+    moment: &Moment,
 ) -> Shown
     requires slot { slot < length home.old.owns }
-    requires seated { IsSeated home.old.flash (steps + 1) (resident home.old slot process.old) }
+    requires seated { IsSeated home.old.flash (moment.now.steps + 1) (resident home.old slot process.old) }
     requires lives { (own_of home.old slot).lives ≡ true }
-    requires restarts { process.old.restarts ≤ steps }
-    requires limit { steps < STEP_LIMIT }
+    requires may { MayServe moment.now drivers.old slot (own_of home.old slot) }
+    requires restarts { process.old.restarts ≤ moment.now.steps }
+    requires limit { moment.now.steps < STEP_LIMIT }
     requires guard { IsSetFor slot guard.old home.old }
-    ensures serves { Serves policy home.old.flash (resident home.old slot process.old)
-        (resident home.new slot process.new) result }
-    ensures seated { IsSeated home.new.flash (steps + 1) (resident home.new slot process.new) }
+    ensures serves { Serves moment.now slot home.old.flash (resident home.old slot process.old)
+        (resident home.new slot process.new) result drivers.old drivers.new }
+    ensures seated { IsSeated home.new.flash (moment.now.steps + 1) (resident home.new slot process.new) }
     ensures rest { ChangesOnly slot home.old home.new }
     ensures guard { IsSetFor slot guard.new home.new }
 {
     let before = process.regs;
     let Some(call) = Call::of(&before) else {
         let denial = unknown_class(process);
-        return fault_at(home, process, guard, slot, policy, denial, steps);
+        return fault_at(home, process, guard, drivers, slot, denial, moment);
     };
-    let outcome = serve(home, process, guard, slot, &call, steps);
+    let outcome = serve(home, process, guard, drivers, slot, &call, moment);
     Shown {
         call: Some(call_shown(&before, outcome)),
         denial: None,
@@ -230,17 +307,17 @@ fn make_instruction(
     process: &mut Process,
     guard: &mut Guard,
     slot: Slot,
-    steps: u64,
+    moment: &Moment,
 ) -> TurnEnd
     requires slot { slot < length home.old.owns }
-    requires seated { IsSeated home.old.flash steps (resident home.old slot process.old) }
-    requires limit { steps < STEP_LIMIT }
+    requires seated { IsSeated home.old.flash moment.now.steps (resident home.old slot process.old) }
+    requires limit { moment.now.steps < STEP_LIMIT }
     requires guard { GuardsOnly guard.old home.old }
-    ensures end { let r = record_of home.old.flash (resident home.old slot process.old) in
+    ensures end { let r = record_in home.old.flash process.old (own_of home.old slot) [] in
         result ≡ (instruction r).end }
-    ensures process { let r = record_of home.old.flash (resident home.old slot process.old) in
+    ensures process { let r = record_in home.old.flash process.old (own_of home.old slot) [] in
         process.new ≡ record (after_turn process.old) { regs = (instruction r).regs } }
-    ensures own { let r = record_of home.old.flash (resident home.old slot process.old) in
+    ensures own { let r = record_in home.old.flash process.old (own_of home.old slot) [] in
         own_of home.new slot ≡ with_write (own_of home.old slot) (instruction r) }
     ensures rest { ChangesOnly slot home.old home.new }
     ensures guard { IsSetFor slot guard.new home.new }
@@ -256,32 +333,33 @@ fn run_on(
     home: &mut Home,
     process: &mut Process,
     guard: &mut Guard,
+    drivers: &mut Drivers,
     slot: Slot,
-    policy: Policy,
-    steps: u64,
+    moment: &Moment,
     emit: &mut Emit,
 )
     requires slot { slot < length home.old.owns }
     requires runs { process.old.state ≡ Running }
-    requires seated { IsSeated home.old.flash steps (resident home.old slot process.old) }
-    requires limit { steps < STEP_LIMIT }
+    requires may { MayServe moment.now drivers.old slot (own_of home.old slot) }
+    requires seated { IsSeated home.old.flash moment.now.steps (resident home.old slot process.old) }
+    requires limit { moment.now.steps < STEP_LIMIT }
     requires guard { GuardsOnly guard.old home.old }
     requires quiet { shown_in emit.old ≡ nothing_shown }
-    ensures turns { Turns policy home.old.flash (resident home.old slot process.old)
-        (resident home.new slot process.new) (shown_in emit.new) }
-    ensures seated { IsSeated home.old.flash (steps + 1) (resident home.new slot process.new) }
+    ensures turns { Turns moment.now slot home.old.flash (resident home.old slot process.old)
+        (resident home.new slot process.new) (shown_in emit.new) drivers.old drivers.new }
+    ensures seated { IsSeated home.old.flash (moment.now.steps + 1) (resident home.new slot process.new) }
     ensures rest { ChangesOnly slot home.old home.new }
     ensures guard { IsSetFor slot guard.new home.new }
     ensures emit { emit.new ≡ with_shown emit.old (shown_in emit.new) }
 {
-    match make_instruction(home, process, guard, slot, steps) {
+    match make_instruction(home, process, guard, slot, moment) {
         TurnEnd::Went => {}
         TurnEnd::Call => {
-            let shown = serve_call(home, process, guard, slot, policy, steps);
+            let shown = serve_call(home, process, guard, drivers, slot, moment);
             tell(emit, shown);
         }
         TurnEnd::Trap(denial) => {
-            let shown = fault_at(home, process, guard, slot, policy, denial, steps);
+            let shown = fault_at(home, process, guard, drivers, slot, denial, moment);
             tell(emit, shown);
         }
     }
@@ -289,22 +367,15 @@ fn run_on(
 
 /// The turn of a process that waits: the first of its pending upcalls is delivered, if there is one. The
 /// registers are set for it, since it is the next to run. It shows nothing.
-fn wake(
-    home: &mut Home,
-    process: &mut Process,
-    guard: &mut Guard,
-    slot: Slot,
-    policy: Policy,
-    steps: u64,
-)
+fn wake(home: &mut Home, process: &mut Process, guard: &mut Guard, slot: Slot, moment: &Moment)
     requires slot { slot < length home.old.owns }
     requires waits { process.old.state ≡ Yielded }
-    requires seated { IsSeated home.old.flash steps (resident home.old slot process.old) }
-    requires limit { steps < STEP_LIMIT }
+    requires seated { IsSeated home.old.flash moment.now.steps (resident home.old slot process.old) }
+    requires limit { moment.now.steps < STEP_LIMIT }
     requires guard { GuardsOnly guard.old home.old }
-    ensures turns { Turns policy home.old.flash (resident home.old slot process.old)
-        (resident home.new slot process.new) nothing_shown }
-    ensures seated { IsSeated home.old.flash (steps + 1) (resident home.new slot process.new) }
+    ensures turns { (drivers : Drivers) → Turns moment.now slot home.old.flash
+        (resident home.old slot process.old) (resident home.new slot process.new) nothing_shown drivers drivers }
+    ensures seated { IsSeated home.old.flash (moment.now.steps + 1) (resident home.new slot process.new) }
     ensures rest { ChangesOnly slot home.old home.new }
     ensures guard { IsSetFor slot guard.new home.new }
 {
@@ -321,26 +392,27 @@ pub fn take_turn(
     home: &mut Home,
     process: &mut Process,
     guard: &mut Guard,
+    drivers: &mut Drivers,
     slot: Slot,
-    policy: Policy,
-    steps: u64,
+    moment: &Moment,
     emit: &mut Emit,
 )
     requires slot { slot < length home.old.owns }
-    requires seated { IsSeated home.old.flash steps (resident home.old slot process.old) }
-    requires limit { steps < STEP_LIMIT }
+    requires seated { IsSeated home.old.flash moment.now.steps (resident home.old slot process.old) }
+    requires may { MayServe moment.now drivers.old slot (own_of home.old slot) }
+    requires limit { moment.now.steps < STEP_LIMIT }
     requires guard { GuardsOnly guard.old home.old }
     requires quiet { shown_in emit.old ≡ nothing_shown }
-    ensures turns { Turns policy home.old.flash (resident home.old slot process.old)
-        (resident home.new slot process.new) (shown_in emit.new) }
-    ensures seated { IsSeated home.old.flash (steps + 1) (resident home.new slot process.new) }
+    ensures turns { Turns moment.now slot home.old.flash (resident home.old slot process.old)
+        (resident home.new slot process.new) (shown_in emit.new) drivers.old drivers.new }
+    ensures seated { IsSeated home.old.flash (moment.now.steps + 1) (resident home.new slot process.new) }
     ensures rest { ChangesOnly slot home.old home.new }
     ensures guard { GuardsOnly guard.new home.new }
     ensures emit { emit.new ≡ with_shown emit.old (shown_in emit.new) }
 {
     match process.state {
-        State::Running => run_on(home, process, guard, slot, policy, steps, emit),
-        State::Yielded => wake(home, process, guard, slot, policy, steps),
+        State::Running => run_on(home, process, guard, drivers, slot, moment, emit),
+        State::Yielded => wake(home, process, guard, slot, moment),
         State::Faulted | State::Terminated(_) => {}
     }
 }

@@ -1,3 +1,4 @@
 pub mod Clock
 pub mod SerialLine
 pub mod Storage
+pub mod Arriving

@@ -3,6 +3,7 @@
 #![tactic(auto)]
 
 mod answer;
+mod arrivals;
 mod clock;
 mod leds;
 mod stores;
@@ -10,6 +11,7 @@ mod uart;
 mod words;
 
 pub use answer::{Answer, Kind};
+pub use arrivals::Arrivals;
 pub use clock::Clock;
 pub use leds::Leds;
 pub use stores::Stores;

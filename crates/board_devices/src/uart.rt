@@ -1,5 +1,5 @@
 //! The UART.
-ghost use Rattle.std.specs.Prelude.{◌≡◌, ◌≤◌, [], ◌++◌, IfOk, drop, length, take};
+ghost use Rattle.std.specs.Prelude.{◌≡◌, ◌≤◌, [], IfOk, drop, length, take};
 
 use circular_buffer::HeapCircularBuffer;
 use std::alloc::Global;
@@ -27,7 +27,7 @@ impl Model for Uart {
 }
 
 impl Uart {
-    ghost use Rattle.board_devices.specs.SerialLine.{ring_size, newest};
+    ghost use Rattle.board_devices.specs.SerialLine.{ring_size, with_input};
 
     /// The size of the input ring in bytes.
     const RING_SIZE: usize = 256;
@@ -71,7 +71,7 @@ impl Uart {
     /// Puts bytes that came in at the end of the ring, the first one first. Of what does not fit the
     /// oldest bytes are overwritten. Nothing else changes.
     pub fn push(&mut self, bytes: &[u8])
-        ensures { self.new ≡ record self.old { ring = newest (self.old.ring ++ bytes.now) } }
+        ensures { self.new ≡ with_input bytes.now self.old }
     {
         self.ring.extend_from_slice(bytes);
     }

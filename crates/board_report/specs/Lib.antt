@@ -1,3 +1,4 @@
 pub mod FlashList
 pub mod Report
+pub mod Trace
 pub mod Words

@@ -1,9 +1,11 @@
--- The words of the report.
+-- The words of the report and of the trace.
 use Rattle.std.specs.Prelude.{ℕ, ◌&&◌, nat_le, if◌then◌else◌, List, [], ◌∷◌, map, codes}
 use Rattle.tk_base.specs.declared.access.Access.{Access}
 use Rattle.tk_base.specs.declared.access.Access.TheVariants.{Fetch, Load, Store}
 use Rattle.tk_base.specs.declared.access.Rule.{Rule}
 use Rattle.tk_base.specs.declared.access.Rule.TheVariants.{NoRegion, NoExecute, NoWrite, NoRead, Misaligned, Illegal, Breakpoint, UnknownClass}
+use Rattle.tk_base.specs.declared.call.CallRule.{CallRule}
+use Rattle.tk_base.specs.declared.call.CallRule.TheVariants as calls
 use Rattle.tk_base.specs.declared.process.PlaceFault.{PlaceFault}
 use Rattle.tk_base.specs.declared.process.PlaceFault.TheVariants.{NoSlot, FixedTaken, NoRoom}
 
@@ -30,6 +32,21 @@ abbrev pub fault_text : PlaceFault → List ℕ
 fault_text NoSlot = codes "no-slot"
 fault_text FixedTaken = codes "fixed-taken"
 fault_text NoRoom = codes "no-room"
+
+abbrev pub call_rule_text : CallRule → List ℕ
+call_rule_text calls.Permission = codes "permission"
+call_rule_text calls.NoDriver = codes "no-driver"
+call_rule_text calls.NoNumber = codes "no-number"
+call_rule_text calls.NoCommand = codes "no-command"
+call_rule_text calls.NoOperation = codes "no-operation"
+call_rule_text calls.Outside = codes "outside"
+call_rule_text calls.Range = codes "range"
+call_rule_text calls.NoRoom = codes "no-room"
+call_rule_text calls.Break = codes "break"
+call_rule_text calls.Busy = codes "busy"
+call_rule_text calls.Empty = codes "empty"
+call_rule_text calls.Nothing = codes "nothing"
+call_rule_text calls.Index = codes "index"
 
 -- a byte of a name: what is no visible character of ASCII is shown as `?`
 abbrev pub glyph : ℕ → ℕ

@@ -1,9 +1,12 @@
-//! What a board tells as text: the report of a run, and the list of what its flash holds.
+//! What a board tells as text: the lines of a step, the report of a run, and the list of what its flash
+//! holds.
 #![tactic(auto)]
 
 mod list;
 mod report;
+mod trace;
 mod words;
 
 pub use list::write_list;
 pub use report::{End, write_report};
+pub use trace::write_trace;

@@ -21,7 +21,7 @@ pub enum End {
 }
 
 /// Writes a denial: its access, its address and its rule.
-fn write_denial<K: Sink>(out: &mut K, denial: &Option<Denial>) -> Result<(), Failed>
+pub fn write_denial<K: Sink>(out: &mut K, denial: &Option<Denial>) -> Result<(), Failed>
     ensures { Writes K.tells out.old out.new (denial_text denial.now) result }
 {
     match denial {

@@ -1,9 +1,9 @@
-//! The words of the report.
+//! The words of the report and of the trace.
 ghost use Rattle.std.specs.Prelude.{◌≡◌, ◌≤◌, length, map};
-ghost use Rattle.board_report.specs.Words.{access_text, rule_text, fault_text, glyph, name_text};
+ghost use Rattle.board_report.specs.Words.{access_text, rule_text, call_rule_text, fault_text, glyph, name_text};
 
 use arrayvec::ArrayVec;
-use tk_base::{Access, PlaceFault, Rule};
+use tk_base::{Access, CallRule, PlaceFault, Rule};
 
 /// The word of an access.
 pub fn access_word(access: Access) -> &'static [u8]
@@ -29,6 +29,27 @@ pub fn rule_word(rule: Rule) -> &'static [u8]
         Rule::Illegal => b"illegal",
         Rule::Breakpoint => b"breakpoint",
         Rule::UnknownClass => b"unknown-class",
+    }
+}
+
+/// The word of the rule that a refused system call broke.
+pub fn call_rule_word(rule: CallRule) -> &'static [u8]
+    ensures { result.now ≡ call_rule_text rule }
+{
+    match rule {
+        CallRule::Permission => b"permission",
+        CallRule::NoDriver => b"no-driver",
+        CallRule::NoNumber => b"no-number",
+        CallRule::NoCommand => b"no-command",
+        CallRule::NoOperation => b"no-operation",
+        CallRule::Outside => b"outside",
+        CallRule::Range => b"range",
+        CallRule::NoRoom => b"no-room",
+        CallRule::Break => b"break",
+        CallRule::Busy => b"busy",
+        CallRule::Empty => b"empty",
+        CallRule::Nothing => b"nothing",
+        CallRule::Index => b"index",
     }
 }
 

@@ -1,4 +1,16 @@
+mod Tables
+mod Outcomes
+mod Scheduled
 mod Refusals
+mod Places
 mod Nearing
+mod Firing
 mod Bits
-mod Owns
+mod Asking
+mod Grants
+mod Asked
+mod Waits
+mod Follows
+mod Keeping
+mod Answering
+mod Telling

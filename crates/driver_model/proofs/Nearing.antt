@@ -1,12 +1,12 @@
 -- The ticks that are left of alarms.
-use Rattle.std.proofs.Common.{◌≡◌, ◌<◌, ◌≤◌, ℕ, ◌+◌, ◌-◌, ◌%◌, ◌^◌, ◌==◌, min, nat_le, Bool, true, false, cond, ◌||◌, List, [], ◌∷◌, find, fold, slice_get, is_some, option_and_then, Option, None, Some, refl, ap, sym, ◌∙◌, arith, eqb-true}
+use Rattle.std.proofs.Common.{◌≡◌, ◌<◌, ◌≤◌, ℕ, ◌+◌, ◌-◌, ◌%◌, ◌^◌, ◌==◌, min, nat_le, Bool, true, false, cond, ◌||◌, List, [], ◌∷◌, find, fold, slice_get, is_some, IfSome, option_and_then, Option, None, Some, refl, ap, sym, ◌∙◌, arith, eqb-true}
 use Rattle.std.proofs.lemmas.Bool.{false≢true}
 use Rattle.std.proofs.lemmas.Bool.Decides.{nat_tests}
 use Rattle.std.specs.List.{range_with_len}
 use Rattle.grant_values.specs.declared.alarm.Armed.{Armed}
 use Rattle.process_own.specs.Own.{Own}
 use Rattle.driver_model.specs.Alarm.{alarm_in, due_slot, has_due, if_due, is_due, left_if, left_in, left_of, nearer, nearer_with, next_left}
-use Rattle.driver_model.specs.Laws.{IsDueWhereNoneAreLeft, TimeBringsNearer}
+use Rattle.driver_model.specs.Laws.{IsDueWhereNoneAreLeft, QuietUntilNext, TimeBringsNearer}
 
 -- whether there is a number of ticks, and it is 0
 is_now : Option ℕ → Bool
@@ -91,3 +91,47 @@ time_brings_nearer now passed alarm n r d left =
     let e = (now + (2 ^ 32 - alarm.reference)) % 2 ^ 32 in
     let fits = fits_still alarm.delta e passed d (below_limit (now + (2 ^ 32 - alarm.reference))) left in
     fewer alarm.delta e passed _ (elapsed now passed alarm.reference n r fits)
+
+-- more ticks are left than have passed, if any number is
+abbrev MoreLeft : ℕ → Option ℕ → Type 0
+MoreLeft passed left = IfSome left (λ ticks. passed < ticks)
+
+both_more : (passed : ℕ) (a b : Option ℕ) → MoreLeft passed (nearer a b) → MoreLeft passed a × MoreLeft passed b
+both_more passed None b more = (tt, more)
+both_more passed (Some m) None more = (more, tt)
+both_more passed (Some m) (Some n) more = (omega (arith, more), omega (arith, more))
+
+not_due : (now passed : ℕ) (alarm : Armed) → passed < alarm.delta - (now + (2 ^ 32 - alarm.reference)) % 2 ^ 32 → is_due ((now + passed) % 2 ^ 32) alarm ≡ false
+not_due now passed alarm more = not_reached alarm.delta _ (still_below now passed (2 ^ 32 - alarm.reference) alarm.delta more)
+  where
+    still_below : (now passed from delta : ℕ) → passed < delta - (now + from) % 2 ^ 32 → ((now + passed) % 2 ^ 32 + from) % 2 ^ 32 < delta
+    still_below now passed from delta more = omega arith
+
+    not_reached : (delta e : ℕ) → e < delta → nat_le delta e ≡ false
+    not_reached delta e below = grind (arith, nat_tests)
+
+none_if : (b : Bool) (alarm : Armed) → b ≡ false → is_some (cond b (Some alarm) None) ≡ false
+none_if b alarm e = ap (λ (x : Bool). is_some (cond x (Some alarm) None)) e
+
+armed_quiet : (now passed : ℕ) (lives : Bool) (armed : Option Armed) → MoreLeft passed (cond lives (left_if now armed) None) → is_some (cond lives (if_due ((now + passed) % 2 ^ 32) armed) None) ≡ false
+armed_quiet now passed false armed more = refl
+armed_quiet now passed true None more = refl
+armed_quiet now passed true (Some alarm) more = none_if (is_due ((now + passed) % 2 ^ 32) alarm) alarm (not_due now passed alarm more)
+
+slot_quiet : (now passed : ℕ) (own : Option Own) → MoreLeft passed (option_and_then (left_of now) own) → has_due ((now + passed) % 2 ^ 32) own ≡ false
+slot_quiet now passed None more = refl
+slot_quiet now passed (Some own) more = armed_quiet now passed own.lives (alarm_in own) more
+
+passes_over : (p : ℕ → Bool) (slot : ℕ) (slots : List ℕ) → p slot ≡ false → find p slots ≡ None → find p (slot ∷ slots) ≡ None
+passes_over p slot slots e none = ap (λ (b : Bool). cond b (Some slot) (find p slots)) e ∙ none
+
+all_quiet : (now passed : ℕ) (owns : List Own) (slots : List ℕ) (least : Option ℕ) → MoreLeft passed (fold (nearer_with now owns) least slots) → (find (λ slot. has_due ((now + passed) % 2 ^ 32) (slice_get owns slot)) slots ≡ None) × MoreLeft passed least
+all_quiet now passed owns [] least more = (refl, more)
+all_quiet now passed owns (slot ∷ slots) least more =
+    let rest = all_quiet now passed owns slots (nearer_with now owns least slot) more in
+    let both = both_more passed least (left_in now owns slot) rest.1 in
+    (passes_over (λ slot. has_due ((now + passed) % 2 ^ 32) (slice_get owns slot)) slot slots (slot_quiet now passed (slice_get owns slot) both.1) rest.0, both.0)
+
+pub quiet_until_next : QuietUntilNext
+unfolding next_left due_slot
+quiet_until_next now passed owns more = (all_quiet now passed owns (range_with_len 0 8) None more).0

@@ -1,5 +1,5 @@
 -- What comes of a command that a process gives to a driver (TRD 104, "Command").
-use Rattle.std.specs.Prelude.{ℕ, ◌==◌, Bool, List, [], find, Option, None, Some, Result, Ok, Err}
+use Rattle.std.specs.Prelude.{ℕ, ◌==◌, Bool, List, [], ◌∷◌, find, Option, None, Some, Result, Ok, Err}
 use Rattle.tk_base.specs.declared.call.CallRule.{CallRule}
 use Rattle.tk_base.specs.declared.call.CallRule.TheVariants.{NoCommand}
 use Rattle.syscall_abi.specs.declared.reply.Reply.{Reply}
@@ -12,11 +12,31 @@ pub data Line : Type 0 where
   Randoms : Line
   Stores : Line
 
--- what the board is to do for a turn: let the process begin to wait in a list, or stop to; light an LED, or put it out
+-- the lists in an order, by which they are told apart
+abbrev pub place_of : Line → ℕ
+place_of Writes = 0
+place_of Reads = 1
+place_of Randoms = 2
+place_of Stores = 3
+
+abbrev pub is_same : Line → Line → Bool
+is_same a b = place_of a == place_of b
+
+-- how an LED is switched: on, off, or to what it is not
+pub data Switch : Type 0 where
+  On : Switch
+  Off : Switch
+  Toggle : Switch
+
+-- what the board is to do for a turn: let the process begin to wait in a list, or stop to; switch an LED
 pub data Act : Type 0 where
   Waits : Line → Act
   Leaves : Line → Act
-  Lights : (led : ℕ) (on : Bool) → Act
+  Lights : (led : ℕ) → Switch → Act
+
+-- a process that ends, or starts again, waits in no list any more
+abbrev pub gone : List Act
+gone = Leaves Writes ∷ Leaves Reads ∷ Leaves Randoms ∷ Leaves Stores ∷ []
 
 -- the reply to a command, or the rule that refuses it; what is then the process's own; what the board is to do for it
 pub record Commanded : Type 0 where

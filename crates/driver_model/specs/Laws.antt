@@ -1,15 +1,30 @@
 -- Laws of the drivers' definitions.
-use Rattle.std.specs.Prelude.{◌≡◌, ◌↔◌, ◌<◌, ◌≤◌, ℕ, ◌+◌, ◌-◌, ◌%◌, ◌^◌, ◌==◌, Bool, false, if◌then◌else◌, List, length, slice_index_or, slice_set, Some, Err, is_some, IsTrue}
+use Rattle.std.specs.Prelude.{◌≡◌, ◌↔◌, ◌<◌, ◌≤◌, ℕ, ◌+◌, ◌-◌, ◌%◌, ◌^◌, ◌==◌, Bool, false, if◌then◌else◌, List, length, slice_index_or, slice_set, None, Some, Err, is_some, IfSome, IsTrue}
 use Rattle.tk_base.specs.declared.call.CallRule.{CallRule}
 use Rattle.grant_values.specs.declared.alarm.Armed.{Armed}
 use Rattle.process_own.specs.Own.{Own}
-use Rattle.driver_model.specs.Alarm.{command, due_slot, next_left, ticks_left}
-use Rattle.driver_model.specs.Leds.{bits_of, command as led_command, is_lit, with_led}
+use Rattle.driver_model.specs.Alarm.{answered, due_slot, next_left, ticks_left}
+use Rattle.driver_model.specs.Leds.{bits_of, is_lit, with_led}
 use Rattle.driver_model.specs.Commands.{refused}
+use Rattle.driver_model.specs.Drivers.{Surroundings, Taker, taker_of}
 
--- a command that is refused changes nothing of what is the process's own, and asks nothing of the board
-abbrev pub RefusedChangesNothing : Type 0
-RefusedChangesNothing = (now number a2 a3 : ℕ) (own : Own) (rule : CallRule) → (command now number a2 a3 own).answer ≡ Err rule → command now number a2 a3 own ≡ refused rule own
+-- a command that any driver refuses changes nothing of what is the process's own, and asks nothing of the board
+abbrev pub RefusedByAnyDriver : Type 0
+RefusedByAnyDriver =
+    (driver : ℕ) (taker : Taker) (around : Surroundings) (number a2 a3 : ℕ) (own : Own) (rule : CallRule) →
+    taker_of driver ≡ Some taker → (taker around number a2 a3 own).answer ≡ Err rule →
+    taker around number a2 a3 own ≡ refused rule own
+
+-- a number is as it was, or one more
+pub record IsAtMostOneMore (before after : ℕ) : Type 0 where
+  pub not_less : before ≤ after
+  pub not_more : after ≤ before + 1
+
+-- a command to any driver drops one upcall at most
+abbrev pub CommandDropsAtMostOne : Type 0
+CommandDropsAtMostOne =
+    (driver : ℕ) (taker : Taker) (around : Surroundings) (number a2 a3 : ℕ) (own : Own) →
+    taker_of driver ≡ Some taker → IsAtMostOneMore own.dropped (taker around number a2 a3 own).own.dropped
 
 -- no ticks are left until the next alarm exactly where some slot has an alarm that is due
 abbrev pub IsDueWhereNoneAreLeft : Type 0
@@ -23,16 +38,42 @@ TimeBringsNearer =
     passed ≤ ticks_left now alarm →
     ticks_left ((now + passed) % 2 ^ 32) alarm ≡ ticks_left now alarm - passed
 
--- a command to the LEDs that is refused changes nothing either
-abbrev pub RefusedLightsNothing : Type 0
-RefusedLightsNothing =
-    (count leds number led : ℕ) (own : Own) (rule : CallRule) →
-    (led_command count leds number led own).answer ≡ Err rule →
-    led_command count leds number led own ≡ refused rule own
+-- of what is a process's own a command may change the room for grants, the grants, what waits to be delivered and the
+-- count of dropped upcalls; where it lies, its life, and that it lives, stay
+abbrev pub StaysInPlace : Own → Own → Type 0
+StaysInPlace own o = o ≡ record own {
+  layout = record own.layout { kernel_break = o.layout.kernel_break };
+  ram = o.ram;
+  grants = o.grants;
+  pending = o.pending;
+  dropped = o.dropped;
+}
 
--- no command to the LEDs changes what is the process's own
-abbrev pub LedsKeepNothing : Type 0
-LedsKeepNothing = (count leds number led : ℕ) (own : Own) → (led_command count leds number led own).own ≡ own
+-- so does each command to a driver
+abbrev pub CommandsStayInPlace : Type 0
+CommandsStayInPlace =
+    (driver : ℕ) (taker : Taker) → taker_of driver ≡ Some taker →
+    (around : Surroundings) (number a2 a3 : ℕ) (own : Own) → StaysInPlace own (taker around number a2 a3 own).own
+
+-- until as many ticks have passed as are left until the next alarm, none is due; none ever is, where none is armed
+abbrev pub QuietUntilNext : Type 0
+QuietUntilNext =
+    (now passed : ℕ) (owns : List Own) →
+    IfSome (next_left now owns) (λ left. passed < left) →
+    due_slot ((now + passed) % 2 ^ 32) owns ≡ None
+
+-- a slot whose alarm is due is one of those that there are
+abbrev pub DueSlotIsThere : Type 0
+DueSlotIsThere = (now slot : ℕ) (owns : List Own) → due_slot now owns ≡ Some slot → slot < length owns
+
+-- what an alarm changes of a process is what waits to be delivered, the count of dropped upcalls, and what it keeps for the
+-- alarm; one upcall may be dropped
+abbrev pub AnAlarmLeavesTheRest : Type 0
+AnAlarmLeavesTheRest =
+    (now : ℕ) (own : Own) →
+    let o = answered now own in
+    (o ≡ record own { pending = o.pending; dropped = o.dropped; grants = o.grants })
+    × (own.dropped ≤ o.dropped) × (o.dropped ≤ own.dropped + 1)
 
 -- each LED of a list is a bit of their number
 abbrev pub EachLedIsItsBit : Type 0

@@ -3,7 +3,7 @@ use Rattle.std.specs.Prelude.{ℕ, ◌+◌, ◌-◌, ◌*◌, ◌/◌, ◌%◌, 
 use Rattle.tk_base.specs.declared.call.CallRule.TheVariants.{Range}
 use Rattle.syscall_abi.specs.declared.reply.Reply.TheVariants.{Success, SuccessU32}
 use Rattle.process_own.specs.Own.{Own}
-use Rattle.driver_model.specs.Commands.{Act, Waits, Leaves, Lights, Commanded, accepted, refused, by_number}
+use Rattle.driver_model.specs.Commands.{Act, Waits, Leaves, Lights, Switch, On, Off, Toggle, Commanded, accepted, refused, by_number}
 
 -- the LEDs as one number: bit n is 1 where LED n is on
 abbrev pub bit_of : Bool → ℕ
@@ -21,31 +21,41 @@ is_lit leds n = leds / 2 ^ n % 2 == 1
 abbrev pub with_led : ℕ → ℕ → Bool → ℕ
 with_led leds n on = leds - leds / 2 ^ n % 2 * 2 ^ n + (if on then 2 ^ n else 0)
 
+-- whether an LED is on after it was switched, by whether it was before
+abbrev pub is_on_after : Switch → Bool → Bool
+is_on_after On lit = true
+is_on_after Off lit = false
+is_on_after Toggle lit = not lit
+
+-- the LEDs with one switched
+abbrev pub with_switched : ℕ → ℕ → Switch → ℕ
+with_switched leds n switch = with_led leds n (is_on_after switch (is_lit leds n))
+
 -- the LEDs after what the board is asked to do, one after another
 abbrev pub lit_by : Act → ℕ → ℕ
 lit_by (Waits line) leds = leds
 lit_by (Leaves line) leds = leds
-lit_by (Lights led on) leds = with_led leds led on
+lit_by (Lights led switch) leds = with_switched leds led switch
 
 abbrev pub lit_after : List Act → ℕ → ℕ
 lit_after [] leds = leds
 lit_after (act ∷ acts) leds = lit_after acts (lit_by act leds)
 
--- one of so many LEDs is turned on or off; it is refused where there is none of that number
-abbrev pub lighting : ℕ → ℕ → Bool → Own → Commanded
-lighting count led on own =
-    if nat_lt led count then record { answer = Ok Success; own = own; acts = Lights led on ∷ [] }
+-- one of so many LEDs is switched; it is refused where there is none of that number
+abbrev pub switching : ℕ → ℕ → Switch → Own → Commanded
+switching count led switch own =
+    if nat_lt led count then record { answer = Ok Success; own = own; acts = Lights led switch ∷ [] }
     else refused Range own
 
 -- its commands: how many LEDs there are; turn one on; turn it off; turn it to what it is not
-unfoldable pub commands : ℕ → ℕ → ℕ → Own → List (ℕ × Commanded)
-commands count leds led own =
+unfoldable pub commands : ℕ → ℕ → Own → List (ℕ × Commanded)
+commands count led own =
     (0, accepted (SuccessU32 count) own)
-    ∷ (1, lighting count led true own)
-    ∷ (2, lighting count led false own)
-    ∷ (3, lighting count led (not (is_lit leds led)) own)
+    ∷ (1, switching count led On own)
+    ∷ (2, switching count led Off own)
+    ∷ (3, switching count led Toggle own)
     ∷ []
 
--- a command of a number for an LED, where there are so many LEDs, and these are on
-unfoldable pub command : ℕ → ℕ → ℕ → ℕ → Own → Commanded
-command count leds number led own = by_number own (commands count leds led own) number
+-- a command of a number for an LED, where there are so many LEDs
+unfoldable pub command : ℕ → ℕ → ℕ → Own → Commanded
+command count number led own = by_number own (commands count led own) number

@@ -1,6 +1,12 @@
 pub mod Commands
 pub mod Alarm
 pub mod Leds
+pub mod Requests
+pub mod Console
 pub mod Random
 pub mod Storage
+pub mod Drivers
 pub mod Laws
+pub mod Asked
+pub mod Lines
+pub mod Answers

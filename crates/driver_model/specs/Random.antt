@@ -1,51 +1,41 @@
 -- The source of random bytes (Tock's driver 0x40001): a process asks for a count of bytes, and they are written
 -- into its read-write buffer 0, a word at a time.
-use Rattle.std.specs.Prelude.{ℕ, ◌+◌, ◌-◌, ◌==◌, Bool, true, false, ◌&&◌, min, nat_le, if◌then◌else◌, List, [], ◌∷◌, drop, length, slice_get, take, Option, None, Some, is_none, Ok}
+use Rattle.std.specs.Prelude.{ℕ, ◌+◌, ◌-◌, Bool, true, false, min, nat_le, if◌then◌else◌, List, [], ◌∷◌, drop, length, slice_get, take, Option, None, Some, is_none, option_map, unwrap_or}
 use Rattle.std.specs.Int.{w32, to_le_bytes}
-use Rattle.tk_base.specs.declared.call.CallRule.TheVariants.{Busy, NoRoom}
 use Rattle.grant_values.specs.declared.random.RandomRequest.{RandomRequest}
 use Rattle.grant_values.specs.Random.{random_of, random_words}
 use Rattle.syscall_abi.specs.declared.reply.Reply.TheVariants.{Success}
 use Rattle.grant_areas.specs.declared.kinds.PairKind.TheVariants.{ReadWrite}
 use Rattle.process_own.specs.Own.{Own}
-use Rattle.process_own.specs.Handed.{entering, has_place, held}
-use Rattle.process_own.specs.Served.{kept, ram_at, scheduled, with_kept, with_written}
-use Rattle.driver_model.specs.Commands.{Commanded, Waits, Randoms, accepted, refused, by_number}
+use Rattle.process_own.specs.Handed.{held}
+use Rattle.process_own.specs.Served.{ram_at, scheduled, with_written}
+use Rattle.driver_model.specs.Commands.{Commanded, Randoms, accepted, by_number}
+use Rattle.driver_model.specs.Requests.{Desk, asking, waiting_of, request_in as request_at, with_request as with_request_at}
 
 -- the number of the driver
 abbrev pub random : ℕ
 random = 0x40001
 
--- the request of a process that waits, if one does
-abbrev pub request_of : Option (List ℕ) → Option RandomRequest
-request_of None = None
-request_of (Some words) = (random_of words).request
+-- where a process asks for bytes: its request is all that it keeps
+abbrev pub randoms : Desk RandomRequest
+randoms = record {
+  driver = random;
+  told = λ words. (random_of words).request;
+  words_with = λ request words. random_words (record { request = request });
+  line = Randoms;
+}
 
+-- the request of a process that waits, if one does; a process with that request, or with none
 abbrev pub request_in : Own → Option RandomRequest
-request_in own = request_of (kept random own)
+request_in own = request_at randoms own
 
--- a process with that request, or with none
 abbrev pub with_request : Option RandomRequest → Own → Own
-with_request request own = with_kept random (random_words (record { request = request })) own
-
--- a request for so many bytes begins to wait, if there is room for the driver's grant
-abbrev pub beginning : ℕ → Own → Commanded
-beginning count own =
-    if has_place random own then record {
-      answer = Ok Success;
-      own = with_request (Some (record { count = count; written = 0 })) (entering random own);
-      acts = Waits Randoms ∷ [];
-    }
-    else refused NoRoom own
-
--- where one waits already there is none more
-abbrev pub asking : Option RandomRequest → ℕ → Own → Commanded
-asking None count own = beginning count own
-asking (Some request) count own = refused Busy own
+with_request request own = with_request_at randoms request own
 
 -- its commands: the driver is there; a request for so many bytes
 unfoldable pub commands : ℕ → Own → List (ℕ × Commanded)
-commands count own = (0, accepted Success own) ∷ (1, asking (request_in own) count own) ∷ []
+commands count own =
+    (0, accepted Success own) ∷ (1, asking randoms (record { count = count; written = 0 }) own) ∷ []
 
 -- a command of a number with its first argument
 unfoldable pub command : ℕ → ℕ → Own → Commanded
@@ -105,12 +95,9 @@ advanced words p = record {
   completed = is_none p.rest;
 }
 
-abbrev pub answering : List ℕ → Own → Option RandomRequest → Answered
-answering words own None = unanswered words own
-answering words own (Some request) = advanced words (progress (slice_get words 0) request own)
-
 -- the answer to a process of a life, with these words left; nothing changes where it is not there, or has no
 -- request
 unfoldable pub answered : List ℕ → ℕ → Own → Answered
 answered words life own =
-    if own.lives && own.life == life then answering words own (request_in own) else unanswered words own
+    let step = λ (request : RandomRequest). advanced words (progress (slice_get words 0) request own) in
+    unwrap_or (option_map step (waiting_of randoms life own)) (unanswered words own)

@@ -1,8 +1,8 @@
 -- The storage (driver 0x50001 in Tock's list of drivers): each slot has bytes of its own, which outlive its
 -- process. It asks to read some of them into its read-write buffer 0, or to write over some from its read-only
 -- buffer 0.
-use Rattle.std.specs.Prelude.{ℕ, ◌+◌, ◌==◌, Bool, true, false, ◌&&◌, min, nat_le, if◌then◌else◌, List, [], ◌∷◌, length, slice_range, take, Option, None, Some, Ok}
-use Rattle.tk_base.specs.declared.call.CallRule.TheVariants.{Busy, NoRoom, Range}
+use Rattle.std.specs.Prelude.{ℕ, ◌+◌, Bool, true, false, min, nat_le, if◌then◌else◌, List, [], ◌∷◌, length, slice_range, take, Option, None, Some, option_map, unwrap_or}
+use Rattle.tk_base.specs.declared.call.CallRule.TheVariants.{Range}
 use Rattle.grant_areas.specs.declared.kinds.PairKind.TheVariants.{ReadOnly, ReadWrite}
 use Rattle.grant_values.specs.declared.storage.StorageKind.{StorageKind}
 use Rattle.grant_values.specs.declared.storage.StorageKind.TheVariants.{Read, Write}
@@ -10,45 +10,35 @@ use Rattle.grant_values.specs.declared.storage.StorageRequest.{StorageRequest}
 use Rattle.grant_values.specs.Storage.{storage_of, storage_words}
 use Rattle.syscall_abi.specs.declared.reply.Reply.TheVariants.{Success, SuccessU32}
 use Rattle.process_own.specs.Own.{Own}
-use Rattle.process_own.specs.Handed.{entering, has_place, held}
-use Rattle.process_own.specs.Served.{bytes_at, kept, ram_at, scheduled, with_kept, with_written}
-use Rattle.driver_model.specs.Commands.{Commanded, Waits, Stores, accepted, refused, by_number}
+use Rattle.process_own.specs.Handed.{held}
+use Rattle.process_own.specs.Served.{bytes_at, ram_at, scheduled, with_written}
+use Rattle.driver_model.specs.Commands.{Commanded, Stores, accepted, refused, by_number}
+use Rattle.driver_model.specs.Requests.{Desk, asking, waiting_of, request_in as request_at, with_request as with_request_at}
 
 -- the number of the driver
 abbrev pub storage : ℕ
 storage = 0x50001
 
--- the request of a process that waits, if one does
-abbrev pub request_of : Option (List ℕ) → Option StorageRequest
-request_of None = None
-request_of (Some words) = (storage_of words).request
+-- where a process asks for its slot's bytes: its request, of either kind, is all that it keeps
+abbrev pub storages : Desk StorageRequest
+storages = record {
+  driver = storage;
+  told = λ words. (storage_of words).request;
+  words_with = λ request words. storage_words (record { request = request });
+  line = Stores;
+}
 
+-- the request of a process that waits, if one does; a process with that request, or with none
 abbrev pub request_in : Own → Option StorageRequest
-request_in own = request_of (kept storage own)
+request_in own = request_at storages own
 
--- a process with that request, or with none
 abbrev pub with_request : Option StorageRequest → Own → Own
-with_request request own = with_kept storage (storage_words (record { request = request })) own
-
--- a request begins to wait, if there is room for the driver's grant
-abbrev pub beginning : StorageRequest → Own → Commanded
-beginning request own =
-    if has_place storage own then record {
-      answer = Ok Success;
-      own = with_request (Some request) (entering storage own);
-      acts = Waits Stores ∷ [];
-    }
-    else refused NoRoom own
-
--- where one waits already, of either kind, there is none more
-abbrev pub asking : Option StorageRequest → StorageRequest → Own → Commanded
-asking None request own = beginning request own
-asking (Some waiting) request own = refused Busy own
+with_request request own = with_request_at storages request own
 
 -- a request for bytes of a slot's storage, which has so many; those that are asked for must lie in it
 abbrev pub requesting : ℕ → StorageRequest → Own → Commanded
 requesting size request own =
-    if nat_le (request.offset + request.length) size then asking (request_in own) request own
+    if nat_le (request.offset + request.length) size then asking storages request own
     else refused Range own
 
 -- its commands: the driver is there; the bytes of a slot's storage; read, and write, at an offset so many bytes
@@ -117,11 +107,8 @@ unanswered own = record { own = own; written = None; completed = false }
 abbrev pub answer_of : Served → Answered
 answer_of s = record { own = with_request None s.own; written = s.written; completed = true }
 
-abbrev pub answering : Bool → List ℕ → List ℕ → Own → Option StorageRequest → Answered
-answering fault flash bytes own None = unanswered own
-answering fault flash bytes own (Some request) = answer_of (served fault flash bytes request own)
-
 -- the answer to a process of a life; nothing changes where it is not there, or has no request
 unfoldable pub answered : Bool → List ℕ → List ℕ → ℕ → Own → Answered
 answered fault flash bytes life own =
-    if own.lives && own.life == life then answering fault flash bytes own (request_in own) else unanswered own
+    let serve = λ (request : StorageRequest). answer_of (served fault flash bytes request own) in
+    unwrap_or (option_map serve (waiting_of storages life own)) (unanswered own)

@@ -1,12 +1,25 @@
 //! Laws of the definitions, each the contract of a function that does nothing.
-ghost use Rattle.driver_model.specs.Laws.{IsDueWhereNoneAreLeft, RefusedChangesNothing, TimeBringsNearer};
+ghost use Rattle.driver_model.specs.Asked.{AskTheirOwn};
+ghost use Rattle.driver_model.specs.Laws.{AnAlarmLeavesTheRest, CommandsStayInPlace, DueSlotIsThere, IsDueWhereNoneAreLeft, QuietUntilNext, TimeBringsNearer};
 ghost use Rattle.driver_model.specs.Laws.{EachLedIsItsBit, OneLedTurns, TurnedWithItsBit};
-ghost use Rattle.driver_model.specs.Laws.{LedsKeepNothing, RefusedLightsNothing};
+ghost use Rattle.driver_model.specs.Laws.{CommandDropsAtMostOne, RefusedByAnyDriver};
 
-/// A command that is refused changes nothing of what is the process's own (TRD 104, "Return Values").
-#[tactic(auto, using(crate::proofs::Refusals::refused_changes_nothing))]
-pub fn a_refused_command_changes_nothing()
-    ensures { RefusedChangesNothing }
+/// A command changes of what is a process's own its room for grants, its grants, what waits to be delivered and
+/// the count of dropped upcalls; where it lies, its life, and that it lives, stay.
+pub fn commands_stay_in_place()
+    ensures { CommandsStayInPlace }
+{}
+
+/// A command that its driver refuses, whichever driver that is, changes nothing of what is the process's own, and
+/// asks nothing of the board (TRD 104, "Return Values").
+pub fn a_driver_that_refuses_changes_nothing()
+    ensures { RefusedByAnyDriver }
+{}
+
+/// A command, whichever driver takes it, raises the count of the process's dropped upcalls by one at most, and
+/// never lowers it.
+pub fn a_command_drops_at_most_one_upcall()
+    ensures { CommandDropsAtMostOne }
 {}
 
 /// No ticks are left until the next alarm exactly where an alarm of some slot is due.
@@ -21,16 +34,22 @@ pub fn time_brings_an_alarm_nearer()
     ensures { TimeBringsNearer }
 {}
 
-/// A command to the LEDs that is refused changes nothing of what is the process's own, and lights no LED.
-#[tactic(auto, using(crate::proofs::Refusals::refused_lights_nothing))]
-pub fn a_refused_command_lights_nothing()
-    ensures { RefusedLightsNothing }
+/// No alarm is due before as many ticks have passed as are left until the next one, and none ever is where no
+/// process that lives has armed one.
+pub fn no_alarm_is_due_before_the_next()
+    ensures { QuietUntilNext }
 {}
 
-/// No command to the LEDs changes what is the process's own.
-#[tactic(auto, using(crate::proofs::Owns::leds_keep_nothing))]
-pub fn leds_keep_nothing()
-    ensures { LedsKeepNothing }
+/// A slot whose alarm is due is one of those that there are.
+#[tactic(auto, using(crate::proofs::Firing::due_slot_is_there))]
+pub fn a_due_slot_is_there()
+    ensures { DueSlotIsThere }
+{}
+
+/// An alarm that fires changes of its process what waits to be delivered, the count of dropped upcalls, by at
+/// most 1, and its grants, and nothing else.
+pub fn an_alarm_leaves_the_rest()
+    ensures { AnAlarmLeavesTheRest }
 {}
 
 /// Each LED of a list is its bit of their number, and to turn it is to turn that bit.
@@ -44,4 +63,9 @@ pub fn leds_are_bits()
 #[tactic(auto, using(crate::proofs::Bits::one_led_turns))]
 pub fn one_led_turns()
     ensures { OneLedTurns }
+{}
+
+/// What the commands to each driver ask of the board concerns that driver alone: who waits for it, or an LED.
+pub fn drivers_ask_for_their_own()
+    ensures { AskTheirOwn }
 {}

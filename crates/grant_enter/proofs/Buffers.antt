@@ -12,11 +12,12 @@ use Rattle.process_layout.specs.Interval.{lies_within}
 use Rattle.grant_areas.specs.declared.kinds.PairKind.TheVariants.{ReadOnly, ReadWrite}
 use Rattle.grant_areas.specs.Grants.{Grant, grant_of, pair_of}
 use Rattle.board_memory.specs.Memory.{MemoryBytes, ram_between}
-use Rattle.process_own.specs.Handed.{held, lies_in_ram, lies_in_flash}
+use Rattle.process_own.specs.Handed.{HoldsInPlace, held, may_hand, lies_in_ram, lies_in_flash}
 use Rattle.process_own.specs.Served.{bytes_at, ram_at}
 use Rattle.grant_enter.specs.declared.seat.Seat.{Seat}
 use Rattle.grant_enter.specs.Buffers.{first_of, last_of}
 use Rattle.grant_enter.specs.Homes.{IsSettled}
+use Rattle.grant_enter.proofs.Holding.{wider}
 use Rattle.grant_enter.specs.Seats.{Holds, IsSeated, LiesBelowMark, MayBeRead, app_in, own_in, readable}
 
 all_by : (P : Grant → Type 0) (driver : ℕ) (g x : Grant) (gs : List Grant) (b : Bool) → P x → cond b (Some x) (grant_of driver gs) ≡ Some g → (grant_of driver gs ≡ Some g → P g) → P g
@@ -47,6 +48,27 @@ module _ (m : MemoryBytes) (seat : Seat) (s : IsSettled (length m.flash) (length
 
   pub ro_may : MayBeRead seat.layout (held ReadOnly driver n (own_in m.ram seat))
   ro_may = let gs = (own_in m.ram seat).grants in ro_by seat.layout n (grant_of driver gs) (λ g is. all_of (Holds seat.layout) driver g gs t.kept.held is)
+
+-- where a buffer lies, it may be allowed
+rw_allowed : (e : Extents) (pair : ℕ × ℕ) → e.mark ≤ e.brk → LiesBelowMark e pair → IsTrue (may_hand ReadWrite e pair)
+rw_allowed e pair below lies = by_size (pair.1 == 0) refl
+  where
+    by_size : (a : Bool) → pair.1 == 0 ≡ a → IsTrue (a || lies_in_ram e pair.0 pair.1)
+    by_size true none = refl
+    by_size false none = let some : 0 < pair.1 = grind (arith, nat_tests) in let l = lies some in grind (arith, nat_tests)
+
+ro_allowed : (e : Extents) (pair : ℕ × ℕ) → e.mark ≤ e.brk → MayBeRead e pair → IsTrue (may_hand ReadOnly e pair)
+ro_allowed e pair below may = by_size (pair.1 == 0) refl
+  where
+    by_size : (a : Bool) → pair.1 == 0 ≡ a → IsTrue (a || lies_in_ram e pair.0 pair.1 || lies_in_flash e pair.0 pair.1)
+    by_size true none = refl
+    by_size false none = let some : 0 < pair.1 = grind (arith, nat_tests) in wider e.start e.mark e.brk pair.0 pair.1 (lies_in_flash e pair.0 pair.1) below (may some)
+
+pub in_place : (m : MemoryBytes) (seat : Seat) → IsSettled (length m.flash) (length m.ram) seat.layout → IsSeated (length m.flash) m.ram seat → HoldsInPlace (own_in m.ram seat)
+in_place m seat s t = record {
+  read_only = λ driver number. ro_allowed seat.layout (held ReadOnly driver number (own_in m.ram seat)) s.ordered.buffers (ro_may m seat s t driver number);
+  read_write = λ driver number. rw_allowed seat.layout (held ReadWrite driver number (own_in m.ram seat)) s.ordered.buffers (rw_lies m seat s t driver number);
+}
 
 -- an interval that has no places has no bytes
 pub no_range : (xs : List ℕ) (a b : ℕ) → b ≤ a → slice_range xs a b ≡ []

@@ -14,7 +14,8 @@ use Rattle.process_own.specs.Own.{Own}
 use Rattle.process_own.specs.Handed.{handing, may_hand, marked, still_pending}
 use Rattle.grant_enter.specs.declared.seat.Pending.{Pending}
 use Rattle.grant_enter.specs.declared.seat.Seat.{Seat}
-use Rattle.grant_enter.specs.Homes.{HasObject, IsSettled}
+use Rattle.process_own.specs.Flash.{HasObject}
+use Rattle.grant_enter.specs.Homes.{IsSettled}
 use Rattle.grant_enter.specs.Seats.{Holds, IsSeated, Reseats, SwapsIn, app_in, kernel_in, own_in}
 use Rattle.grant_enter.proofs.Blocks.{SameEnds, roomed_ends}
 use Rattle.grant_enter.proofs.Holding.{with_mark, only_mark, mark_below, handed_holds, may_still}

@@ -68,12 +68,12 @@ read_handed pair e false false false none is at may some = absurd (grind (arith,
 lies_on : (e : Extents) (mark : ℕ) (pair : ℕ × ℕ) → e.mark ≤ mark → LiesBelowMark e pair → LiesBelowMark (with_mark mark e) pair
 lies_on e mark pair up lies some = let l = lies some in (l.0, omega (arith, l.1))
 
+pub wider : (a b c at size : ℕ) (f : Bool) → b ≤ c → IsTrue (lies_within a b at size || f) → IsTrue (lies_within a c at size || f)
+wider a b c at size true h t = grind (arith, nat_tests)
+wider a b c at size false h t = grind (arith, nat_tests)
+
 read_on : (e : Extents) (mark : ℕ) (pair : ℕ × ℕ) → e.mark ≤ mark → MayBeRead e pair → MayBeRead (with_mark mark e) pair
 read_on e mark pair up may some = wider e.start e.mark mark pair.0 pair.1 (lies_in_flash e pair.0 pair.1) up (may some)
-  where
-    wider : (a b c at size : ℕ) (f : Bool) → b ≤ c → IsTrue (lies_within a b at size || f) → IsTrue (lies_within a c at size || f)
-    wider a b c at size true h t = grind (arith, nat_tests)
-    wider a b c at size false h t = grind (arith, nat_tests)
 
 all_on : {P Q : ℕ × ℕ → Type 0} (xs : List (ℕ × ℕ)) → ((x : ℕ × ℕ) → P x → Q x) → AllByRecursion P xs → AllByRecursion Q xs
 all_on [] f all = tt

@@ -15,3 +15,4 @@ mod Serving
 mod Writing
 mod Keeping
 mod Entering
+mod Wholes

@@ -92,7 +92,7 @@ module _ (driver : ℕ) (counts : Counts) (m : MemoryBytes) (seat : Seat) (l : I
 
   seated_with : (pending : Pending) → IsSeated (length m'.flash) m'.ram (record seat { pending = pending })
   seated_with pending = record {
-    object = subst (λ (n : ℕ). Rattle.grant_enter.specs.Homes.HasObject n seat.object seat.layout) (sym (ap length v.flash)) l.seated.object;
+    object = subst (λ (n : ℕ). Rattle.process_own.specs.Flash.HasObject n seat.object seat.layout) (sym (ap length v.flash)) l.seated.object;
     kept = subst (IsKept seat.layout) (sym kernel_same) l.seated.kept;
   }
 

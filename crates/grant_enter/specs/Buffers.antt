@@ -1,12 +1,13 @@
 -- How a read-write buffer that was lent comes back.
 use mir.Syntax.{named}
-use Rattle.std.specs.Prelude.{ℕ, ◌+◌, ◌≡◌, ◌==◌, [], List, length, if◌then◌else◌}
+use Rattle.std.specs.Prelude.{ℕ, ◌+◌, ◌≡◌, ◌≤◌, ◌==◌, [], List, length, if◌then◌else◌}
 use Rattle.std.specs.Borrow.{Lends, MutBor, Fml, u8, Array}
 use Rattle.process_layout.specs.Extents.{Extents}
 use Rattle.board_memory.specs.Memory.{with_run}
-use Rattle.grant_areas.specs.declared.kinds.PairKind.TheVariants.{ReadWrite}
+use Rattle.grant_areas.specs.declared.kinds.PairKind.TheVariants.{ReadOnly, ReadWrite}
+use Rattle.process_own.specs.Own.{Own}
 use Rattle.process_own.specs.Handed.{held}
-use Rattle.process_own.specs.Served.{ram_at, with_written}
+use Rattle.process_own.specs.Served.{bytes_at, over, ram_at, with_written, writing}
 use Rattle.grant_enter.specs.Seen.{Framed, IsLent, own_entered}
 use Rattle.grant_enter.specs.declared.entered.Entered.{Entered}
 use Rattle.grant_enter.specs.contracts.entered.Entered.{the_row}
@@ -38,3 +39,13 @@ abbrev pub ABufferIsWritten : Type 0
 ABufferIsWritten =
     (e : Entered) (n : ℕ) (bytes : List ℕ) → IsLent e
     → length bytes ≡ length (ram_at (own_entered e) (held ReadWrite e.driver n (own_entered e))) → HasBuffer e n bytes
+
+-- the bytes of the buffers that a process has allowed a driver
+pub record BuffersAreWhole : Type 0 where
+  -- there are as many as the process said
+  pub read_only : (e : Entered) (n : ℕ) → IsLent e → let buffer = held ReadOnly e.driver n (own_entered e) in length (bytes_at e.memory.now.flash (own_entered e) buffer) ≡ buffer.1
+  pub read_write : (e : Entered) (n : ℕ) → IsLent e → let buffer = held ReadWrite e.driver n (own_entered e) in length (ram_at (own_entered e) buffer) ≡ buffer.1
+  -- to put some at a buffer's start, and to write that over the buffer, is to write these at its start
+  pub front : (own : Own) (buffer : ℕ × ℕ) (bytes : List ℕ) → length bytes ≤ length (ram_at own buffer) → writing buffer 0 (over (ram_at own buffer) 0 bytes) own ≡ writing buffer 0 bytes own
+  -- to write a buffer's own bytes over it changes nothing
+  pub same : (own : Own) (buffer : ℕ × ℕ) → writing buffer 0 (ram_at own buffer) own ≡ own

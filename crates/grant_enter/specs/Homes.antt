@@ -8,9 +8,9 @@ use Rattle.rv32_model.specs.declared.turn_end.TurnEnd.{TurnEnd}
 use Rattle.process_layout.specs.Extents.{Extents}
 use Rattle.process_layout.specs.Ordered.{IsOrdered}
 use Rattle.grant_areas.specs.Laid.{laid, IsSound}
-use Rattle.process_own.specs.declared.place.Object.{Object}
 use Rattle.process_own.specs.declared.place.Footprint.{Footprint}
 use Rattle.process_own.specs.Own.{Own}
+use Rattle.process_own.specs.Flash.{HasObject}
 use Rattle.process_own.specs.Instruction.{Sees, instruction_of, with_write}
 
 pub record Homes : Type 0 where
@@ -59,13 +59,6 @@ pub record IsSettled (flash ram : ℕ) (e : Extents) : Type 0 where
   pub from : RAM_START ≤ e.start
   pub to : e.end ≤ RAM_START + ram
   pub fits : e.end < 2 ^ 32
-
--- a process's object lies in so many bytes of flash, and its accessible flash in the object
-pub record HasObject (flash : ℕ) (object : Object) (e : Extents) : Type 0 where
-  pub from : FLASH_START ≤ object.address
-  pub to : object.address + object.size ≤ FLASH_START + flash
-  pub accessible_from : object.address ≤ e.flash_start
-  pub accessible_to : e.flash_end ≤ object.address + object.size
 
 -- where a process may begin its first life: it lies in flash and RAM, and has no grants yet
 pub record CanMoveIn (flash ram : ℕ) (f : Footprint) : Type 0 where

@@ -15,8 +15,9 @@ use Rattle.swap_tables.specs.Swaps.{held_pair, swapped}
 use Rattle.process_own.specs.declared.place.Footprint.{Footprint}
 use Rattle.process_own.specs.Own.{Own}
 use Rattle.process_own.specs.Handed.{lies_in_ram}
+use Rattle.process_own.specs.Flash.{HasObject}
 use Rattle.board_memory.specs.Memory.{MemoryBytes, ram_between, with_run}
-use Rattle.grant_enter.specs.Homes.{Homes, HasObject, IsSettled, EndsBefore}
+use Rattle.grant_enter.specs.Homes.{Homes, IsSettled, EndsBefore}
 use Rattle.grant_enter.specs.Windows.{SameOutside}
 use Rattle.grant_enter.specs.declared.seat.Pending.{Pending}
 use Rattle.grant_enter.specs.declared.seat.Seat.{Seat}

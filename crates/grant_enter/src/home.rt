@@ -1,12 +1,12 @@
 //! The memory of all processes.
-ghost use Rattle.std.specs.Prelude.{◌≡◌, ◌==◌, ◌≤◌, ◌<◌, ◌+◌, ◌%◌, ◌^◌, not, slice_get, All, AllPairs, IsTrue, length, map, option_map, is_ok, Some, IfOk, OnOk, OnErr, vec_len};
+ghost use Rattle.std.specs.Prelude.{◌≡◌, ◌==◌, ◌≤◌, ◌<◌, ◌+◌, ◌%◌, ◌^◌, ℕ, not, slice_get, All, AllPairs, IsTrue, length, map, option_map, is_ok, Some, IfOk, OnOk, OnErr, vec_len};
 ghost use Rattle.std.specs.Bool.{OnTrue, OnFalse};
 ghost use Rattle.process_layout.specs.Extents.{permits_break};
 ghost use Rattle.process_layout.specs.Ordered.{IsOrdered};
 ghost use Rattle.board_memory.specs.Registers.{Protect};
 ghost use Rattle.process_own.specs.Own.{block_of, opened, with_moved_break, restarted, ended, without_first};
 ghost use Rattle.process_own.specs.Flag.{with_flag};
-ghost use Rattle.process_own.specs.Handed.{entering, handing, has_place, held, may_hand};
+ghost use Rattle.process_own.specs.Handed.{HoldsInPlace, entering, handing, has_place, held, may_hand};
 ghost use Rattle.process_own.specs.Served.{kept};
 ghost use Rattle.grant_values.specs.Drivers.{counts_of};
 ghost use Rattle.swap_tables.specs.Swaps.{IsPair};
@@ -296,6 +296,15 @@ impl Home {
     {
         let seat = &self.seats[slot.index()];
         block_at(&self.memory, seat)
+    }
+
+    /// As always, every buffer that a process has allowed a driver lies where it may (TRD 104, "Read-Only Allow",
+    /// "Read-Write Allow"): it has no bytes, or it lies in accessible RAM, or a read-only one in accessible
+    /// flash. The function does nothing.
+    pub fn held_buffers_lie_in_place(&self)
+        ensures { (slot : ℕ) → slot < length self.now.owns → HoldsInPlace (own_of self.now slot) }
+    {
+        let _seats = &self.seats;
     }
 
     /// One instruction of the process in a slot, while the registers protect it. It sees its own accessible

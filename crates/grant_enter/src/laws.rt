@@ -1,5 +1,5 @@
 //! What visitors need to know of what they are lent. The functions do nothing.
-ghost use Rattle.grant_enter.specs.Buffers.{ABufferIsWritten};
+ghost use Rattle.grant_enter.specs.Buffers.{ABufferIsWritten, BuffersAreWhole};
 ghost use Rattle.grant_enter.specs.Seen.{FramesJoin};
 
 /// A visitor may change nothing of what it is lent, and it may do one thing after another.
@@ -11,4 +11,10 @@ pub fn frames_join()
 /// bytes, and nothing else has changed.
 pub fn a_buffer_is_written()
     ensures { ABufferIsWritten }
+{}
+
+/// A buffer that a process has allowed its driver has as many bytes as the process said; and bytes that are put
+/// at the start of a read-write buffer that was lent are written there, and no others.
+pub fn buffers_are_whole()
+    ensures { BuffersAreWhole }
 {}

@@ -16,7 +16,7 @@ mod visit;
 pub use entered::Entered;
 pub use grant::Grant;
 pub use home::Home;
-pub use laws::{a_buffer_is_written, frames_join};
+pub use laws::{a_buffer_is_written, buffers_are_whole, frames_join};
 pub use visit::{EnterError, Stale, Visit};
 
 #[cfg(test)]

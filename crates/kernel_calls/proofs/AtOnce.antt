@@ -10,7 +10,7 @@ use Rattle.process_record.specs.Process.{after_call}
 use Rattle.grant_enter.specs.Homes.{Homes, ChangesOnly, own_of, with_own}
 use Rattle.kernel_model.specs.Record.{Record}
 use Rattle.kernel_model.specs.Calls.{deliver, deliver_by, flagged, yield_now}
-use Rattle.kernel_calls.specs.Outcomes.{Stays}
+use Rattle.kernel_calls.specs.Outcomes.{ComesTo, Stays}
 
 -- what changes one slot, and then the same one, changes that one alone
 pub changes_twice : (slot : ℕ) (a b c : Homes) → ChangesOnly slot a b → ChangesOnly slot b c → ChangesOnly slot a c
@@ -21,7 +21,7 @@ changes_twice slot a b c first second =
 pub stays_after : (p q r : Process) → q ≡ after_call p → Stays q r → Stays p r
 stays_after p q r is stays = subst (λ (x : Process). Stays x r → Stays p r) (sym is) (λ s. record { object = s.object; turns = s.turns; restarts = s.restarts }) stays
 
-pub now_none : (r : Record) (at : ℕ) (pending : List Upcall) → not (length pending == 0) ≡ false → yield_now r at pending ≡ record { after = flagged r at 0; outcome = GoesOn }
+pub now_none : (r : Record) (at : ℕ) (pending : List Upcall) → not (length pending == 0) ≡ false → ComesTo (yield_now r at pending) (flagged r at 0) GoesOn
 now_none r at [] none = refl
 now_none r at (u ∷ us) none = absurd (some (length (u ∷ us) == 0) refl none)
   where
@@ -29,6 +29,6 @@ now_none r at (u ∷ us) none = absurd (some (length (u ∷ us) == 0) refl none)
     some true zero_is e = let none_is : length (u ∷ us) ≡ 0 = eqb-true (length (u ∷ us)) 0 zero_is in omega arith
     some false zero_is e = absurd (cc)
 
-pub now_some : (r s : Record) (at : ℕ) (pending : List Upcall) → not (length pending == 0) ≡ true → s ≡ flagged r at 1 → s.own.pending ≡ pending → yield_now r at pending ≡ record { after = deliver s; outcome = Delivered }
+pub now_some : (r s : Record) (at : ℕ) (pending : List Upcall) → not (length pending == 0) ≡ true → s ≡ flagged r at 1 → s.own.pending ≡ pending → ComesTo (yield_now r at pending) (deliver s) Delivered
 now_some r s at [] some is same = absurd (cc)
-now_some r s at (u ∷ us) some is same = ap (λ (x : Record). record { after = x; outcome = Delivered }) (sym (ap₂ deliver_by is same))
+now_some r s at (u ∷ us) some is same = ap (λ (x : Record). record { after = x; outcome = Delivered; acts = [] }) (sym (ap₂ deliver_by is same))

@@ -2,3 +2,4 @@ pub mod Breaks
 pub mod Starts
 pub mod AtOnce
 pub mod Handed
+pub mod Drivers

@@ -13,17 +13,17 @@ use Rattle.process_record.specs.declared.outcome.Outcome.{Outcome}
 use Rattle.process_record.specs.declared.process.Process.{Process}
 use Rattle.process_record.specs.Process.{restarted}
 use Rattle.kernel_model.specs.Record.{Record, with_process}
-use Rattle.kernel_model.specs.Calls.{refused, exit, restart, restarted_by, restarted_main}
+use Rattle.kernel_model.specs.Calls.{answered, refused, exit, restart, restarted_by, restarted_main}
 use Rattle.kernel_calls.specs.Own.{object_in, record_in}
-use Rattle.kernel_calls.specs.Outcomes.{returned}
+use Rattle.kernel_calls.specs.Outcomes.{acts_for, ComesTo}
 
 -- a record that keeps its object
 pub of_object : (flash : List ℕ) (p q : Process) (own : Own) (storage : List ℕ) → q.object ≡ p.object → with_process (record_in flash p own storage) q ≡ record_in flash q own storage
 of_object flash p q own storage same = ap (λ (x : Object). record { process = q; object = object_in flash x; own = own; storage = storage }) (sym same)
 
 -- what a reply leaves of the record
-pub given : (flash : List ℕ) (p q : Process) (own : Own) (storage : List ℕ) (answer : Result Reply CallRule) (o : Outcome) → q.object ≡ p.object → returned (with_process (record_in flash p own storage) p) answer ≡ record { after = with_process (record_in flash p own storage) q; outcome = o } → returned (record_in flash p own storage) answer ≡ record { after = record_in flash q own storage; outcome = o }
-given flash p q own storage answer o same gives = gives ∙ ap (λ (s : Record). record { after = s; outcome = o }) (of_object flash p q own storage same)
+pub given : (flash : List ℕ) (p q : Process) (own : Own) (storage : List ℕ) (answer : Result Reply CallRule) (o : Outcome) → q.object ≡ p.object → ComesTo (answered (with_process (record_in flash p own storage) p) answer) (with_process (record_in flash p own storage) q) o → ComesTo (answered (record_in flash p own storage) answer) (record_in flash q own storage) o
+given flash p q own storage answer o same gives = gives ∙ ap (λ (s : Record). record { after = s; outcome = o; acts = acts_for o }) (of_object flash p q own storage same)
 
 pub no_exit : (r : Record) (kind code : ℕ) → kind ≢ 0 → kind ≢ 1 → exit r kind code ≡ refused r NoOperation
 unfolding exit

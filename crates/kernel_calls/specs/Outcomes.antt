@@ -1,39 +1,86 @@
 -- What serving a system call leaves, and what comes of it: TRD 104, "System Call API".
-use Rattle.std.specs.Prelude.{◌≡◌, ℕ, ◌+◌, ◌≤◌, ◌^◌, nat_lt, if◌then◌else◌, List, Option, None, Some, Result, Ok, Err}
+use Rattle.std.specs.Prelude.{◌≡◌, ℕ, ◌+◌, ◌≤◌, ◌^◌, nat_lt, Bool, true, false, ◌&&◌, if◌then◌else◌, List, [], Option, None, Some, Result, Ok, Err}
 use Rattle.tk_base.specs.declared.call.CallRule.{CallRule}
 use Rattle.syscall_abi.specs.declared.call.Call.{Call}
-use Rattle.syscall_abi.specs.declared.reply.Reply.{Reply}
+use Rattle.syscall_abi.specs.declared.call.Call.TheVariants.{Yield, Subscribe, Command, AllowRw, AllowRo, Memop, Exit}
 use Rattle.process_own.specs.Own.{Own}
 use Rattle.process_record.specs.declared.outcome.Outcome.{Outcome}
+use Rattle.process_record.specs.declared.outcome.Outcome.TheVariants.{Replied, ToDriver, Waits, Delivered, GoesOn, Ended, Again}
 use Rattle.process_record.specs.declared.process.Process.{Process}
+use Rattle.driver_model.specs.Commands.{Act, gone}
+use Rattle.driver_model.specs.Drivers.{Surroundings, takes_commands}
 use Rattle.grant_enter.specs.Homes.{Homes, own_of}
 use Rattle.kernel_model.specs.Record.{Record}
-use Rattle.kernel_model.specs.Calls.{Served, deliver, replied, refused, served}
-use Rattle.kernel_calls.specs.Own.{record_in}
+use Rattle.kernel_model.specs.Calls.{Served, deliver, permits, served}
+use Rattle.kernel_calls.specs.Own.{object_in, record_in}
 
--- serving a call leads from a record to another, with an outcome
-abbrev pub Serves : Record → Call → Record → Outcome → Type 0
-Serves r call s outcome = served r call ≡ record { after = s; outcome = outcome }
+-- what the board is to do for a call that the kernel serves itself, by what comes of it: one whose process ends or starts
+-- again waits in no list any more
+abbrev pub acts_for : Outcome → List Act
+acts_for (Replied reply rule) = []
+acts_for ToDriver = []
+acts_for Waits = []
+acts_for Delivered = []
+acts_for GoesOn = []
+acts_for Ended = gone
+acts_for Again = gone
+
+-- serving a call comes to a record and an outcome, and asks of the board what goes with that
+abbrev pub ComesTo : Served → Record → Outcome → Type 0
+ComesTo served s outcome = served ≡ record { after = s; outcome = outcome; acts = acts_for outcome }
 
 -- the record of the process in a slot, with its storage
 abbrev pub record_at : Homes → ℕ → Process → List ℕ → Record
 record_at home slot process storage = record_in home.flash process (own_of home slot) storage
 
--- the same of the process in a slot, whatever its storage is
+-- whether a call is a command to a driver that takes commands
+abbrev pub is_taken : Call → Bool
+is_taken (Yield number a1 a2) = false
+is_taken (Subscribe driver number function app) = false
+is_taken (Command driver command a2 a3) = takes_commands driver
+is_taken (AllowRw driver number address size) = false
+is_taken (AllowRo driver number address size) = false
+is_taken (Memop operation argument) = false
+is_taken (Exit kind code) = false
+
+-- whether a call of a process with that object is for its driver to answer: it is permitted, too
+abbrev pub is_for_driver : List ℕ → Call → Bool
+is_for_driver object call = permits object call && is_taken call
+
+-- a call that is left to its driver: nothing has changed
+pub record IsLeft (home home_after : Homes) (process process_after : Process) (call : Call) : Type 0 where
+  pub for_driver : is_for_driver (object_in home.flash process.object) call ≡ true
+  pub home_stays : home_after ≡ home
+  pub process_stays : process_after ≡ process
+
+-- a call of the process in a slot that the kernel serves itself: it comes to what its definition says, whatever a driver
+-- would see of the board, and whatever the process's storage is
+pub record IsServed (slot : ℕ) (home home_after : Homes) (process process_after : Process) (call : Call) (outcome : Outcome) : Type 0 where
+  pub not_for_driver : is_for_driver (object_in home.flash process.object) call ≡ false
+  pub comes : (around : Surroundings) (storage : List ℕ) →
+      ComesTo (served around (record_at home slot process storage) call) (record_at home_after slot process_after storage) outcome
+
+-- what holds where a call is left to its driver, and what at every other outcome
+abbrev pub LeftOrServed : Type 0 → (Outcome → Type 0) → Outcome → Type 0
+LeftOrServed left served ToDriver = left
+LeftOrServed left served (Replied reply rule) = served (Replied reply rule)
+LeftOrServed left served Waits = served Waits
+LeftOrServed left served Delivered = served Delivered
+LeftOrServed left served GoesOn = served GoesOn
+LeftOrServed left served Ended = served Ended
+LeftOrServed left served Again = served Again
+
+-- what becomes of a call of the process in a slot, by its outcome
 abbrev pub ServesAt : ℕ → Homes → Process → Call → Homes → Process → Outcome → Type 0
 ServesAt slot home process call home_after process_after outcome =
-    (storage : List ℕ) → Serves (record_at home slot process storage) call (record_at home_after slot process_after storage) outcome
+    LeftOrServed (IsLeft home home_after process process_after call)
+    (IsServed slot home home_after process process_after call) outcome
 
 -- no call moves a process's object or is a turn; one may start the process again
 pub record Stays (p q : Process) : Type 0 where
   pub object : q.object ≡ p.object
   pub turns : q.turns ≡ p.turns
   pub restarts : q.restarts ≤ p.restarts + 1
-
--- a call that returns: with a reply, or refused by the rule that it broke
-abbrev pub returned : Record → Result Reply CallRule → Served
-returned r (Ok reply) = replied r reply
-returned r (Err rule) = refused r rule
 
 -- a number that is an address
 abbrev pub as_address : Option ℕ → Option ℕ

@@ -8,7 +8,7 @@ use Rattle.tbf_headers.specs.Addresses.{after_protected, entry_of}
 use Rattle.tbf_headers.specs.Objects.{object_at}
 use Rattle.process_layout.specs.Extents.{Extents, first_break}
 use Rattle.process_own.specs.Own.{Own}
-use Rattle.grant_enter.specs.Homes.{HasObject}
+use Rattle.process_own.specs.Flash.{HasObject}
 use Rattle.process_own.specs.declared.place.Object.{Object}
 use Rattle.process_record.specs.declared.process.Process.{Process}
 use Rattle.process_record.specs.declared.process.State.{State}

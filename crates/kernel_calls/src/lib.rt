@@ -1,15 +1,17 @@
 //! The system calls that the kernel serves itself: yield, subscribe, the allows, memop and exit (TRD 104, "System
-//! Call API"), and the delivery of upcalls.
+//! Call API"); what a driver answers to a command; and the delivery of upcalls.
 #![tactic(auto)]
 
 mod exits;
 mod headers;
 mod memops;
+mod permissions;
 mod replies;
 mod serving;
 mod swaps;
 mod yields;
 
 pub use exits::restart_process;
+pub use replies::give;
 pub use serving::kernel_call;
 pub use yields::deliver;

@@ -3,9 +3,9 @@ ghost use Rattle.std.specs.Prelude.{◌≡◌, ◌+◌, ◌<◌, ℕ, List, leng
 ghost use Rattle.process_own.specs.Own.{Own};
 ghost use Rattle.grant_enter.specs.Homes.{own_of, ChangesOnly};
 ghost use Rattle.kernel_model.specs.Record.{Record, with_own};
-ghost use Rattle.kernel_model.specs.Calls.{break_moved, moved_by, region, region_end, memop};
+ghost use Rattle.kernel_model.specs.Calls.{answered, break_moved, moved_by, region, region_end, memop};
 ghost use Rattle.kernel_calls.specs.Own.{record_in, HasHeader, IsOwnObject};
-ghost use Rattle.kernel_calls.specs.Outcomes.{as_address, record_at, returned, MovesBreak};
+ghost use Rattle.kernel_calls.specs.Outcomes.{as_address, record_at, MovesBreak};
 
 use crate::headers::header_of;
 use grant_enter::Home;
@@ -28,7 +28,7 @@ fn move_break(
     reply: Reply,
 ) -> Result<Reply, CallRule>
     requires { slot < length home.old.owns }
-    ensures answer { (r : Record) → returned (with_own r (own_of home.new slot)) result
+    ensures answer { (r : Record) → answered (with_own r (own_of home.new slot)) result
         ≡ break_moved (with_own r (own_of home.old slot)) place reply }
     ensures stays { MovesBreak (own_of home.old slot) (own_of home.new slot) }
     ensures rest { ChangesOnly slot home.old home.new }
@@ -43,7 +43,7 @@ fn move_break(
 fn region_start_of(flash: &[u8], process: &Process, n: u32) -> Result<Reply, CallRule>
     requires { HasHeader flash.now process.now.object }
     ensures { (own : Own) (storage : List ℕ) → let r = record_in flash.now process.now own storage in
-        returned r result ≡ region_end r (λ region. region.0) (region r n) }
+        answered r result ≡ region_end r (λ region. region.0) (region r n) }
 {
     let header = header_of(flash, &process.object);
     let (offset, _) = header.region(n).ok_or(CallRule::Index)?;
@@ -55,7 +55,7 @@ fn region_start_of(flash: &[u8], process: &Process, n: u32) -> Result<Reply, Cal
 fn region_end_of(flash: &[u8], process: &Process, n: u32) -> Result<Reply, CallRule>
     requires { HasHeader flash.now process.now.object }
     ensures { (own : Own) (storage : List ℕ) → let r = record_in flash.now process.now own storage in
-        returned r result ≡ region_end r (λ region. region.0 + region.1) (region r n) }
+        answered r result ≡ region_end r (λ region. region.0 + region.1) (region r n) }
 {
     let header = header_of(flash, &process.object);
     let (offset, size) = header.region(n).ok_or(CallRule::Index)?;
@@ -74,7 +74,7 @@ pub fn operate(
 ) -> Result<Reply, CallRule>
     requires slot { slot < length home.old.owns }
     requires object { IsOwnObject home.old.flash process.now.object (own_of home.old slot).layout }
-    ensures answer { (storage : List ℕ) → returned (record_at home.new slot process.now storage) result
+    ensures answer { (storage : List ℕ) → answered (record_at home.new slot process.now storage) result
         ≡ memop (record_at home.old slot process.now storage) operation argument }
     ensures stays { MovesBreak (own_of home.old slot) (own_of home.new slot) }
     ensures rest { ChangesOnly slot home.old home.new }

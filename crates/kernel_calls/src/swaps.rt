@@ -3,12 +3,11 @@
 ghost use Rattle.std.specs.Prelude.{◌≡◌, ◌+◌, ◌≤◌, ◌<◌, ◌^◌, ℕ, List, length, true, IfOk, OnOk, OnErr};
 ghost use Rattle.process_own.specs.Handed.{handing, held, may_hand};
 ghost use Rattle.grant_enter.specs.Homes.{own_of, ChangesOnly};
-ghost use Rattle.kernel_model.specs.Record.{Record, with_process};
-ghost use Rattle.kernel_model.specs.Calls.{refused_with, swap, swap_refusal};
+ghost use Rattle.kernel_model.specs.Calls.{swap, swap_refusal};
 ghost use Rattle.kernel_calls.specs.Own.{IsOwn};
-ghost use Rattle.kernel_calls.specs.Outcomes.{broken_by, record_at, Stays};
+ghost use Rattle.kernel_calls.specs.Outcomes.{broken_by, record_at, ComesTo, Stays};
 
-use crate::replies::give;
+use crate::replies::{give, refuse};
 use grant_areas::PairKind;
 use grant_enter::Home;
 use grant_values::counts;
@@ -67,20 +66,6 @@ fn hand(
     }
 }
 
-/// Refuses a call by the rule that it broke, with a failure.
-fn refuse(process: &mut Process, rule: CallRule, reply: Reply) -> Outcome
-    ensures refuses { (r : Record) → refused_with (with_process r process.old) rule reply
-        ≡ record { after = with_process r process.new; outcome = result } }
-    ensures stays { process.new
-        ≡ record process.old { regs = process.new.regs; refusal = process.new.refusal } }
-{
-    process.refuse(rule, &reply);
-    Outcome::Replied {
-        reply,
-        rule: Some(rule),
-    }
-}
-
 /// Serves a subscribe or an allow of the process in a slot: the reply has the former pair, and a refusal the
 /// passed one.
 pub fn swap(
@@ -94,8 +79,9 @@ pub fn swap(
 ) -> Outcome
     requires slot { slot < length home.old.owns }
     requires own { IsOwn home.old.flash process.old (own_of home.old slot) }
-    ensures serves { (storage : List ℕ) → swap (record_at home.old slot process.old storage) kind driver number pair
-        ≡ record { after = record_at home.new slot process.new storage; outcome = result } }
+    ensures serves { (storage : List ℕ) →
+        ComesTo (swap (record_at home.old slot process.old storage) kind driver number pair)
+        (record_at home.new slot process.new storage) result }
     ensures own { IsOwn home.new.flash process.new (own_of home.new slot) }
     ensures stays { Stays process.old process.new }
     ensures rest { ChangesOnly slot home.old home.new }

@@ -1,11 +1,10 @@
 //! Yield, and the delivery of upcalls (TRD 104, "Yield").
 ghost use Rattle.std.specs.Prelude.{◌≡◌, ◌<◌, ℕ, List, length, true};
-ghost use Rattle.syscall_abi.specs.declared.call.Call.TheVariants.{Yield};
 ghost use Rattle.process_record.specs.Process.{after_call};
 ghost use Rattle.grant_enter.specs.Homes.{own_of, ChangesOnly};
-ghost use Rattle.kernel_model.specs.Calls.{flagged, yield_now};
+ghost use Rattle.kernel_model.specs.Calls.{flagged, yield_now, yielding};
 ghost use Rattle.kernel_calls.specs.Own.{IsOwn};
-ghost use Rattle.kernel_calls.specs.Outcomes.{record_at, DeliversAt, ServesAt, Stays};
+ghost use Rattle.kernel_calls.specs.Outcomes.{record_at, ComesTo, DeliversAt, Stays};
 
 use grant_enter::Home;
 use process_record::{Outcome, Process};
@@ -50,8 +49,7 @@ fn yield_at_once(home: &mut Home, process: &mut Process, slot: Slot, at: Addr) -
     requires own { IsOwn home.old.flash process.old (own_of home.old slot) }
     requires lives { (own_of home.old slot).lives ≡ true }
     ensures serves { (storage : List ℕ) → let r = record_at home.old slot process.old storage in
-        yield_now r at r.own.pending
-        ≡ record { after = record_at home.new slot process.new storage; outcome = result } }
+        ComesTo (yield_now r at r.own.pending) (record_at home.new slot process.new storage) result }
     ensures own { IsOwn home.new.flash process.new (own_of home.new slot) }
     ensures stays { Stays process.old process.new }
     ensures rest { ChangesOnly slot home.old home.new }
@@ -67,25 +65,25 @@ fn yield_at_once(home: &mut Home, process: &mut Process, slot: Slot, at: Addr) -
 
 /// Serves a yield of the process in a slot: 0 does not wait, and 1 waits for an upcall; with any other number
 /// the process goes on.
-#[tactic(auto, unfolding(kernel_model::specs::Calls::served, kernel_model::specs::Calls::yielding))]
+#[tactic(auto, unfolding(kernel_model::specs::Calls::yielding))]
 pub fn give_way(
     home: &mut Home,
     process: &mut Process,
     slot: Slot,
     number: u32,
-    a1: u32,
-    a2: u32,
+    at: Addr,
 ) -> Outcome
     requires slot { slot < length home.old.owns }
     requires own { IsOwn home.old.flash process.old (own_of home.old slot) }
     requires lives { (own_of home.old slot).lives ≡ true }
-    ensures serves { ServesAt slot home.old process.old (Yield number a1 a2) home.new process.new result }
+    ensures serves { (storage : List ℕ) → ComesTo (yielding (record_at home.old slot process.old storage) number at)
+        (record_at home.new slot process.new storage) result }
     ensures own { IsOwn home.new.flash process.new (own_of home.new slot) }
     ensures stays { Stays process.old process.new }
     ensures rest { ChangesOnly slot home.old home.new }
 {
     match number {
-        0 => yield_at_once(home, process, slot, a1),
+        0 => yield_at_once(home, process, slot, at),
         1 => {
             process.wait();
             Outcome::Waits

@@ -1,145 +1,136 @@
--- What no turn changes of a process, by the calls.
-use Rattle.std.proofs.Common.{◌≡◌, ℕ, ◌-◌, ◌==◌, Bool, true, false, cond, List, [], ◌∷◌, slice_set, Option, None, Some, Result, Ok, Err, refl}
-use Rattle.tk_base.specs.declared.call.CallRule.{CallRule}
+-- What a turn changes of a process, by the end of its instruction: what it drops, and what drivers keep.
+use Rattle.std.proofs.Common.{◌≡◌, ℕ, List, [], ◌∷◌, true, Option, None, Some, refl, subst, sym}
 use Rattle.tk_base.specs.declared.access.Denial.{Denial}
 use Rattle.tk_base.specs.declared.upcall.Upcall.{Upcall as Scheduled}
-use Rattle.tbf_headers.specs.declared.fault.HeaderFault.{HeaderFault}
-use Rattle.tbf_headers.specs.declared.program.Main.{Main}
-use Rattle.tbf_headers.specs.Meaning.{Meaning, reading}
 use Rattle.fault_policy.specs.declared.Action.{Action}
 use Rattle.fault_policy.specs.declared.Action.TheVariants.{Stop, Restart}
 use Rattle.fault_policy.specs.Policy.{decision}
-use Rattle.grant_areas.specs.declared.kinds.PairKind.{PairKind}
-use Rattle.grant_areas.specs.declared.kinds.PairKind.TheVariants.{Upcall, ReadOnly, ReadWrite}
-use Rattle.process_own.specs.Own.{Own}
-use Rattle.process_own.specs.Flag.{with_flag}
-use Rattle.process_own.specs.Handed.{lies_in_ram}
+use Rattle.driver_model.specs.Commands.{Act}
+use Rattle.driver_model.specs.Laws.{IsAtMostOneMore}
 use Rattle.rv32_model.specs.declared.turn_end.TurnEnd.{TurnEnd}
 use Rattle.rv32_model.specs.declared.turn_end.TurnEnd.TheVariants as ends
 use Rattle.rv32_model.specs.UserTurn.{Touch}
 use Rattle.syscall_abi.specs.declared.call.Call.{Call as SystemCall}
-use Rattle.syscall_abi.specs.declared.call.Call.TheVariants.{Yield, Subscribe, Command, AllowRw, AllowRo, Memop, Exit}
 use Rattle.syscall_abi.specs.Call.{call_of}
 use Rattle.process_record.specs.declared.emit.CallMade.{CallMade}
 use Rattle.process_record.specs.declared.process.State.{State}
 use Rattle.process_record.specs.declared.process.State.TheVariants.{Running, Yielded, Faulted, Terminated}
-use Rattle.kernel_model.specs.Record.{Record, Settings, instruction, with_effect}
-use Rattle.kernel_model.specs.Calls.{Served, exit, memop, restart, restarted_by, restarted_main, served, swap_by, swap_refusal, yield_now, yielding}
-use Rattle.kernel_model.specs.Turn.{Turned, calls, counted, delivery, ended, made, settled, turned, turn_in}
-use Rattle.kernel_model.specs.Laws.{GrantsChangeAtCalls, NoTurnDrops}
-use Rattle.kernel_model.proofs.Memops.{by_test, memop_gives}
+use Rattle.process_own.specs.Own.{Own}
+use Rattle.process_record.specs.Process.{after_fault}
+use Rattle.kernel_model.specs.Record.{Record, instruction, with_effect, with_process}
+use Rattle.kernel_model.specs.declared.settings.Settings.{Settings}
+use Rattle.kernel_model.specs.Calls.{failure_of, refused_with, served}
+use Rattle.kernel_model.specs.Turn.{Turned, called, calls, counted, delivery, ended, faulted, idle, instructed, made, settled, surroundings, turned, turn_in, unknown_call}
+use Rattle.kernel_model.specs.Laws.{CanStartAgain, DriversPromise, DropsAtMostOne, GrantsChangeAtCalls, KeepsLines, TurnsActAtCalls, TurnsKeepLines}
+use Rattle.kernel_model.proofs.Comes.{all_same, no_more, of_call, restart_keeps}
+use Rattle.kernel_model.proofs.Lines.{SameKept, keeps_ended, keeps_restarted, keeps_same}
 
--- the count of dropped upcalls is as it was
-abbrev Keeps : Record → Record → Type 0
-Keeps r s = s.own.dropped ≡ r.own.dropped
+-- at most one upcall was dropped; and a process that lives keeps a request exactly where it waits
+record Leaves (settings : Settings) (r : Record) (t : Turned) : Type 0 where
+  dropped : IsAtMostOneMore r.own.dropped t.after.own.dropped
+  lines : r.own.lives ≡ true → CanStartAgain r → KeepsLines settings.storage r.own t.after.own t.acts
 
-abbrev KeepsServed : Record → Served → Type 0
-KeepsServed r s = Keeps r s.after
+-- a turn that asks nothing of the board, of a process of which drivers keep the same
+leaves_same : (settings : Settings) (r : Record) (t : Turned) → SameKept r.own t.after.own → t.acts ≡ [] → Leaves settings r t
+leaves_same settings r t same acts = record {
+  dropped = subst (IsAtMostOneMore r.own.dropped) (sym same.dropped) (no_more r.own.dropped);
+  lines = λ lives can. subst (KeepsLines settings.storage r.own t.after.own) (sym acts) (keeps_same settings.storage r.own t.after.own same);
+}
 
-keeps_memop : (r : Record) (operation argument : ℕ) → Keeps r (memop r operation argument).after
-keeps_memop r operation argument = memop_gives (KeepsServed r) r operation argument (λ rule. refl) (λ reply. refl) (λ new reply. refl)
+leaves_idle : (settings : Settings) (r : Record) → Leaves settings r (idle r)
+leaves_idle settings r = leaves_same settings r (idle r) (all_same r.own) refl
 
-keeps_restart : (r : Record) → Keeps r (restart r)
-unfolding restart
-keeps_restart r = by_reading (reading r.object)
+leaves_call : (promise : DriversPromise) (settings : Settings) (time : ℕ) (r : Record) (accesses : List Touch) (call : SystemCall) → Leaves settings r (called r accesses call (served (surroundings settings time) r call))
+leaves_call promise settings time r accesses call =
+    of_call (λ s. Leaves settings r (called r accesses call s)) promise (surroundings settings time) r call
+    (record {
+      refused = λ rule. leaves_same settings r (called r accesses call (refused_with r rule (failure_of call rule))) (all_same r.own) refl;
+      served = λ s is. record { dropped = is.dropped; lines = is.lines };
+    })
+
+leaves_fault : (settings : Settings) (r : Record) (denial : Denial) → Leaves settings r (faulted settings r denial)
+leaves_fault settings r denial = by_action (decision settings.policy r.process.restarts)
   where
-    by_main : (h : Meaning) (m : Option Main) → Keeps r (restarted_main r h m)
-    by_main h None = refl
-    by_main h (Some m) = refl
+    s : Record
+    s = with_process r (after_fault r.process denial)
 
-    by_reading : (h : Result Meaning HeaderFault) → Keeps r (restarted_by r h)
-    by_reading (Ok h) = by_main h h.main
-    by_reading (Err fault) = refl
+    by_action : (action : Action) → Leaves settings r (record (faulted settings r denial) { after = settled s action })
+    by_action Stop = record { dropped = no_more r.own.dropped; lines = λ lives can. keeps_ended settings.storage r.own }
+    by_action Restart = record { dropped = subst (IsAtMostOneMore r.own.dropped) (sym (restart_keeps s)) (no_more r.own.dropped); lines = λ lives can. keeps_restarted settings.storage s can }
 
-keeps_exit : (r : Record) (kind code : ℕ) → Keeps r (exit r kind code).after
-unfolding exit
-keeps_exit r kind code = by_test (KeepsServed r) (kind == 0) _ _ refl (by_test (KeepsServed r) (kind == 1) _ _ (keeps_restart r) refl)
+leaves_calls : (promise : DriversPromise) (settings : Settings) (time : ℕ) (r : Record) (accesses : List Touch) (call : Option SystemCall) → Leaves settings r (calls settings time r accesses call)
+leaves_calls promise settings time r accesses (Some call) = leaves_call promise settings time r accesses call
+leaves_calls promise settings time r accesses None = leaves_fault settings r (unknown_call r.process)
 
-keeps_flag : (at byte : ℕ) (own : Own) → (with_flag at byte own).dropped ≡ own.dropped
-keeps_flag at byte own = by_place (lies_in_ram own.layout at 1)
+leaves_ended : (promise : DriversPromise) (settings : Settings) (time : ℕ) (r : Record) (accesses : List Touch) (end : TurnEnd) → Leaves settings r (ended settings time r accesses end)
+leaves_ended promise settings time r accesses ends.Went = leaves_same settings r _ (all_same r.own) refl
+leaves_ended promise settings time r accesses ends.Call = leaves_calls promise settings time r accesses (call_of r.process.regs)
+leaves_ended promise settings time r accesses (ends.Trap denial) = leaves_fault settings r denial
+
+-- what the instruction itself leaves of the process is nothing of what drivers keep
+leaves_instructed : (promise : DriversPromise) (settings : Settings) (time : ℕ) (r : Record) → Leaves settings r (instructed settings time r)
+leaves_instructed promise settings time r =
+    let t = instruction r in
+    let l = leaves_ended promise settings time (with_effect (counted r) t) t.accesses t.end in
+    record { dropped = l.dropped; lines = λ lives can. same_lines (l.lines lives can) }
   where
-    by_place : (b : Bool) → (cond b (record own { ram = slice_set own.ram (at - own.layout.start) byte }) own).dropped ≡ own.dropped
-    by_place true = refl
-    by_place false = refl
+    same_lines : {after : Own} {acts : List Act} → KeepsLines settings.storage (with_effect (counted r) (instruction r)).own after acts → KeepsLines settings.storage r.own after acts
+    same_lines k = record { lines = k.lines; life = k.life; within = k.within }
 
-keeps_yield_now : (r : Record) (at : ℕ) (pending : List Scheduled) → Keeps r (yield_now r at pending).after
-keeps_yield_now r at [] = keeps_flag at 0 r.own
-keeps_yield_now r at (upcall ∷ more) = keeps_flag at 1 r.own
+leaves_delivery : (settings : Settings) (r : Record) (pending : List Scheduled) → Leaves settings r (delivery r pending)
+leaves_delivery settings r [] = leaves_idle settings r
+leaves_delivery settings r (upcall ∷ more) = leaves_same settings r _ (record { grants = refl; lives = refl; life = refl; dropped = refl }) refl
 
-keeps_yield : (r : Record) (number at : ℕ) → Keeps r (yielding r number at).after
-unfolding yielding
-keeps_yield r number at = by_test (KeepsServed r) (number == 0) _ _ (keeps_yield_now r at r.own.pending) (by_test (KeepsServed r) (number == 1) _ _ refl refl)
+leaves_turn : (promise : DriversPromise) (settings : Settings) (time : ℕ) (state : State) (r : Record) → Leaves settings r (turn_in settings time state r)
+leaves_turn promise settings time Running r = leaves_instructed promise settings time r
+leaves_turn promise settings time Yielded r = leaves_delivery settings r r.own.pending
+leaves_turn promise settings time Faulted r = leaves_idle settings r
+leaves_turn promise settings time (Terminated code) r = leaves_idle settings r
 
-keeps_swap : (r : Record) (kind : PairKind) (driver number : ℕ) (pair : ℕ × ℕ) (o : Option CallRule) → Keeps r (swap_by r kind driver number pair o).after
-keeps_swap r kind driver number pair None = refl
-keeps_swap r kind driver number pair (Some rule) = refl
-
-keeps_call : (r : Record) (call : SystemCall) → Keeps r (served r call).after
-unfolding served
-keeps_call r (Memop operation argument) = keeps_memop r operation argument
-keeps_call r (Exit kind code) = keeps_exit r kind code
-keeps_call r (Yield number a1 a2) = keeps_yield r number a1
-keeps_call r (Subscribe driver number function app) = keeps_swap r Upcall driver number (function, app) (swap_refusal Upcall driver number (function, app) r.own)
-keeps_call r (Command driver command a2 a3) = refl
-keeps_call r (AllowRw driver number address size) = keeps_swap r ReadWrite driver number (address, size) (swap_refusal ReadWrite driver number (address, size) r.own)
-keeps_call r (AllowRo driver number address size) = keeps_swap r ReadOnly driver number (address, size) (swap_refusal ReadOnly driver number (address, size) r.own)
-
-keeps_settled : (r : Record) (action : Action) → Keeps r (settled r action)
-keeps_settled r Stop = refl
-keeps_settled r Restart = keeps_restart r
-
-keeps_calls : (settings : Settings) (r : Record) (accesses : List Touch) (call : Option SystemCall) → Keeps r (calls settings r accesses call).after
-keeps_calls settings r accesses (Some call) = keeps_call r call
-keeps_calls settings r accesses None = keeps_settled _ (decision settings.policy r.process.restarts)
-
-keeps_ended : (settings : Settings) (r : Record) (accesses : List Touch) (end : TurnEnd) → Keeps r (ended settings r accesses end).after
-keeps_ended settings r accesses ends.Went = refl
-keeps_ended settings r accesses ends.Call = keeps_calls settings r accesses (call_of r.process.regs)
-keeps_ended settings r accesses (ends.Trap denial) = keeps_settled _ (decision settings.policy r.process.restarts)
-
-keeps_delivery : (r : Record) (pending : List Scheduled) → Keeps r (delivery r pending).after
-keeps_delivery r [] = refl
-keeps_delivery r (upcall ∷ more) = refl
-
-keeps_turn : (settings : Settings) (state : State) (r : Record) → Keeps r (turn_in settings state r).after
-keeps_turn settings Running r = let t = instruction r in keeps_ended settings (with_effect (counted r) t) t.accesses t.end
-keeps_turn settings Yielded r = keeps_delivery r r.own.pending
-keeps_turn settings Faulted r = refl
-keeps_turn settings (Terminated code) r = refl
-
-pub no_turn_drops : NoTurnDrops
+pub drops_at_most_one : DriversPromise → DropsAtMostOne
 unfolding turned
-no_turn_drops settings time r = keeps_turn settings r.process.state r
+drops_at_most_one promise settings time r = (leaves_turn promise settings time r.process.state r).dropped
+
+pub turns_keep_lines : DriversPromise → TurnsKeepLines
+unfolding turned
+turns_keep_lines promise settings time r = (leaves_turn promise settings time r.process.state r).lines
 
 -- a turn that tells of no call and no denial
 abbrev IsQuiet : Record → Turned → Type 0
-IsQuiet r t = t.told.call ≡ None → t.told.denial ≡ None → (t.after.own.grants ≡ r.own.grants) × (t.after.own.lives ≡ r.own.lives)
+IsQuiet r t =
+    t.told.call ≡ None → t.told.denial ≡ None →
+    (t.after.own.grants ≡ r.own.grants) × (t.after.own.lives ≡ r.own.lives) × (t.acts ≡ [])
 
 no_denial : (denial : Denial) → ◌≡◌ {A = Option Denial} (Some denial) None → ⊥
 no_denial denial e = cc
 
-quiet_calls : (settings : Settings) (r : Record) (accesses : List Touch) (call : Option SystemCall) → IsQuiet r (calls settings r accesses call)
-quiet_calls settings r accesses (Some call) none denial = absurd (no_call none)
+quiet_calls : (settings : Settings) (time : ℕ) (r : Record) (accesses : List Touch) (call : Option SystemCall) → IsQuiet r (calls settings time r accesses call)
+quiet_calls settings time r accesses (Some call) none denial = absurd (no_call none)
   where
-    no_call : ◌≡◌ {A = Option CallMade} (Some (made r.process.regs (served r call).outcome)) None → ⊥
+    no_call : ◌≡◌ {A = Option CallMade} (Some (made r.process.regs (served (surroundings settings time) r call).outcome)) None → ⊥
     no_call e = cc
-quiet_calls settings r accesses None call none = absurd (no_denial _ none)
+quiet_calls settings time r accesses None call none = absurd (no_denial _ none)
 
-quiet_ended : (settings : Settings) (r : Record) (accesses : List Touch) (end : TurnEnd) → IsQuiet r (ended settings r accesses end)
-quiet_ended settings r accesses ends.Went call denial = (refl, refl)
-quiet_ended settings r accesses ends.Call call denial = quiet_calls settings r accesses (call_of r.process.regs) call denial
-quiet_ended settings r accesses (ends.Trap why) call denial = absurd (no_denial why denial)
+quiet_ended : (settings : Settings) (time : ℕ) (r : Record) (accesses : List Touch) (end : TurnEnd) → IsQuiet r (ended settings time r accesses end)
+quiet_ended settings time r accesses ends.Went call denial = (refl, refl, refl)
+quiet_ended settings time r accesses ends.Call call denial = quiet_calls settings time r accesses (call_of r.process.regs) call denial
+quiet_ended settings time r accesses (ends.Trap why) call denial = absurd (no_denial why denial)
 
 quiet_delivery : (r : Record) (pending : List Scheduled) → IsQuiet r (delivery r pending)
-quiet_delivery r [] call denial = (refl, refl)
-quiet_delivery r (upcall ∷ more) call denial = (refl, refl)
+quiet_delivery r [] call denial = (refl, refl, refl)
+quiet_delivery r (upcall ∷ more) call denial = (refl, refl, refl)
 
-quiet_turn : (settings : Settings) (state : State) (r : Record) → IsQuiet r (turn_in settings state r)
-quiet_turn settings Running r call denial = let t = instruction r in quiet_ended settings (with_effect (counted r) t) t.accesses t.end call denial
-quiet_turn settings Yielded r call denial = quiet_delivery r r.own.pending call denial
-quiet_turn settings Faulted r call denial = (refl, refl)
-quiet_turn settings (Terminated code) r call denial = (refl, refl)
+quiet_turn : (settings : Settings) (time : ℕ) (state : State) (r : Record) → IsQuiet r (turn_in settings time state r)
+quiet_turn settings time Running r call denial = let t = instruction r in quiet_ended settings time (with_effect (counted r) t) t.accesses t.end call denial
+quiet_turn settings time Yielded r call denial = quiet_delivery r r.own.pending call denial
+quiet_turn settings time Faulted r call denial = (refl, refl, refl)
+quiet_turn settings time (Terminated code) r call denial = (refl, refl, refl)
 
 pub grants_change_at_calls : GrantsChangeAtCalls
 unfolding turned
-grants_change_at_calls settings time r call denial = quiet_turn settings r.process.state r call denial
+grants_change_at_calls settings time r call denial =
+    let quiet = quiet_turn settings time r.process.state r call denial in (quiet.0, quiet.1)
+
+pub turns_act_at_calls : TurnsActAtCalls
+unfolding turned
+turns_act_at_calls settings time r call denial = (quiet_turn settings time r.process.state r call denial).2

@@ -1,11 +1,13 @@
 -- What a step leaves at each place of the records.
-use Rattle.std.proofs.Common.{◌≡◌, ◌≢◌, ℕ, zero, suc, ◌<◌, List, [], ◌∷◌, length, slice_get, slice_set, Option, None, Some, refl, ap, ◌∙◌}
+use Rattle.std.proofs.Common.{◌≡◌, ◌≢◌, ℕ, zero, suc, ◌<◌, Bool, true, false, cond, option_and_then, List, [], ◌∷◌, length, slice_get, slice_set, Option, None, Some, refl, ap, ◌∙◌}
 use Rattle.std.specs.Option.{option_map}
 use Rattle.std.proofs.lemmas.Option.{slice_get_within, slice_get-get_or}
 use Rattle.std.proofs.lemmas.List.{get_or-set_same, length-set}
 use Rattle.kernel_model.specs.Record.{Record}
 use Rattle.kernel_model.specs.Turn.{Turn, apply, turned}
-use Rattle.kernel_model.specs.World.{World, ran}
+use Rattle.kernel_model.specs.World.{Answer, Deed, World, acted_by, can_act, deed_of, done, ran, records_after, told_to, unmade}
+use Rattle.kernel_model.specs.Laws.{answer_of}
+use Rattle.tk_base.specs.declared.process.Dev.{Dev}
 
 slice_get-set_same : {X : Type 0} (xs : List X) (i : ℕ) (y : X) → i < length xs → slice_get (slice_set xs i y) i ≡ Some y
 slice_get-set_same xs i y h = slice_get-get_or (slice_set xs i y) i y (rw length-set h) ∙ ap Some (get_or-set_same xs i y y h)
@@ -27,3 +29,25 @@ ran-own w slot (Some r) e = slice_get-set_same w.records slot (turned w.settings
 pub ran-other : (w : World) (slot other : ℕ) (o : Option Record) → other ≢ slot → slice_get (ran w slot o).after.records other ≡ slice_get w.records other
 ran-other w slot other None ne = refl
 ran-other w slot other (Some r) ne = slice_get-set_other w.records slot other (turned w.settings w.clock.time r).after ne
+
+-- the record that a device tells something
+pub told-own : (w : World) (a : Answer) (o : Option Record) → slice_get w.records a.slot ≡ o → slice_get (told_to w a o) a.slot ≡ option_map (apply w.settings a.event) o
+told-own w a None e = e
+told-own w a (Some r) e = slice_get-set_same w.records a.slot (apply w.settings a.event r) (slice_get_within w.records a.slot r e)
+
+-- each other record
+pub told-other : (w : World) (a : Answer) (other : ℕ) (o : Option Record) → other ≢ a.slot → slice_get (told_to w a o) other ≡ slice_get w.records other
+told-other w a other None ne = refl
+told-other w a other (Some r) ne = slice_get-set_other w.records a.slot other (apply w.settings a.event r) ne
+
+-- what a device step leaves of the records is what it told
+pub acted_records : (w : World) (device : Dev) → (acted_by w device).after.records ≡ records_after w (answer_of w device)
+acted_records w device = by_ready (can_act w device)
+  where
+    by_deed : (o : Option Deed) → (done w o).after.records ≡ records_after w (option_and_then (λ (deed : Deed). deed.told) o)
+    by_deed None = refl
+    by_deed (Some deed) = refl
+
+    by_ready : (b : Bool) → (cond b (done w (deed_of w device)) (unmade w)).after.records ≡ records_after w (cond b (option_and_then (λ (deed : Deed). deed.told) (deed_of w device)) None)
+    by_ready true = by_deed (deed_of w device)
+    by_ready false = refl

@@ -1,50 +1,100 @@
 -- A record after any choices, by the choices one after another.
-use Rattle.std.proofs.Common.{◌≡◌, ◌≢◌, ℕ, zero, suc, ◌==◌, Bool, true, false, cond, List, [], ◌∷◌, ◌++◌, slice_get, Option, None, Some, refl, sym, ap, subst, ◌∙◌, arith}
+use Rattle.std.proofs.Common.{◌≡◌, ◌≢◌, ℕ, zero, suc, ◌==◌, Bool, true, false, cond, List, [], ◌∷◌, ◌++◌, length, slice_get, Option, None, Some, refl, sym, ap, subst, ◌∙◌, arith}
+use Rattle.std.specs.List.{flat_map}
 use Rattle.std.specs.Option.{option_map}
 use Rattle.std.proofs.lemmas.Bool.Decides.{nat_tests}
 use Rattle.tk_base.specs.declared.process.Choice.{Choice}
 use Rattle.tk_base.specs.declared.process.Choice.TheVariants.{Run, Device, Pass}
-use Rattle.kernel_model.specs.Record.{Record, Settings}
+use Rattle.tk_base.specs.declared.process.Dev.{Dev}
+use Rattle.kernel_model.specs.Record.{Record}
+use Rattle.kernel_model.specs.declared.settings.Settings.{Settings}
 use Rattle.kernel_model.specs.Turn.{Event, Turn, apply}
-use Rattle.kernel_model.specs.World.{World, after, ran, stepped}
+use Rattle.kernel_model.specs.World.{Answer, Deed, Printed, Stepped, World, after, can_act, deed_of, done, labels_of, printing, ran, records_after, stepped, unmade}
 use Rattle.kernel_model.specs.Run.{next, on_choice, round, stays, goes_on}
-use Rattle.kernel_model.specs.Replay.{after_all, chosen, events, history, replay, RecordIsReplay, RoundFollowsChoices, SameHistorySameRecord}
-use Rattle.kernel_model.proofs.Places.{ran-own, ran-other}
+use Rattle.kernel_model.specs.Replay.{after_all, chosen, events, happened, history, replay, RecordIsReplay, RoundFollowsChoices, SameHistorySameRecord}
+use Rattle.kernel_model.proofs.Places.{ran-other, ran-own, told-other, told-own}
 
 -- no step changes the settings
 ran_settings : (w : World) (slot : ℕ) (o : Option Record) → (ran w slot o).after.settings ≡ w.settings
 ran_settings w slot None = refl
 ran_settings w slot (Some r) = refl
 
+deed_settings : (w : World) (o : Option Deed) → (done w o).after.settings ≡ w.settings
+deed_settings w None = refl
+deed_settings w (Some deed) = refl
+
+device_settings : (w : World) (device : Dev) (b : Bool) → (cond b (done w (deed_of w device)) (unmade w)).after.settings ≡ w.settings
+device_settings w device true = deed_settings w (deed_of w device)
+device_settings w device false = refl
+
 kept_settings : (w : World) (choice : Choice) → (after w choice).settings ≡ w.settings
 unfolding stepped
 kept_settings w (Run slot) = ran_settings w slot (slice_get w.records slot)
-kept_settings w (Device device) = refl
+kept_settings w (Device device) = device_settings w device (can_act w device)
 kept_settings w (Pass ticks) = refl
 
 mapped_none : (settings : Settings) (o : Option Record) → o ≡ option_map (replay settings []) o
 mapped_none settings None = refl
 mapped_none settings (Some r) = refl
 
+replayed_once : (settings : Settings) (event : Event) (o : Option Record) → option_map (apply settings event) o ≡ option_map (replay settings (event ∷ [])) o
+replayed_once settings event None = refl
+replayed_once settings event (Some r) = refl
+
+-- records of which an event changed that of one slot alone are the replay of it
+lands : (w : World) (records : List Record) (at slot : ℕ) (event : Event)
+    → slice_get records at ≡ option_map (apply w.settings event) (slice_get w.records at)
+    → ((other : ℕ) → other ≢ at → slice_get records other ≡ slice_get w.records other)
+    → slice_get records slot ≡ option_map (replay w.settings (cond (at == slot) (event ∷ []) [] ++ [])) (slice_get w.records slot)
+lands w records at slot event own others = by_slot (at == slot) refl
+  where
+    by_slot : (b : Bool) → at == slot ≡ b → slice_get records slot ≡ option_map (replay w.settings (cond b (event ∷ []) [] ++ [])) (slice_get w.records slot)
+    by_slot true e =
+        let same : at ≡ slot = grind (arith, nat_tests) in
+        subst (λ (s : ℕ). slice_get records s ≡ option_map (replay w.settings (event ∷ [])) (slice_get w.records s)) same
+        (own ∙ replayed_once w.settings event (slice_get w.records at))
+    by_slot false e =
+        let apart : slot ≢ at = λ same. grind (arith, nat_tests) in
+        others slot apart ∙ mapped_none w.settings (slice_get w.records slot)
+
+-- what a step told, as what happened to a slot
+abbrev replayed : World → ℕ → Stepped → Type 0
+replayed w slot s = slice_get s.after.records slot ≡ option_map (replay w.settings (flat_map (happened slot) s.labels)) (slice_get w.records slot)
+
+ran_replayed : (w : World) (other slot : ℕ) (o : Option Record) → slice_get w.records other ≡ o → replayed w slot (ran w other o)
+ran_replayed w other slot None e = mapped_none w.settings (slice_get w.records slot)
+ran_replayed w other slot (Some r) e =
+    lands w (ran w other (Some r)).after.records other slot (Turn w.clock.time)
+    (ran-own w other (Some r) e ∙ ap (option_map (apply w.settings (Turn w.clock.time))) (sym e)) (λ s ne. ran-other w other s (Some r) ne)
+
+-- what is printed happens to nobody
+nobody_printed : (slot at : ℕ) (bytes : List ℕ) → flat_map (happened slot) (printing at bytes) ≡ []
+nobody_printed slot at bytes = by_length (length bytes == 0)
+  where
+    by_length : (b : Bool) → flat_map (happened slot) (cond b [] (Printed at bytes ∷ [])) ≡ []
+    by_length true = refl
+    by_length false = refl
+
+told_replayed : (w : World) (deed : Deed) (slot : ℕ) (o : Option Answer) → slice_get (records_after w o) slot ≡ option_map (replay w.settings (flat_map (happened slot) (labels_of deed o))) (slice_get w.records slot)
+told_replayed w deed slot None = mapped_none w.settings (slice_get w.records slot)
+told_replayed w deed slot (Some a) =
+    lands w (records_after w (Some a)) a.slot slot a.event (told-own w a (slice_get w.records a.slot) refl) (λ other ne. told-other w a other (slice_get w.records a.slot) ne)
+    ∙ ap (λ (rest : List Event). option_map (replay w.settings (cond (a.slot == slot) (a.event ∷ []) [] ++ rest)) (slice_get w.records slot)) (sym (nobody_printed slot a.slot deed.printed))
+
+deed_replayed : (w : World) (slot : ℕ) (o : Option Deed) → replayed w slot (done w o)
+deed_replayed w slot None = mapped_none w.settings (slice_get w.records slot)
+deed_replayed w slot (Some deed) = told_replayed w deed slot deed.told
+
+device_replayed : (w : World) (device : Dev) (slot : ℕ) (b : Bool) → replayed w slot (cond b (done w (deed_of w device)) (unmade w))
+device_replayed w device slot true = deed_replayed w slot (deed_of w device)
+device_replayed w device slot false = mapped_none w.settings (slice_get w.records slot)
+
 -- a step is the replay of what it does to the process
 one_step : (w : World) (choice : Choice) (slot : ℕ) → slice_get (after w choice).records slot ≡ option_map (replay w.settings (events slot w choice)) (slice_get w.records slot)
 unfolding stepped
-one_step w (Device device) slot = mapped_none w.settings (slice_get w.records slot)
+one_step w (Run other) slot = ran_replayed w other slot (slice_get w.records other) refl
+one_step w (Device device) slot = device_replayed w device slot (can_act w device)
 one_step w (Pass ticks) slot = mapped_none w.settings (slice_get w.records slot)
-one_step w (Run other) slot = by_slot (other == slot) refl
-  where
-    own : (o : Option Record) → option_map (apply w.settings (Turn w.clock.time)) o ≡ option_map (replay w.settings (Turn w.clock.time ∷ [])) o
-    own None = refl
-    own (Some r) = refl
-
-    by_slot : (b : Bool) → other == slot ≡ b → slice_get (ran w other (slice_get w.records other)).after.records slot ≡ option_map (replay w.settings (cond b (Turn w.clock.time ∷ []) [])) (slice_get w.records slot)
-    by_slot true e =
-        let same : other ≡ slot = grind (arith, nat_tests) in
-        subst (λ (s : ℕ). slice_get (ran w other (slice_get w.records other)).after.records s ≡ option_map (replay w.settings (Turn w.clock.time ∷ [])) (slice_get w.records s)) same
-        (ran-own w other (slice_get w.records other) refl ∙ own (slice_get w.records other))
-    by_slot false e =
-        let apart : slot ≢ other = λ same. grind (arith, nat_tests) in
-        ran-other w other slot (slice_get w.records other) apart ∙ mapped_none w.settings (slice_get w.records slot)
 
 replay_joined : (settings : Settings) (first then : List Event) (r : Record) → replay settings then (replay settings first r) ≡ replay settings (first ++ then) r
 replay_joined settings [] then r = refl

@@ -1,22 +1,28 @@
 -- The next choice of the round robin is ready.
-use Rattle.std.proofs.Common.{◌≡◌, ℕ, zero, suc, ◌<◌, Bool, true, false, cond, ◌&&◌, nat_lt, List, [], ◌∷◌, map, find, slice_get, slice_index_or, Option, None, Some, IsTrue, refl, sym, ap, subst, ◌∙◌, arith}
+use Rattle.std.proofs.Common.{◌≡◌, ℕ, zero, suc, ◌+◌, ◌-◌, ◌<◌, Bool, true, false, cond, ◌&&◌, nat_le, nat_lt, List, [], ◌∷◌, map, find, slice_get, slice_index_or, Option, None, Some, is_some, IfSome, IsTrue, refl, sym, ap, subst, ◌∙◌, arith}
 use Rattle.std.specs.Option.{option_map, option_or}
 use Rattle.std.proofs.lemmas.Bool.Decides.{nat_tests}
 use Rattle.tk_base.specs.declared.limits.TheConstants.{STEP_LIMIT}
 use Rattle.tk_base.specs.declared.process.Choice.{Choice}
-use Rattle.tk_base.specs.declared.process.Choice.TheVariants.{Run}
-use Rattle.turn_scheduler.specs.RoundRobin.{choice, is_ready as is_ready_at, next_slot, ready_device, slots_after}
+use Rattle.tk_base.specs.declared.process.Choice.TheVariants.{Run, Device, Pass}
+use Rattle.tk_base.specs.declared.process.Dev.{Dev}
+use Rattle.tk_base.specs.declared.process.Dev.TheVariants.{Event, Alarm, Uart, Receive, Random, Store}
+use Rattle.turn_scheduler.specs.RoundRobin.{choice, device_order, is_ready as is_ready_at, next_slot, place_of, ready_device, slots_after}
+use Rattle.driver_model.specs.Alarm.{due_slot, nearer, next_left}
+use Rattle.driver_model.specs.Laws.{IsDueWhereNoneAreLeft}
+use Rattle.script_text.specs.Settings.{Event as Arrival}
+use Rattle.board_devices.specs.Arriving.{is_time, next_time as arrival_time}
 use Rattle.kernel_model.specs.Record.{Record}
 use Rattle.kernel_model.specs.Turn.{may_turn}
-use Rattle.kernel_model.specs.World.{World, is_ready, can_run}
-use Rattle.kernel_model.specs.Run.{next, ready_slots}
+use Rattle.kernel_model.specs.World.{Devices, World, can_act, can_run, is_ready, is_waited_for, may_be_made, now_in, owns_in}
+use Rattle.kernel_model.specs.Run.{alarm_time, next, next_time, ready_devices, ready_slots, sending_time}
 
-found_passes : (p : ℕ → Bool) (xs : List ℕ) (s : ℕ) → find p xs ≡ Some s → p s ≡ true
-found_passes p [] s e = cc
-found_passes p (x ∷ xs) s e = by_test (p x) refl e (found_passes p xs s)
+found_passes : {X : Type 0} (p : X → Bool) (xs : List X) (x : X) → find p xs ≡ Some x → p x ≡ true
+found_passes p [] x e = cc
+found_passes p (y ∷ ys) x e = by_test (p y) refl e (found_passes p ys x)
   where
-    by_test : (b : Bool) → p x ≡ b → cond b (Some x) (find p xs) ≡ Some s → (find p xs ≡ Some s → p s ≡ true) → p s ≡ true
-    by_test true f g later = let same : x ≡ s = cc in ap p (sym same) ∙ f
+    by_test : (b : Bool) → p y ≡ b → cond b (Some y) (find p ys) ≡ Some x → (find p ys ≡ Some x → p x ≡ true) → p x ≡ true
+    by_test true f g later = let same : y ≡ x = cc in ap p (sym same) ∙ f
     by_test false f g later = later g
 
 -- the slot that is next is ready
@@ -35,28 +41,110 @@ ready_runs [] s e = e
 ready_runs (r ∷ rs) zero e = e
 ready_runs (r ∷ rs) (suc s) e = ready_runs rs s e
 
--- with no device, a choice is a slot's turn
-pub next_is : (w : World) → next w ≡ option_map Run (next_slot (ready_slots w) w.present.slot w.present.used w.pace.slice)
-unfolding next choice ready_device
-next_is w = by_slot (next_slot (ready_slots w) w.present.slot w.present.used w.pace.slice)
+no_choice : {P : Type 0} (c : Choice) → ◌≡◌ {A = Option Choice} None (Some c) → P
+no_choice c e = cc
+
+-- a choice that may be made is ready below the limit of steps
+below_limit : (w : World) (b : Bool) → b ≡ true → w.clock.steps < STEP_LIMIT → IsTrue (nat_lt w.clock.steps STEP_LIMIT && b)
+below_limit w b e h = grind (arith, nat_tests)
+
+ready_at : (w : World) (device : Dev) → is_ready_at (ready_devices w) (place_of device) ≡ can_act w device
+ready_at w Event = refl
+ready_at w Alarm = refl
+ready_at w Uart = refl
+ready_at w Receive = refl
+ready_at w Random = refl
+ready_at w Store = refl
+
+device_ready : (w : World) (device : Dev) → ready_device (ready_devices w) ≡ Some device → can_act w device ≡ true
+unfolding ready_device
+device_ready w device e = sym (ready_at w device) ∙ found_passes (λ d. is_ready_at (ready_devices w) (place_of d)) device_order device e
+
+passed_over : {X : Type 0} (b : Bool) (x : X) (rest : Option X) → cond b (Some x) rest ≡ None → (b ≡ false) × (rest ≡ None)
+passed_over true x rest e = cc
+passed_over false x rest e = (refl, e)
+
+-- where no device step is ready, none of those that become so by themselves is
+record NoneActs (w : World) : Type 0 where
+  event : can_act w Event ≡ false
+  alarm : can_act w Alarm ≡ false
+  uart : can_act w Uart ≡ false
+
+none_acts : (w : World) → ready_device (ready_devices w) ≡ None → NoneActs w
+unfolding ready_device
+none_acts w e =
+    let event = passed_over (can_act w Event) Event _ e in
+    let alarm = passed_over (can_act w Alarm) Alarm _ event.1 in
+    let uart = passed_over (can_act w Uart) Uart _ alarm.1 in
+    record { event = event.0; alarm = alarm.0; uart = uart.0 }
+
+-- a time lies ahead, if there is one
+abbrev Ahead : ℕ → Option ℕ → Type 0
+Ahead time at = IfSome at (λ n. time < n)
+
+nearer_ahead : (time : ℕ) (a b : Option ℕ) → Ahead time a → Ahead time b → Ahead time (nearer a b)
+nearer_ahead time None b p q = q
+nearer_ahead time (Some m) None p q = p
+nearer_ahead time (Some m) (Some n) p q = omega (arith, p, q)
+
+arrival_ahead : (time : ℕ) (arrivals : List Arrival) → is_time time arrivals ≡ false → Ahead time (arrival_time arrivals)
+arrival_ahead time [] e = tt
+arrival_ahead time (arrival ∷ rest) e = grind (arith, nat_tests)
+
+alarm_ahead : (w : World) → IsDueWhereNoneAreLeft → can_act w Alarm ≡ false → Ahead w.clock.time (alarm_time w)
+alarm_ahead w law none = by_left (next_left (now_in w) (owns_in w)) refl
   where
-    by_slot : (o : Option ℕ) → option_or (option_map Run o) None ≡ option_map Run o
-    by_slot None = refl
-    by_slot (Some s) = refl
+    not_both : (b : Bool) → IsTrue b → b ≡ false → ⊥
+    not_both true h e = cc
+    not_both false h e = cc
+
+    by_left : (left : Option ℕ) → next_left (now_in w) (owns_in w) ≡ left → Ahead w.clock.time (option_map (λ ticks. w.clock.time + ticks) left)
+    by_left None e = tt
+    by_left (Some zero) e = absurd (not_both (is_some (due_slot (now_in w) (owns_in w))) ((law (now_in w) (owns_in w)).0 e) none)
+    by_left (Some (suc ticks)) e = omega arith
+
+sending_ahead : (time : ℕ) (d : Devices) → (is_waited_for d.writes && nat_le d.line.free time) ≡ false → Ahead time (sending_time d)
+sending_ahead time d e = by_waiting (is_waited_for d.writes) e
+  where
+    by_waiting : (b : Bool) → (b && nat_le d.line.free time) ≡ false → Ahead time (cond b (Some d.line.free) None)
+    by_waiting true f = grind (arith, nat_tests)
+    by_waiting false f = tt
+
+-- the nearest time at which a device step becomes ready lies ahead, where none is
+pub lies_ahead : (w : World) → IsDueWhereNoneAreLeft → ready_device (ready_devices w) ≡ None → IfSome (next_time w) (λ at. w.clock.time < at)
+lies_ahead w law none =
+    let n = none_acts w none in
+    nearer_ahead w.clock.time (arrival_time w.devices.arrivals) (nearer (alarm_time w) (sending_time w.devices))
+    (arrival_ahead w.clock.time w.devices.arrivals n.event)
+    (nearer_ahead w.clock.time (alarm_time w) (sending_time w.devices) (alarm_ahead w law n.alarm) (sending_ahead w.clock.time w.devices n.uart))
+
+module _ (w : World) (c : Choice) (law : IsDueWhereNoneAreLeft) (h : w.clock.steps < STEP_LIMIT) where
+  by_time : (at : Option ℕ) → Ahead w.clock.time at → option_map (λ n. Pass (n - w.clock.time)) at ≡ Some c → IsTrue (is_ready w c)
+  unfolding may_be_made
+  by_time None ahead f = no_choice c f
+  by_time (Some at) ahead f =
+      let same : Pass (at - w.clock.time) ≡ c = cc in
+      subst (λ (x : Choice). IsTrue (is_ready w x)) same (below_limit w (nat_lt 0 (at - w.clock.time)) above h)
+    where
+      above : nat_lt 0 (at - w.clock.time) ≡ true
+      above = grind (arith, nat_tests)
+
+  by_slot : ready_device (ready_devices w) ≡ None → (o : Option ℕ) → next_slot (ready_slots w) w.present.slot w.present.used w.pace.slice ≡ o → option_or (option_map Run o) (option_map (λ at. Pass (at - w.clock.time)) (next_time w)) ≡ Some c → IsTrue (is_ready w c)
+  unfolding may_be_made
+  by_slot none None e f = by_time (next_time w) (lies_ahead w law none) f
+  by_slot none (Some s) e f =
+      let same : Run s ≡ c = cc in
+      subst (λ (x : Choice). IsTrue (is_ready w x)) same
+      (below_limit w (can_run (slice_get w.records s)) (ready_runs w.records s (next_slot_ready (ready_slots w) w.present.slot w.present.used w.pace.slice s e)) h)
+
+  by_device : (o : Option Dev) → ready_device (ready_devices w) ≡ o → option_or (option_map Device o) (option_or (option_map Run (next_slot (ready_slots w) w.present.slot w.present.used w.pace.slice)) (option_map (λ at. Pass (at - w.clock.time)) (next_time w))) ≡ Some c → IsTrue (is_ready w c)
+  unfolding may_be_made
+  by_device None e f = by_slot e (next_slot (ready_slots w) w.present.slot w.present.used w.pace.slice) refl f
+  by_device (Some device) e f =
+      let same : Device device ≡ c = cc in
+      subst (λ (x : Choice). IsTrue (is_ready w x)) same (below_limit w (can_act w device) (device_ready w device e) h)
 
 -- the next choice is ready, below the limit of steps
-pub next_ready : (w : World) (c : Choice) → next w ≡ Some c → w.clock.steps < STEP_LIMIT → IsTrue (is_ready w c)
-unfolding is_ready
-next_ready w c e h = by_slot (next_slot (ready_slots w) w.present.slot w.present.used w.pace.slice) refl (sym (next_is w) ∙ e)
-  where
-    may_run : (s : ℕ) → next_slot (ready_slots w) w.present.slot w.present.used w.pace.slice ≡ Some s → IsTrue (nat_lt w.clock.steps STEP_LIMIT && can_run (slice_get w.records s))
-    may_run s f =
-        let runs_there : can_run (slice_get w.records s) ≡ true = ready_runs w.records s (next_slot_ready (ready_slots w) w.present.slot w.present.used w.pace.slice s f) in
-        grind (arith, nat_tests)
-
-    by_slot : (o : Option ℕ) → next_slot (ready_slots w) w.present.slot w.present.used w.pace.slice ≡ o → option_map Run o ≡ Some c → IsTrue (is_ready w c)
-    by_slot None f g = absurd (none_is g)
-      where
-        none_is : ◌≡◌ {A = Option Choice} None (Some c) → ⊥
-        none_is g = cc
-    by_slot (Some s) f g = let same : Run s ≡ c = cc in subst (λ (x : Choice). IsTrue (is_ready w x)) same (may_run s f)
+pub next_ready : (w : World) (c : Choice) → IsDueWhereNoneAreLeft → next w ≡ Some c → w.clock.steps < STEP_LIMIT → IsTrue (is_ready w c)
+unfolding next choice
+next_ready w c law e h = by_device w c law h (ready_device (ready_devices w)) refl e

@@ -1,12 +1,12 @@
--- The system calls that the kernel serves itself: TRD 104, "Yield", "Subscribe", "Read-Only Allow", "Read-Write Allow",
--- "Memop" and "Exit".
-use Rattle.std.specs.Prelude.{ℕ, ◌+◌, ◌-◌, ◌%◌, ◌^◌, ◌==◌, not, nat_le, nat_lt, if◌then◌else◌, List, [], ◌∷◌, find, Option, None, Some, is_none, option_and_then, Result, Ok, Err}
+-- The system calls: TRD 104, "Yield", "Subscribe", "Command", "Read-Only Allow", "Read-Write Allow", "Memop" and "Exit".
+use Rattle.std.specs.Prelude.{ℕ, ◌+◌, ◌-◌, ◌%◌, ◌^◌, ◌==◌, Bool, true, not, nat_le, nat_lt, if◌then◌else◌, List, [], ◌∷◌, find, Option, None, Some, is_none, option_and_then, Result, Ok, Err}
 use Rattle.tk_base.specs.declared.call.CallRule.{CallRule}
-use Rattle.tk_base.specs.declared.call.CallRule.TheVariants.{Break, Index, NoDriver, NoNumber, NoOperation, NoRoom, Outside}
+use Rattle.tk_base.specs.declared.call.CallRule.TheVariants.{Break, Index, NoDriver, NoNumber, NoOperation, NoRoom, Outside, Permission}
 use Rattle.tk_base.specs.Call.{error_of}
 use Rattle.tbf_headers.specs.declared.fault.HeaderFault.{HeaderFault}
 use Rattle.tbf_headers.specs.declared.program.Main.{Main}
 use Rattle.tbf_headers.specs.Meaning.{Meaning, reading, region_in, region_count}
+use Rattle.syscall_filter.specs.Permission.{permitted}
 use Rattle.process_layout.specs.Extents.{first_break, permits_break}
 use Rattle.tk_base.specs.declared.upcall.Upcall.{Upcall as Scheduled}
 use Rattle.grant_values.specs.Drivers.{counts_of}
@@ -18,6 +18,8 @@ use Rattle.process_own.specs.Own as own
 use Rattle.process_own.specs.Own.{Own}
 use Rattle.process_own.specs.Handed.{handing, has_place, held, may_hand}
 use Rattle.process_own.specs.Flag.{with_flag}
+use Rattle.driver_model.specs.Commands.{Act, Commanded, gone}
+use Rattle.driver_model.specs.Drivers.{Surroundings, Taker, taker_of}
 use Rattle.syscall_abi.specs.declared.call.Call.{Call as SystemCall}
 use Rattle.syscall_abi.specs.declared.call.Call.TheVariants.{Yield, Subscribe, Command, AllowRw, AllowRo, Memop, Exit}
 use Rattle.syscall_abi.specs.declared.reply.Reply.{Reply}
@@ -27,17 +29,18 @@ use Rattle.process_record.specs.declared.outcome.Outcome.TheVariants.{Replied, W
 use Rattle.process_record.specs.Process.{after_call, after_exit, after_reply, after_refusal, delivered, restarted, waiting}
 use Rattle.kernel_model.specs.Record.{Record, with_process, with_own}
 
--- what a call leaves, and what comes of it
+-- what a call leaves, what comes of it, and what the board is to do for it
 pub record Served : Type 0 where
   pub after : Record
   pub outcome : Outcome
+  pub acts : List Act
 
 abbrev pub replied : Record → Reply → Served
-replied r reply = record { after = with_process r (after_reply r.process reply); outcome = Replied reply None }
+replied r reply = record { after = with_process r (after_reply r.process reply); outcome = Replied reply None; acts = [] }
 
 -- a refused call changes the reply registers, pc and the recorded refusal alone
 abbrev pub refused_with : Record → CallRule → Reply → Served
-refused_with r rule reply = record { after = with_process r (after_refusal r.process rule reply); outcome = Replied reply (Some rule) }
+refused_with r rule reply = record { after = with_process r (after_refusal r.process rule reply); outcome = Replied reply (Some rule); acts = [] }
 
 abbrev pub refused : Record → CallRule → Served
 refused r rule = refused_with r rule (Failure (error_of rule))
@@ -77,15 +80,15 @@ flagged r at byte = record r { process = after_call r.process; own = with_flag a
 -- A yield that does not wait: where an upcall is pending, it writes 1 to its flag, and the first one is delivered; else
 -- it writes 0, and the process goes on.
 abbrev pub yield_now : Record → ℕ → List Scheduled → Served
-yield_now r at [] = record { after = flagged r at 0; outcome = GoesOn }
-yield_now r at (upcall ∷ more) = record { after = deliver_by (flagged r at 1) (upcall ∷ more); outcome = Delivered }
+yield_now r at [] = record { after = flagged r at 0; outcome = GoesOn; acts = [] }
+yield_now r at (upcall ∷ more) = record { after = deliver_by (flagged r at 1) (upcall ∷ more); outcome = Delivered; acts = [] }
 
 -- yield with 0 does not wait, with 1 waits for an upcall; another number goes on
 unfoldable pub yielding : Record → ℕ → ℕ → Served
 yielding r number at =
     if number == 0 then yield_now r at r.own.pending
-    else (if number == 1 then record { after = with_process r (waiting r.process); outcome = Waits }
-    else record { after = with_process r (after_call r.process); outcome = GoesOn })
+    else (if number == 1 then record { after = with_process r (waiting r.process); outcome = Waits; acts = [] }
+    else record { after = with_process r (after_call r.process); outcome = GoesOn; acts = [] })
 
 -- sbrk moves the break by a signed number; none is below 0
 abbrev pub moved_by : ℕ → ℕ → Option ℕ
@@ -162,19 +165,33 @@ restart r = restarted_by r (reading r.object)
 -- exit with 0 ends the process with its completion code, with 1 it starts again; another number is refused
 unfoldable pub exit : Record → ℕ → ℕ → Served
 exit r kind code =
-    if kind == 0 then record { after = record r { process = after_exit r.process code; own = own.ended r.own }; outcome = Ended }
-    else (if kind == 1 then record { after = restart r; outcome = Again }
+    if kind == 0 then record { after = record r { process = after_exit r.process code; own = own.ended r.own }; outcome = Ended; acts = gone }
+    else (if kind == 1 then record { after = restart r; outcome = Again; acts = gone }
     else refused r NoOperation)
 
--- The calls, by class. No driver takes commands yet.
-unfoldable pub served : Record → SystemCall → Served
-served r (Yield number a1 a2) = yielding r number a1
-served r (Subscribe driver number function app) = swap r Upcall driver number (function, app)
-served r (Command driver command a2 a3) = refused r NoDriver
-served r (AllowRw driver number address size) = swap r ReadWrite driver number (address, size)
-served r (AllowRo driver number address size) = swap r ReadOnly driver number (address, size)
-served r (Memop operation argument) = memop r operation argument
-served r (Exit kind code) = exit r kind code
+-- a driver replies to a command, or refuses it
+abbrev pub answered : Record → Result Reply CallRule → Served
+answered r (Ok reply) = replied r reply
+answered r (Err rule) = refused r rule
+
+-- what comes of a command leaves of its process, and asks of the board
+abbrev pub commanded : Record → Commanded → Served
+commanded r c = record (answered (with_own r c.own) c.answer) { acts = c.acts }
+
+-- the driver takes a command; it is refused where there is no such driver
+abbrev pub taken_by : Surroundings → ℕ → ℕ → ℕ → Record → Option Taker → Served
+taken_by around number a2 a3 r None = refused r NoDriver
+taken_by around number a2 a3 r (Some taker) = commanded r (taker around number a2 a3 r.own)
+
+-- the calls, by class
+unfoldable pub by_class : Surroundings → Record → SystemCall → Served
+by_class around r (Yield number a1 a2) = yielding r number a1
+by_class around r (Subscribe driver number function app) = swap r Upcall driver number (function, app)
+by_class around r (Command driver number a2 a3) = taken_by around number a2 a3 r (taker_of driver)
+by_class around r (AllowRw driver number address size) = swap r ReadWrite driver number (address, size)
+by_class around r (AllowRo driver number address size) = swap r ReadOnly driver number (address, size)
+by_class around r (Memop operation argument) = memop r operation argument
+by_class around r (Exit kind code) = exit r kind code
 
 -- the failure with which a call is refused that breaks a rule
 abbrev pub failure_of : SystemCall → CallRule → Reply
@@ -185,3 +202,19 @@ failure_of (AllowRw driver number address size) rule = FailureU32U32 (error_of r
 failure_of (AllowRo driver number address size) rule = FailureU32U32 (error_of rule) address size
 failure_of (Memop operation argument) rule = Failure (error_of rule)
 failure_of (Exit kind code) rule = Failure (error_of rule)
+
+-- whether a header permits a call (Tock Binary Format, "Permissions"); one that cannot be read permits every call
+abbrev pub permits_by : Result Meaning HeaderFault → SystemCall → Bool
+permits_by (Ok h) call = permitted h.permissions call
+permits_by (Err fault) call = true
+
+-- whether an object permits a call to its process
+abbrev pub permits : List ℕ → SystemCall → Bool
+permits object call = permits_by (reading object) call
+
+-- A call is served where the object of its process permits it. Permission comes before all else: a call that is not
+-- permitted is refused so whatever else would refuse it, and though there is no such driver.
+unfoldable pub served : Surroundings → Record → SystemCall → Served
+served around r call =
+    if permits r.object call then by_class around r call
+    else refused_with r Permission (failure_of call Permission)

@@ -1,30 +1,59 @@
 -- Laws over the definitions alone.
-use Rattle.std.specs.Prelude.{◌≡◌, ◌≢◌, ◌<◌, ℕ, None, Some, IsTrue, slice_get}
+use Rattle.std.specs.Prelude.{◌≡◌, ◌≢◌, ◌<◌, ℕ, true, if◌then◌else◌, List, [], Option, None, Some, is_some, IfSome, IsTrue, option_and_then, Result, Ok, Err, slice_get}
 use Rattle.std.specs.Option.{option_map}
 use Rattle.tk_base.specs.declared.limits.TheConstants.{STEP_LIMIT}
 use Rattle.tk_base.specs.declared.process.Choice.{Choice}
-use Rattle.tk_base.specs.declared.process.Choice.TheVariants.{Run}
+use Rattle.tk_base.specs.declared.process.Choice.TheVariants.{Run, Device, Pass}
+use Rattle.tk_base.specs.declared.process.Dev.{Dev}
 use Rattle.tk_base.specs.declared.call.CallRule.{CallRule}
+use Rattle.tbf_headers.specs.declared.fault.HeaderFault.{HeaderFault}
+use Rattle.tbf_headers.specs.declared.program.Main.{Main}
+use Rattle.tbf_headers.specs.Meaning.{Meaning, reading}
 use Rattle.syscall_abi.specs.declared.call.Call.{Call as SystemCall}
-use Rattle.kernel_model.specs.Record.{Record, Settings}
+use Rattle.process_own.specs.Own.{Own}
+use Rattle.driver_model.specs.Commands.{Act}
+use Rattle.driver_model.specs.Drivers.{Surroundings}
+use Rattle.driver_model.specs.Laws.{CommandDropsAtMostOne, CommandsStayInPlace, IsAtMostOneMore, RefusedByAnyDriver}
+use Rattle.driver_model.specs.Lines.{IsWithin, LinesFollowCommands, OfEachDesk, OnlyDriversMoveLines, has_waiting, waits_after}
+use Rattle.process_record.specs.declared.outcome.Outcome.TheVariants.{ToDriver}
+use Rattle.kernel_model.specs.Record.{Record}
+use Rattle.kernel_model.specs.declared.settings.Settings.{Settings}
 use Rattle.kernel_model.specs.Calls.{served, refused_with, failure_of}
 use Rattle.kernel_model.specs.Turn.{Turn, apply, rule_shown, turned}
-use Rattle.kernel_model.specs.World.{World, after, is_ready}
-use Rattle.kernel_model.specs.Run.{next}
+use Rattle.kernel_model.specs.World.{World, Answer, after, can_act, deed_of, is_ready}
+use Rattle.kernel_model.specs.Run.{next, next_time, ready_devices}
+use Rattle.turn_scheduler.specs.RoundRobin.{ready_device}
 
--- a step changes the record of no process but the one whose turn it is, and that one by its turn
-pub record OnlyItsOwnTurn : Type 0 where
-  pub its_own : (w : World) (slot : ℕ) → slice_get (after w (Run slot)).records slot ≡ option_map (apply w.settings (Turn w.clock.time)) (slice_get w.records slot)
-  pub no_other : (w : World) (slot other : ℕ) → other ≢ slot → slice_get (after w (Run slot)).records other ≡ slice_get w.records other
+-- what a device tells in a step, if it makes one
+abbrev pub answer_of : World → Dev → Option Answer
+answer_of w device = if can_act w device then option_and_then (λ deed. deed.told) (deed_of w device) else None
+
+-- A turn changes the record of no process but the one whose turn it is, and that one by its turn; what a device does that
+-- of no process but the one that it tells something, and that one by what it tells it; a pass of time none.
+pub record OnlyItsOwnEvents : Type 0 where
+  pub turn : (w : World) (slot : ℕ) → slice_get (after w (Run slot)).records slot ≡ option_map (apply w.settings (Turn w.clock.time)) (slice_get w.records slot)
+  pub no_other_turn : (w : World) (slot other : ℕ) → other ≢ slot → slice_get (after w (Run slot)).records other ≡ slice_get w.records other
+  pub answer : (w : World) (device : Dev) (a : Answer) → answer_of w device ≡ Some a → slice_get (after w (Device device)).records a.slot ≡ option_map (apply w.settings a.event) (slice_get w.records a.slot)
+  pub no_other_answer : (w : World) (device : Dev) (a : Answer) (other : ℕ) → answer_of w device ≡ Some a → other ≢ a.slot → slice_get (after w (Device device)).records other ≡ slice_get w.records other
+  pub no_answer : (w : World) (device : Dev) → answer_of w device ≡ None → (after w (Device device)).records ≡ w.records
+  pub pass : (w : World) (ticks : ℕ) → (after w (Pass ticks)).records ≡ w.records
 
 -- below the limit of steps the next choice of the round robin may be made
 abbrev pub NextIsReady : Type 0
 NextIsReady = (w : World) (c : Choice) → next w ≡ Some c → w.clock.steps < STEP_LIMIT → IsTrue (is_ready w c)
 
--- A call that is refused gets the failure of the rule that it broke; of the process it changes the reply registers, pc
--- and the recorded refusal, and nothing of what else is its own (TRD 104, "Return Values").
+-- where no device step is ready, the nearest time at which one becomes ready lies ahead
+abbrev pub NextLiesAhead : Type 0
+NextLiesAhead = (w : World) → ready_device (ready_devices w) ≡ None → IfSome (next_time w) (λ at. w.clock.time < at)
+
+-- A call that is refused, a command to a driver too, gets the failure of the rule that it broke; of the process it changes
+-- the reply registers, pc and the recorded refusal, and nothing of what else is its own (TRD 104, "Return Values").
 abbrev pub RefusedChangesNothingElse : Type 0
-RefusedChangesNothingElse = (r : Record) (call : SystemCall) (rule : CallRule) → rule_shown (served r call).outcome ≡ Some rule → served r call ≡ refused_with r rule (failure_of call rule)
+RefusedChangesNothingElse = (around : Surroundings) (r : Record) (call : SystemCall) (rule : CallRule) → rule_shown (served around r call).outcome ≡ Some rule → served around r call ≡ refused_with r rule (failure_of call rule)
+
+-- a call has come to its end once it is served: no driver has it still to answer
+abbrev pub NoneIsLeft : Type 0
+NoneIsLeft = (around : Surroundings) (r : Record) (call : SystemCall) → (served around r call).outcome ≢ ToDriver
 
 -- What drivers keep of a process changes at its own calls alone, and at what ends its life: a turn without a call and
 -- without a denial leaves its grants as they were, and it lives as before.
@@ -33,6 +62,44 @@ GrantsChangeAtCalls = (settings : Settings) (time : ℕ) (r : Record) →
     let t = turned settings time r in
     t.told.call ≡ None → t.told.denial ≡ None → (t.after.own.grants ≡ r.own.grants) × (t.after.own.lives ≡ r.own.lives)
 
--- no turn drops an upcall: only a driver that schedules one does
-abbrev pub NoTurnDrops : Type 0
-NoTurnDrops = (settings : Settings) (time : ℕ) (r : Record) → (turned settings time r).after.own.dropped ≡ r.own.dropped
+-- a turn drops one upcall at most: one that its command has a driver schedule where ten are pending
+abbrev pub DropsAtMostOne : Type 0
+DropsAtMostOne = (settings : Settings) (time : ℕ) (r : Record) →
+    IsAtMostOneMore r.own.dropped (turned settings time r).after.own.dropped
+
+-- where an application starts, as its header says, if it can be read and says so
+abbrev pub main_by : Result Meaning HeaderFault → Option Main
+main_by (Ok h) = h.main
+main_by (Err fault) = None
+
+-- a process can start again: its object is that of an application (TRD 104, "Exit"; Tock Binary Format, "Main", "Program")
+abbrev pub CanStartAgain : Record → Type 0
+CanStartAgain r = is_some (main_by (reading r.object)) ≡ true
+
+-- What becomes of a process's requests, of which it had some before: it has one at a desk exactly where it waits in that
+-- list after what was asked of the board, and it is then in the same life. One for storage is for some of so many bytes,
+-- as one before it was.
+pub record KeepsLines (size : ℕ) (own after : Own) (acts : List Act) : Type 0 where
+  pub lines : OfEachDesk (λ R desk. has_waiting desk after ≡ waits_after desk.line (has_waiting desk own) acts)
+  pub life : OfEachDesk (λ R desk. has_waiting desk after ≡ true → after.life ≡ own.life)
+  pub within : IsWithin size own → IsWithin size after
+
+-- so it is with each turn of a process that lives, and whose object is that of an application
+abbrev pub TurnsKeepLines : Type 0
+TurnsKeepLines = (settings : Settings) (time : ℕ) (r : Record) → r.own.lives ≡ true → CanStartAgain r →
+    let t = turned settings time r in
+    KeepsLines settings.storage r.own t.after.own t.acts
+
+-- a turn without a call and without a denial asks nothing of the board
+abbrev pub TurnsActAtCalls : Type 0
+TurnsActAtCalls = (settings : Settings) (time : ℕ) (r : Record) →
+    let t = turned settings time r in
+    t.told.call ≡ None → t.told.denial ≡ None → t.acts ≡ []
+
+-- Only proofs use this: what the laws of calls rest on, the laws of the drivers' commands and requests.
+pub record DriversPromise : Type 0 where
+  pub refuse : RefusedByAnyDriver
+  pub drop : CommandDropsAtMostOne
+  pub stay : CommandsStayInPlace
+  pub follow : LinesFollowCommands
+  pub alone : OnlyDriversMoveLines

@@ -4,7 +4,6 @@ use Rattle.rv32_model.specs.UserTurn.{UserTurn}
 use Rattle.process_own.specs.Own.{Own}
 use Rattle.process_own.specs.Instruction.{instruction_of, with_write}
 use Rattle.process_record.specs.declared.process.Process.{Process}
-use Rattle.fault_policy.specs.declared.Policy.{Policy}
 
 -- one process: its registers, state and counts, the bytes of its object, what the kernel keeps of it, and the bytes of its
 -- storage
@@ -13,14 +12,6 @@ pub record Record : Type 0 where
   pub object : List ℕ
   pub own : Own
   pub storage : List ℕ
-
--- what of the settings a process can see: how many LEDs there are, the alarm's first tick, how many bytes of storage
--- a slot has, and which processes are restarted when they fault
-pub record Settings : Type 0 where
-  pub leds : ℕ
-  pub start : ℕ
-  pub storage : ℕ
-  pub policy : Policy
 
 -- the byte at an address: one of the process's RAM, or one of its object
 abbrev pub byte_at : Record → ℕ → ℕ

@@ -1,18 +1,23 @@
 -- A process's history: what happened to it, one after another. Its record is the replay of that alone.
 use Rattle.std.specs.Prelude.{◌≡◌, ℕ, zero, suc, ◌==◌, if◌then◌else◌, List, [], ◌∷◌, ◌++◌, slice_get}
+use Rattle.std.specs.List.{flat_map}
 use Rattle.std.specs.Option.{option_map}
 use Rattle.tk_base.specs.declared.process.Choice.{Choice}
-use Rattle.tk_base.specs.declared.process.Choice.TheVariants.{Run, Device, Pass}
-use Rattle.kernel_model.specs.Record.{Record, Settings}
+use Rattle.kernel_model.specs.Record.{Record}
+use Rattle.kernel_model.specs.declared.settings.Settings.{Settings}
 use Rattle.kernel_model.specs.Turn.{Event, Turn, apply}
-use Rattle.kernel_model.specs.World.{World, after}
+use Rattle.kernel_model.specs.World.{World, Label, TurnOf, Answered, Printed, after, labels}
 use Rattle.kernel_model.specs.Run.{next, on_choice, round}
 
--- what a step does to the process in a slot: its turn, if it is the one that has it
+-- what of a step's labels happened to the process in a slot: its turn, or an answer to it
+abbrev pub happened : ℕ → Label → List Event
+happened slot (TurnOf other time told) = if other == slot then Turn time ∷ [] else []
+happened slot (Answered other event) = if other == slot then event ∷ [] else []
+happened slot (Printed other bytes) = []
+
+-- what a step does to it
 abbrev pub events : ℕ → World → Choice → List Event
-events slot w (Run other) = if other == slot then Turn w.clock.time ∷ [] else []
-events slot w (Device device) = []
-events slot w (Pass ticks) = []
+events slot w choice = flat_map (happened slot) (labels w choice)
 
 -- the world after any choices, one after another
 abbrev pub after_all : World → List Choice → World
@@ -29,14 +34,14 @@ abbrev pub replay : Settings → List Event → Record → Record
 replay settings [] r = r
 replay settings (event ∷ rest) r = replay settings rest (apply settings event r)
 
--- after any choices, ready or not, a process's record is the replay of its own turns
+-- after any choices, ready or not, a process's record is the replay of its own turns and of what devices answered it
 abbrev pub RecordIsReplay : Type 0
 RecordIsReplay = (w : World) (choices : List Choice) (slot : ℕ) →
     slice_get (after_all w choices).records slot
     ≡ option_map (replay w.settings (history slot w choices)) (slice_get w.records slot)
 
 -- In any two worlds in which a process has the same record under the same settings, and after any choices in which it has
--- the same turns, it has the same record: of all other processes, devices and slots nothing counts.
+-- the same turns and answers, it has the same record: of all other processes, devices and slots nothing counts.
 abbrev pub SameHistorySameRecord : Type 0
 SameHistorySameRecord = (v w : World) (choices others : List Choice) (slot place : ℕ) →
     v.settings ≡ w.settings → slice_get v.records slot ≡ slice_get w.records place →

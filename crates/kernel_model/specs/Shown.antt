@@ -6,7 +6,7 @@ use Rattle.process_record.specs.declared.summary.Summary.{Summary}
 use Rattle.process_record.specs.Emit.{nothing}
 use Rattle.process_record.specs.Name.{name_of}
 use Rattle.kernel_model.specs.Record.{Record}
-use Rattle.kernel_model.specs.World.{World, Label, TurnOf, Printed}
+use Rattle.kernel_model.specs.World.{World, Label, TurnOf, Answered, Printed}
 
 abbrev pub line_of : Record → SlotLine
 line_of r = record {
@@ -31,7 +31,8 @@ summary_of w = record {
 
 abbrev pub with_label : Label → Emit → Emit
 with_label (TurnOf slot time told) e = record e { slot = Some slot; made = told.call; denial = told.denial }
-with_label (Printed slot bytes) e = record e { printed = record { items = bytes ++ e.printed.items } }
+with_label (Answered slot event) e = e
+with_label (Printed slot bytes) e = record e { slot = Some slot; printed = record { items = bytes ++ e.printed.items } }
 
 -- what a step shows that told these labels
 unfoldable pub shown_by : List Label → Emit

@@ -17,8 +17,16 @@ use Rattle.syscall_abi.specs.declared.call.Call.TheVariants.{Yield, Subscribe, C
 use Rattle.syscall_abi.specs.Call.{call_of, class, a0, a1, a2, a3}
 use Rattle.syscall_abi.specs.Reply.{put_reply}
 use Rattle.process_own.specs.Own.{ended as ended_own}
-use Rattle.driver_model.specs.Commands.{Act}
+use Rattle.board_devices.specs.Clock.{clock_at}
+use Rattle.board_devices.specs.Storage.{overwritten}
+use Rattle.driver_model.specs.Alarm as alarm
+use Rattle.driver_model.specs.Console as console
+use Rattle.driver_model.specs.Random as random
+use Rattle.driver_model.specs.Storage as storage
+use Rattle.driver_model.specs.Commands.{Act, gone}
+use Rattle.driver_model.specs.Drivers.{Surroundings}
 use Rattle.process_own.specs.Flag.{flag_place}
+use Rattle.process_own.specs.Flash.{flash_with}
 use Rattle.process_record.specs.declared.emit.CallMade.{CallMade}
 use Rattle.process_record.specs.declared.outcome.Outcome.{Outcome}
 use Rattle.process_record.specs.declared.outcome.Outcome.TheVariants as outcomes
@@ -26,7 +34,8 @@ use Rattle.process_record.specs.declared.process.Process.{Process}
 use Rattle.process_record.specs.declared.process.State.{State}
 use Rattle.process_record.specs.declared.process.State.TheVariants.{Running, Yielded, Faulted, Terminated}
 use Rattle.process_record.specs.Process.{after_turn, after_fault}
-use Rattle.kernel_model.specs.Record.{Record, Settings, with_process, instruction, with_effect}
+use Rattle.kernel_model.specs.Record.{Record, with_own, with_process, instruction, with_effect}
+use Rattle.kernel_model.specs.declared.settings.Settings.{Settings}
 use Rattle.kernel_model.specs.Calls.{Served, deliver_by, served, restart}
 
 -- what a turn tells: its accesses, the call in it, the address of the flag that its yield wrote, and the denial in it
@@ -49,6 +58,7 @@ arguments regs = a0 regs ∷ a1 regs ∷ a2 regs ∷ a3 regs ∷ []
 -- what an outcome shows: the reply as it stands in the registers, and the rule that the call broke
 abbrev pub reply_shown : Regs → Outcome → Option (List ℕ)
 reply_shown regs (outcomes.Replied reply rule) = Some (arguments (put_reply reply regs))
+reply_shown regs outcomes.ToDriver = None
 reply_shown regs outcomes.Waits = None
 reply_shown regs outcomes.Delivered = None
 reply_shown regs outcomes.GoesOn = None
@@ -57,6 +67,7 @@ reply_shown regs outcomes.Again = None
 
 abbrev pub rule_shown : Outcome → Option CallRule
 rule_shown (outcomes.Replied reply rule) = rule
+rule_shown outcomes.ToDriver = None
 rule_shown outcomes.Waits = None
 rule_shown outcomes.Delivered = None
 rule_shown outcomes.GoesOn = None
@@ -77,7 +88,7 @@ abbrev pub faulted : Settings → Record → Denial → Turned
 faulted settings r denial = record {
   after = settled (with_process r (after_fault r.process denial)) (decision settings.policy r.process.restarts);
   told = record { accesses = []; call = None; flag = None; denial = Some denial };
-  acts = [];
+  acts = gone;
 }
 
 -- A class that is unknown is denied as a fetch at the `ecall`'s address.
@@ -99,25 +110,29 @@ abbrev pub called : Record → List Touch → SystemCall → Served → Turned
 called r accesses call s = record {
   after = s.after;
   told = record { accesses = accesses; call = Some (made r.process.regs s.outcome); flag = flag_of r call; denial = None };
-  acts = [];
+  acts = s.acts;
 }
 
-abbrev pub calls : Settings → Record → List Touch → Option SystemCall → Turned
-calls settings r accesses (Some call) = called r accesses call (served r call)
-calls settings r accesses None = faulted settings r (unknown_call r.process)
+-- what a command sees of the board at a time
+abbrev pub surroundings : Settings → ℕ → Surroundings
+surroundings settings time = record { now = clock_at settings.start time; leds = settings.leds; storage = settings.storage }
+
+abbrev pub calls : Settings → ℕ → Record → List Touch → Option SystemCall → Turned
+calls settings time r accesses (Some call) = called r accesses call (served (surroundings settings time) r call)
+calls settings time r accesses None = faulted settings r (unknown_call r.process)
 
 -- what the end of an instruction asks for, once its effect stands; a denied one had none
-abbrev pub ended : Settings → Record → List Touch → TurnEnd → Turned
-ended settings r accesses Went = record { after = r; told = record { accesses = accesses; call = None; flag = None; denial = None }; acts = [] }
-ended settings r accesses Call = calls settings r accesses (call_of r.process.regs)
-ended settings r accesses (Trap denial) = faulted settings r denial
+abbrev pub ended : Settings → ℕ → Record → List Touch → TurnEnd → Turned
+ended settings time r accesses Went = record { after = r; told = record { accesses = accesses; call = None; flag = None; denial = None }; acts = [] }
+ended settings time r accesses Call = calls settings time r accesses (call_of r.process.regs)
+ended settings time r accesses (Trap denial) = faulted settings r denial
 
 -- the turn of a process: one instruction, which counts, a faulting one too
 abbrev pub counted : Record → Record
 counted r = with_process r (after_turn r.process)
 
-abbrev pub instructed : Settings → Record → Turned
-instructed settings r = let t = instruction r in ended settings (with_effect (counted r) t) t.accesses t.end
+abbrev pub instructed : Settings → ℕ → Record → Turned
+instructed settings time r = let t = instruction r in ended settings time (with_effect (counted r) t) t.accesses t.end
 
 -- nothing was done
 abbrev pub idle : Record → Turned
@@ -129,22 +144,53 @@ delivery r [] = idle r
 delivery r (upcall ∷ more) = idle (deliver_by (counted r) (upcall ∷ more))
 
 -- its turn, as it runs or waits; one that ended has none
-abbrev pub turn_in : Settings → State → Record → Turned
-turn_in settings Running r = instructed settings r
-turn_in settings Yielded r = delivery r r.own.pending
-turn_in settings Faulted r = idle r
-turn_in settings (Terminated code) r = idle r
+abbrev pub turn_in : Settings → ℕ → State → Record → Turned
+turn_in settings time Running r = instructed settings time r
+turn_in settings time Yielded r = delivery r r.own.pending
+turn_in settings time Faulted r = idle r
+turn_in settings time (Terminated code) r = idle r
 
 unfoldable pub turned : Settings → ℕ → Record → Turned
-turned settings time r = turn_in settings r.process.state r
+turned settings time r = turn_in settings time r.process.state r
 
--- what happens to a process: its turn at a time
+-- What happens to a process: its turn at a time; and what devices tell it. Its alarm fires, when the clock shows a tick. The
+-- UART took the next bytes of its write, or has taken all; bytes came in for its read. A random word was drawn for it, or
+-- none; its storage request was served, or failed.
 pub data Event : Type 0 where
   Turn : (time : ℕ) → Event
+  Alarmed : (now : ℕ) → Event
+  Taken : Event
+  WriteDone : Event
+  Input : (bytes : List ℕ) → Event
+  Word : (word : ℕ) → Event
+  NoWord : Event
+  Stored : (moved : Bool) → Event
+
+-- flash as a process knows it: its object in its place, and nothing else
+abbrev pub flash_of : Record → List ℕ
+flash_of r = flash_with r.process.object r.object
+
+-- a storage of which bytes were written over, if any were
+abbrev pub written_over : List ℕ → Option (ℕ × List ℕ) → List ℕ
+written_over bytes None = bytes
+written_over bytes (Some written) = overwritten bytes written.0 written.1
+
+-- a process whose storage request was served, or failed
+abbrev pub stored : Bool → Record → Record
+stored moved r =
+    let a = storage.answered (not moved) (flash_of r) r.storage r.own.life r.own in
+    record r { own = a.own; storage = written_over r.storage a.written }
 
 -- the record after an event; nothing else changes a record, and it reads no other process, list or device
 unfoldable pub apply : Settings → Event → Record → Record
 apply settings (Turn time) r = (turned settings time r).after
+apply settings (Alarmed now) r = with_own r (alarm.answered now r.own)
+apply settings Taken r = with_own r (console.taken r.own)
+apply settings WriteDone r = with_own r (console.write_done r.own)
+apply settings (Input bytes) r = with_own r (console.input bytes r.own)
+apply settings (Word word) r = with_own r (random.answered (word ∷ []) r.own.life r.own).own
+apply settings NoWord r = with_own r (random.answered [] r.own.life r.own).own
+apply settings (Stored moved) r = stored moved r
 
 -- whether a process in a state can have a turn: it runs, or it waits and an upcall is pending
 abbrev pub has_turn : State → Bool → Bool

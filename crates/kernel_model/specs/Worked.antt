@@ -7,7 +7,8 @@ use Rattle.fault_policy.specs.declared.Policy.TheVariants.{Stop}
 use Rattle.process_record.specs.declared.process.State.TheVariants.{Running}
 use Rattle.process_record.specs.Process.{cleared}
 use Rattle.process_own.specs.Own.{opened}
-use Rattle.kernel_model.specs.Record.{Record, Settings}
+use Rattle.kernel_model.specs.Record.{Record}
+use Rattle.kernel_model.specs.declared.settings.Settings.{Settings}
 use Rattle.kernel_model.specs.Turn.{Turned, turned}
 use Rattle.kernel_model.specs.World.{World}
 
@@ -53,8 +54,19 @@ board slice records = record {
   records = records;
   unplaced = [];
   settings = settings;
-  pace = record { slice = slice; uart = 1 };
-  devices = record { writes = []; reads = []; randoms = []; stores = []; leds = 0 };
+  pace = record { slice = slice };
+  devices = record {
+    writes = [];
+    reads = [];
+    randoms = [];
+    stores = [];
+    leds = 0;
+    line = record { ring = []; ticks = 1; free = 0 };
+    arrivals = [];
+    words = [];
+    served = 0;
+    faults = [];
+  };
   clock = record { time = 0; steps = 0 };
   present = record { slot = None; used = 0 };
 }

@@ -1,27 +1,48 @@
--- The world only routes: a step finds whose turn it is, and applies that event to that one record.
-use Rattle.std.specs.Prelude.{ℕ, ◌+◌, ◌==◌, Bool, false, not, ◌&&◌, nat_lt, List, [], ◌∷◌, ◌++◌, filter, slice_get, slice_set, Option, None, Some}
+-- The world only routes: a step finds whose turn it is, or whom a device answers, and applies that event to that one
+-- record.
+use Rattle.std.specs.Prelude.{ℕ, ◌+◌, ◌==◌, Bool, false, not, ◌&&◌, nat_le, nat_lt, if◌then◌else◌, List, [], ◌∷◌, ◌++◌, drop, filter, length, map, slice_get, slice_set, Option, None, Some, is_some}
+use Rattle.std.specs.Option.{option_map}
 use Rattle.tk_base.specs.declared.limits.TheConstants.{STEP_LIMIT}
 use Rattle.tk_base.specs.declared.process.Choice.{Choice}
 use Rattle.tk_base.specs.declared.process.Choice.TheVariants.{Run, Device, Pass}
+use Rattle.tk_base.specs.declared.process.Dev.{Dev}
+use Rattle.tk_base.specs.declared.process.Dev.TheVariants as dev
 use Rattle.process_record.specs.declared.summary.Unplaced.{Unplaced}
 use Rattle.turn_scheduler.specs.RoundRobin.{used_after}
-use Rattle.kernel_model.specs.Record.{Record, Settings}
-use Rattle.driver_model.specs.Leds.{with_led}
+use Rattle.kernel_model.specs.Record.{Record}
+use Rattle.kernel_model.specs.declared.settings.Settings.{Settings}
+use Rattle.board_devices.specs.Arriving.{is_time}
+use Rattle.board_devices.specs.Clock.{clock_at}
+use Rattle.board_devices.specs.SerialLine.{SerialLine, with_input}
+use Rattle.board_devices.specs.Storage.{is_fault}
+use Rattle.script_text.specs.Settings.{Event as Arrival}
+use Rattle.process_own.specs.Own.{Own}
+use Rattle.driver_model.specs.Alarm as alarm
+use Rattle.driver_model.specs.Console as console
+use Rattle.driver_model.specs.Random as random
+use Rattle.driver_model.specs.Storage as storage
+use Rattle.driver_model.specs.Leds.{with_switched}
 use Rattle.driver_model.specs.Commands.{Act, Waits, Leaves, Lights, Line, Writes, Reads, Randoms, Stores}
-use Rattle.kernel_model.specs.Turn.{Told, Turned, turned, may_turn}
+use Rattle.kernel_model.specs.Turn.{Event, Alarmed, Taken, WriteDone, Input, Word, NoWord, Stored, Told, Turned, apply, flash_of, turned, may_turn}
 
--- what of the settings no process sees: how many turns a slice has, and how many ticks the UART needs for a byte
+-- what of the settings no process sees: how many turns a slice has
 pub record Pace : Type 0 where
   pub slice : ℕ
-  pub uart : ℕ
 
--- the slots that wait in each list, the first one first, and the LEDs: bit n is LED n
+-- What the devices hold: the slots that wait in each list, the first one first; the LEDs, bit n for LED n; the serial line;
+-- the bytes that are still to come in, and when; the random words that are left; how many storage requests were served, and
+-- the numbers of those that fail
 pub record Devices : Type 0 where
   pub writes : List ℕ
   pub reads : List ℕ
   pub randoms : List ℕ
   pub stores : List ℕ
   pub leds : ℕ
+  pub line : SerialLine
+  pub arrivals : List Arrival
+  pub words : List ℕ
+  pub served : ℕ
+  pub faults : List ℕ
 
 -- the time in ticks, and how many steps were made
 pub record Clock : Type 0 where
@@ -43,23 +64,151 @@ pub record World : Type 0 where
   pub clock : Clock
   pub present : Present
 
--- what a step tells: whose turn it was, and what it did; what it printed for whom
+-- what a step tells: whose turn it was, and what it did; what a device answered whom; what was printed for whom
 pub data Label : Type 0 where
   TurnOf : (slot time : ℕ) → Told → Label
+  Answered : (slot : ℕ) → Event → Label
   Printed : (slot : ℕ) → List ℕ → Label
 
 abbrev pub can_run : Option Record → Bool
 can_run None = false
 can_run (Some r) = may_turn r
 
--- whether a choice may be made; no device acts yet, and no time passes by itself
-unfoldable pub is_ready : World → Choice → Bool
-is_ready w (Run slot) = nat_lt w.clock.steps STEP_LIMIT && can_run (slice_get w.records slot)
-is_ready w (Device device) = false
-is_ready w (Pass ticks) = false
+-- what the alarm's clock shows
+abbrev pub now_in : World → ℕ
+now_in w = clock_at w.settings.start w.clock.time
+
+-- what each slot's process has as its own
+abbrev pub owns_in : World → List Own
+owns_in w = map (λ r. r.own) w.records
+
+-- a process, by its slot, and what a device answers it
+pub record Answer : Type 0 where
+  pub slot : ℕ
+  pub event : Event
+
+-- what a device does in a step: what it tells a process, if it tells any; what it prints for it; the devices afterwards
+pub record Deed : Type 0 where
+  pub told : Option Answer
+  pub printed : List ℕ
+  pub devices : Devices
 
 abbrev pub without : ℕ → List ℕ → List ℕ
 without slot slots = filter (λ s. not (s == slot)) slots
+
+-- those that wait after an answer to the first one, whose request completed or did not
+abbrev pub left_of : Bool → ℕ → List ℕ → List ℕ
+left_of completed slot slots = if completed then without slot slots else slots
+
+-- bytes come in: of those in the ring the newest are kept
+abbrev pub arriving : Devices → Arrival → List Arrival → Deed
+arriving d arrival rest = record {
+  told = None;
+  printed = [];
+  devices = record d { line = with_input arrival.bytes d.line; arrivals = rest };
+}
+
+-- the alarm of the process in a slot fires
+abbrev pub alarmed : World → ℕ → Deed
+alarmed w slot = record { told = Some (record { slot = slot; event = Alarmed (now_in w) }); printed = []; devices = w.devices }
+
+-- the UART takes the next bytes of the write of the process in a slot, or the write completes
+abbrev pub transmitting : World → ℕ → Record → Deed
+transmitting w slot r =
+    let d = w.devices in
+    let s = console.sent (flash_of r) r.own.life r.own in
+    record {
+      told = Some (record { slot = slot; event = if s.completed then WriteDone else Taken });
+      printed = s.printed;
+      devices = record d {
+        writes = left_of s.completed slot d.writes;
+        line = record d.line { free = console.free_after w.clock.time d.line.ticks s.printed d.line.free };
+      };
+    }
+
+-- the bytes that came in go to the read of the process in a slot
+abbrev pub receiving : World → ℕ → Record → Deed
+receiving w slot r =
+    let d = w.devices in
+    let s = console.received d.line.ring r.own.life r.own in
+    record {
+      told = Some (record { slot = slot; event = Input s.moved });
+      printed = [];
+      devices = record d {
+        reads = left_of s.completed slot d.reads;
+        line = record d.line { ring = drop (length s.moved) d.line.ring };
+      };
+    }
+
+-- the word that was drawn, where fewer are left
+abbrev pub drawn : List ℕ → List ℕ → Event
+drawn [] after = NoWord
+drawn (word ∷ words) after = if length after == length words then Word word else NoWord
+
+-- a word is drawn for the request of the process in a slot, or none
+abbrev pub drawing : World → ℕ → Record → Deed
+drawing w slot r =
+    let d = w.devices in
+    let a = random.answered d.words r.own.life r.own in
+    record {
+      told = Some (record { slot = slot; event = drawn d.words a.words });
+      printed = [];
+      devices = record d { randoms = left_of a.completed slot d.randoms; words = a.words };
+    }
+
+-- the storage request of the process in a slot is served, or fails, by its number among all that were
+abbrev pub storing : World → ℕ → Record → Deed
+storing w slot r =
+    let d = w.devices in
+    let fails = is_fault d.faults (d.served + 1) in
+    let a = storage.answered fails (flash_of r) r.storage r.own.life r.own in
+    record {
+      told = Some (record { slot = slot; event = Stored (not fails) });
+      printed = [];
+      devices = record d { stores = left_of a.completed slot d.stores; served = if a.completed then d.served + 1 else d.served };
+    }
+
+-- the first of those that wait, with its record
+abbrev pub first_of : (World → ℕ → Record → Deed) → World → List ℕ → Option Deed
+first_of deed w [] = None
+first_of deed w (slot ∷ slots) = option_map (deed w slot) (slice_get w.records slot)
+
+abbrev pub arrived : Devices → List Arrival → Option Deed
+arrived d [] = None
+arrived d (arrival ∷ rest) = Some (arriving d arrival rest)
+
+-- what a device does, where it is ready
+abbrev pub deed_of : World → Dev → Option Deed
+deed_of w dev.Event = arrived w.devices w.devices.arrivals
+deed_of w dev.Alarm = option_map (alarmed w) (alarm.due_slot (now_in w) (owns_in w))
+deed_of w dev.Uart = first_of transmitting w w.devices.writes
+deed_of w dev.Receive = first_of receiving w w.devices.reads
+deed_of w dev.Random = first_of drawing w w.devices.randoms
+deed_of w dev.Store = first_of storing w w.devices.stores
+
+-- whether one waits
+abbrev pub is_waited_for : List ℕ → Bool
+is_waited_for slots = not (length slots == 0)
+
+-- Whether a device step is ready: bytes are to come in; an alarm is due; a write waits and the UART is free; a read waits
+-- and bytes came in; a request for random bytes waits; one for storage waits.
+abbrev pub can_act : World → Dev → Bool
+can_act w dev.Event = is_time w.clock.time w.devices.arrivals
+can_act w dev.Alarm = is_some (alarm.due_slot (now_in w) (owns_in w))
+can_act w dev.Uart = is_waited_for w.devices.writes && nat_le w.devices.line.free w.clock.time
+can_act w dev.Receive = is_waited_for w.devices.reads && not (length w.devices.line.ring == 0)
+can_act w dev.Random = is_waited_for w.devices.randoms
+can_act w dev.Store = is_waited_for w.devices.stores
+
+-- whether a choice may be made: below the limit of steps a slot whose process can have a turn, a device step that is
+-- ready, and a pass of some ticks
+unfoldable pub may_be_made : World → Choice → Bool
+may_be_made w (Run slot) = can_run (slice_get w.records slot)
+may_be_made w (Device device) = can_act w device
+may_be_made w (Pass ticks) = nat_lt 0 ticks
+
+abbrev pub is_ready : World → Choice → Bool
+is_ready w choice = nat_lt w.clock.steps STEP_LIMIT && may_be_made w choice
 
 abbrev pub begin_wait : ℕ → Line → Devices → Devices
 begin_wait slot Writes d = record d { writes = d.writes ++ slot ∷ [] }
@@ -76,7 +225,7 @@ stop_wait slot Stores d = record d { stores = without slot d.stores }
 abbrev pub acted : ℕ → Act → Devices → Devices
 acted slot (Waits line) d = begin_wait slot line d
 acted slot (Leaves line) d = stop_wait slot line d
-acted slot (Lights led on) d = record d { leds = with_led d.leds led on }
+acted slot (Lights led switch) d = record d { leds = with_switched d.leds led switch }
 
 -- what a turn asks the board to do, one after another
 abbrev pub routed : ℕ → List Act → Devices → Devices
@@ -106,11 +255,47 @@ ran w slot (Some r) =
     let t = turned w.settings w.clock.time r in
     record { after = after_turn_of w slot t; labels = TurnOf slot w.clock.time t.told ∷ [] }
 
+-- the records after what a device told a process, of which nothing else changes
+abbrev pub told_to : World → Answer → Option Record → List Record
+told_to w answer None = w.records
+told_to w answer (Some r) = slice_set w.records answer.slot (apply w.settings answer.event r)
+
+abbrev pub records_after : World → Option Answer → List Record
+records_after w None = w.records
+records_after w (Some answer) = told_to w answer (slice_get w.records answer.slot)
+
+-- what a device step tells: what it told a process, and what it printed for it
+abbrev pub printing : ℕ → List ℕ → List Label
+printing slot bytes = if length bytes == 0 then [] else Printed slot bytes ∷ []
+
+abbrev pub labels_of : Deed → Option Answer → List Label
+labels_of deed None = []
+labels_of deed (Some answer) = Answered answer.slot answer.event ∷ printing answer.slot deed.printed
+
+-- the world after a device's step, which takes no time
+abbrev pub after_deed : World → Deed → World
+after_deed w deed = record w {
+  records = records_after w deed.told;
+  devices = deed.devices;
+  clock = record w.clock { steps = w.clock.steps + 1 };
+}
+
+abbrev pub done : World → Option Deed → Stepped
+done w None = unmade w
+done w (Some deed) = record { after = after_deed w deed; labels = labels_of deed deed.told }
+
+abbrev pub acted_by : World → Dev → Stepped
+acted_by w device = if can_act w device then done w (deed_of w device) else unmade w
+
+-- the world after so many ticks in which nothing acts
+abbrev pub passed : World → ℕ → World
+passed w ticks = record w { clock = record { time = w.clock.time + ticks; steps = w.clock.steps + 1 } }
+
 -- one step; a choice that is not ready is not made
 unfoldable pub stepped : World → Choice → Stepped
 stepped w (Run slot) = ran w slot (slice_get w.records slot)
-stepped w (Device device) = unmade w
-stepped w (Pass ticks) = unmade w
+stepped w (Device device) = acted_by w device
+stepped w (Pass ticks) = record { after = passed w ticks; labels = [] }
 
 abbrev pub after : World → Choice → World
 after w choice = (stepped w choice).after

@@ -1,37 +1,85 @@
 //! Laws of the definitions, each the contract of a function that does nothing.
-ghost use Rattle.kernel_model.specs.Laws.{GrantsChangeAtCalls, NextIsReady, NoTurnDrops, OnlyItsOwnTurn, RefusedChangesNothingElse};
+ghost use Rattle.kernel_model.specs.Laws.{DriversPromise, DropsAtMostOne, GrantsChangeAtCalls, NextIsReady, NextLiesAhead, NoneIsLeft};
+ghost use Rattle.kernel_model.specs.Laws.{OnlyItsOwnEvents, RefusedChangesNothingElse, TurnsActAtCalls, TurnsKeepLines};
 ghost use Rattle.kernel_model.specs.Replay.{RecordIsReplay, RoundFollowsChoices, SameHistorySameRecord};
 
-/// A step changes the record of no process but the one whose turn it is, and that one by its turn.
-pub fn only_its_own_turn()
-    ensures { OnlyItsOwnTurn }
+use driver_model::{
+    a_command_drops_at_most_one_upcall, a_driver_that_refuses_changes_nothing,
+    an_alarm_is_due_where_no_ticks_are_left, commands_stay_in_place, lines_follow_commands,
+    only_drivers_move_lines,
+};
+
+/// What the laws of calls rest on: the laws of the drivers' commands, and of the requests that drivers keep.
+fn drivers_promise()
+    ensures { DriversPromise }
+{
+    a_driver_that_refuses_changes_nothing();
+    a_command_drops_at_most_one_upcall();
+    commands_stay_in_place();
+    lines_follow_commands();
+    only_drivers_move_lines();
+}
+
+/// A turn changes the record of no process but the one whose turn it is, a device's answer that of none but the
+/// one that it answers, a pass of time none; and that one by its turn, or the answer, alone.
+pub fn only_its_own_events()
+    ensures { OnlyItsOwnEvents }
 {}
 
-/// Below the limit of steps the next choice of the round robin may be made.
+/// Below the limit of steps the next choice of the round robin may be made. Where no device step is ready, the
+/// nearest time at which one becomes ready lies ahead, so that a pass to it takes some ticks.
 pub fn next_is_ready()
-    ensures { NextIsReady }
-{}
+    ensures ready { NextIsReady }
+    ensures ahead { NextLiesAhead }
+{
+    an_alarm_is_due_where_no_ticks_are_left();
+}
 
-/// A refused call changes of its process the reply registers, pc and the recorded refusal, and nothing
-/// else.
-#[tactic(auto, using(crate::proofs::Refusals::refused_changes_nothing_else))]
+/// A refused call, a command that its driver refuses too, changes of its process the reply registers, pc and the
+/// recorded refusal, and nothing else.
 pub fn refused_changes_nothing_else()
     ensures { RefusedChangesNothingElse }
-{}
+{
+    drivers_promise();
+}
 
-/// After any choices a process's record is the replay of its own turns alone, and a run by round robin follows
-/// its choices. So in any two worlds in which a process has the same record under the same settings, and then
-/// the same turns, it has the same record: its registers, memory and storage byte by byte.
-pub fn a_record_is_the_replay_of_its_turns()
+/// A call that is served has come to its end: no driver has it still to answer.
+pub fn no_call_is_left()
+    ensures { NoneIsLeft }
+{
+    drivers_promise();
+}
+
+/// After any choices a process's record is the replay of its own turns and of what devices answered it alone,
+/// and a run by round robin follows its choices. So in any two worlds in which a process has the same record
+/// under the same settings, and then the same turns and answers, it has the same record: its registers, memory
+/// and storage byte by byte.
+pub fn a_record_is_the_replay_of_its_events()
     ensures replay { RecordIsReplay }
     ensures same { SameHistorySameRecord }
     ensures round { RoundFollowsChoices }
 {}
 
 /// What drivers keep of a process changes at its own calls, at a fault, and by what a driver answers it. A
-/// turn without a call or a denial leaves its grants, and no turn drops an upcall (Levy et al., SOSP 2017).
-#[tactic(auto, using(crate::proofs::Kept::grants_change_at_calls, crate::proofs::Kept::no_turn_drops))]
+/// turn without a call or a denial leaves its grants, and no turn drops more than one upcall (Levy et al., SOSP
+/// 2017).
+#[tactic(auto, using(crate::proofs::Kept::grants_change_at_calls))]
 pub fn grants_change_at_calls()
     ensures grants { GrantsChangeAtCalls }
-    ensures drops { NoTurnDrops }
-{}
+    ensures drops { DropsAtMostOne }
+{
+    drivers_promise();
+}
+
+/// After a turn a process that lives keeps a request for a device exactly where it waits for that device after
+/// what the turn asked of the board, if it did so before; and where it keeps one it is in the same life. A request
+/// for storage lies in the bytes that a slot has, where one that was kept before did. The process's object is that
+/// of an application, as it is of every process that was placed. A turn without a call or a denial asks nothing of
+/// the board.
+#[tactic(auto, using(crate::proofs::Kept::turns_act_at_calls))]
+pub fn turns_keep_lines()
+    ensures lines { TurnsKeepLines }
+    ensures acts { TurnsActAtCalls }
+{
+    drivers_promise();
+}

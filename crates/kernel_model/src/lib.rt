@@ -3,11 +3,13 @@
 #![tactic(auto)]
 
 mod laws;
+mod settings;
 
 pub use laws::{
-    a_record_is_the_replay_of_its_turns, grants_change_at_calls, next_is_ready, only_its_own_turn,
-    refused_changes_nothing_else,
+    a_record_is_the_replay_of_its_events, grants_change_at_calls, next_is_ready, no_call_is_left,
+    only_its_own_events, refused_changes_nothing_else, turns_keep_lines,
 };
+pub use settings::Settings;
 
 #[cfg(test)]
 mod tests;

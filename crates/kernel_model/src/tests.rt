@@ -11,7 +11,7 @@ ghost use Rattle.kernel_model.specs.Worked.{asks, turn_of, board};
 
 /// Memop 2 is answered by a success with one word, where the block starts; pc goes past the `ecall`. A
 /// break 4 bytes below the block is refused by a failure of no memory, and recorded; the break stays.
-#[tactic(auto, unfolding(rv32_model::specs::UserTurn::user_turn, rv32_model::specs::UserTurn::on_word, rv32_model::specs::UserTurn::executed, rv32_model::specs::UserTurn::fetched, rv32_model::specs::UserTurn::instr_of, rv32_model::specs::Instructions::decoding, rv32_model::specs::Instructions::table, process_own::specs::Permission::denied, process_own::specs::Instruction::ram_after, syscall_abi::specs::Call::call_of, syscall_abi::specs::Call::table, crate::specs::Calls::served, crate::specs::Calls::memop, crate::specs::Calls::memops, crate::specs::Turn::turned))]
+#[tactic(auto, unfolding(rv32_model::specs::UserTurn::user_turn, rv32_model::specs::UserTurn::on_word, rv32_model::specs::UserTurn::executed, rv32_model::specs::UserTurn::fetched, rv32_model::specs::UserTurn::instr_of, rv32_model::specs::Instructions::decoding, rv32_model::specs::Instructions::table, process_own::specs::Permission::denied, process_own::specs::Instruction::ram_after, syscall_abi::specs::Call::call_of, syscall_abi::specs::Call::table, tbf_headers::specs::Meaning::reading, crate::specs::Calls::served, crate::specs::Calls::by_class, crate::specs::Calls::memop, crate::specs::Calls::memops, crate::specs::Turn::turned))]
 fn turns()
     ensures start { (a0 (turn_of (asks 2 0)).after.process.regs ≡ 129)
         × (a1 (turn_of (asks 2 0)).after.process.regs ≡ RAM_START) }
@@ -27,7 +27,7 @@ fn turns()
 
 /// A turn of slot 0 leaves the record of slot 1 as it was. In slices of one turn slot 1 is next; in slices
 /// of two slot 0 goes on.
-#[tactic(auto, unfolding(rv32_model::specs::UserTurn::user_turn, rv32_model::specs::UserTurn::on_word, rv32_model::specs::UserTurn::executed, rv32_model::specs::UserTurn::fetched, rv32_model::specs::UserTurn::instr_of, rv32_model::specs::Instructions::decoding, rv32_model::specs::Instructions::table, process_own::specs::Permission::denied, process_own::specs::Instruction::ram_after, syscall_abi::specs::Call::call_of, syscall_abi::specs::Call::table, crate::specs::Calls::served, crate::specs::Calls::memop, crate::specs::Calls::memops, crate::specs::Turn::turned, crate::specs::World::stepped, crate::specs::Run::next, turn_scheduler::specs::RoundRobin::choice, turn_scheduler::specs::RoundRobin::ready_device, turn_scheduler::specs::RoundRobin::next_slot))]
+#[tactic(auto, unfolding(rv32_model::specs::UserTurn::user_turn, rv32_model::specs::UserTurn::on_word, rv32_model::specs::UserTurn::executed, rv32_model::specs::UserTurn::fetched, rv32_model::specs::UserTurn::instr_of, rv32_model::specs::Instructions::decoding, rv32_model::specs::Instructions::table, process_own::specs::Permission::denied, process_own::specs::Instruction::ram_after, syscall_abi::specs::Call::call_of, syscall_abi::specs::Call::table, tbf_headers::specs::Meaning::reading, crate::specs::Calls::served, crate::specs::Calls::by_class, crate::specs::Calls::memop, crate::specs::Calls::memops, crate::specs::Turn::turned, driver_model::specs::Alarm::due_slot, crate::specs::World::stepped, crate::specs::Run::next, turn_scheduler::specs::RoundRobin::choice, turn_scheduler::specs::RoundRobin::ready_device, turn_scheduler::specs::RoundRobin::next_slot))]
 fn steps()
     ensures other { slice_get (after (board 1 (asks 2 0 ∷ asks 3 0 ∷ [])) (Run 0)).records 1
         ≡ Some (asks 3 0) }

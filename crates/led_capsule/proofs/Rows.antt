@@ -1,23 +1,23 @@
 -- The commands' rows.
-use Rattle.std.proofs.Common.{◌≡◌, ℕ, Bool, true, false, not, List, length, Result, refl, sym, subst}
+use Rattle.std.proofs.Common.{◌≡◌, ℕ, Bool, List, Result, refl, sym, subst}
 use Rattle.tk_base.specs.declared.call.CallRule.{CallRule}
 use Rattle.syscall_abi.specs.declared.reply.Reply.{Reply}
 use Rattle.process_own.specs.Own.{Own}
-use Rattle.driver_model.specs.Commands.{Commanded}
-use Rattle.driver_model.specs.Leds.{bits_of, command, commands, is_lit, lighting}
+use Rattle.driver_model.specs.Commands.{Commanded, On, Off, Toggle}
+use Rattle.driver_model.specs.Leds.{command, commands, switching}
 use Rattle.led_capsule.specs.Obeys.{Obeys}
 
-pub turns_on : (lit : List Bool) (number led : ℕ) (own : Own) → number ≡ 1 → command (length lit) (bits_of lit) number led own ≡ lighting (length lit) led true own
+pub turns_on : (count number led : ℕ) (own : Own) → number ≡ 1 → command count number led own ≡ switching count led On own
 unfolding command commands
-turns_on lit number led own e = rw (e) refl
+turns_on count number led own e = rw (e) refl
 
-pub turns_off : (lit : List Bool) (number led : ℕ) (own : Own) → number ≡ 2 → command (length lit) (bits_of lit) number led own ≡ lighting (length lit) led false own
+pub turns_off : (count number led : ℕ) (own : Own) → number ≡ 2 → command count number led own ≡ switching count led Off own
 unfolding command commands
-turns_off lit number led own e = rw (e) refl
+turns_off count number led own e = rw (e) refl
 
-pub toggles : (lit : List Bool) (number led : ℕ) (own : Own) → number ≡ 3 → command (length lit) (bits_of lit) number led own ≡ lighting (length lit) led (not (is_lit (bits_of lit) led)) own
+pub toggles : (count number led : ℕ) (own : Own) → number ≡ 3 → command count number led own ≡ switching count led Toggle own
 unfolding command commands
-toggles lit number led own e = rw (e) refl
+toggles count number led own e = rw (e) refl
 
 -- a command is obeyed where its row is
 pub obeyed : (old new : List Bool) (answer : Result Reply CallRule) (c row : Commanded) → c ≡ row → Obeys row old answer new → Obeys c old answer new

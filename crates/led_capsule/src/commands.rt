@@ -1,7 +1,8 @@
 //! Commands to the LEDs (TRD 104, "Command").
-ghost use Rattle.std.specs.Prelude.{◌≡◌, length, not, OnErr};
+ghost use Rattle.std.specs.Prelude.{◌≡◌, length, OnErr};
 ghost use Rattle.process_own.specs.Own.{Own};
-ghost use Rattle.driver_model.specs.Leds.{bits_of, command, is_lit, lighting};
+ghost use Rattle.driver_model.specs.Commands.{Switch, Toggle};
+ghost use Rattle.driver_model.specs.Leds.{bits_of, command, is_lit, is_on_after, switching};
 ghost use Rattle.led_capsule.specs.Obeys.{Obeys};
 
 use board_devices::Leds;
@@ -19,8 +20,8 @@ fn is_on(leds: &Leds, led: u32) -> bool
 
 /// Turns an LED on or off; it is refused where there is none of that number.
 fn light(leds: &mut Leds, led: u32, on: bool) -> Result<Reply, CallRule>
-    ensures obeys { (own : Own) →
-        Obeys (lighting (length leds.old) led on own) leds.old result leds.new }
+    ensures obeys { (own : Own) (switch : Switch) → is_on_after switch (is_lit (bits_of leds.old) led) ≡ on
+        → Obeys (switching (length leds.old) led switch own) leds.old result leds.new }
     ensures kept { OnErr result (leds.new ≡ leds.old) }
 {
     leds_are_bits();
@@ -33,8 +34,8 @@ fn light(leds: &mut Leds, led: u32, on: bool) -> Result<Reply, CallRule>
 
 /// Turns an LED to what it is not; it is refused where there is none of that number.
 fn toggle(leds: &mut Leds, led: u32) -> Result<Reply, CallRule>
-    ensures obeys { (own : Own) → let on = not (is_lit (bits_of leds.old) led) in
-        Obeys (lighting (length leds.old) led on own) leds.old result leds.new }
+    ensures obeys { (own : Own) →
+        Obeys (switching (length leds.old) led Toggle own) leds.old result leds.new }
     ensures kept { OnErr result (leds.new ≡ leds.old) }
 {
     let on = !is_on(leds, led);
@@ -48,7 +49,7 @@ fn toggle(leds: &mut Leds, led: u32) -> Result<Reply, CallRule>
 #[tactic(auto, unfolding(driver_model::specs::Leds::command, driver_model::specs::Leds::commands))]
 pub fn command(leds: &mut Leds, number: u32, a2: u32) -> Result<Reply, CallRule>
     ensures obeys { (own : Own) → let lit = leds.old in
-        Obeys (command (length lit) (bits_of lit) number a2 own) lit result leds.new }
+        Obeys (command (length lit) number a2 own) lit result leds.new }
     ensures kept { OnErr result (leds.new ≡ leds.old) }
 {
     match number {

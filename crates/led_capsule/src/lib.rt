@@ -3,5 +3,7 @@
 #![tactic(auto)]
 
 mod commands;
+mod number;
 
 pub use commands::command;
+pub use number::bits;

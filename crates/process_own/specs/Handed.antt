@@ -1,6 +1,6 @@
 -- What a process hands to a driver: the upcalls that it subscribes and the buffers that it allows (TRD 104, "Subscribe",
 -- "Read-Only Allow", "Read-Write Allow"; Levy et al., SOSP 2017, section 4).
-use Rattle.std.specs.Prelude.{ℕ, ◌+◌, ◌-◌, ◌*◌, ◌/◌, ◌==◌, Bool, ◌||◌, max, if◌then◌else◌, List, take}
+use Rattle.std.specs.Prelude.{ℕ, ◌+◌, ◌-◌, ◌*◌, ◌/◌, ◌==◌, Bool, IsTrue, ◌||◌, max, if◌then◌else◌, List, take}
 use Rattle.tk_base.specs.declared.upcall.Upcall.{Upcall as Scheduled}
 use Rattle.process_layout.specs.Extents.{Extents}
 use Rattle.process_layout.specs.Interval.{lies_within}
@@ -67,3 +67,8 @@ handing kind driver number pair own =
       grants = with_grant driver (with_pair kind number pair) o.grants;
       pending = still_pending kind driver number o.pending;
     }
+
+-- every buffer that a process has allowed a driver lies where it may still be allowed
+pub record HoldsInPlace (own : Own) : Type 0 where
+  pub read_only : (driver number : ℕ) → IsTrue (may_hand ReadOnly own.layout (held ReadOnly driver number own))
+  pub read_write : (driver number : ℕ) → IsTrue (may_hand ReadWrite own.layout (held ReadWrite driver number own))

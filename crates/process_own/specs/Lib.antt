@@ -4,4 +4,5 @@ pub mod Instruction
 pub mod Handed
 pub mod Flag
 pub mod Served
+pub mod Flash
 pub mod Laws

@@ -1,8 +1,15 @@
 //! Laws of the definitions. The functions do nothing.
+ghost use Rattle.process_own.specs.Flash.{ReadsOwnFlash};
 ghost use Rattle.process_own.specs.Laws.{RestartForgets};
 
 /// A restart forgets every byte of a process's block, its grants and its pending upcalls, and where the
 /// breaks were.
 pub fn restart_forgets()
     ensures { RestartForgets }
+{}
+
+/// What a driver reads of a read-only buffer depends on no other process's object: it lies in the process's own
+/// RAM, or in its own object in flash (TRD 104, "Read-Only Allow").
+pub fn reads_own_flash()
+    ensures { ReadsOwnFlash }
 {}

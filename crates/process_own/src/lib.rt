@@ -4,5 +4,5 @@
 mod laws;
 mod place;
 
-pub use laws::restart_forgets;
+pub use laws::{reads_own_flash, restart_forgets};
 pub use place::{Footprint, Object};

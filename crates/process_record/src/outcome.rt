@@ -12,6 +12,8 @@ pub enum Outcome {
         /// The rule that the call broke, where it was refused.
         rule: Option<CallRule>,
     },
+    /// The call is a command, and its driver is to answer it.
+    ToDriver,
     /// The process waits for an upcall.
     Waits,
     /// An upcall was delivered to the process.

@@ -1,16 +1,19 @@
 //! Who waits for random bytes.
-ghost use Rattle.std.specs.Prelude.{◌≡◌, ◌+◌, ◌<◌, ◌^◌, false, [], length, slice_get, IfSome, None};
+ghost use Rattle.std.specs.Prelude.{◌≡◌, ◌+◌, ◌<◌, ◌^◌, false, [], length, slice_get, IfSome, None, ◌==◌, not};
 ghost use Rattle.grant_enter.specs.Homes.{own_of, ChangesOnly};
 ghost use Rattle.grant_enter.specs.Visits.{is_stale};
+ghost use Rattle.driver_model.specs.Commands.{Randoms};
 ghost use Rattle.driver_model.specs.Random.{command, request_in};
-ghost use Rattle.random_capsule.specs.Waiting.{waiting_after};
+ghost use Rattle.driver_requests.specs.Waiting.{waiting_after};
 ghost use Rattle.random_capsule.specs.Answers.{Answers};
 ghost use Rattle.waiting_list.specs.Waiting.{waits, without};
 
-use crate::commands::ask;
 use crate::steps::serve;
+use crate::visits::randoms;
 use board_devices::Words;
+use driver_requests::ask;
 use grant_enter::Home;
+use grant_values::RandomRequest;
 use std::marker::Model;
 use syscall_abi::Reply;
 use tk_base::{CallRule, ProcessId, Slot};
@@ -62,12 +65,15 @@ impl RandomCapsule {
         ensures answer { result ≡ (command number count (own_of home.old id.slot)).answer }
         ensures own { own_of home.new id.slot ≡ (command number count (own_of home.old id.slot)).own }
         ensures waiting { self.new
-            ≡ waiting_after id self.old (command number count (own_of home.old id.slot)).acts }
+            ≡ waiting_after Randoms id self.old (command number count (own_of home.old id.slot)).acts }
         ensures rest { ChangesOnly id.slot home.old home.new }
     {
         match number {
             0 => Ok(Reply::Success),
-            1 => ask(&mut self.waiting, home, id, count),
+            1 => {
+                let request = RandomRequest { count, written: 0 };
+                ask(&randoms(), &mut self.waiting, home, id, request)
+            }
             _ => Err(CallRule::NoCommand),
         }
     }
@@ -85,11 +91,20 @@ impl RandomCapsule {
             (λ id. (own_of home.old id.slot).dropped + 1 < 2 ^ 32) }
         ensures { Answers self.old words.old home.old result self.new words.new home.new }
     {
-        let id = self.waiting.first()?;
+        let Some(id) = self.waiting.first() else {
+            return None;
+        };
         if serve(home, &id, words) {
             self.waiting.remove(id.slot);
         }
         Some(id)
+    }
+
+    /// Whether a process waits.
+    pub fn is_waited_for(&self) -> bool
+        ensures { result ≡ not (length self.now == 0) }
+    {
+        !self.waiting.is_empty()
     }
 
     /// The process of a slot is gone: it waits no more. The others keep their order.

@@ -4,7 +4,6 @@
 #![tactic(auto)]
 
 mod capsule;
-mod commands;
 mod steps;
 mod visits;
 

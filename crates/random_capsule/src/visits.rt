@@ -4,7 +4,7 @@ ghost use Rattle.grant_enter.specs.Seen.{Framed, IsLent, own_entered};
 ghost use Rattle.driver_model.specs.Random.{completing, drawing, progress, wanted};
 ghost use Rattle.random_capsule.specs.Steps.{stepped};
 
-use grant_enter::{Entered, Grant, Visit, a_buffer_is_written, frames_join};
+use grant_enter::{Entered, Grant, Visit, a_buffer_is_written, buffers_are_whole, frames_join};
 use grant_values::{RANDOM, Random, RandomRequest};
 
 /// Bytes of a word.
@@ -22,32 +22,6 @@ pub(crate) fn randoms() -> Grant<Random, 1, 0, 1>
     ensures { result.driver ≡ 0x40001 }
 {
     Grant::of(RANDOM)
-}
-
-/// Has a request begin to wait.
-#[derive(Drop)]
-pub(crate) struct Begin {
-    pub count: u32,
-}
-
-impl Visit<Random> for Begin {
-    ghost use Rattle.std.specs.Prelude.{◌≡◌, Some};
-
-    type Answer = ();
-
-    ghost asks = { λ begin value seen. Unit {0} };
-
-    ghost leaves = { λ begin value seen answer value' own.
-        (value' ≡ record { request = Some (record { count = begin.count; written = 0 }) })
-        × (own ≡ seen.own) };
-
-    fn run(self, value: &mut Random, _entered: &mut Entered<'_>) {
-        frames_join();
-        value.request = Some(RandomRequest {
-            count: self.count,
-            written: 0,
-        });
-    }
 }
 
 /// What a step of a request came to.
@@ -103,6 +77,7 @@ fn wanted(entered: &mut Entered<'_>, request: &RandomRequest) -> u32
     ensures framed { Framed entered.old entered.new }
 {
     a_buffer_is_written();
+    buffers_are_whole();
     let length = entered.read_write(0).len();
     (request.count as usize).min(length) as u32
 }

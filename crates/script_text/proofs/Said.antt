@@ -15,7 +15,7 @@ use Rattle.script_text.specs.Rules.{is_single, skips}
 use Rattle.script_text.specs.Said.{lines_of, stands, settings, number_on, policy_on, policy_by, words_on, event_on}
 use Rattle.script_text.specs.Seats.{stood_at, stood_after}
 use Rattle.script_text.specs.Settings.{Settings}
-use Rattle.script_text.specs.Table.{row, served, is_key, fits, line_of}
+use Rattle.script_text.specs.Table.{row, table, is_key, fits, line_of}
 use Rattle.script_text.specs.Text.{words, word}
 
 -- some lines, and one more where it is one of them
@@ -106,7 +106,7 @@ find_passes p (y ∷ ys) x h = passes_by p y x (p y) (find p ys) refl h (find_pa
 -- a line of the table begins with its name
 pub named : (ws : List (List ℕ)) (line : Line) → line_of ws ≡ Some line → word ws 0 ≡ (row line).name
 unfolding line_of
-named ws line h = (bytes_eq-Decides (word ws 0) (row line).name).0 (and_parts (bytes_eq (word ws 0) (row line).name) (option_map_or (is_key ws) (row line).key true) (find_passes (fits ws) served line h)).0
+named ws line h = (bytes_eq-Decides (word ws 0) (row line).name).0 (and_parts (bytes_eq (word ws 0) (row line).name) (option_map_or (is_key ws) (row line).key true) (find_passes (fits ws) table line h)).0
 
 -- the settings with a line of the table more
 pub settings_with : (line : Line) (before : List (List ℕ)) (text : List ℕ) → line_of (words text) ≡ Some line → (is_single line && stands line before) ≡ false → settings (before ++ text ∷ []) ≡ with_line line (words text) (settings before)

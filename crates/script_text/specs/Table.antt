@@ -12,10 +12,9 @@ use Rattle.script_text.specs.declared.table.NumberAt.{NumberAt}
 use Rattle.script_text.specs.declared.table.Range.{Range}
 use Rattle.script_text.specs.Text.{word}
 
--- The lines that are served so far. Every other one is refused as one with an unknown word. A line is added here, and
--- in `SERVED` of `src/table.rt`.
-abbrev pub served : List Line
-served = Ram ∷ Leds ∷ Slice ∷ Stop ∷ Restart ∷ Threshold ∷ []
+-- the lines of the table, in its order
+abbrev pub table : List Line
+table = Ram ∷ Leds ∷ Slice ∷ Start ∷ Uart ∷ Storage ∷ Stop ∷ Restart ∷ Threshold ∷ StorageFault ∷ Random ∷ Input ∷ []
 
 -- the word that tells a line from others of its name, and its place
 pub record Key : Type 0 where
@@ -90,6 +89,6 @@ is_key ws key = nat_le (length ws) key.place || bytes_eq (word ws key.place) key
 abbrev pub fits : List (List ℕ) → Line → Bool
 fits ws line = bytes_eq (word ws 0) (row line).name && option_map_or (is_key ws) (row line).key true
 
--- the line of the table that words are: the first one that is served and fits
+-- the line of the table that words are: the first one that fits
 unfoldable pub line_of : List (List ℕ) → Option Line
-line_of ws = find (fits ws) served
+line_of ws = find (fits ws) table

@@ -13,7 +13,7 @@ use tk_base::SCRIPT_LIMIT;
 ///
 /// The lines end at line feeds, one carriage return at a line's end is dropped, and spaces and tabs
 /// stand between words. A line without words, or whose first word begins with `#`, is skipped and
-/// counts. The others have to be lines of the table, which are served:
+/// counts. The others have to be lines of the table:
 ///
 /// | Line | Numbers | Where there is none |
 /// |---|---|---|
@@ -28,8 +28,7 @@ use tk_base::SCRIPT_LIMIT;
 /// | `random W ..`, at most 4096 words of 8 hex digits | | none |
 /// | `at T input H`, at most 4096, with 1 to 64 bytes in hex; T never falls | 0 to 4294967295 | none |
 ///
-/// The last three may repeat, and nothing but `at` stands after an `at`. So far `ram`, `leds`, `slice`
-/// and `policy` are served; the others count as unknown.
+/// The last three may repeat, and nothing but `at` stands after an `at`.
 ///
 /// [`ScriptError::Bad`] names the first line that breaks a rule, and the first rule that it breaks,
 /// in the order of [`ScriptRule`](crate::ScriptRule)'s variants. [`ScriptError::Memory`] comes only

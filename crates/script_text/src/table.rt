@@ -35,15 +35,20 @@ pub enum Line {
     Input,
 }
 
-/// The lines that the board obeys so far. Every other one is refused as one with an unknown word. A
-/// line is added here, and in `served` of `specs/Table.antt`.
-const SERVED: [Line; 6] = [
+/// The lines of the table, in its order.
+const TABLE: [Line; 12] = [
     Line::Ram,
     Line::Leds,
     Line::Slice,
+    Line::Start,
+    Line::Uart,
+    Line::Storage,
     Line::Stop,
     Line::Restart,
     Line::Threshold,
+    Line::StorageFault,
+    Line::Random,
+    Line::Input,
 ];
 
 /// Which numbers may stand in a line.
@@ -253,12 +258,12 @@ impl Line {
     }
 }
 
-/// The first line of those that are served which fits a text.
+/// The first line of the table that fits a text.
 #[tactic(auto, unfolding(crate::specs::Table::line_of))]
 pub fn line_in(text: &[u8]) -> Option<Line>
     ensures { result ≡ line_of (words text.now) }
 {
-    for line in SERVED {
+    for line in TABLE {
         if line.fits(text) {
             return Some(line);
         }

@@ -1,8 +1,7 @@
-//! Scripts, and lines that are not served yet where they are looked at alone.
+//! Scripts.
 ghost use Rattle.std.specs.Prelude.{◌≤◌, length};
 
 use super::*;
-use crate::table::Line;
 use fault_policy::Policy;
 use std::alloc::Global;
 use std::test::Fail;
@@ -62,11 +61,6 @@ fn refusal(alloc: Global, script: &[u8]) -> Option<(u32, &'static [u8])>
     }
 }
 
-/// The first rule that a text breaks as a line of the table, where it is looked at alone.
-fn alone(line: Line, text: &[u8]) -> Option<ScriptRule> {
-    line.row().form.broken_alone(text)
-}
-
 #[test]
 fn scripts_with_a_reading(rt: HostRuntime) -> Result<(), Fail> {
     let alloc = rt.alloc();
@@ -108,6 +102,23 @@ fn settings_of_scripts(rt: HostRuntime) -> Result<(), Fail> {
 }
 
 #[test]
+fn lines_for_devices(rt: HostRuntime) -> Result<(), Fail> {
+    let alloc = rt.alloc();
+    assert_eq!(rt;
+        devices(alloc, b"start 4294967280\nuart 0\nstorage 4096"),
+        Some((4294967280, 0, 4096))
+    );
+    assert_eq!(rt;
+        lists(
+            alloc,
+            b"storage-fault 1\nrandom 1234567a FFFFFFFF\nstorage-fault 3\nrandom 00000000\nat 5 input aBcD\nat 5 input 00"
+        ),
+        Some((2, 3, 2))
+    );
+    Ok(())
+}
+
+#[test]
 fn what_no_line_gives(rt: HostRuntime) -> Result<(), Fail> {
     let alloc = rt.alloc();
     assert_eq!(rt; devices(alloc, b"# nothing"), Some((0, 1, 512)));
@@ -129,20 +140,7 @@ fn unknown_words(rt: HostRuntime) -> Result<(), Fail> {
     );
     assert_eq!(rt; refusal(alloc, b"ram 4096\n\x0b\nx"), Some((2, word)));
     assert_eq!(rt; refusal(alloc, b"policy go on now"), Some((1, word)));
-    Ok(())
-}
-
-#[test]
-fn lines_that_are_not_served_yet(rt: HostRuntime) -> Result<(), Fail> {
-    let alloc = rt.alloc();
-    let word = b"unknown-word".as_slice();
-    assert_eq!(rt; refusal(alloc, b"start 1"), Some((1, word)));
-    assert_eq!(rt; refusal(alloc, b"uart 1"), Some((1, word)));
-    assert_eq!(rt; refusal(alloc, b"storage 16"), Some((1, word)));
-    assert_eq!(rt; refusal(alloc, b"storage-fault 1"), Some((1, word)));
-    assert_eq!(rt; refusal(alloc, b"random 11223344"), Some((1, word)));
-    assert_eq!(rt; refusal(alloc, b"leds 4\nat 5 input 41"), Some((2, word)));
-    assert_eq!(rt; refusal(alloc, b"at 5 output 00"), Some((1, word)));
+    assert_eq!(rt; refusal(alloc, b"leds 4\nat 5 output 00"), Some((2, word)));
     Ok(())
 }
 
@@ -156,6 +154,9 @@ fn numbers_of_words(rt: HostRuntime) -> Result<(), Fail> {
     assert_eq!(rt; refusal(alloc, b"policy"), Some((1, word)));
     assert_eq!(rt; refusal(alloc, b"policy threshold"), Some((1, word)));
     assert_eq!(rt; refusal(alloc, b"policy stop 1"), Some((1, word)));
+    assert_eq!(rt; refusal(alloc, b"storage-fault 1 2"), Some((1, word)));
+    assert_eq!(rt; refusal(alloc, b"random"), Some((1, word)));
+    assert_eq!(rt; refusal(alloc, b"at 5 input"), Some((1, word)));
     Ok(())
 }
 
@@ -168,6 +169,17 @@ fn bad_numbers(rt: HostRuntime) -> Result<(), Fail> {
     assert_eq!(rt; refusal(alloc, b"ram 4096\r\r\n"), Some((1, word)));
     assert_eq!(rt; refusal(alloc, b"ram 4096\nram x"), Some((2, word)));
     assert_eq!(rt; refusal(alloc, b"policy threshold -1"), Some((1, word)));
+    assert_eq!(rt; refusal(alloc, b"at 12345678901 input 41"), Some((1, word)));
+    Ok(())
+}
+
+#[test]
+fn bad_hex(rt: HostRuntime) -> Result<(), Fail> {
+    let alloc = rt.alloc();
+    let word = b"bad-hex".as_slice();
+    assert_eq!(rt; refusal(alloc, b"at 5 input 0g"), Some((1, word)));
+    assert_eq!(rt; refusal(alloc, b"at 5 input aBc"), Some((1, word)));
+    assert_eq!(rt; refusal(alloc, b"random 11223344 1234567"), Some((1, word)));
     Ok(())
 }
 
@@ -193,6 +205,18 @@ fn numbers_outside_their_range(rt: HostRuntime) -> Result<(), Fail> {
 }
 
 #[test]
+fn numbers_for_devices_outside_their_range(rt: HostRuntime) -> Result<(), Fail> {
+    let alloc = rt.alloc();
+    let word = b"out-of-range".as_slice();
+    assert_eq!(rt; refusal(alloc, b"start 4294967296"), Some((1, word)));
+    assert_eq!(rt; refusal(alloc, b"uart 1001"), Some((1, word)));
+    assert_eq!(rt; refusal(alloc, b"storage 4097"), Some((1, word)));
+    assert_eq!(rt; refusal(alloc, b"storage-fault 0"), Some((1, word)));
+    assert_eq!(rt; refusal(alloc, b"at 4294967296 input 41"), Some((1, word)));
+    Ok(())
+}
+
+#[test]
 fn settings_that_stand_twice(rt: HostRuntime) -> Result<(), Fail> {
     let alloc = rt.alloc();
     let word = b"repeated".as_slice();
@@ -213,64 +237,33 @@ fn settings_that_stand_twice(rt: HostRuntime) -> Result<(), Fail> {
 }
 
 #[test]
-fn lines_alone(rt: HostRuntime) -> Result<(), Fail> {
-    assert_eq!(rt; alone(Line::Input, b"at 5 input 41"), None);
-    assert_eq!(rt; alone(Line::Input, b"at 5 input"), Some(ScriptRule::Words));
+fn lines_out_of_order(rt: HostRuntime) -> Result<(), Fail> {
+    let alloc = rt.alloc();
+    let word = b"order".as_slice();
     assert_eq!(rt;
-        alone(Line::Input, b"at 12345678901 input 41"),
-        Some(ScriptRule::BadNumber)
+        refusal(alloc, b"storage-fault 2\nstorage-fault 2"),
+        Some((2, word))
     );
     assert_eq!(rt;
-        alone(Line::Input, b"at 4294967296 input 41"),
-        Some(ScriptRule::OutOfRange)
+        refusal(alloc, b"at 5 input 41\nat 4 input 41"),
+        Some((2, word))
     );
     assert_eq!(rt;
-        alone(Line::Input, b"at 5 input 0g"),
-        Some(ScriptRule::BadHex)
-    );
-    assert_eq!(rt;
-        alone(Line::Input, b"at 5 input aBc"),
-        Some(ScriptRule::BadHex)
-    );
-    assert_eq!(rt; alone(Line::Random, b"random"), Some(ScriptRule::Words));
-    assert_eq!(rt;
-        alone(Line::Random, b"random 11223344 1234567"),
-        Some(ScriptRule::BadHex)
-    );
-    assert_eq!(rt; alone(Line::Random, b"random 1234567a FFFFFFFF"), None);
-    Ok(())
-}
-
-#[test]
-fn settings_alone(rt: HostRuntime) -> Result<(), Fail> {
-    assert_eq!(rt; alone(Line::Start, b"start 4294967280"), None);
-    assert_eq!(rt;
-        alone(Line::Start, b"start 4294967296"),
-        Some(ScriptRule::OutOfRange)
-    );
-    assert_eq!(rt;
-        alone(Line::Uart, b"uart 1001"),
-        Some(ScriptRule::OutOfRange)
-    );
-    assert_eq!(rt;
-        alone(Line::Storage, b"storage 4097"),
-        Some(ScriptRule::OutOfRange)
-    );
-    assert_eq!(rt;
-        alone(Line::StorageFault, b"storage-fault 0"),
-        Some(ScriptRule::OutOfRange)
-    );
-    assert_eq!(rt;
-        alone(Line::StorageFault, b"storage-fault 1 2"),
-        Some(ScriptRule::Words)
+        refusal(alloc, b"at 5 input 41\nrandom 11223344"),
+        Some((2, word))
     );
     Ok(())
 }
 
 #[test]
-fn names_of_rules(rt: HostRuntime) -> Result<(), Fail> {
-    assert_eq!(rt; ScriptRule::BadHex.word(), b"bad-hex".as_slice());
-    assert_eq!(rt; ScriptRule::Order.word(), b"order".as_slice());
-    assert_eq!(rt; ScriptRule::TooMany.word(), b"too-many".as_slice());
+fn too_many_bytes_of_an_event(rt: HostRuntime) -> Result<(), Fail> {
+    let alloc = rt.alloc();
+    let script = b"at 5 input \
+          00000000000000000000000000\
+          00000000000000000000000000\
+          00000000000000000000000000\
+          00000000000000000000000000\
+          00000000000000000000000000";
+    assert_eq!(rt; refusal(alloc, script), Some((1, b"too-many".as_slice())));
     Ok(())
 }

@@ -1,3 +1,2 @@
-pub mod Waiting
 pub mod Serving
 pub mod Answers

@@ -1,13 +1,14 @@
 //! Who waits for the storage.
-ghost use Rattle.std.specs.Prelude.{◌≡◌, ◌+◌, ◌<◌, ◌≤◌, ◌^◌, false, [], length, slice_get, IfSome, None};
+ghost use Rattle.std.specs.Prelude.{◌≡◌, ◌+◌, ◌<◌, ◌≤◌, ◌^◌, false, [], length, slice_get, IfSome, None, ◌==◌, not};
 ghost use Rattle.grant_enter.specs.Homes.{own_of, ChangesOnly};
 ghost use Rattle.grant_enter.specs.Visits.{is_stale};
+ghost use Rattle.driver_model.specs.Commands.{Stores as InStores};
 ghost use Rattle.driver_model.specs.Storage.{command, request_in};
-ghost use Rattle.storage_capsule.specs.Waiting.{waiting_after};
+ghost use Rattle.driver_requests.specs.Waiting.{waiting_after};
 ghost use Rattle.storage_capsule.specs.Answers.{Answers};
 ghost use Rattle.waiting_list.specs.Waiting.{waits, without};
 
-use crate::commands::ask;
+use crate::commands::ask_within;
 use crate::steps::serve;
 use board_devices::Stores;
 use grant_enter::Home;
@@ -68,7 +69,7 @@ impl StorageCapsule {
         ensures answer { result ≡ (command size number a2 a3 (own_of home.old id.slot)).answer }
         ensures own { own_of home.new id.slot ≡ (command size number a2 a3 (own_of home.old id.slot)).own }
         ensures waiting { self.new
-            ≡ waiting_after id self.old (command size number a2 a3 (own_of home.old id.slot)).acts }
+            ≡ waiting_after InStores id self.old (command size number a2 a3 (own_of home.old id.slot)).acts }
         ensures rest { ChangesOnly id.slot home.old home.new }
     {
         let (offset, length) = (a2, a3);
@@ -80,13 +81,13 @@ impl StorageCapsule {
         match number {
             0 => Ok(Reply::Success),
             1 => Ok(Reply::SuccessU32(size)),
-            2 => ask(&mut self.waiting, home, size, id, read),
+            2 => ask_within(&mut self.waiting, home, size, id, read),
             3 => {
                 let write = StorageRequest {
                     kind: StorageKind::Write,
                     ..read
                 };
-                ask(&mut self.waiting, home, size, id, write)
+                ask_within(&mut self.waiting, home, size, id, write)
             }
             _ => Err(CallRule::NoCommand),
         }
@@ -112,11 +113,20 @@ impl StorageCapsule {
             (λ request. request.offset + request.length ≤ stores.old.size)) }
         ensures { Answers self.old stores.old home.old result self.new stores.new home.new }
     {
-        let id = self.waiting.first()?;
+        let Some(id) = self.waiting.first() else {
+            return None;
+        };
         if serve(home, &id, stores) {
             self.waiting.remove(id.slot);
         }
         Some(id)
+    }
+
+    /// Whether a process waits.
+    pub fn is_waited_for(&self) -> bool
+        ensures { result ≡ not (length self.now == 0) }
+    {
+        !self.waiting.is_empty()
     }
 
     /// The process of a slot is gone: it waits no more. The others keep their order.

@@ -10,7 +10,7 @@ ghost use Rattle.storage_capsule.specs.Serving.{stored};
 
 use crate::moves::{fill, put};
 use board_devices::Stores;
-use grant_enter::{Entered, Grant, Visit, a_buffer_is_written, frames_join};
+use grant_enter::{Entered, Grant, Visit, a_buffer_is_written, buffers_are_whole, frames_join};
 use grant_values::{STORAGE, Storage, StorageKind, StorageRequest};
 use tk_base::Slot;
 
@@ -26,28 +26,6 @@ pub(crate) fn storages() -> Grant<Storage, 2, 1, 1>
     ensures { result.driver ≡ 0x50001 }
 {
     Grant::of(STORAGE)
-}
-
-/// Has a request begin to wait.
-#[derive(Drop)]
-pub(crate) struct Begin {
-    pub request: StorageRequest,
-}
-
-impl Visit<Storage> for Begin {
-    ghost use Rattle.std.specs.Prelude.{◌≡◌, Some};
-
-    type Answer = ();
-
-    ghost asks = { λ begin value seen. Unit {0} };
-
-    ghost leaves = { λ begin value seen answer value' own.
-        (value' ≡ record { request = Some begin.request }) × (own ≡ seen.own) };
-
-    fn run(self, value: &mut Storage, _entered: &mut Entered<'_>) {
-        frames_join();
-        value.request = Some(self.request);
-    }
 }
 
 /// Serves the request that waits, over the storage of a slot; on a fault it moves nothing. It hands the
@@ -103,6 +81,7 @@ fn read(entered: &mut Entered<'_>, stores: &Stores, slot: Slot, request: &Storag
     ensures framed { Framed entered.old entered.new }
 {
     a_buffer_is_written();
+    buffers_are_whole();
     fill(entered.read_write(0), stores, slot, request)
 }
 

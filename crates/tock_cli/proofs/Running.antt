@@ -1,28 +1,36 @@
 -- A run on its way.
-use Rattle.std.proofs.Common.{◌≡◌, ℕ, zero, suc, ◌+◌, ◌-◌, ◌<◌, ◌≤◌, List, [], ◌++◌, slice_get, Option, None, Some, refl, sym, ap, subst, ◌∙◌, arith, append_assoc}
-use Rattle.std.proofs.lemmas.List.{append-nil}
+use Rattle.std.proofs.Common.{◌≡◌, ℕ, zero, suc, ◌+◌, ◌-◌, ◌*◌, ◌^◌, ◌<◌, ◌≤◌, Bool, true, false, cond, List, [], ◌∷◌, ◌++◌, slice_get, Option, None, Some, sym, ap, subst, ◌∙◌, arith, append_assoc, append-nil}
+use Rattle.std.proofs.lemmas.Grind.{flat_map-append}
+use Rattle.std.specs.List.{flat_map}
 use Rattle.tk_base.specs.declared.process.Choice.{Choice}
 use Rattle.tk_base.specs.declared.process.Choice.TheVariants.{Run, Device, Pass}
 use Rattle.tk_outside.specs.Sink.{SinkFacts}
 use Rattle.tk_outside.specs.Writes.{WroteAll, WrotePart}
 use Rattle.tk_outside.specs.Laws.{WritesCompose}
+use Rattle.process_record.specs.declared.emit.Emit.{Emit}
 use Rattle.kernel_model.specs.Record.{Record}
-use Rattle.kernel_model.specs.World.{World, after, labels, ran, stepped}
-use Rattle.kernel_model.specs.Run.{Ran, next, round, printed, stays, told_first}
-use Rattle.tock_cli.proofs.Runs.{round-stop, round-step, round-zero, round-more, printed-append}
+use Rattle.kernel_model.specs.World.{Deed, World, after, can_act, deed_of, done, labels, ran, stepped, unmade}
+use Rattle.kernel_model.specs.Shown.{shown_by}
+use Rattle.kernel_model.specs.Run.{Ran, next, round, printed, stays}
+use Rattle.tock_cli.proofs.Runs.{printed_in, printed-round, round-stop, round-step, round-zero, round-more, shown_by-printed, steps-stop, steps-step, steps-zero}
+use Rattle.tock_cli.proofs.Telling.{told_on-step, told_text-step}
 use Rattle.tock_cli.specs.declared.run.Mode.{Mode}
-use Rattle.tock_cli.specs.declared.run.Mode.TheVariants.{Boot}
-use Rattle.tock_cli.specs.RunText.{IsWorldOf, end_text, run_text, mode_text}
+use Rattle.tock_cli.specs.declared.run.Mode.TheVariants.{Boot, Trace, Soak}
+use Rattle.tock_cli.specs.declared.teller.Telling.{Telling}
+use Rattle.tock_cli.specs.RunText.{Step, step_of, steps, IsWorldOf}
+use Rattle.tock_cli.specs.Telling.{count_of, step_text, steps_text, telling_of, told_on, told_text}
 
--- After i steps of a run of n steps, from a world to another: what was printed is written, and the run goes on as
--- the rest of it would from there.
-pub record RunsOn {K : Type 0} (tells : K → SinkFacts) (n i : ℕ) (from here : World) (old now : K) : Type 0 where
-  pub done : List ℕ
-  pub wrote : WroteAll tells old now done
-  pub prints : printed (round n from).labels ≡ done ++ printed (round (n - i) here).labels
+-- After i steps of a run of n steps, from a world to another: what the mode tells of the steps done is written, what it
+-- needs of them is kept, and the run goes on as the rest of it would from there.
+pub record RunsOn {K : Type 0} (tells : K → SinkFacts) (mode : Mode) (n i : ℕ) (from here : World) (old now : K) (telling : Telling) : Type 0 where
+  pub done : List Step
+  pub wrote : WroteAll tells old now (steps_text mode done)
+  pub kept : telling ≡ telling_of mode here (printed_in done)
+  pub few : count_of telling ≤ 64 * i
+  pub goes : steps n from ≡ done ++ steps (n - i) here
   pub leads : (round n from).world ≡ (round (n - i) here).world
   pub came : here ≡ (round i from).world
-  pub steps : here.clock.steps ≤ from.clock.steps + i
+  pub steps_made : here.clock.steps ≤ from.clock.steps + i
 
 -- a step counts once at most
 steps-after : (w : World) (c : Choice) → (after w c).clock.steps ≤ w.clock.steps + 1
@@ -32,77 +40,122 @@ steps-after w (Run slot) = of_record (slice_get w.records slot)
     of_record : (o : Option Record) → (ran w slot o).after.clock.steps ≤ w.clock.steps + 1
     of_record None = omega arith
     of_record (Some r) = omega arith
-steps-after w (Device device) = omega arith
+steps-after w (Device device) = by_ready (can_act w device)
+  where
+    of_deed : (o : Option Deed) → (done w o).after.clock.steps ≤ w.clock.steps + 1
+    of_deed None = omega arith
+    of_deed (Some deed) = omega arith
+
+    by_ready : (b : Bool) → (cond b (done w (deed_of w device)) (unmade w)).after.clock.steps ≤ w.clock.steps + 1
+    by_ready true = of_deed (deed_of w device)
+    by_ready false = omega arith
 steps-after w (Pass ticks) = omega arith
 
-module _ {K : Type 0} {tells : K → SinkFacts} {n i : ℕ} {from here : World} {old now : K} (r : RunsOn tells n i from here old now) where
-  -- what the run does from here with one more choice
-  goes : (c : Choice) → i < n → next here ≡ Some c → round (n - i) here ≡ told_first (labels here c) (round (n - (i + 1)) (after here c))
-  goes c h e =
-      let one_more : n - i ≡ suc (n - (i + 1)) = omega arith in
-      ap (λ (k : ℕ). round k here) one_more ∙ round-step (n - (i + 1)) here c e
+-- one step more
+flat_map-more : (f : Step → List ℕ) (done : List Step) (step : Step) → flat_map f (done ++ step ∷ []) ≡ flat_map f done ++ f step
+flat_map-more f done step = flat_map-append f done (step ∷ []) ∙ ap (λ (t : List ℕ). flat_map f done ++ t) (append-nil (f step))
 
-  -- what is printed before and after a step
-  pub around : (c : Choice) → i < n → next here ≡ Some c → printed (round n from).labels ≡ r.done ++ (printed (labels here c) ++ printed (round (n - (i + 1)) (after here c)).labels)
+module _ {K : Type 0} {tells : K → SinkFacts} {mode : Mode} {n i : ℕ} {from here : World} {old now : K} {telling : Telling} (r : RunsOn tells mode n i from here old now telling) where
+  -- one choice fewer is left
+  fewer : i < n → n - i ≡ suc (n - (i + 1))
+  fewer h = omega arith
+
+  -- the steps of the run, around the next one
+  around : (c : Choice) → i < n → next here ≡ Some c → steps n from ≡ r.done ++ step_of here c ∷ steps (n - (i + 1)) (after here c)
   around c h e =
-      r.prints ∙ ap (λ (q : Ran). r.done ++ printed q.labels) (goes c h e)
-      ∙ ap (λ (t : List ℕ). r.done ++ t) (printed-append (labels here c) (round (n - (i + 1)) (after here c)).labels)
+      r.goes ∙ ap (λ (ss : List Step). r.done ++ ss) (ap (λ (k : ℕ). steps k here) (fewer h) ∙ steps-step (n - (i + 1)) here c e)
+
+  -- where the rest of the run leads
+  leads_on : (c : Choice) → i < n → next here ≡ Some c → (round n from).world ≡ (round (n - (i + 1)) (after here c)).world
+  leads_on c h e =
+      r.leads ∙ ap (λ (k : ℕ). (round k here).world) (fewer h) ∙ ap (λ (q : Ran). q.world) (round-step (n - (i + 1)) here c e)
 
   -- the world after a step is one of the run
-  pub came_on : (c : Choice) → next here ≡ Some c → after here c ≡ (round (suc i) from).world
+  came_on : (c : Choice) → next here ≡ Some c → after here c ≡ (round (suc i) from).world
   came_on c e =
       let there : next (round i from).world ≡ Some c = ap next (sym r.came) ∙ e in
       ap (λ (w : World). after w c) r.came ∙ sym (round-more i from c there)
 
+  -- what is counted has room for another step
+  pub room : i < n → n < 2 ^ 32 → count_of telling + 64 < 2 ^ 64
+  room h k = omega (arith, r.few)
+
   -- one step more
-  pub one_more : WritesCompose tells → (c : Choice) (then : World) (later : K) → i < n → next here ≡ Some c → then ≡ after here c → WroteAll tells now later (printed (labels here c)) → RunsOn tells n (i + 1) from then old later
-  one_more law c then later h e f w = record {
-    done = r.done ++ printed (labels here c);
-    wrote = law.all_then_all r.wrote w;
-    prints = around c h e ∙ sym (append_assoc r.done (printed (labels here c)) (printed (round (n - (i + 1)) (after here c)).labels)) ∙ ap (λ (v : World). (r.done ++ printed (labels here c)) ++ printed (round (n - (i + 1)) v).labels) (sym f);
-    leads = r.leads ∙ ap (λ (q : Ran). q.world) (goes c h e) ∙ ap (λ (v : World). (round (n - (i + 1)) v).world) (sym f);
-    came = f ∙ came_on c e ∙ ap (λ (k : ℕ). (round k from).world) (number i);
-    steps = counted;
+  pub one_more : WritesCompose tells → (c : Choice) (then : World) (later : K) (step : Emit) (kept : Telling) → i < n → next here ≡ Some c → then ≡ after here c → step ≡ shown_by (labels here c) → WroteAll tells now later (told_text telling step) → kept ≡ told_on telling then step → count_of kept ≤ count_of telling + 64 → RunsOn tells mode n (i + 1) from then old later kept
+  one_more law c then later step kept h e f s w k l = record {
+    done = r.done ++ step_of here c ∷ [];
+    wrote = subst (λ (text : List ℕ). WroteAll tells old later text) (sym (flat_map-more (step_text mode) r.done (step_of here c))) (law.all_then_all r.wrote told);
+    kept = k ∙ told_on-step mode here then (printed_in r.done) (printed (labels here c)) telling step r.kept bytes ∙ ap (telling_of mode then) (sym more);
+    few = omega (arith, r.few, l);
+    goes = around c h e ∙ sym (append_assoc r.done (step_of here c ∷ []) (steps (n - (i + 1)) (after here c))) ∙ ap (λ (v : World). (r.done ++ step_of here c ∷ []) ++ steps (n - (i + 1)) v) (sym f);
+    leads = leads_on c h e ∙ ap (λ (v : World). (round (n - (i + 1)) v).world) (sym f);
+    came = f ∙ came_on c e ∙ ap (λ (j : ℕ). (round j from).world) (number i);
+    steps_made = omega (arith, r.steps_made, ap (λ (v : World). v.clock.steps) f, steps-after here c);
   }
     where
       number : (i : ℕ) → suc i ≡ i + 1
       number i = omega arith
 
-      counted : then.clock.steps ≤ from.clock.steps + (i + 1)
-      counted = omega (arith, r.steps, ap (λ (v : World). v.clock.steps) f, steps-after here c)
+      bytes : step.printed.items ≡ printed (labels here c)
+      bytes = ap (λ (x : Emit). x.printed.items) s ∙ shown_by-printed (labels here c)
+
+      told : WroteAll tells now later (step_text mode (step_of here c))
+      told = subst (λ (text : List ℕ). WroteAll tells now later text) (told_text-step mode here c (printed_in r.done) telling step r.kept s) w
+
+      more : printed_in (r.done ++ step_of here c ∷ []) ≡ printed_in r.done ++ printed (labels here c)
+      more = flat_map-more (λ (x : Step). printed x.labels) r.done (step_of here c)
 
   -- a write that failed in a step
-  pub part : WritesCompose tells → (c : Choice) (later : K) → i < n → next here ≡ Some c → WrotePart tells now later (printed (labels here c)) → WrotePart tells old later (printed (round n from).labels)
-  part law c later h e w = subst (λ (t : List ℕ). WrotePart tells old later t) (sym (around c h e)) (law.all_then_part r.wrote (law.part_of_more (printed (round (n - (i + 1)) (after here c)).labels) w))
+  pub part : WritesCompose tells → (c : Choice) (later : K) (step : Emit) → i < n → next here ≡ Some c → step ≡ shown_by (labels here c) → WrotePart tells now later (told_text telling step) → WrotePart tells old later (steps_text mode (steps n from))
+  part law c later step h e s w =
+      let rest : List Step = steps (n - (i + 1)) (after here c) in
+      let whole : steps_text mode (steps n from) ≡ steps_text mode r.done ++ (step_text mode (step_of here c) ++ steps_text mode rest) = ap (steps_text mode) (around c h e) ∙ flat_map-append (step_text mode) r.done (step_of here c ∷ rest) in
+      subst (λ (t : List ℕ). WrotePart tells old later t) (sym whole) (law.all_then_part r.wrote (law.part_of_more (steps_text mode rest) told))
+    where
+      told : WrotePart tells now later (step_text mode (step_of here c))
+      told = subst (λ (text : List ℕ). WrotePart tells now later text) (told_text-step mode here c (printed_in r.done) telling step r.kept s) w
 
   -- a world of the run
   pub world_on : (c : Choice) (then : World) → i < n → next here ≡ Some c → then ≡ after here c → IsWorldOf n from then
   world_on c then h e f = record { steps = suc i; within = omega arith; reached = f ∙ came_on c e }
 
-  stopped : round (n - i) here ≡ stays here → (WroteAll tells old now (printed (round n from).labels)) × (here ≡ (round n from).world)
-  stopped e =
-      let all : printed (round n from).labels ≡ r.done = r.prints ∙ ap (λ (q : Ran). r.done ++ printed q.labels) e ∙ append-nil r.done in
-      (subst (λ (t : List ℕ). WroteAll tells old now t) (sym all) r.wrote, sym (r.leads ∙ ap (λ (q : Ran). q.world) e))
+  -- the whole run was made
+  pub record IsWhole : Type 0 where
+    pub text : WroteAll tells old now (steps_text mode (steps n from))
+    pub kept_is : telling ≡ telling_of mode (round n from).world (printed (round n from).labels)
+    pub last : here ≡ (round n from).world
+
+  stopped : steps (n - i) here ≡ [] → round (n - i) here ≡ stays here → IsWhole
+  stopped none e =
+      let last : here ≡ (round n from).world = sym (r.leads ∙ ap (λ (q : Ran). q.world) e) in
+      let all : steps n from ≡ r.done = r.goes ∙ ap (λ (ss : List Step). r.done ++ ss) none ∙ append-nil r.done in
+      record {
+        text = subst (λ (ss : List Step). WroteAll tells old now (steps_text mode ss)) (sym all) r.wrote;
+        kept_is = r.kept ∙ ap (λ (w : World). telling_of mode w (printed_in r.done)) last ∙ ap (telling_of mode (round n from).world) (ap printed_in (sym all) ∙ sym (printed-round n from));
+        last = last;
+      }
 
   -- nothing is left to do
-  pub over : next here ≡ None → (WroteAll tells old now (printed (round n from).labels)) × (here ≡ (round n from).world)
-  over e = stopped (round-stop (n - i) here e)
+  pub over : next here ≡ None → IsWhole
+  over e = stopped (steps-stop (n - i) here e) (round-stop (n - i) here e)
 
   -- all steps were made
-  pub made : n ≤ i → (WroteAll tells old now (printed (round n from).labels)) × (here ≡ (round n from).world)
+  pub made : n ≤ i → IsWhole
   made h =
       let none : n - i ≡ zero = omega arith in
-      stopped (ap (λ (k : ℕ). round k here) none ∙ round-zero here)
+      stopped (ap (λ (k : ℕ). steps k here) none ∙ steps-zero here) (ap (λ (k : ℕ). round k here) none ∙ round-zero here)
 
 -- a run that begins
-pub begins : {K : Type 0} (tells : K → SinkFacts) (n : ℕ) (from : World) (old : K) → WritesCompose tells → RunsOn tells n 0 from from old old
-begins tells n from old law = record {
+pub begins : {K : Type 0} (tells : K → SinkFacts) (mode : Mode) (n : ℕ) (from : World) (old : K) (telling : Telling) → WritesCompose tells → telling ≡ telling_of mode from [] → RunsOn tells mode n 0 from from old old telling
+begins tells mode n from old telling law t = record {
   done = [];
   wrote = law.wrote_nothing old;
-  prints = ap (λ (k : ℕ). printed (round k from).labels) (whole n);
+  kept = t;
+  few = subst (λ (x : Telling). count_of x ≤ 0) (sym t) (nothing mode);
+  goes = ap (λ (k : ℕ). steps k from) (whole n);
   leads = ap (λ (k : ℕ). (round k from).world) (whole n);
   came = sym (ap (λ (q : Ran). q.world) (round-zero from));
-  steps = zero_more from.clock.steps;
+  steps_made = zero_more from.clock.steps;
 }
   where
     whole : (n : ℕ) → n ≡ n - 0
@@ -111,7 +164,7 @@ begins tells n from old law = record {
     zero_more : (n : ℕ) → n ≤ n + 0
     zero_more n = omega arith
 
--- the text of a run in the one mode that there is
-pub in_mode : (m : Mode) (n : ℕ) (w : World) → printed (round n w).labels ++ end_text (round n w).world ≡ mode_text m n w
-unfolding run_text
-in_mode Boot n w = refl
+    nothing : (m : Mode) → count_of (telling_of m from []) ≤ 0
+    nothing Boot = omega arith
+    nothing Trace = omega arith
+    nothing Soak = omega arith

@@ -1,10 +1,12 @@
 -- Runs by the round robin, step by step.
 use Rattle.std.proofs.Common.{◌≡◌, ℕ, zero, suc, List, [], ◌∷◌, ◌++◌, Option, None, Some, refl, sym, ap, ◌∙◌}
 use Rattle.std.proofs.lemmas.Grind.{flat_map-append}
+use Rattle.std.specs.List.{flat_map}
 use Rattle.tk_base.specs.declared.process.Choice.{Choice}
-use Rattle.kernel_model.specs.World.{World, Label, TurnOf, Printed, after, labels, stepped}
+use Rattle.kernel_model.specs.World.{World, Label, TurnOf, Answered, Printed, after, labels, stepped}
 use Rattle.kernel_model.specs.Run.{Ran, next, round, stays, told_first, goes_on, on_choice, printed}
 use Rattle.kernel_model.specs.Shown.{shown_by}
+use Rattle.tock_cli.specs.RunText.{Step, step_of, steps}
 
 -- a run that stops at once
 pub round-stop : (n : ℕ) (w : World) → next w ≡ None → round n w ≡ stays w
@@ -40,12 +42,40 @@ round-more (suc i) w c e = by_next (next w) refl (λ d. round-more i (after w d)
         ∙ later d (ap next (sym first) ∙ e)
         ∙ ap (λ (v : World). after v c) (sym first)
 
-pub printed-append : (xs ys : List Label) → printed (xs ++ ys) ≡ printed xs ++ printed ys
-printed-append xs ys = flat_map-append _ xs ys
+-- the bytes that steps printed
+abbrev pub printed_in : List Step → List ℕ
+printed_in steps = flat_map (λ step. printed step.labels) steps
+
+pub steps-stop : (n : ℕ) (w : World) → next w ≡ None → steps n w ≡ []
+unfolding steps
+steps-stop zero w e = refl
+steps-stop (suc n) w e = ap (on_choice [] (λ choice. step_of w choice ∷ steps n (after w choice))) e
+
+pub steps-step : (n : ℕ) (w : World) (c : Choice) → next w ≡ Some c → steps (suc n) w ≡ step_of w c ∷ steps n (after w c)
+unfolding steps
+steps-step n w c e = ap (on_choice [] (λ choice. step_of w choice ∷ steps n (after w choice))) e
+
+pub steps-zero : (w : World) → steps zero w ≡ []
+unfolding steps
+steps-zero w = refl
+
+-- what a run prints is what its steps print
+pub printed-round : (n : ℕ) (w : World) → printed (round n w).labels ≡ printed_in (steps n w)
+printed-round zero w = ap (λ (r : Ran). printed r.labels) (round-zero w) ∙ sym (ap printed_in (steps-zero w))
+printed-round (suc n) w = by_next (next w) refl (λ c. printed-round n (after w c))
+  where
+    by_next : (o : Option Choice) → next w ≡ o → ((c : Choice) → printed (round n (after w c)).labels ≡ printed_in (steps n (after w c))) → printed (round (suc n) w).labels ≡ printed_in (steps (suc n) w)
+    by_next None e later = ap (λ (r : Ran). printed r.labels) (round-stop (suc n) w e) ∙ sym (ap printed_in (steps-stop (suc n) w e))
+    by_next (Some c) e later =
+        ap (λ (r : Ran). printed r.labels) (round-step n w c e)
+        ∙ flat_map-append _ (labels w c) (round n (after w c)).labels
+        ∙ ap (λ (t : List ℕ). printed (labels w c) ++ t) (later c)
+        ∙ sym (ap printed_in (steps-step n w c e))
 
 -- what a step shows that it printed
 pub shown_by-printed : (ls : List Label) → (shown_by ls).printed.items ≡ printed ls
 unfolding shown_by
 shown_by-printed [] = refl
 shown_by-printed (TurnOf slot time told ∷ ls) = shown_by-printed ls
+shown_by-printed (Answered slot event ∷ ls) = shown_by-printed ls
 shown_by-printed (Printed slot bytes ∷ ls) = ap (λ (xs : List ℕ). bytes ++ xs) (shown_by-printed ls)

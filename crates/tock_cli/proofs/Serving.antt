@@ -11,10 +11,10 @@ use Rattle.tock_cli.specs.declared.refusal.Refusal.{Refusal}
 use Rattle.tock_cli.specs.declared.refusal.Refusal.TheVariants.{Usage, Fault, TooLong, Script, Memory}
 use Rattle.tock_cli.specs.declared.serve.Outcome.{Outcome}
 use Rattle.tock_cli.specs.declared.serve.Outcome.TheVariants.{Done, Refused, SinkFailed}
-use Rattle.tock_cli.specs.Words.{Command, Boots, Lists, script_of}
+use Rattle.tock_cli.specs.Words.{Command, Runs, Lists, Soaks, script_of}
 use Rattle.tock_cli.specs.Refusals.{Told, Cause, IsWithin, bytes_in, line_of, name_in}
 use Rattle.tock_cli.specs.Ready.{Task, Running, Listing, IsRead, IsTask, IsTaskOf, left_by}
-use Rattle.tock_cli.specs.Served.{Sent, All, Happens, answer_of, RefusalIs, TaskIs, IsUnhindered, IsWritten, HasReading, LeavesBoard, Decided, Answers}
+use Rattle.tock_cli.specs.Served.{Sent, All, Happens, answer_of, RefusalIs, TaskIs, IsUnhindered, IsWritten, IsTold, HasReading, LeavesBoard, Decided, Answers}
 
 any : {X : Type 0} (o : Option X) (R : X → Type 0) → ((x : X) → R x) → IfSome o R
 any None R f = tt
@@ -47,15 +47,17 @@ module _ (told : Told) where
   flash_within name flash h = given (told.bytes name) _ _ h.whole (λ f e. subst (λ (b : List ℕ). length b ≤ FLASH_LIMIT) e h.within)
 
   task_flash : (command : Command) (task : Task) → IsTaskOf told.bytes command task → IsWithin told command Flash
-  task_flash (Boots words) (Running n world) h = flash_within words.flash h.1.flash h.1.is_flash
-  task_flash (Boots words) (Listing flash) h = absurd h
-  task_flash (Lists name) (Running n world) h = absurd h
+  task_flash (Runs words) (Running mode n world) h = flash_within words.flash h.2.flash h.2.is_flash
+  task_flash (Runs words) (Listing flash) h = absurd h
+  task_flash (Lists name) (Running mode n world) h = absurd h
   task_flash (Lists name) (Listing flash) h = flash_within name flash h
+  task_flash (Soaks number turns) task h = tt
 
   task_script : (command : Command) (task : Task) → IsTaskOf told.bytes command task → IfSome (bytes_in told command ScriptFile) (λ s. (length s ≤ SCRIPT_LIMIT) × IsOk (reading s))
-  task_script (Boots words) (Running n world) h = given (told.bytes words.script) _ _ h.1.is_script.whole (λ s e. subst (λ (b : List ℕ). (length b ≤ SCRIPT_LIMIT) × IsOk (reading b)) e (h.1.is_script.within, subst (λ (r : Result Settings BadLine). IsOk r) (sym h.1.said) refl))
-  task_script (Boots words) (Listing flash) h = absurd h
+  task_script (Runs words) (Running mode n world) h = given (told.bytes words.script) _ _ h.2.is_script.whole (λ s e. subst (λ (b : List ℕ). (length b ≤ SCRIPT_LIMIT) × IsOk (reading b)) e (h.2.is_script.within, subst (λ (r : Result Settings BadLine). IsOk r) (sym h.2.opening_of.said) refl))
+  task_script (Runs words) (Listing flash) h = absurd h
   task_script (Lists name) task h = tt
+  task_script (Soaks number turns) task h = tt
 
 module _ (told : Told) (sent : Sent) (command : Command) where
   -- a fault is no cause where reading the file was not hindered
@@ -111,16 +113,29 @@ module _ (told : Told) (sent : Sent) (command : Command) where
     no_refusal None P r i p f = cc
     no_refusal (Some name) P r i p f = clash (told.bytes name) (λ s. (length s ≤ SCRIPT_LIMIT) × IsOk (reading s)) P r p f
 
-    complete : (last : Option World) (o : Outcome) → Happens told sent (Some command) last o → IfSome (bytes_in told command Flash) (λ f. HasReading told command → (answer_of o ≡ 0) ⊎ (answer_of o ≡ 7))
-    complete last Done h = any (bytes_in told command Flash) _ (λ f r. inl refl)
-    complete last (Refused Usage) h = absurd h.0.cause
-    complete last (Refused (Fault Flash)) h = absurd (no_fault Flash flash h.0.cause.0 h.0.cause.1)
-    complete last (Refused (Fault ScriptFile)) h = absurd (no_fault ScriptFile script h.0.cause.0 h.0.cause.1)
-    complete last (Refused (TooLong Flash)) h = not_too_long _ h.0.cause.1
-    complete last (Refused (TooLong ScriptFile)) h = any (bytes_in told command Flash) _ (λ f r. absurd (no_refusal (script_of command) _ r h.0.cause.0 h.0.cause.1 (λ s p l. omega (arith, p.0))))
-    complete last (Refused (Script line rule)) h = any (bytes_in told command Flash) _ (λ f r. absurd (no_refusal (script_of command) _ r h.0.cause.0 h.0.cause.3 (λ s p e. no_reading (reading s) _ p.1 e)))
-    complete last (Refused Memory) h = any (bytes_in told command Flash) _ (λ f r. inr refl)
-    complete last SinkFailed h = absurd (written h.0.rose)
+    module _ (is_told : IsTold told command Flash) where
+      -- a flash file that is within its limit is not too long
+      no_long_flash : IsSome (name_in command Flash) → IfSome (bytes_in told command Flash) (λ b. FLASH_LIMIT < length b) → ⊥
+      no_long_flash named l = by_name (name_in command Flash) named is_told within l
+        where
+          by_name : (o : Option (List ℕ)) → IsSome o → IfSome o (λ name. IsSome (told.bytes name)) → IfSome (option_and_then told.bytes o) (λ b. length b ≤ FLASH_LIMIT) → IfSome (option_and_then told.bytes o) (λ b. FLASH_LIMIT < length b) → ⊥
+          by_name None i t w l = cc
+          by_name (Some name) i t w l = by_bytes (told.bytes name) t w l
+            where
+              by_bytes : (o : Option (List ℕ)) → IsSome o → IfSome o (λ b. length b ≤ FLASH_LIMIT) → IfSome o (λ b. FLASH_LIMIT < length b) → ⊥
+              by_bytes None t w l = cc
+              by_bytes (Some b) t w l = omega arith
+
+      complete : (last : Option World) (o : Outcome) → Happens told sent (Some command) last o → HasReading told command → (answer_of o ≡ 0) ⊎ (answer_of o ≡ 7)
+      complete last Done h r = inl refl
+      complete last (Refused Usage) h r = absurd h.0.cause
+      complete last (Refused (Fault Flash)) h r = absurd (no_fault Flash flash h.0.cause.0 h.0.cause.1)
+      complete last (Refused (Fault ScriptFile)) h r = absurd (no_fault ScriptFile script h.0.cause.0 h.0.cause.1)
+      complete last (Refused (TooLong Flash)) h r = absurd (no_long_flash h.0.cause.0 h.0.cause.1)
+      complete last (Refused (TooLong ScriptFile)) h r = absurd (no_refusal (script_of command) _ r h.0.cause.0 h.0.cause.1 (λ s p l. omega (arith, p.0)))
+      complete last (Refused (Script line rule)) h r = absurd (no_refusal (script_of command) _ r h.0.cause.0 h.0.cause.3 (λ s p e. no_reading (reading s) _ p.1 e))
+      complete last (Refused Memory) h r = inr refl
+      complete last SinkFailed h r = absurd (written h.0.rose)
 
 module _ (told : Told) (sent : Sent) (last : Option World) where
   decided : (words : Option Command) (o : Outcome) → Happens told sent words last o → Decided told sent words (answer_of o)
@@ -135,7 +150,7 @@ module _ (told : Told) (sent : Sent) (last : Option World) where
     long_flash = long_flash told sent command last o h;
     long_script = λ within flash script written. long_script told sent command within flash script written last o h;
     bad_script = λ within flash script written. bad_script told sent command within flash script written last o h;
-    complete = λ within flash script written. complete told sent command within flash script written last o h;
+    complete = λ within flash script written is_told. complete told sent command within flash script written is_told last o h;
   }
 
   none_left : last ≡ None → IsSome last → ⊥
@@ -148,14 +163,17 @@ module _ (told : Told) (sent : Sent) (last : Option World) where
   -- a board is left by a run
   board_left : (words : Option Command) (task : Task) → IsTask told.bytes words task → last ≡ left_by task → LeavesBoard words → IsSome last
   board_left None task h e b = absurd h
-  board_left (Some (Boots words)) (Running n world) h e b = subst (λ (o : Option World). IsSome o) (sym e) refl
-  board_left (Some (Boots words)) (Listing flash) h e b = absurd h
+  board_left (Some (Runs words)) (Running mode n world) h e b = subst (λ (o : Option World). IsSome o) (sym e) refl
+  board_left (Some (Runs words)) (Listing flash) h e b = absurd h
   board_left (Some (Lists name)) task h e b = absurd b
+  board_left (Some (Soaks number turns)) (Running mode n world) h e b = subst (λ (o : Option World). IsSome o) (sym e) refl
+  board_left (Some (Soaks number turns)) (Listing flash) h e b = absurd h
 
   run_left : (words : Option Command) (task : Task) → IsTask told.bytes words task → last ≡ left_by task → IsSome last → LeavesBoard words
   run_left None task h e s = absurd h
-  run_left (Some (Boots words)) task h e s = tt
-  run_left (Some (Lists name)) (Running n world) h e s = absurd h
+  run_left (Some (Runs words)) task h e s = tt
+  run_left (Some (Soaks number turns)) task h e s = tt
+  run_left (Some (Lists name)) (Running mode n world) h e s = absurd h
   run_left (Some (Lists name)) (Listing flash) h e s = absurd (none_left e s)
 
   no_board : (n : ℕ) (words : Option Command) → last ≡ None → (n ≡ 0 → ⊥) → IsSome last ↔ ((n ≡ 0) × LeavesBoard words)

@@ -41,7 +41,7 @@ limit_of ScriptFile = SCRIPT_LIMIT
 
 -- the name of a file, where the words name it
 abbrev pub name_in : Command → File → Option (List ℕ)
-name_in command Flash = Some (flash_of command)
+name_in command Flash = flash_of command
 name_in command ScriptFile = script_of command
 
 -- What a shelf tells over a call: the bytes under each name and which names are sound, before it, and whether its count

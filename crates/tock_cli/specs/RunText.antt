@@ -1,14 +1,17 @@
--- The text of a run.
-use Rattle.std.specs.Prelude.{◌≡◌, ℕ, ◌≤◌, List, ◌++◌, codes, Option, None, Some}
+-- The text of a run, by what is written of it.
+use Rattle.std.specs.Prelude.{◌≡◌, ℕ, zero, suc, ◌%◌, ◌^◌, ◌≤◌, List, [], ◌∷◌, ◌++◌, length, sum, codes, decimal, Option, None, Some}
+use Rattle.std.specs.List.{flat_map}
 use Rattle.tk_base.specs.declared.process.Choice.{Choice}
-use Rattle.kernel_model.specs.World.{World}
-use Rattle.kernel_model.specs.Run.{next, round, printed}
+use Rattle.kernel_model.specs.World.{World, Label, TurnOf, Answered, Printed, after, labels}
+use Rattle.kernel_model.specs.Run.{next, on_choice, round, printed}
 use Rattle.kernel_model.specs.Shown.{summary_of}
 use Rattle.board_report.specs.declared.report.End.{End}
 use Rattle.board_report.specs.declared.report.End.TheVariants.{Done, Turns}
 use Rattle.board_report.specs.Report.{report_text}
+use Rattle.board_report.specs.Trace.{turn_text, out_text}
 use Rattle.tock_cli.specs.declared.run.Mode.{Mode}
-use Rattle.tock_cli.specs.declared.run.Mode.TheVariants.{Boot}
+use Rattle.tock_cli.specs.declared.run.Mode.TheVariants.{Boot, Trace, Soak}
+use Rattle.tock_cli.specs.declared.tally.Tally.{Tally}
 
 abbrev pub end_by : Option Choice → End
 end_by None = Done
@@ -22,12 +25,48 @@ end_of w = end_by (next w)
 unfoldable pub end_text : World → List ℕ
 end_text w = codes "==\n" ++ report_text (summary_of w) (end_of w)
 
--- the text of the run of n steps from a world: the bytes that it printed, and the end
-unfoldable pub run_text : ℕ → World → List ℕ
-run_text n w = printed (round n w).labels ++ end_text (round n w).world
+-- a step of a run: the time at which it began, and what it told
+pub record Step : Type 0 where
+  pub time : ℕ
+  pub labels : List Label
 
-abbrev pub mode_text : Mode → ℕ → World → List ℕ
-mode_text Boot n w = run_text n w
+abbrev pub step_of : World → Choice → Step
+step_of w choice = record { time = w.clock.time; labels = labels w choice }
+
+-- the steps of the run of n steps by the round robin, in order
+unfoldable pub steps : ℕ → World → List Step
+steps zero w = []
+steps (suc n) w = on_choice [] (λ choice. step_of w choice ∷ steps n (after w choice)) (next w)
+
+-- the lines of a label of a step that began at a time, which is a turn's own time too: those of a turn tell the call or the
+-- denial in it, the others what was printed
+abbrev pub label_lines : ℕ → Label → List ℕ
+label_lines time (TurnOf slot at told) = turn_text time slot told.call told.denial
+label_lines time (Answered slot event) = []
+label_lines time (Printed slot bytes) = out_text time slot bytes
+
+-- the lines of a step
+abbrev pub step_lines : Step → List ℕ
+step_lines step = flat_map (label_lines step.time) step.labels
+
+-- how many bytes there are, and their sum mod 2^32
+abbrev pub tally_of : List ℕ → Tally
+tally_of bytes = record { count = length bytes; sum = sum bytes % 2 ^ 32 }
+
+-- both as a line
+unfoldable pub tally_line : Tally → List ℕ
+tally_line tally = codes "printed " ++ (decimal tally.count ++ (codes " sum " ++ (decimal tally.sum ++ codes "\n")))
+
+-- what is written of the run of n steps from a world before its end: the bytes that it printed, or the lines of its steps,
+-- or how many bytes it printed, and their sum
+abbrev pub shown_in : Mode → ℕ → World → List ℕ
+shown_in Boot n w = printed (round n w).labels
+shown_in Trace n w = flat_map step_lines (steps n w)
+shown_in Soak n w = tally_line (tally_of (printed (round n w).labels))
+
+-- the text of the run of n steps from a world
+unfoldable pub run_text : Mode → ℕ → World → List ℕ
+run_text mode n w = shown_in mode n w ++ end_text (round n w).world
 
 -- a world that a run of at most n steps comes to
 pub record IsWorldOf (n : ℕ) (from world : World) : Type 0 where

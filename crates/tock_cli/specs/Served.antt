@@ -13,7 +13,7 @@ use Rattle.tock_cli.specs.declared.refusal.Refusal.{Refusal}
 use Rattle.tock_cli.specs.declared.refusal.Refusal.TheVariants.{Usage, Fault, TooLong, Script, Memory}
 use Rattle.tock_cli.specs.declared.serve.Outcome.{Outcome}
 use Rattle.tock_cli.specs.declared.serve.Outcome.TheVariants.{Done, Refused, SinkFailed}
-use Rattle.tock_cli.specs.Words.{Command, Boots, Lists, command_of, script_of}
+use Rattle.tock_cli.specs.Words.{Command, Runs, Lists, Soaks, command_of, script_of}
 use Rattle.tock_cli.specs.Refusals.{Told, Cause, IsWithin, bytes_in, line_of, limit_of, name_in, status_of, told_by}
 use Rattle.tock_cli.specs.Ready.{Task, IsTask, text_of, left_by}
 
@@ -38,8 +38,8 @@ Part sent text = WrotePart sent.tells sent.old sent.new text
 abbrev pub SinkRose : Sent → Type 0
 SinkRose sent = Rose (sent.tells sent.old).faults (sent.tells sent.new).faults
 
--- The command's task was done, its whole text written: the text of the run from the opening world of the files, or the
--- list of the flash file. The board that a run leaves shows its last world.
+-- The command's task was done, its whole text written: the text of the run from the opening world of the files, which
+-- are read or generated, or the list of the flash file. The board that a run leaves shows its last world.
 pub record IsDone (told : Told) (sent : Sent) (words : Option Command) (last : Option World) : Type 0 where
   pub task : Task
   pub given : IsTask told.bytes words task
@@ -107,6 +107,10 @@ IsUnhindered told command file = IfSome (name_in command file) told.is_sound ⊎
 abbrev pub IsWritten : Sent → Type 0
 IsWritten sent = ¬ SinkRose sent
 
+-- a file, where the words name it, is told
+abbrev pub IsTold : Told → Command → File → Type 0
+IsTold told command file = IfSome (name_in command file) (λ name. IsSome (told.bytes name))
+
 -- the script, where the words name one, is told, within its limit, and has a reading
 abbrev pub HasReading : Told → Command → Type 0
 HasReading told command = IfSome (script_of command) (λ name. IsSomeAnd (told.bytes name) (λ s. (length s ≤ limit_of ScriptFile) × IsOk (reading s)))
@@ -119,8 +123,8 @@ pub record DecidedFor (told : Told) (sent : Sent) (command : Command) (answer : 
   pub long_script : IsWithin told command Flash → IsUnhindered told command Flash → IsUnhindered told command ScriptFile → IsWritten sent → IfSome (bytes_in told command Flash) (λ f. IfSome (bytes_in told command ScriptFile) (λ s. limit_of ScriptFile < length s → (answer ≡ 4) ⊎ (answer ≡ 7)))
   -- a script with no reading
   pub bad_script : IsWithin told command Flash → IsUnhindered told command Flash → IsUnhindered told command ScriptFile → IsWritten sent → IfSome (bytes_in told command Flash) (λ f. IfSome (bytes_in told command ScriptFile) (λ s. length s ≤ limit_of ScriptFile → IsErr (reading s) → (answer ≡ 5) ⊎ (answer ≡ 7)))
-  -- sound files: the task is done
-  pub complete : IsWithin told command Flash → IsUnhindered told command Flash → IsUnhindered told command ScriptFile → IsWritten sent → IfSome (bytes_in told command Flash) (λ f. HasReading told command → (answer ≡ 0) ⊎ (answer ≡ 7))
+  -- sound files, or none: the task is done
+  pub complete : IsWithin told command Flash → IsUnhindered told command Flash → IsUnhindered told command ScriptFile → IsWritten sent → IsTold told command Flash → HasReading told command → (answer ≡ 0) ⊎ (answer ≡ 7)
 
 -- Words that are no command are always answered by 2.
 abbrev pub Decided : Told → Sent → Option Command → ℕ → Type 0
@@ -130,8 +134,9 @@ Decided told sent (Some command) answer = DecidedFor told sent command answer
 -- a command whose run leaves a board
 abbrev pub LeavesBoard : Option Command → Type 0
 LeavesBoard None = ⊥
-LeavesBoard (Some (Boots words)) = Unit {0}
+LeavesBoard (Some (Runs words)) = Unit {0}
 LeavesBoard (Some (Lists flash)) = ⊥
+LeavesBoard (Some (Soaks number turns)) = Unit {0}
 
 -- What the program does: the answer with its cause, what was written, and the board that is left.
 pub record Answers (told : Told) (sent : Sent) (words : Option Command) (last : Option World) (answer : ℕ) : Type 0 where
@@ -144,7 +149,7 @@ pub record Answers (told : Told) (sent : Sent) (words : Option Command) (last : 
   pub memory : answer ≡ 7 → IsRefused told sent words Memory
   -- there is no other answer
   pub answers : (outcome : Outcome) × (answer ≡ answer_of outcome)
-  -- a board is left exactly at answer 0 of `boot`
+  -- a board is left exactly at answer 0 of `boot`, `trace` and `soak`
   pub left : IsSome last ↔ ((answer ≡ 0) × LeavesBoard words)
   pub decided : Decided told sent words answer
 

@@ -1,4 +1,5 @@
-//! `tock`: runs the applications of a flash image on the board, and lists what an image holds.
+//! `tock`: runs the applications of a flash image on the board, tells what they print or what they ask of the
+//! kernel, and lists what an image holds.
 #![tactic(auto)]
 
 mod list;
@@ -6,6 +7,8 @@ mod prepare;
 mod refusal;
 mod run;
 mod serve;
+mod tally;
+mod teller;
 mod words;
 
 use std::env;

@@ -1,41 +1,55 @@
 //! A run of a board, and its text.
-ghost use Rattle.std.specs.Prelude.{◌≡◌, ◌+◌, ◌≤◌, ℕ, OnOk, OnErr};
+ghost use Rattle.std.specs.Prelude.{◌≡◌, ◌+◌, ◌≤◌, IfOk, OnOk, OnErr};
 ghost use Rattle.tk_base.specs.declared.limits.TheConstants.{STEP_LIMIT};
 ghost use Rattle.tk_outside.specs.Writes.{Writes};
 ghost use Rattle.kernel_model.specs.Run.{round, printed};
-ghost use Rattle.tock_cli.specs.RunText.{mode_text, end_of, end_text, IsWorldOf};
+ghost use Rattle.tock_cli.specs.RunText.{run_text, end_of, end_text, steps, IsWorldOf};
+ghost use Rattle.tock_cli.specs.Telling.{steps_text, telling_of};
 
+use crate::teller::Telling;
 use board_core::Board;
 use board_report::{End, write_report};
 use process_record::Emit;
 use tk_outside::{Failed, Sink, put_all, writes_compose};
 
-/// What is written of a run.
+/// What is written of a run before its end.
 #[derive(Clone, Copy, Debug, PartialEq, Eq)]
 pub enum Mode {
-    /// What it prints, and then the report.
+    /// The bytes that it prints, as they come.
     Boot,
+    /// The lines of its steps: each system call, each denial, and what was printed.
+    Trace,
+    /// How many bytes it printed, and their sum.
+    Soak,
 }
 
-/// Makes the run, and writes what it prints.
-fn run_steps<K: Sink>(board: &mut Board, turns: u32, out: &mut K) -> Result<(), Failed>
+/// Makes the run, and tells its steps.
+fn run_steps<K: Sink>(
+    board: &mut Board,
+    mode: Mode,
+    turns: u32,
+    out: &mut K,
+) -> Result<Telling, Failed>
     requires { board.old.clock.steps + turns ≤ STEP_LIMIT }
-    ensures prints { Writes K.tells out.old out.new (printed (round turns board.old).labels) result }
+    ensures text { Writes K.tells out.old out.new (steps_text mode (steps turns board.old)) result }
+    ensures kept { let r = round turns board.old in
+        IfOk result (λ telling. telling ≡ telling_of mode r.world (printed r.labels)) }
     ensures last { OnOk result (board.new ≡ (round turns board.old).world) }
     ensures some { OnErr result (IsWorldOf turns board.old board.new) }
 {
     writes_compose::<K>();
     let mut emit = Emit::new();
+    let mut telling = Telling::of(mode, board);
     for _ in 0..turns {
         let Some(choice) = board.next_choice() else {
-            return Ok(());
+            return Ok(telling);
         };
         let Ok(()) = board.step(choice, &mut emit) else {
             unreachable!()
         };
-        put_all(out, &emit.printed)?;
+        telling.tell(board, &emit, out)?;
     }
-    Ok(())
+    Ok(telling)
 }
 
 /// How a run that led to this board ended.
@@ -58,8 +72,9 @@ fn write_end_of_run<K: Sink>(board: &Board, out: &mut K) -> Result<(), Failed>
     write_report(&board.summary(), end_of_run(board), out)
 }
 
-/// Runs the board by the round robin for at most `turns` steps, and writes the text of the run. It ends
-/// before where no process can go on. Afterwards the board shows the run's last world.
+/// Runs the board by the round robin for at most `turns` steps, and writes the text of the run: what its
+/// mode tells of it, `==`, and the report. It ends before where no process can go on. Afterwards the board
+/// shows the run's last world.
 ///
 /// [`Failed`] comes only where the sink's count of faults rose; a part of the text was written then that
 /// lacks at least one byte, and the board shows a world of the run. No memory is taken.
@@ -70,15 +85,12 @@ pub fn run_out<K: Sink>(
     out: &mut K,
 ) -> Result<(), Failed>
     requires { board.old.clock.steps + turns ≤ STEP_LIMIT }
-    ensures text { Writes K.tells out.old out.new (mode_text mode turns board.old) result }
+    ensures text { Writes K.tells out.old out.new (run_text mode turns board.old) result }
     ensures last { OnOk result (board.new ≡ (round turns board.old).world) }
     ensures some { OnErr result (IsWorldOf turns board.old board.new) }
 {
     writes_compose::<K>();
-    match mode {
-        Mode::Boot => {
-            run_steps(board, turns, out)?;
-            write_end_of_run(board, out)
-        }
-    }
+    let telling = run_steps(board, mode, turns, out)?;
+    telling.write_total(out)?;
+    write_end_of_run(board, out)
 }

@@ -8,7 +8,7 @@ ghost use Rattle.tock_cli.specs.Served.{Happens, RefusalIs, TaskIs, Serves, answ
 use crate::list::list_out;
 use crate::prepare::{Ready, prepare};
 use crate::refusal::Refusal;
-use crate::run::{Mode, run_out};
+use crate::run::run_out;
 use board_core::Board;
 use std::alloc::Global;
 use tk_outside::{Shelf, Sink};
@@ -54,8 +54,12 @@ fn finish<K: Sink>(ready: Ready, out: &mut K, last: &mut Option<Board>) -> Outco
     ensures { TaskIs (sent_by K.tells out.old out.new) (task_of ready) last.new result }
 {
     let written = match ready {
-        Ready::Run { mut board, turns } => {
-            let written = run_out(&mut board, Mode::Boot, turns, out);
+        Ready::Run {
+            mut board,
+            mode,
+            turns,
+        } => {
+            let written = run_out(&mut board, mode, turns, out);
             if written.is_ok() {
                 *last = Some(board);
             }
@@ -88,10 +92,12 @@ fn act<H: Shelf, K: Sink>(
 }
 
 /// The program over the words of the command line, the first of which is its own name. `boot` runs the
-/// applications of a flash file on the board of a script, and writes the text of the run to `out`; `list`
-/// writes the list of the objects of a flash file; else it writes one line. What `last` held is dropped;
-/// afterwards it holds a board exactly at answer 0 of `boot`, and that board shows the last world of the
-/// run.
+/// applications of a flash file on the board of a script, and writes what they print and then the report to
+/// `out`; `trace` makes the same run, and writes its system calls and denials beside what is printed; `soak`
+/// runs applications that are generated from a number, and writes how many bytes they print and the sum of
+/// these; `list` writes the list of the objects of a flash file; else it writes one line. What `last` held is
+/// dropped; afterwards it holds a board exactly at answer 0 of `boot`, `trace` and `soak`, and that board
+/// shows the last world of the run.
 ///
 /// | Answer | Comes |
 /// |---|---|

@@ -1,7 +1,7 @@
 //! The processes that wait for one device.
 #![tactic(auto)]
 
-ghost use Rattle.std.specs.Prelude.{◌≡◌, false, [], ◌∷◌, ◌++◌, slice_get};
+ghost use Rattle.std.specs.Prelude.{◌≡◌, ◌==◌, length, false, [], ◌∷◌, ◌++◌, slice_get, IfNone};
 
 use arrayvec::ArrayVec;
 use std::marker::Model;
@@ -79,10 +79,18 @@ impl WaitingList {
 
     /// The process that waits longest. None exactly where none waits.
     pub fn first(&self) -> Option<ProcessId>
-        ensures { result ≡ slice_get self.now 0 }
+        ensures first { result ≡ slice_get self.now 0 }
+        ensures none { IfNone result (self.now ≡ []) }
     {
         let first = self.ids.as_slice().first()?;
         Some(first.id)
+    }
+
+    /// Whether none waits.
+    pub fn is_empty(&self) -> bool
+        ensures { result ≡ (length self.now == 0) }
+    {
+        self.ids.is_empty()
     }
 
     /// Whether the process of a slot waits.

@@ -1,7 +1,8 @@
 use Rattle.std.proofs.Common.{◌≡◌, ℕ, List, ap, ◌∙◌, rules}
 use Rattle.grant_enter.specs.Homes.{Homes, own_of}
+use Rattle.kernel_model.specs.Calls.{answered}
 use Rattle.kernel_calls.specs.Own.{record_in}
-use Rattle.kernel_calls.specs.Outcomes.{record_at, returned}
+use Rattle.kernel_calls.specs.Outcomes.{record_at}
 use Rattle.kernel_calls.proofs.Breaks.{brk_row, sbrk_row}
 use Rattle.kernel_calls.proofs.memops.operate.Goals as goal
 
@@ -9,12 +10,12 @@ pub returns-in-0-clause-answer : goal.returns-in-0-clause-answer
 returns-in-0-clause-answer c = λ storage.
     let r = record_at c.args.home.now c.args.slot c.args.process.now storage in
     let flash : c.move_break.new.home.flash ≡ c.args.home.now.flash = ap (λ (h : Homes). h.flash) c.move_break.ensures.rest in
-    ap (λ (f : List ℕ). returned (record_in f c.args.process.now (own_of c.move_break.new.home c.args.slot) storage) c.move_break.result) flash
+    ap (λ (f : List ℕ). answered (record_in f c.args.process.now (own_of c.move_break.new.home c.args.slot) storage) c.move_break.result) flash
     ∙ c.move_break.ensures.answer r ∙ brk_row r c.args.operation c.args.argument c.in-0.is
 
 pub returns-in-1-clause-answer : goal.returns-in-1-clause-answer
 returns-in-1-clause-answer c = λ storage.
     let r = record_at c.args.home.now c.args.slot c.args.process.now storage in
     let flash : c.move_break-in-1.new.home.flash ≡ c.args.home.now.flash = ap (λ (h : Homes). h.flash) c.move_break-in-1.ensures.rest in
-    ap (λ (f : List ℕ). returned (record_in f c.args.process.now (own_of c.move_break-in-1.new.home c.args.slot) storage) c.move_break-in-1.result) flash
+    ap (λ (f : List ℕ). answered (record_in f c.args.process.now (own_of c.move_break-in-1.new.home c.args.slot) storage) c.move_break-in-1.result) flash
     ∙ c.move_break-in-1.ensures.answer r ∙ sbrk_row r _ c.args.operation c.args.argument c.moved-place.result (c.layout.view_is ∙ c.layout-layout.ensures) c.in-1.is (search rules) c.moved-place.ensures

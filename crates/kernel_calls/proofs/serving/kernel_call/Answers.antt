@@ -1,9 +1,14 @@
-use Rattle.std.proofs.Common.{sym, subst}
-use Rattle.syscall_abi.specs.declared.call.Call.{Call}
-use Rattle.kernel_calls.specs.Outcomes.{Serves, record_at}
+use Rattle.std.proofs.Common.{sym, ap, ◌∙◌, rules}
+use Rattle.process_record.specs.declared.process.Process.{Process}
+use Rattle.kernel_calls.proofs.Drivers.{not_permitted, permitted_so}
 use Rattle.kernel_calls.proofs.serving.kernel_call.Goals as goal
 
-pub returns-in-Command-clause-serves : goal.returns-in-Command-clause-serves
-returns-in-Command-clause-serves c = λ storage.
-    let r = record_at c.args.home.now c.args.slot c.args.process.now storage in
-    subst (λ (call : Call). Serves r call (record_at c.args.home.now c.args.slot c.refuse_command.new.process storage) c.refuse_command.result) (sym c.in-Command.is) (c.refuse_command.ensures.serves storage)
+pub returns-clause-serves : goal.returns-clause-serves
+returns-clause-serves c =
+    permitted_so c.no_call_is_left.ensures c.args.slot c.args.home.now c.serve.new.home c.args.process.now c.serve.new.process c.args.call.now c.serve.result
+    (search rules) (sym c.is_taken.ensures ∙ c.if-is_taken.false) c.serve.ensures.serves
+
+pub returns-then-not-is_permitted-clause-serves : goal.returns-then-not-is_permitted-clause-serves
+returns-then-not-is_permitted-clause-serves c =
+    not_permitted c.no_call_is_left.ensures c.args.slot c.args.home.now c.args.process.now c.refuse.new.process c.args.call.now c.refuse.result c.failure-failure.result
+    (search rules) (search rules) (ap (λ (p : Process). p.object) c.refuse.ensures.stays) c.refuse.ensures.refuses

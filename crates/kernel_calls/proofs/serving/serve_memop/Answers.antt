@@ -1,13 +1,11 @@
 use Rattle.std.proofs.Common.{ap, sym, ◌∙◌}
 use Rattle.process_record.specs.declared.process.Process.{Process}
 use Rattle.grant_enter.specs.Homes.{own_of}
-use Rattle.kernel_model.specs.Calls.{served}
 use Rattle.kernel_calls.specs.Outcomes.{record_at}
 use Rattle.kernel_calls.proofs.Starts.{given}
 use Rattle.kernel_calls.proofs.serving.serve_memop.Goals as goal
 
 pub returns-clause-serves : goal.returns-clause-serves
-unfolding served
 returns-clause-serves c = λ storage.
     let home = c.operate-answer.new.home in
     sym (c.operate-answer.ensures.answer storage)

@@ -1,7 +1,7 @@
 use Rattle.std.proofs.Common.{ap, sym, ◌∙◌}
 use Rattle.process_record.specs.declared.process.Process.{Process}
 use Rattle.grant_enter.specs.Homes.{Homes, own_of}
-use Rattle.kernel_calls.specs.Outcomes.{record_at}
+use Rattle.kernel_calls.specs.Outcomes.{acts_for, record_at}
 use Rattle.kernel_calls.proofs.Handed.{swap_refused, swap_served}
 use Rattle.kernel_calls.proofs.swaps.swap.Goals as goal
 
@@ -16,4 +16,4 @@ returns-in-Err-clause-serves c = λ storage.
     let home = c.args.home.now in
     swap_refused home.flash c.args.process.now c.refuse.new.process (own_of home c.args.slot) storage c.args.kind c.args.driver c.args.number c.args.pair c.in-Err.rule c.error.result c.refuse.result
     c.in-Err.ensures.refusal c.error.ensures (ap (λ (p : Process). p.object) c.refuse.ensures.stays) c.refuse.ensures.refuses
-    ∙ ap (λ (h : Homes). record { after = record_at h c.args.slot c.refuse.new.process storage; outcome = c.refuse.result }) (sym c.in-Err.ensures.refused)
+    ∙ ap (λ (h : Homes). record { after = record_at h c.args.slot c.refuse.new.process storage; outcome = c.refuse.result; acts = acts_for c.refuse.result }) (sym c.in-Err.ensures.refused)

@@ -1,4 +1,4 @@
-use Rattle.std.proofs.Common.{sym, ap, ◌∙◌, rules}
+use Rattle.std.proofs.Common.{[], sym, ap, ◌∙◌, rules}
 use Rattle.kernel_model.specs.Record.{Record}
 use Rattle.process_record.specs.declared.outcome.Outcome.TheVariants.{Delivered, GoesOn}
 use Rattle.kernel_calls.specs.Outcomes.{record_at}
@@ -8,12 +8,12 @@ use Rattle.kernel_calls.proofs.yields.yield_at_once.Goals as goal
 pub returns-then-not-has_pending-clause-serves : goal.returns-then-not-has_pending-clause-serves
 returns-then-not-has_pending-clause-serves c = λ storage.
     now_none (record_at c.args.home.now c.args.slot c.args.process.now storage) c.args.at _ (search rules)
-    ∙ ap (λ (x : Record). record { after = x; outcome = GoesOn }) (sym (c.flag.ensures.flags storage))
+    ∙ ap (λ (x : Record). record { after = x; outcome = GoesOn; acts = [] }) (sym (c.flag.ensures.flags storage))
 
 pub returns-clause-serves : goal.returns-clause-serves
 returns-clause-serves c = λ storage.
     now_some (record_at c.args.home.now c.args.slot c.args.process.now storage) (record_at c.flag-2.new.home c.args.slot c.flag-2.new.process storage) c.args.at _ (search rules) (c.flag-2.ensures.flags storage) c.flag-2.ensures.pending
-    ∙ ap (λ (x : Record). record { after = x; outcome = Delivered }) (sym (c.deliver.ensures.delivers storage))
+    ∙ ap (λ (x : Record). record { after = x; outcome = Delivered; acts = [] }) (sym (c.deliver.ensures.delivers storage))
 
 pub returns-clause-stays : goal.returns-clause-stays
 returns-clause-stays c = stays_after c.args.process.now c.flag-2.new.process c.deliver.new.process c.flag-2.ensures.process c.deliver.ensures.stays

@@ -3,12 +3,12 @@ use Rattle.grant_areas.specs.declared.kinds.PairKind.TheVariants.{ReadWrite}
 use Rattle.process_own.specs.Handed.{held}
 use Rattle.process_own.specs.Served.{with_written}
 use Rattle.grant_enter.specs.Seen.{own_entered}
-use Rattle.random_capsule.proofs.Buffers.{written_back}
 use Rattle.random_capsule.proofs.visits.wanted.Goals as goal
 
 pub returns-clause-own : goal.returns-clause-own
 returns-clause-own c =
     let e = c.args.entered.now in
+    let own = own_entered e in
     let bytes = c.read_write-length.ensures.bytes in
     (c.a_buffer_is_written.ensures e 0 c.read_write-length.result.now c.requires.lent (ap length bytes)).own
-    ∙ (ap (λ bs. with_written e.driver 0 0 bs (own_entered e)) bytes ∙ written_back (own_entered e) (held ReadWrite e.driver 0 (own_entered e)))
+    ∙ (ap (λ bs. with_written e.driver 0 0 bs own) bytes ∙ c.buffers_are_whole.ensures.same own (held ReadWrite e.driver 0 own))

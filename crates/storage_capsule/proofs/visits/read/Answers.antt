@@ -4,7 +4,6 @@ use Rattle.board_devices.specs.Storage.{bytes_from}
 use Rattle.process_own.specs.Handed.{held}
 use Rattle.process_own.specs.Served.{over, with_written}
 use Rattle.grant_enter.specs.Seen.{own_entered}
-use Rattle.storage_capsule.proofs.Buffers.{written_once}
 use Rattle.storage_capsule.proofs.visits.read.Goals as goal
 
 pub returns-clause-own : goal.returns-clause-own
@@ -16,4 +15,4 @@ returns-clause-own c =
     let fits = subst (λ (xs : List ℕ). length bs ≤ length xs) bytes c.fill.ensures.fits in
     (c.a_buffer_is_written.ensures e 0 c.fill.new.buffer c.requires.lent (c.fill.ensures.long ∙ ap length bytes)).own
     ∙ (ap (λ xs. with_written e.driver 0 0 xs own) (c.fill.ensures.buffer ∙ ap (λ xs. over xs 0 bs) bytes)
-    ∙ (written_once own (held ReadWrite e.driver 0 own) bs fits ∙ ap (λ d. with_written d 0 0 bs own) c.requires.driver))
+    ∙ (c.buffers_are_whole.ensures.front own (held ReadWrite e.driver 0 own) bs fits ∙ ap (λ d. with_written d 0 0 bs own) c.requires.driver))

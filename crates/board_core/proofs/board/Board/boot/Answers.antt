@@ -1,4 +1,4 @@
-use Rattle.std.proofs.Common.{◌≡◌, ◌≤◌, List, ℕ, None, Some, All, ap, length, map, sym, subst, ◌∙◌, arith}
+use Rattle.std.proofs.Common.{◌≡◌, ◌≤◌, List, [], ◌∷◌, ℕ, zero, suc, None, Some, All, ap, length, map, sym, subst, ◌∙◌, arith}
 use Rattle.std.specs.List.{AllPairs, filter_map, count_by, zip}
 use Rattle.std.specs.Prelude.{vec_len}
 use Rattle.std.proofs.lemmas.List.{length-map}
@@ -6,15 +6,20 @@ use Rattle.process_own.specs.declared.place.Footprint.{Footprint}
 use Rattle.process_layout.specs.Ordered.{IsOrdered}
 use Rattle.process_own.specs.Own.{opened}
 use Rattle.app_placement.specs.declared.placed.Placed.{Placed}
+use Rattle.board_devices.specs.Storage.{Storage}
 use Rattle.app_placement.specs.Placement.{is_placed, LiesInFlash}
 use Rattle.grant_enter.specs.Homes.{Homes, CanMoveIn, EndsBefore, IsSettled}
 use Rattle.script_text.specs.Settings.{Settings as Script}
-use Rattle.board_core.specs.Boot.{IsFirst, layout_at}
+use Rattle.kernel_model.specs.declared.settings.Settings.{Settings}
+use Rattle.board_core.specs.Driven.{AreDriven, AreFresh}
+use Rattle.board_core.specs.Settings.{settings}
+use Rattle.board_core.specs.Boot.{IsFirst, fresh_record, layout_at}
 use Rattle.board_core.specs.Opening.{opening, places, record_at, unplaced_at}
-use Rattle.board_core.specs.Residents.{IsSeated, record_of}
+use Rattle.board_core.specs.Residents.{HasLost, IsSeated}
 use Rattle.board_core.proofs.Crews.{all_apart, all_move_in, all_ordered, all_settled, all_stand_apart, few_processes, opening_shown}
+use Rattle.board_core.proofs.Fresh.{driven_first}
 use Rattle.board_core.proofs.board.Board.boot.Goals as goal
-use Rattle.board_core.proofs.board.Board.boot.Goals.{After-deref-4, After-new}
+use Rattle.board_core.proofs.board.Board.boot.Goals.{After-deref-4}
 
 -- the layouts are those of the applications that are placed
 layouts : (c : After-deref-4) → map (λ (f : Footprint). f.layout) c.deref-4.result.now ≡ filter_map layout_at c.placed_in-placed.result.items
@@ -23,6 +28,14 @@ layouts c = ap (map (λ (f : Footprint). f.layout)) c.deref-4.ensures.value ∙ 
 -- each begins its first life
 first : (c : After-deref-4) → All (IsFirst (length c.args.flash.items)) c.deref-4.result.now
 first c = subst (All (IsFirst (length c.args.flash.items))) (sym c.deref-4.ensures.value) (subst (λ (f : List ℕ). All (IsFirst (length f)) c.in_ok-processes.field-0.footprints.items) c.deref-2.ensures.value c.in_ok-processes.ensures.first)
+
+-- there are no more processes than slots
+at_most_8 : (c : After-deref-4) → length c.in_ok-processes.field-0.processes.items ≤ 8
+at_most_8 c =
+    let crew = c.in_ok-processes.ensures in
+    let es = c.in_ok-processes.field-0.footprints.items in
+    let few : count_by is_placed c.deref-3.result.now ≤ 8 = subst (λ (xs : List Placed). count_by is_placed xs ≤ 8) (sym c.deref-3.ensures.0) c.placed_in-placed.ensures.few in
+    few_processes 0 c.deref-2.result.now c.deref-3.result.now c.in_ok-processes.field-0.processes.items (map opened es) (length-map es opened ∙ sym crew.count) (crew.shown 0) few
 
 pub new-requires-clause-settled : goal.new-requires-clause-settled
 new-requires-clause-settled c =
@@ -49,19 +62,32 @@ invariant_of-result c =
     let es = c.in_ok-processes.field-0.footprints.items in
     let home_is : c.in-Ok.home ≡ record { flash = c.deref-2.result.now; owns = map opened es }
     = c.in-Ok.ensures ∙ ap (λ (xs : List Footprint). record { flash = c.args.flash.items; owns = map opened xs }) c.deref-4.ensures.value ∙ ap (λ (f : List ℕ). record { flash = f; owns = map opened es }) (sym c.deref-2.ensures.value) in
-    let few : count_by is_placed c.deref-3.result.now ≤ 8 = subst (λ (xs : List Placed). count_by is_placed xs ≤ 8) (sym c.deref-3.ensures.0) c.placed_in-placed.ensures.few in
     let owns : length (map opened es) ≡ length processes = length-map es opened ∙ sym crew.count in
+    let drivers = c.in_ok-drivers.drivers in
+    let slow = subst (λ (s : Script). s.uart ≤ 1000) c.script.view_is c.script.invariant.uart in
+    let driven : AreDriven c.settings_of.result 0 c.in-Ok.home.owns drivers =
+    subst (λ (h : Homes). AreDriven c.settings_of.result 0 h.owns drivers) (sym home_is)
+    (subst (λ (s : Settings). AreDriven s 0 (map opened es) drivers) (sym c.settings_of.ensures) (driven_first c.args.script drivers es slow c.in_ok-drivers.ensures)) in
     record {
       seated = subst (λ (h : Homes). All (IsSeated h.flash 0) (zip processes h.owns)) (sym home_is) crew.seated;
+      lost = subst (λ (h : Homes). All (HasLost 0) h.owns) (sym home_is) (none_lost es);
       owns = ap (λ (h : Homes). length h.owns) home_is ∙ owns;
-      few = few_processes c.deref-2.result.now c.deref-3.result.now processes (map opened es) owns crew.shown few;
-      guard = record { protects = λ slot is. absurd (nobody_set slot (sym c.new-2.ensures ∙ is)) };
+      few = at_most_8 (goal.at.invariant_of-result c).After-deref-4;
+      guard = record { protects = λ slot is. absurd (nobody_set slot (sym c.new-3.ensures ∙ is)) };
+      driven = driven;
+      served = omega (arith, ap (λ (s : Storage). s.served) c.in_ok-drivers.ensures.stores);
       steps = omega arith;
       time = omega arith;
+      calm = c.calm-calm.ensures;
       slice = c.script.invariant.slice_least;
       used = omega arith;
     }
   where
+    none_lost : (fs : List Footprint) → All (HasLost 0) (map opened fs)
+    none_lost [] k d h = absurd (omega arith)
+    none_lost (f ∷ fs) zero d h = omega arith
+    none_lost (f ∷ fs) (suc k) d h = none_lost fs k d (omega arith)
+
     nobody_set : (slot : ℕ) → None ≡ Some slot → ⊥
     nobody_set slot e = cc
 
@@ -75,9 +101,14 @@ returns c =
     let placed : c.placed_in-placed.result.items ≡ places ram flash = c.placed_in-placed.ensures.places ∙ ap (places ram) c.deref.ensures.value in
     let script = c.script.inside in
     let said : Script = record { ram = script.ram; leds = script.leds; slice = script.slice; start = script.start; uart = script.uart; storage = script.storage; policy = script.policy; faults = script.faults.items; words = script.words; events = script.events } in
-    let shown = subst (λ (f : List ℕ). map (record_of f) (zip processes (map opened es)) ≡ filter_map (record_at f) c.deref-3.result.now) c.deref-2.ensures.value crew.shown in
-    opening_shown said flash c.in-Ok.home es processes c.unplaced.result
+    let residents = zip processes (map opened es) in
+    let shown = subst (λ (f : List ℕ). map (fresh_record script.storage f) residents ≡ filter_map (record_at script.storage f) c.deref-3.result.now) c.deref-2.ensures.value (crew.shown script.storage) in
+    opening_shown said flash c.in-Ok.home es processes c.unplaced.result c.settings_of.result c.in_ok-drivers.drivers
     (c.in-Ok.ensures ∙ ap (λ (xs : List Footprint). record { flash = flash; owns = map opened xs }) c.deref-4.ensures.value)
-    (shown ∙ ap (filter_map (record_at flash)) (c.deref-3.ensures.0 ∙ placed))
+    crew.count
+    (at_most_8 (goal.at.returns c).After-deref-4)
+    (shown ∙ ap (filter_map (record_at script.storage flash)) (c.deref-3.ensures.0 ∙ placed))
     (c.unplaced.ensures ∙ ap (filter_map unplaced_at) (c.deref-5.ensures.0 ∙ placed))
+    (c.settings_of.ensures ∙ ap (λ (s : Script). settings s.leds s.start s.storage s.policy) (sym c.script.view_is))
+    (subst (λ (s : Script). AreFresh s c.in_ok-drivers.drivers) (sym c.script.view_is) c.in_ok-drivers.ensures)
     ∙ ap (λ (s : _). opening s flash) c.script.view_is

@@ -1,0 +1,309 @@
+-- Device steps of a board.
+use Rattle.std.proofs.Common.{◌≡◌, ℕ, zero, suc, ◌+◌, ◌==◌, ◌<◌, ◌≤◌, Bool, true, false, cond, ◌&&◌, nat_lt, if◌then◌else◌, List, [], ◌∷◌, ◌++◌, length, map, slice_get, slice_set, slice_index_or, All, Option, None, Some, Ok, Err, IsTrue, refl, sym, ap, subst, ◌∙◌, arith}
+use Rattle.std.specs.List.{zip}
+use Rattle.std.proofs.lemmas.Bool.{false≢true}
+use Rattle.std.proofs.lemmas.Bool.Decides.{nat_tests}
+use Rattle.std.proofs.lemmas.List.{length-set, set-get_or}
+use Rattle.std.proofs.lemmas.List.Elements.{All-set, All-weaker}
+use Rattle.std.proofs.Math.Seq.{map-set_same}
+use Rattle.std.proofs.lemmas.Option.{slice_get-get_or, slice_get_within, get_or_from_slice_get}
+use Rattle.tk_base.specs.declared.limits.TheConstants.{STEP_LIMIT}
+use Rattle.tk_base.specs.declared.process.Choice.{Choice}
+use Rattle.tk_base.specs.declared.process.Choice.TheVariants.{Device}
+use Rattle.tk_base.specs.declared.process.Dev.{Dev}
+use Rattle.tk_base.specs.declared.process.ProcessId.{ProcessId}
+use Rattle.board_memory.specs.Registers.{Protect}
+use Rattle.process_layout.specs.Extents.{Extents}
+use Rattle.process_own.specs.Own.{Own}
+use Rattle.process_record.specs.Emit.{nothing}
+use Rattle.process_record.specs.declared.emit.Emit.{Emit}
+use Rattle.process_record.specs.declared.process.Process.{Process}
+use Rattle.driver_model.specs.Answers.{FollowsAnswer, Remains}
+use Rattle.driver_model.specs.Commands.{Leaves, Line, Writes, Reads, Randoms, Stores, is_same}
+use Rattle.driver_model.specs.Console.{console_reads, console_writes}
+use Rattle.driver_model.specs.Lines.{IsWithin, has_waiting}
+use Rattle.driver_model.specs.Random.{randoms}
+use Rattle.driver_model.specs.Requests.{Desk}
+use Rattle.driver_model.specs.Storage.{storages}
+use Rattle.waiting_list.specs.Waiting.{without}
+use Rattle.grant_enter.specs.Homes.{Homes, ChangesOnly, nobody, own_of}
+use Rattle.kernel_model.specs.Record.{Record}
+use Rattle.kernel_model.specs.Turn.{Event, apply}
+use Rattle.kernel_model.specs.World.{Answer, Answered, Deed, Printed, World, after, can_act, deed_of, done, is_ready, labels, may_be_made, printing, records_after, stepped, told_to, unmade}
+use Rattle.kernel_model.specs.Shown.{shown_by}
+use Rattle.board_core.specs.declared.board.Board.TheInside.{Inside}
+use Rattle.board_core.specs.declared.drivers.Drivers.{Drivers}
+use Rattle.board_core.specs.declared.guard.Guard.{Guard}
+use Rattle.board_core.specs.Calm.{IsCalm}
+use Rattle.board_core.specs.Driven.{AreDriven, IsLine, devices_of}
+use Rattle.board_core.specs.Guards.{GuardsOnly}
+use Rattle.board_core.specs.Makes.{Makes, shown_printed}
+use Rattle.board_core.specs.Residents.{ChangesAt, HasLost, IsSeated, Resident, record_of}
+use Rattle.board_core.specs.Shows.{IsBoard, world_of, residents}
+use Rattle.board_core.proofs.Pairs.{zip-get}
+use Rattle.board_core.proofs.Lines.{line_after}
+use Rattle.board_core.proofs.Changes.{a_step_later, as_many_owns, beside, bytes_of, changed_records, found, still_seated, with_step}
+
+-- what a slot's process has lost
+pub lost_there : (steps : ℕ) (home : Homes) (slot : ℕ) → All (HasLost steps) home.owns → (own_of home slot).dropped ≤ steps
+lost_there steps home slot lost = of_each home.owns slot lost
+  where
+    past : (owns : List Own) (k : ℕ) → length owns ≤ k → (slice_index_or owns k nobody).dropped ≡ 0
+    past [] k h = refl
+    past (o ∷ owns) zero h = absurd (omega arith)
+    past (o ∷ owns) (suc k) h = past owns k (omega arith)
+
+    of_each : (owns : List Own) (k : ℕ) → All (HasLost steps) owns → (slice_index_or owns k nobody).dropped ≤ steps
+    of_each owns k all = by_place (nat_lt k (length owns)) refl
+      where
+        by_place : (b : Bool) → nat_lt k (length owns) ≡ b → (slice_index_or owns k nobody).dropped ≤ steps
+        by_place true e = all k nobody (let h : k < length owns = grind (arith, nat_tests) in h)
+        by_place false e = let h : length owns ≤ k = grind (arith, nat_tests) in omega (arith, past owns k h)
+
+-- each slot's layout stays, so whom the registers protect they protect still
+pub still_guards : (guard : Guard) (home home_after : Homes) (slot : ℕ) → ChangesOnly slot home home_after → (own_of home_after slot).layout ≡ (own_of home slot).layout → GuardsOnly guard home → GuardsOnly guard home_after
+still_guards guard home home_after slot only same guards = record {
+  protects = λ s is. subst (Protect guard.pmp) (sym (layout_of s)) (guards.protects s is);
+}
+  where
+    layouts : map (λ (o : Own). o.layout) home_after.owns ≡ map (λ (o : Own). o.layout) home.owns
+    layouts = ap (λ (h : Homes). map (λ (o : Own). o.layout) h.owns) only ∙ map-set_same (λ (o : Own). o.layout) home.owns slot (own_of home_after slot) nobody same
+
+    in_place : (h : Homes) (s : ℕ) → (own_of h s).layout ≡ slice_index_or (map (λ (o : Own). o.layout) h.owns) s nobody.layout
+    in_place h s = of_each h.owns s
+      where
+        of_each : (owns : List Own) (k : ℕ) → (slice_index_or owns k nobody).layout ≡ slice_index_or (map (λ (o : Own). o.layout) owns) k nobody.layout
+        of_each [] k = refl
+        of_each (o ∷ owns) zero = refl
+        of_each (o ∷ owns) (suc k) = of_each owns k
+
+    layout_of : (s : ℕ) → (own_of home_after s).layout ≡ (own_of home s).layout
+    layout_of s = in_place home_after s ∙ ap (λ (es : List Extents). slice_index_or es s nobody.layout) layouts ∙ sym (in_place home s)
+
+pub lost_where : (steps : ℕ) (owns : List Own) (slot : ℕ) (own : Own) → slice_get owns slot ≡ Some own → All (HasLost steps) owns → own.dropped ≤ steps
+lost_where steps owns slot own was lost =
+    subst (HasLost steps) (get_or_from_slice_get owns slot own own was) (lost slot own (slice_get_within owns slot own was))
+
+-- each process lost at most one upcall more
+pub still_lost : (steps slot : ℕ) (home home_after : Homes) (own : Own) → home_after ≡ record home { owns = slice_set home.owns slot own } → own.dropped ≤ steps + 1 → All (HasLost steps) home.owns → All (HasLost (steps + 1)) home_after.owns
+still_lost steps slot home home_after own only few lost =
+    subst (λ (h : Homes). All (HasLost (steps + 1)) h.owns) (sym only)
+    (All-set (HasLost (steps + 1)) home.owns slot own few (All-weaker (HasLost steps) (HasLost (steps + 1)) (λ o h. omega (arith, h)) home.owns lost))
+
+-- a device that may act is ready, below the limit of steps
+pub may_act : (w : World) (device : Dev) → w.clock.steps < STEP_LIMIT → can_act w device ≡ true → IsTrue (is_ready w (Device device))
+unfolding may_be_made
+may_act w device below e = subst (λ (c : Bool). IsTrue (nat_lt w.clock.steps STEP_LIMIT && c)) (sym e) under
+  where
+    under : IsTrue (nat_lt w.clock.steps STEP_LIMIT && true)
+    under = grind (arith, nat_tests)
+
+-- What a device told the process in a slot, as the board has it: it follows what the device answered; the process left those
+-- lists, and no other; and it is the deed of that device in the world.
+pub record Told (b : Inside) (device : Dev) (slot : ℕ) (printed : List ℕ) (home : Homes) (d : Drivers) : Type 0 where
+  pub process : Process
+  pub was : slice_get b.processes.items slot ≡ Some process
+  pub there : slot < length b.home.owns
+  pub only : ChangesOnly slot b.home home
+  pub left : Line → Bool
+  pub follows : FollowsAnswer left (own_of b.home slot) (own_of home slot)
+  pub writes : d.console.writes ≡ (if left Writes then without slot b.drivers.console.writes else b.drivers.console.writes)
+  pub reads : d.console.reads ≡ (if left Reads then without slot b.drivers.console.reads else b.drivers.console.reads)
+  pub randoms : d.random ≡ (if left Randoms then without slot b.drivers.random else b.drivers.random)
+  pub stores : d.storage ≡ (if left Stores then without slot b.drivers.storage else b.drivers.storage)
+  pub leds : length d.leds ≡ length b.drivers.leds
+  pub size : d.stores.size ≡ b.drivers.stores.size
+  pub ticks : d.uart.ticks ≡ b.drivers.uart.ticks
+  pub free : d.uart.free ≤ b.moment.time + 64000
+  pub counts : d.stores.served ≤ b.drivers.stores.served + 1
+  pub bytes : List ℕ
+  pub storage : d.stores.slots ≡ slice_set b.drivers.stores.slots slot bytes
+  pub event : Event
+  pub may : can_act (world_of b) device ≡ true
+  pub deed : deed_of (world_of b) device ≡ Some (record { told = Some (record { slot = slot; event = event }); printed = printed; devices = devices_of d })
+  pub tells : apply b.moment.settings event (record_of b.home.flash ((process, own_of b.home slot), bytes_of b.drivers.stores.slots slot)) ≡ record_of b.home.flash ((process, own_of home slot), bytes)
+
+-- there is one at each place of a list
+pub found_at : {X : Type 0} (xs : List X) (i : ℕ) → i < length xs → (x : X) × (slice_get xs i ≡ Some x)
+found_at [] i h = absurd (omega (arith, h))
+found_at (x ∷ xs) zero h = (x, refl)
+found_at (x ∷ xs) (suc i) h = found_at xs i (omega (arith, h))
+
+-- a step that printed bytes shows them
+printed_shown : (slot : ℕ) (event : Event) (bytes : List ℕ) → shown_printed slot bytes ≡ shown_by (Answered slot event ∷ printing slot bytes)
+unfolding shown_by
+printed_shown slot event [] = refl
+printed_shown slot event (byte ∷ bytes) = by_length (length (byte ∷ bytes) == 0) refl
+  where
+    append_none : (xs : List ℕ) → xs ≡ xs ++ []
+    append_none [] = refl
+    append_none (x ∷ xs) = ap (λ (ys : List ℕ). x ∷ ys) (append_none xs)
+
+    none_is : (length (byte ∷ bytes) == 0) ≡ false
+    none_is = grind (arith, nat_tests)
+
+    by_length : (b : Bool) → (length (byte ∷ bytes) == 0) ≡ b → shown_printed slot (byte ∷ bytes) ≡ shown_by (Answered slot event ∷ printing slot (byte ∷ bytes))
+    by_length true e = absurd (false≢true (sym none_is ∙ e))
+    by_length false e =
+        ap (λ (c : Bool). record nothing { slot = if c then None else Some slot; printed = record { items = byte ∷ bytes } }) e
+        ∙ ap (λ (xs : List ℕ). record nothing { slot = Some slot; printed = record { items = xs } }) (append_none (byte ∷ bytes))
+        ∙ sym (ap (λ (c : Bool). shown_by (Answered slot event ∷ (if c then [] else Printed slot (byte ∷ bytes) ∷ []))) e)
+
+-- A list is that of those with a request, after an answer to one of them.
+left_line : {R : Type 0} (desk : Desk R) (left : Bool) (ids ids' : List ProcessId) (owns : List Own) (slot : ℕ) (own o : Own)
+    → ((x y : List ProcessId) → cond (is_same desk.line desk.line) x y ≡ x) → ((x y : Bool) → cond (is_same desk.line desk.line) x y ≡ x)
+    → IsLine desk ids owns → slice_get owns slot ≡ Some own
+    → has_waiting desk o ≡ (if left then false else has_waiting desk own) → o.life ≡ own.life
+    → ids' ≡ (if left then without slot ids else ids)
+    → IsLine desk ids' (slice_set owns slot o)
+left_line desk true ids ids' owns slot own o is is_b line was waits life e =
+    subst (λ (xs : List ProcessId). IsLine desk xs (slice_set owns slot o)) (is (without slot ids) ids ∙ sym e)
+    (line_after desk ids owns slot own o (Leaves desk.line ∷ []) line was (waits ∙ sym (is_b false (has_waiting desk own))) (λ w. life))
+left_line desk false ids ids' owns slot own o is is_b line was waits life e =
+    subst (λ (xs : List ProcessId). IsLine desk xs (slice_set owns slot o)) (sym e)
+    (line_after desk ids owns slot own o [] line was waits (λ w. life))
+
+-- a process that remains is seated a step later
+remains_seated : (flash : List ℕ) (steps : ℕ) (process : Process) (own o : Own) → Remains own o → IsSeated flash steps (process, own) → IsSeated flash (steps + 1) (process, o)
+remains_seated flash steps process own o rest s = subst (λ (x : Own). IsSeated flash (steps + 1) (process, x)) (sym rest) (record {
+  own = record { object = s.own.object; object_is = s.own.object_is; lives = s.own.lives; life = s.own.life };
+  turns = omega (arith, s.turns);
+  restarts = omega (arith, s.restarts);
+})
+
+-- the process in a slot is seated
+pub seated_there : (flash : List ℕ) (n : ℕ) (ps : List Process) (owns : List Own) (slot : ℕ) (r : Resident) → slice_get ps slot ≡ Some r.0 → slice_get owns slot ≡ Some r.1 → All (IsSeated flash n) (zip ps owns) → IsSeated flash n r
+seated_there flash n ps owns slot r was own_was all =
+    let pair : slice_get (zip ps owns) slot ≡ Some (r.0, r.1) = zip-get ps owns slot r.0 r.1 was own_was in
+    subst (IsSeated flash n) (get_or_from_slice_get (zip ps owns) slot r r pair) (all slot r (slice_get_within (zip ps owns) slot r pair))
+
+module _ (b : Inside) (device : Dev) (slot : ℕ) (printed : List ℕ) (home : Homes) (d : Drivers) (t : Told b device slot printed home d) (h : IsBoard b) where
+  own_was : slice_get b.home.owns slot ≡ Some (own_of b.home slot)
+  own_was = slice_get-get_or b.home.owns slot nobody t.there
+
+  -- the change of its process
+  pub told_at : ChangesAt slot b.home home b.processes.items b.processes.items
+  told_at = record {
+    before = (t.process, own_of b.home slot);
+    after = (t.process, own_of home slot);
+    was = t.was;
+    own_was = own_was;
+    is = sym (same b.processes.items slot t.process t.was);
+    own_is = t.only;
+  }
+    where
+      same : (ps : List Process) (i : ℕ) (p : Process) → slice_get ps i ≡ Some p → slice_set ps i p ≡ ps
+      same ps i p was = ap (slice_set ps i) (sym (get_or_from_slice_get ps i p p was)) ∙ set-get_or ps i p
+
+  few : length (residents b) ≤ length b.drivers.stores.slots
+  few = beside b.processes.items b.home.owns b.drivers.stores.slots h.owns h.few h.driven.slots
+
+  told_found : slice_get (world_of b).records slot ≡ Some (record_of b.home.flash ((t.process, own_of b.home slot), bytes_of b.drivers.stores.slots slot))
+  unfolding told_at
+  told_found = found slot b.home home b.processes.items b.processes.items told_at b.drivers.stores.slots few
+
+  -- the world after it
+  pub world_told : with_step b (map (record_of home.flash) (zip (zip b.processes.items home.owns) d.stores.slots)) (devices_of d) (a_step_later b.moment) b.present b.used ≡ after (world_of b) (Device device)
+  unfolding stepped told_at
+  world_told =
+      let w = world_of b in
+      let answer : Answer = record { slot = slot; event = t.event } in
+      let deed : Deed = record { told = Some answer; printed = printed; devices = devices_of d } in
+      let changed : map (record_of home.flash) (zip (zip b.processes.items home.owns) d.stores.slots) ≡ slice_set w.records slot (record_of b.home.flash ((t.process, own_of home slot), t.bytes)) =
+      ap (λ (s : List (List ℕ)). map (record_of home.flash) (zip (zip b.processes.items home.owns) s)) t.storage
+      ∙ changed_records slot b.home home b.processes.items b.processes.items told_at b.drivers.stores.slots t.bytes in
+      let records : map (record_of home.flash) (zip (zip b.processes.items home.owns) d.stores.slots) ≡ records_after w (Some answer) =
+      changed ∙ ap (slice_set w.records slot) (sym t.tells) ∙ sym (ap (told_to w answer) told_found) in
+      ap (λ (rs : List Record). with_step b rs (devices_of d) (a_step_later b.moment) b.present b.used) records
+      ∙ sym (ap (λ (c : Bool). (if c then done w (deed_of w device) else unmade w).after) t.may ∙ ap (λ (o : Option Deed). (done w o).after) t.deed)
+
+  -- what it shows
+  pub told_shown : shown_printed slot printed ≡ shown_by (labels (world_of b) (Device device))
+  unfolding stepped
+  told_shown =
+      let w = world_of b in
+      printed_shown slot t.event printed
+      ∙ sym (ap (λ (c : Bool). shown_by (if c then done w (deed_of w device) else unmade w).labels) t.may ∙ ap (λ (o : Option Deed). shown_by (done w o).labels) t.deed)
+
+  -- it may be made below the limit of steps
+  pub may_tell : b.moment.steps < STEP_LIMIT → IsTrue (is_ready (world_of b) (Device device))
+  may_tell below = may_act (world_of b) device below t.may
+
+  told_owns : home.owns ≡ slice_set b.home.owns slot (own_of home slot)
+  told_owns = ap (λ (x : Homes). x.owns) t.only
+
+  own_life : (own_of home slot).life ≡ (own_of b.home slot).life
+  own_life = ap (λ (o : Own). o.life) t.follows.rest
+
+  -- who waits has a request then, and no other
+  told_driven : AreDriven b.moment.settings b.moment.time home.owns d
+  told_driven = subst (λ (owns : List Own). AreDriven b.moment.settings b.moment.time owns d) (sym told_owns) (record {
+    writes = left_line console_writes (t.left Writes) b.drivers.console.writes d.console.writes b.home.owns slot (own_of b.home slot) (own_of home slot) (λ x y. refl) (λ x y. refl) h.driven.writes own_was t.follows.lines.writes own_life t.writes;
+    reads = left_line console_reads (t.left Reads) b.drivers.console.reads d.console.reads b.home.owns slot (own_of b.home slot) (own_of home slot) (λ x y. refl) (λ x y. refl) h.driven.reads own_was t.follows.lines.reads own_life t.reads;
+    randoms = left_line randoms (t.left Randoms) b.drivers.random d.random b.home.owns slot (own_of b.home slot) (own_of home slot) (λ x y. refl) (λ x y. refl) h.driven.randoms own_was t.follows.lines.randoms own_life t.randoms;
+    stores = left_line storages (t.left Stores) b.drivers.storage d.storage b.home.owns slot (own_of b.home slot) (own_of home slot) (λ x y. refl) (λ x y. refl) h.driven.stores own_was t.follows.lines.stores own_life t.stores;
+    within = All-set (IsWithin b.moment.settings.storage) b.home.owns slot (own_of home slot) (t.follows.within b.moment.settings.storage (h.driven.within slot nobody t.there)) h.driven.within;
+    leds = t.leds ∙ h.driven.leds;
+    size = t.size ∙ h.driven.size;
+    slots = ap length t.storage ∙ length-set b.drivers.stores.slots slot t.bytes ∙ h.driven.slots;
+    ticks = omega (arith, t.ticks, h.driven.ticks);
+    free = t.free;
+  })
+
+  -- what always holds of a board holds then
+  pub told_board : (calm : ℕ) → b.moment.steps < STEP_LIMIT → IsCalm b.moment.settings.start b.moment.time calm home.owns d → IsBoard (record b { home = home; drivers = d; moment = a_step_later b.moment; calm = calm })
+  unfolding told_at
+  told_board calm below quiet = record {
+    seated = still_seated slot b.home home b.processes.items b.processes.items told_at b.moment.steps (remains_seated b.home.flash b.moment.steps t.process (own_of b.home slot) (own_of home slot) t.follows.rest (seated_there b.home.flash b.moment.steps b.processes.items b.home.owns slot (t.process, own_of b.home slot) t.was own_was h.seated)) h.seated;
+    lost = still_lost b.moment.steps slot b.home home (own_of home slot) t.only (omega (arith, t.follows.dropped.not_more, lost_there b.moment.steps b.home slot h.lost)) h.lost;
+    owns = as_many_owns slot b.home home b.processes.items b.processes.items told_at ∙ h.owns;
+    few = h.few;
+    guard = still_guards b.guard b.home home slot t.only (ap (λ (o : Own). o.layout) t.follows.rest) h.guard;
+    driven = told_driven;
+    served = omega (arith, t.counts, h.served);
+    steps = omega (arith, below);
+    time = omega (arith, h.time);
+    calm = quiet;
+    slice = h.slice;
+    used = h.used;
+  }
+
+-- a choice that is not ready is refused
+pub unready : (w : World) (choice : Choice) → is_ready w choice ≡ false → (◌≡◌ {A = Bool} false true → IsTrue (is_ready w choice)) × (IsTrue (is_ready w choice) → ◌≡◌ {A = Bool} false true)
+unready w choice not_ready = (λ e. absurd (false≢true e), λ h. absurd (false≢true (sym not_ready ∙ true_is (is_ready w choice) h)))
+  where
+    true_is : (b : Bool) → IsTrue b → b ≡ true
+    true_is true h = refl
+    true_is false h = cc
+
+-- and one that is ready is made
+pub ready_now : (w : World) (choice : Choice) → IsTrue (is_ready w choice) → (◌≡◌ {A = Bool} true true → IsTrue (is_ready w choice)) × (IsTrue (is_ready w choice) → ◌≡◌ {A = Bool} true true)
+ready_now w choice is = (λ e. is, λ h. refl)
+
+-- at the limit of steps nothing is
+pub over_limit : (w : World) (choice : Choice) → STEP_LIMIT ≤ w.clock.steps → is_ready w choice ≡ false
+over_limit w choice h = at_limit (may_be_made w choice)
+  where
+    at_limit : (c : Bool) → (nat_lt w.clock.steps STEP_LIMIT && c) ≡ false
+    at_limit c = grind (arith, nat_tests)
+
+-- a choice that may not be made, in a world that a board shows, is refused
+pub refused_so : (u v w : World) (choice : Choice) (emit : Emit) → v ≡ u → u ≡ w → is_ready u choice ≡ false → Makes choice w v emit emit (Err (record {}))
+refused_so u v w choice emit stays is not_ready =
+    subst (λ (x : World). Makes choice x v emit emit (Err (record {}))) is
+    (record { ready = unready u choice not_ready; ok = tt; shown = tt; refused = (stays, refl) })
+
+-- and one that may is made
+pub made_so : (v w v' : World) (choice : Choice) (emit emit' : Emit) → v ≡ w → IsTrue (is_ready v choice) → v' ≡ after v choice → emit' ≡ shown_by (labels v choice) → Makes choice w v' emit emit' (Ok tt)
+made_so v w v' choice emit emit' is ready made shown =
+    subst (λ (x : World). Makes choice x v' emit emit' (Ok tt)) is
+    (record { ready = ready_now v choice ready; ok = made; shown = shown; refused = tt })
+
+-- a device that may not act is not ready
+pub not_acting : (w : World) (device : Dev) → can_act w device ≡ false → is_ready w (Device device) ≡ false
+unfolding may_be_made
+not_acting w device e = ap (λ (c : Bool). nat_lt w.clock.steps STEP_LIMIT && c) e ∙ never (nat_lt w.clock.steps STEP_LIMIT)
+  where
+    never : (c : Bool) → (c && false) ≡ false
+    never true = refl
+    never false = refl

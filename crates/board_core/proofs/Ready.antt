@@ -1,0 +1,49 @@
+-- Which device steps of a board are ready, and when the next one becomes so.
+use Rattle.std.proofs.Common.{◌≡◌, ℕ, ◌+◌, Bool, false, List, [], ◌∷◌, is_some, Ok, IsTrue, refl, sym, ap, ◌∙◌}
+use Rattle.std.specs.Option.{option_map}
+use Rattle.board_devices.specs.Arriving.{next_time as arrival_time}
+use Rattle.board_devices.specs.Clock.{clock_at}
+use Rattle.process_own.specs.Own.{Own}
+use Rattle.driver_model.specs.Alarm.{nearer, next_left}
+use Rattle.tk_base.specs.declared.process.Choice.TheVariants.{Pass}
+use Rattle.process_record.specs.Emit.{nothing}
+use Rattle.process_record.specs.declared.emit.Emit.{Emit}
+use Rattle.kernel_model.specs.Shown.{shown_by}
+use Rattle.kernel_model.specs.World.{World, after, is_ready, owns_in, stepped}
+use Rattle.kernel_model.specs.Run.{next_time, ready_devices, sending_time}
+use Rattle.board_core.specs.declared.board.Board.TheInside.{Inside}
+use Rattle.board_core.specs.Calm.{IsCalmAt}
+use Rattle.board_core.specs.Driven.{devices_of}
+use Rattle.board_core.specs.Makes.{Makes, ready_in}
+use Rattle.board_core.specs.Shows.{IsBoard, world_of}
+use Rattle.board_core.proofs.Boards.{has_storage, owns_shown}
+
+module _ (b : Inside) (board : IsBoard b) where
+  -- what the owns of the world that a board shows are
+  pub owns_in_world : owns_in (world_of b) ≡ b.home.owns
+  owns_in_world = owns_shown b.home.flash b.processes.items b.home.owns b.drivers.stores.slots board.owns (has_storage b board)
+
+  -- the nearest time at which a device step becomes ready by itself
+  pub next_shown : nearer (arrival_time b.drivers.arrivals) (nearer (option_map (λ n. b.moment.time + n) (next_left (clock_at b.moment.settings.start b.moment.time) b.home.owns)) (sending_time (devices_of b.drivers))) ≡ next_time (world_of b)
+  next_shown = ap (λ (owns : List Own). nearer (arrival_time b.drivers.arrivals) (nearer (option_map (λ n. b.moment.time + n) (next_left (clock_at b.moment.settings.start b.moment.time) owns)) (sending_time (devices_of b.drivers)))) (sym owns_in_world)
+
+  -- which device steps are ready
+  pub devices_shown : ready_in b.moment b.home.owns b.drivers ≡ ready_devices (world_of b)
+  devices_shown = ap (λ (owns : List Own). ready_in b.moment owns b.drivers) (sym owns_in_world)
+
+  six : {event alarm uart receive random store e a u v r s : Bool} → event ≡ e → alarm ≡ a → uart ≡ u → receive ≡ v → random ≡ r → store ≡ s → event ∷ alarm ∷ uart ∷ receive ∷ random ∷ store ∷ [] ≡ e ∷ a ∷ u ∷ v ∷ r ∷ s ∷ []
+  six f g h i j k = cc
+
+  -- as long as it is calm no device step is ready
+  pub calm_shown : IsCalmAt b.moment.settings.start b.moment.time b.home.owns b.drivers → ready_devices (world_of b) ≡ false ∷ false ∷ false ∷ false ∷ false ∷ false ∷ []
+  calm_shown calm = sym devices_shown ∙ six calm.sends.event (ap is_some calm.alarm) calm.sends.uart calm.serves.receive calm.serves.random calm.serves.store
+
+-- the world after so many ticks
+pub passes : (b : Inside) (w : World) (ticks n : ℕ) (before after_it : Emit) → world_of b ≡ w → n ≡ ticks → IsTrue (is_ready w (Pass ticks)) → after_it ≡ nothing → Makes (Pass ticks) w (world_of (record b { moment = record b.moment { time = b.moment.time + n; steps = b.moment.steps + 1 } })) before after_it (Ok tt)
+unfolding stepped shown_by
+passes b w ticks n before after_it view is ready hidden = record {
+  ready = (λ e. ready, λ h. refl);
+  ok = ap (λ (k : ℕ). world_of (record b { moment = record b.moment { time = b.moment.time + k; steps = b.moment.steps + 1 } })) is ∙ ap (λ (x : World). after x (Pass ticks)) view;
+  shown = hidden;
+  refused = tt;
+}

@@ -1,0 +1,38 @@
+-- A step of a board that shows a world.
+use Rattle.std.specs.Prelude.{◌≡◌, ◌↔◌, ℕ, ◌==◌, if◌then◌else◌, Bool, List, [], ◌∷◌, length, not, ◌&&◌, nat_le, is_some, None, Some, Result, IsOk, IsTrue, OnOk, OnErr}
+use Rattle.tk_base.specs.declared.process.Choice.{Choice}
+use Rattle.process_record.specs.declared.emit.Emit.{Emit}
+use Rattle.process_record.specs.Emit.{nothing}
+use Rattle.board_devices.specs.Arriving.{is_time}
+use Rattle.board_devices.specs.Clock.{clock_at}
+use Rattle.process_own.specs.Own.{Own}
+use Rattle.driver_model.specs.Alarm.{due_slot}
+use Rattle.kernel_model.specs.World.{World, after, is_ready, is_waited_for, labels}
+use Rattle.kernel_model.specs.Shown.{shown_by}
+use Rattle.board_core.specs.declared.board.NotReady.{NotReady}
+use Rattle.board_core.specs.declared.drivers.Drivers.{Drivers}
+use Rattle.board_core.specs.declared.moment.Moment.{Moment}
+use Rattle.board_core.specs.Driven.{slots_of}
+
+-- A choice that may be made is made: the world is the next one, and what it tells is shown. Any other is refused, and
+-- nothing changes.
+pub record Makes (choice : Choice) (old new : World) (before after_it : Emit) (result : Result Unit NotReady) : Type 0 where
+  pub ready : IsOk result ↔ IsTrue (is_ready old choice)
+  pub ok : OnOk result (new ≡ after old choice)
+  pub shown : OnOk result (after_it ≡ shown_by (labels old choice))
+  pub refused : OnErr result ((new ≡ old) × (after_it ≡ before))
+
+-- what a step shows that printed bytes for a slot's process
+abbrev pub shown_printed : ℕ → List ℕ → Emit
+shown_printed slot bytes = record nothing { slot = if length bytes == 0 then None else Some slot; printed = record { items = bytes } }
+
+-- which device steps are ready at a moment
+abbrev pub ready_in : Moment → List Own → Drivers → List Bool
+ready_in m owns d =
+    is_time m.time d.arrivals
+    ∷ is_some (due_slot (clock_at m.settings.start m.time) owns)
+    ∷ (is_waited_for (slots_of d.console.writes) && nat_le d.uart.free m.time)
+    ∷ (is_waited_for (slots_of d.console.reads) && not (length d.uart.ring == 0))
+    ∷ is_waited_for (slots_of d.random)
+    ∷ is_waited_for (slots_of d.storage)
+    ∷ []

@@ -1,0 +1,141 @@
+//! The drivers of the board.
+ghost use Rattle.std.specs.Prelude.{◌≡◌, ◌+◌, ◌<◌, ◌^◌, ◌↔◌, ℕ, false, length, IfOk, IfSome};
+ghost use Rattle.board_devices.specs.Arriving.{next_time};
+ghost use Rattle.driver_model.specs.Commands.{gone};
+ghost use Rattle.grant_enter.specs.Homes.{own_of, ChangesOnly};
+ghost use Rattle.grant_enter.specs.Visits.{is_stale};
+ghost use Rattle.kernel_model.specs.Run.{sending_time};
+ghost use Rattle.board_core.specs.Calm.{ServesNobody};
+ghost use Rattle.board_core.specs.Driven.{AreFresh, Commands, Drives, IsTaken, MayAsk, devices_of};
+
+use board_devices::{Arrivals, Leds, Stores, Uart, Words};
+use console_capsule::ConsoleCapsule;
+use driver_model::drivers_ask_for_their_own;
+use grant_enter::Home;
+use grant_values::{ALARM, CONSOLE, LED, RANDOM};
+use random_capsule::RandomCapsule;
+use script_text::Script;
+use std::alloc::Global;
+use storage_capsule::StorageCapsule;
+use syscall_abi::Reply;
+use tk_base::{CallRule, ProcessId, Slot};
+use tk_outside::NoMemory;
+
+/// The drivers that have processes wait, each with who waits for it, and the devices that they serve.
+#[derive(Drop)]
+pub struct Drivers {
+    pub console: ConsoleCapsule,
+    pub random: RandomCapsule,
+    pub storage: StorageCapsule,
+    pub uart: Uart,
+    pub leds: Leds,
+    pub arrivals: Arrivals,
+    pub words: Words,
+    pub stores: Stores,
+}
+
+/// A command to a driver.
+#[derive(Clone, Copy, Debug)]
+pub struct Order {
+    pub driver: u32,
+    pub number: u32,
+    pub a2: u32,
+    pub a3: u32,
+}
+
+impl Drivers {
+    /// The drivers and devices under a script, before the first step: nobody waits. The one error is want of
+    /// memory.
+    pub fn new(alloc: Global, script: Script) -> Result<Drivers, NoMemory>
+        ensures { IfOk result (AreFresh script) }
+    {
+        let uart = Uart::new(alloc, script.uart)?;
+        let stores = Stores::new(alloc, script.storage, script.faults)?;
+        Ok(Drivers {
+            console: ConsoleCapsule::new(),
+            random: RandomCapsule::new(),
+            storage: StorageCapsule::new(),
+            uart,
+            leds: Leds::new(script.leds),
+            arrivals: Arrivals::new(script.events),
+            words: Words::new(script.words),
+            stores,
+        })
+    }
+
+    /// The process of a slot ended, or starts again: it waits in no list any more.
+    pub fn gone(&mut self, slot: Slot)
+        ensures { (life : ℕ) → Drives (record { slot = slot; life = life }) gone self.old self.new }
+    {
+        self.console.gone(slot);
+        self.random.gone(slot);
+        self.storage.gone(slot);
+    }
+
+    /// Whether a process waits for bytes that came in, for random bytes or for the storage: its device acts at
+    /// once.
+    pub fn is_busy(&self) -> bool
+        ensures { (result ≡ false) ↔ ServesNobody self.now }
+    {
+        let reads = self.console.has_reads() && self.uart.held() > 0;
+        reads || self.random.is_waited_for() || self.storage.is_waited_for()
+    }
+
+    /// The time at which the next bytes come in, if any are to.
+    pub fn arrival_time(&self) -> Option<u64>
+        ensures at { result ≡ next_time self.now.arrivals }
+        ensures near { IfSome result (λ at. at < 2 ^ 32) }
+    {
+        let at = self.arrivals.next_time()?;
+        Some(u64::from(at))
+    }
+
+    /// The time from which on the UART is free, if a write waits for it.
+    pub fn sending_time(&self) -> Option<u64>
+        ensures { result ≡ sending_time (devices_of self.now) }
+    {
+        if self.console.has_writes() {
+            Some(self.uart.free())
+        } else {
+            None
+        }
+    }
+
+    /// Has the driver of a command of the process of an id serve it, when the alarm's clock shows a tick: the
+    /// reply, or the rule that refuses it. It asks that the driver takes commands, and that the process is
+    /// there, and waits only where it has a request.
+    pub fn command(
+        &mut self,
+        home: &mut Home,
+        tick: u32,
+        id: ProcessId,
+        order: &Order,
+    ) -> Result<Reply, CallRule>
+        requires slot { id.slot < length home.old.owns }
+        requires present { is_stale id.life (own_of home.old id.slot) ≡ false }
+        requires dropped { (own_of home.old id.slot).dropped + 1 < 2 ^ 32 }
+        requires lines { MayAsk self.old id.slot (own_of home.old id.slot) }
+        requires driver { IsTaken order.now }
+        ensures comes { Commands tick id order.now self.old (own_of home.old id.slot)
+            result (own_of home.new id.slot) self.new }
+        ensures rest { ChangesOnly id.slot home.old home.new }
+    {
+        drivers_ask_for_their_own();
+        let Order {
+            driver,
+            number,
+            a2,
+            a3,
+        } = *order;
+        match driver {
+            ALARM => alarm_capsule::command(home, tick, id, number, a2, a3),
+            CONSOLE => self.console.command(home, id, number, a2),
+            LED => led_capsule::command(&mut self.leds, number, a2),
+            RANDOM => self.random.command(home, id, number, a2),
+            _ => {
+                let size = self.stores.size();
+                self.storage.command(home, size, id, number, a2, a3)
+            }
+        }
+    }
+}

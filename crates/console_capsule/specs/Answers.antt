@@ -1,0 +1,43 @@
+-- What the console answers (Tock's driver 0x1).
+use Rattle.std.specs.Prelude.{ℕ, ◌==◌, ◌||◌, nat_lt, Bool, List, drop, length, slice_get, is_none}
+use Rattle.tk_base.specs.declared.process.ProcessId.{ProcessId}
+use Rattle.board_devices.specs.SerialLine.{SerialLine}
+use Rattle.grant_enter.specs.Homes.{Homes, own_of}
+use Rattle.driver_model.specs.Console.{free_after, received, sent}
+use Rattle.driver_requests.specs.Answers.{Answered}
+
+-- the UART, and the bytes that were printed
+pub record Printing : Type 0 where
+  pub line : SerialLine
+  pub printed : List ℕ
+
+-- whether the UART can take nothing at a time: no write waits, or it is not free yet
+abbrev pub cannot_send : List ProcessId → SerialLine → ℕ → Bool
+cannot_send ids line time = is_none (slice_get ids 0) || nat_lt time line.free
+
+-- whether it can give nothing: no read waits, or nothing came in
+abbrev pub cannot_give : List ProcessId → SerialLine → Bool
+cannot_give ids line = is_none (slice_get ids 0) || length line.ring == 0
+
+-- the step of the write of the process of an id, at a time
+abbrev pub sent_by : SerialLine → ℕ → Homes → ProcessId → Answered Printing
+sent_by line time home id =
+    let s = sent home.flash id.life (own_of home id.slot) in
+    record {
+      own = s.own;
+      device = record {
+        line = record line { free = free_after time line.ticks s.printed line.free };
+        printed = s.printed;
+      };
+      completed = s.completed;
+    }
+
+-- the step of the read of the process of an id
+abbrev pub received_by : SerialLine → Homes → ProcessId → Answered SerialLine
+received_by line home id =
+    let r = received line.ring id.life (own_of home id.slot) in
+    record {
+      own = r.own;
+      device = record line { ring = drop (length r.moved) line.ring };
+      completed = r.completed;
+    }

@@ -1,0 +1,4 @@
+pub mod Waiting
+pub mod Sending
+pub mod Receiving
+pub mod Answers

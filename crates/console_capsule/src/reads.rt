@@ -1,0 +1,150 @@
+//! Reads: bytes that came in are moved into the buffer of the one that waits longest.
+ghost use Rattle.std.specs.Prelude.{◌≡◌, ◌==◌, ◌+◌, ◌<◌, ◌^◌, if◌then◌else◌, min, drop, length, take, IfSome, is_some, true};
+ghost use Rattle.tk_base.specs.Call.{code_of};
+ghost use Rattle.grant_enter.specs.Homes.{own_of, ChangesOnly};
+ghost use Rattle.grant_enter.specs.Seen.{Framed, IsLent, own_entered};
+ghost use Rattle.process_own.specs.Served.{over};
+ghost use Rattle.driver_model.specs.Requests.{waiting_of};
+ghost use Rattle.driver_model.specs.Console.{console_reads, moving, read_status, received, receiving};
+ghost use Rattle.console_capsule.specs.Receiving.{told_input, written_input};
+
+use crate::grants::consoles;
+use board_devices::Uart;
+use driver_requests::has_request;
+use grant_enter::{Entered, Home, Visit, a_buffer_is_written, buffers_are_whole, frames_join};
+use grant_values::{Console, WaitingRead};
+use tk_base::{ErrorCode, ProcessId};
+
+/// Moves bytes that came in to the read that waits, which completes. It hands the UART back.
+#[derive(Drop)]
+struct Receive<'a> {
+    uart: &'a mut Uart,
+}
+
+impl<'a> Visit<Console> for Receive<'a> {
+    ghost use Rattle.std.specs.Prelude.{◌≡◌, ◌+◌, ◌<◌, ◌^◌};
+    ghost use Rattle.console_capsule.specs.Receiving.{Receives};
+
+    type Answer = &'a mut Uart;
+
+    ghost asks = { λ receive value seen. (seen.driver ≡ 0x1) × (2 < seen.counts.upcalls)
+        × (1 < seen.counts.rw) × (seen.own.dropped + 1 < 2 ^ 32) };
+
+    ghost leaves = { λ receive value seen uart value' own. (uart.ghost_name ≡ receive.uart.ghost_name)
+        × Receives receive.uart.now value value.read seen.own uart.now value' own };
+
+    fn run(self, value: &mut Console, entered: &mut Entered<'_>) -> &'a mut Uart {
+        frames_join();
+        let Receive { uart } = self;
+        if let Some(read) = value.read {
+            value.read = None;
+            take_in(entered, uart, &read);
+        }
+        uart
+    }
+}
+
+/// What became of a buffer that bytes were moved into.
+#[derive(Clone, Copy)]
+struct Filled {
+    /// How many were moved.
+    count: u32,
+    /// How the process is told: 0, or the code for a size where the buffer has no bytes.
+    status: u32,
+}
+
+/// Moves the oldest bytes that came in to the start of a buffer, as many as a read asks for, and no more than the
+/// buffer has.
+fn fill(buffer: &mut [u8], uart: &mut Uart, read: &WaitingRead) -> Filled
+    ensures count { result.count ≡ length (take (min read.now.length (length buffer.old)) uart.old.ring) }
+    ensures status { result.status ≡ (if length buffer.old == 0 then code_of ErrorCode.Size else 0) }
+    ensures buffer { buffer.new
+        ≡ over buffer.old 0 (take (min read.now.length (length buffer.old)) uart.old.ring) }
+    ensures long { length buffer.new ≡ length buffer.old }
+    ensures uart { uart.new ≡ record uart.old { ring = drop result.count uart.old.ring } }
+{
+    let status = if buffer.is_empty() {
+        ErrorCode::Size.code()
+    } else {
+        0
+    };
+    let count = (read.length as usize).min(buffer.len()).min(uart.held());
+    let (front, _) = buffer.split_at_mut(count);
+    uart.take(front);
+    Filled {
+        count: count as u32,
+        status,
+    }
+}
+
+/// Moves bytes that came in to the buffer of a process.
+fn fill_buffer(entered: &mut Entered<'_>, uart: &mut Uart, read: &WaitingRead) -> Filled
+    requires lent { IsLent entered.old }
+    requires driver { entered.old.driver ≡ 0x1 }
+    requires buffer { 1 < entered.old.counts.rw }
+    ensures count { result.count ≡ length (moving uart.old.ring read.now (own_entered entered.old)) }
+    ensures status { result.status ≡ read_status (own_entered entered.old) }
+    ensures own { let own = own_entered entered.old in
+        own_entered entered.new ≡ written_input (moving uart.old.ring read.now own) own }
+    ensures uart { uart.new ≡ record uart.old { ring = drop result.count uart.old.ring } }
+    // what a visitor owes
+    ensures lent { IsLent entered.new }
+    ensures framed { Framed entered.old entered.new }
+{
+    a_buffer_is_written();
+    buffers_are_whole();
+    fill(entered.read_write(1), uart, read)
+}
+
+/// Moves bytes that came in to the buffer of a process, and tells it.
+fn take_in(entered: &mut Entered<'_>, uart: &mut Uart, read: &WaitingRead)
+    requires lent { IsLent entered.old }
+    requires driver { entered.old.driver ≡ 0x1 }
+    requires upcall { 2 < entered.old.counts.upcalls }
+    requires buffer { 1 < entered.old.counts.rw }
+    requires dropped { (own_entered entered.old).dropped + 1 < 2 ^ 32 }
+    ensures told { let own = own_entered entered.old in let bytes = moving uart.old.ring read.now own in
+        (own_entered entered.new ≡ told_input bytes own)
+        × (uart.new ≡ record uart.old { ring = drop (length bytes) uart.old.ring }) }
+    // what a visitor owes
+    ensures lent { IsLent entered.new }
+    ensures framed { Framed entered.old entered.new }
+{
+    frames_join();
+    let filled = fill_buffer(entered, uart, read);
+    entered.schedule(2, [filled.status, filled.count, 0]);
+}
+
+/// Bytes that came in for the read of a process.
+fn step_of(home: &mut Home, id: ProcessId, uart: &mut Uart)
+    requires slot { id.slot < length home.old.owns }
+    requires request { is_some (waiting_of console_reads id.life (own_of home.old id.slot)) ≡ true }
+    requires dropped { (own_of home.old id.slot).dropped + 1 < 2 ^ 32 }
+    ensures step { let own = own_of home.old id.slot in
+        IfSome (waiting_of console_reads id.life own) (λ read. let r = receiving uart.old.ring own read in
+        (own_of home.new id.slot ≡ r.own)
+        × (uart.new ≡ record uart.old { ring = drop (length r.moved) uart.old.ring })) }
+    ensures rest { ChangesOnly id.slot home.old home.new }
+{
+    match consoles().visit(home, id, Receive { uart }) {
+        Ok(Some(_uart)) => {}
+        _ => unreachable!(),
+    }
+}
+
+/// Moves bytes that came in to the read of a process, if it is there and has one. The answer is whether it has.
+#[tactic(auto, unfolding(driver_model::specs::Console::received))]
+pub(crate) fn take_input(home: &mut Home, id: &ProcessId, uart: &mut Uart) -> bool
+    requires slot { id.now.slot < length home.old.owns }
+    requires dropped { (own_of home.old id.now.slot).dropped + 1 < 2 ^ 32 }
+    ensures received { let r = received uart.old.ring id.now.life (own_of home.old id.now.slot) in
+        (result ≡ r.completed) × (own_of home.new id.now.slot ≡ r.own)
+        × (uart.new ≡ record uart.old { ring = drop (length r.moved) uart.old.ring }) }
+    ensures rest { ChangesOnly id.now.slot home.old home.new }
+{
+    if !has_request::<WaitingRead, 3, 2, 2>(&consoles(), home, id) {
+        return false;
+    }
+    step_of(home, *id, uart);
+    true
+}

@@ -1,0 +1,59 @@
+-- Who waits after a command.
+use Rattle.std.proofs.Common.{◌≡◌, true, [], ◌∷◌, Option, None, Some, Ok, refl, ap, sym, ◌∙◌}
+use Rattle.std.proofs.lemmas.Bool.{false≢true}
+use Rattle.tk_base.specs.Call.{code_of}
+use Rattle.tk_base.specs.declared.call.ErrorCode.TheVariants.{Cancel}
+use Rattle.grant_areas.specs.Grants.{grant_of, with_value}
+use Rattle.grant_values.specs.declared.alarm.Armed.{Armed}
+use Rattle.grant_values.specs.Alarm.{alarm_words}
+use Rattle.syscall_abi.specs.declared.reply.Reply.TheVariants.{Success}
+use Rattle.process_own.specs.Own.{Own}
+use Rattle.process_own.specs.Handed.{entering}
+use Rattle.process_own.specs.Served.{scheduled}
+use Rattle.driver_model.specs.Commands.{Commanded, Leaves, Reads}
+use Rattle.driver_model.specs.Alarm.{with_alarm}
+use Rattle.driver_model.specs.Console.{console, without_read}
+use Rattle.driver_model.specs.Lines.{FollowsCommand, LinesFollowCommands, waits_after}
+use Rattle.driver_model.specs.Drivers.{Surroundings}
+use Rattle.driver_model.proofs.Scheduled.{schedules}
+use Rattle.driver_model.proofs.Asked.{Asked, asked, asked_apart, asked_reads, asked_still, entered_reads, entered_randoms, entered_stores, entered_writes, if_none}
+use Rattle.driver_model.proofs.Waits.{LiesWithin, Moves, each_waits, is_within, stays}
+use Rattle.driver_model.proofs.Outcomes.{of_command}
+
+-- by what is asked for after the command
+follows : (around : Surroundings) (own : Own) (c : Commanded) (after : Asked) → c.own.lives ≡ own.lives → asked c.own.grants ≡ after → Moves (λ line waits. waits_after line waits c.acts) (asked own.grants) after → (LiesWithin around.storage (asked own.grants).stores → LiesWithin around.storage after.stores) → FollowsCommand around own c
+follows around own c after lives is moves lies = record {
+  lines = λ (l : own.lives ≡ true). each_waits _ own c.own after lives is (λ line ended. absurd (false≢true (sym ended ∙ l))) moves;
+  within = λ held. is_within around.storage c.own after is (lies held);
+}
+
+-- another driver than those of the desks is armed, or stopped
+pub arms_apart : (armed : Option Armed) (own : Own) → asked (with_alarm armed own).grants ≡ asked own.grants
+arms_apart armed own = asked_apart 0x0 (with_value (alarm_words (record { armed = armed }))) own.grants refl refl refl (λ g. refl)
+
+cancels : (around : Surroundings) (own : Own) → FollowsCommand around own (record { answer = Ok Success; own = without_read own; acts = Leaves Reads ∷ [] })
+cancels around own =
+    let s = scheduled console 2 (code_of Cancel ∷ 0 ∷ 0 ∷ []) own in
+    let q = schedules console 2 (code_of Cancel ∷ 0 ∷ 0 ∷ []) own in
+    let same : s.grants ≡ own.grants = ap (λ (o : Own). o.grants) q.rest in
+    let lives : s.lives ≡ own.lives = ap (λ (o : Own). o.lives) q.rest in
+    let told : asked (without_read own).grants ≡ record (asked own.grants) { reads = None } =
+    asked_reads None s ∙ (λ i. record (asked (same i)) { reads = if_none (grant_of console s.grants) i }) in
+    follows around own _ (record (asked own.grants) { reads = None }) lives told
+    (record { writes = refl; reads = refl; randoms = refl; stores = refl }) (λ held. held)
+
+pub lines_follow_commands : LinesFollowCommands
+lines_follow_commands driver taker is around number a2 a3 own =
+    let before = asked own.grants in
+    of_command FollowsCommand driver taker is around number a2 a3 own (record {
+      refuses = λ rule. follows around own _ before refl refl (stays before) (λ held. held);
+      replies = λ reply. follows around own _ before refl refl (stays before) (λ held. held);
+      lights = λ led switch. follows around own _ before refl refl (stays before) (λ held. held);
+      arms = λ alarm. follows around own _ before refl (arms_apart (Some alarm) (entering 0x0 own) ∙ asked_still 0x0 own.grants) (stays before) (λ held. held);
+      stops = follows around own _ before refl (arms_apart None own) (stays before) (λ held. held);
+      cancels = cancels around own;
+      writes = λ request. follows around own _ _ refl (entered_writes (Some request) own) (record { writes = refl; reads = refl; randoms = refl; stores = refl }) (λ held. held);
+      reads = λ request. follows around own _ _ refl (entered_reads (Some request) own) (record { writes = refl; reads = refl; randoms = refl; stores = refl }) (λ held. held);
+      draws = λ request. follows around own _ _ refl (entered_randoms (Some request) own) (record { writes = refl; reads = refl; randoms = refl; stores = refl }) (λ held. held);
+      stores = λ request fits. follows around own _ _ refl (entered_stores (Some request) own) (record { writes = refl; reads = refl; randoms = refl; stores = refl }) (λ held. fits);
+    })

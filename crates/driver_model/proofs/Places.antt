@@ -1,0 +1,62 @@
+-- Where a process lies after a command, and how many of its upcalls were dropped.
+use Rattle.std.proofs.Common.{◌≡◌, ℕ, [], ◌∷◌, Option, None, Some, refl, sym, ap, subst}
+use Rattle.tk_base.specs.Call.{code_of}
+use Rattle.tk_base.specs.declared.call.ErrorCode.TheVariants.{Cancel}
+use Rattle.grant_areas.specs.Grants.{Grant, grant_of}
+use Rattle.grant_region.specs.Region.{roomed}
+use Rattle.process_own.specs.Own.{Own}
+use Rattle.process_own.specs.Handed.{entering}
+use Rattle.process_own.specs.Served.{scheduled}
+use Rattle.driver_model.specs.Alarm.{with_alarm}
+use Rattle.driver_model.specs.Console.{console, console_reads, console_writes}
+use Rattle.driver_model.specs.Random.{randoms}
+use Rattle.driver_model.specs.Requests.{Desk, with_request}
+use Rattle.driver_model.specs.Storage.{storages}
+use Rattle.driver_model.specs.Laws.{CommandDropsAtMostOne, CommandsStayInPlace, IsAtMostOneMore, StaysInPlace}
+use Rattle.driver_model.proofs.Outcomes.{begun, of_command}
+use Rattle.driver_model.proofs.Scheduled.{Queues, none_more, schedules}
+
+-- entering takes room alone
+entering_stays : (driver : ℕ) (own : Own) → StaysInPlace own (entering driver own)
+entering_stays driver own = ap (λ (e : _). record own { layout = e; ram = (entering driver own).ram; grants = (entering driver own).grants }) (takes_room (grant_of driver own.grants))
+  where
+    takes_room : (g : Option Grant) → roomed driver own.layout g ≡ record own.layout { kernel_break = (roomed driver own.layout g).kernel_break }
+    takes_room None = refl
+    takes_room (Some g) = refl
+
+begun_stays : {R : Type 0} (desk : Desk R) (request : R) (own : Own) → StaysInPlace own (begun desk request own).own
+begun_stays desk request own = ap (λ (o : Own). record o { grants = (begun desk request own).own.grants }) (entering_stays desk.driver own)
+
+-- a read that is dropped has its process told of it
+cancels : (own : Own) → Queues own (scheduled console 2 (code_of Cancel ∷ 0 ∷ 0 ∷ []) own)
+cancels own = schedules console 2 (code_of Cancel ∷ 0 ∷ 0 ∷ []) own
+
+pub commands_stay_in_place : CommandsStayInPlace
+commands_stay_in_place driver taker is around number a2 a3 own =
+    of_command (λ around own c. StaysInPlace own c.own) driver taker is around number a2 a3 own (record {
+      refuses = λ rule. refl;
+      replies = λ reply. refl;
+      lights = λ led switch. refl;
+      arms = λ alarm. ap (with_alarm (Some alarm)) (entering_stays 0 own);
+      stops = refl;
+      cancels = subst (λ (o : Own). StaysInPlace own (with_request console_reads None o)) (sym (cancels own).rest) refl;
+      writes = λ request. begun_stays console_writes request own;
+      reads = λ request. begun_stays console_reads request own;
+      draws = λ request. begun_stays randoms request own;
+      stores = λ request fits. begun_stays storages request own;
+    })
+
+pub command_drops_at_most_one : CommandDropsAtMostOne
+command_drops_at_most_one driver taker around number a2 a3 own is =
+    of_command (λ around own c. IsAtMostOneMore own.dropped c.own.dropped) driver taker is around number a2 a3 own (record {
+      refuses = λ rule. none_more own.dropped;
+      replies = λ reply. none_more own.dropped;
+      lights = λ led switch. none_more own.dropped;
+      arms = λ alarm. none_more own.dropped;
+      stops = none_more own.dropped;
+      cancels = (cancels own).dropped;
+      writes = λ request. none_more own.dropped;
+      reads = λ request. none_more own.dropped;
+      draws = λ request. none_more own.dropped;
+      stores = λ request fits. none_more own.dropped;
+    })

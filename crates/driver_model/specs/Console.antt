@@ -1,0 +1,152 @@
+-- The console (Tock's driver 0x1): a process has bytes of its read-only buffer 1 written, and bytes that come in read
+-- into its read-write buffer 1. One write of it and one read may wait at a time.
+use Rattle.std.specs.Prelude.{ℕ, ◌+◌, ◌-◌, ◌*◌, ◌==◌, Bool, true, false, min, if◌then◌else◌, List, [], ◌∷◌, drop, length, take, Option, None, Some, option_map, unwrap_or, Ok}
+use Rattle.tk_base.specs.Call.{code_of}
+use Rattle.tk_base.specs.declared.call.ErrorCode.TheVariants.{Cancel, Size}
+use Rattle.tk_base.specs.declared.call.CallRule.TheVariants.{Empty, Nothing}
+use Rattle.grant_areas.specs.declared.kinds.PairKind.TheVariants.{ReadOnly, ReadWrite}
+use Rattle.grant_values.specs.declared.console.WaitingRead.{WaitingRead}
+use Rattle.grant_values.specs.declared.console.WaitingWrite.{WaitingWrite}
+use Rattle.grant_values.specs.Console.{console_of, console_words, read_of, write_of}
+use Rattle.syscall_abi.specs.declared.reply.Reply.TheVariants.{Success}
+use Rattle.process_own.specs.Own.{Own}
+use Rattle.process_own.specs.Handed.{held}
+use Rattle.process_own.specs.Served.{bytes_at, scheduled, with_written}
+use Rattle.driver_model.specs.Commands.{Commanded, Leaves, Reads, Writes, accepted, refused, by_number}
+use Rattle.driver_model.specs.Requests.{Desk, asking, request_in, waiting_in, waiting_of, with_request}
+
+-- the number of the driver
+abbrev pub console : ℕ
+console = 0x1
+
+-- where a process asks to write, and where to read; the one request stands beside the other
+abbrev pub console_writes : Desk WaitingWrite
+console_writes = record {
+  driver = console;
+  told = write_of;
+  words_with = λ write words. console_words (record (console_of words) { write = write });
+  line = Writes;
+}
+
+abbrev pub console_reads : Desk WaitingRead
+console_reads = record {
+  driver = console;
+  told = read_of;
+  words_with = λ read words. console_words (record (console_of words) { read = read });
+  line = Reads;
+}
+
+-- a read of so many bytes begins to wait; one of no bytes is refused
+abbrev pub reading : ℕ → Own → Commanded
+reading count own = if count == 0 then refused Empty own else asking console_reads (record { length = count }) own
+
+-- the read that waits is dropped: upcall 2 tells that it was cancelled
+abbrev pub without_read : Own → Own
+without_read own = with_request console_reads None (scheduled console 2 (code_of Cancel ∷ 0 ∷ 0 ∷ []) own)
+
+abbrev pub cancelling : Option WaitingRead → Own → Commanded
+cancelling None own = refused Nothing own
+cancelling (Some read) own = record { answer = Ok Success; own = without_read own; acts = Leaves Reads ∷ [] }
+
+-- its commands: the driver is there; write, and read, so many bytes; drop the read
+unfoldable pub commands : ℕ → Own → List (ℕ × Commanded)
+commands count own =
+    (0, accepted Success own)
+    ∷ (1, asking console_writes (record { length = count; taken = 0 }) own)
+    ∷ (2, reading count own)
+    ∷ (3, cancelling (request_in console_reads own) own)
+    ∷ []
+
+-- a command of a number with its first argument
+unfoldable pub command : ℕ → ℕ → Own → Commanded
+command number count own = by_number own (commands count own) number
+
+-- how many bytes of a write the UART takes next: at most 64 of those that are left; as many are to be taken as it asks
+-- for, and no more than the buffer has that is held now
+abbrev pub portion : WaitingWrite → Own → ℕ
+portion write own = min 64 (min write.length (held ReadOnly console 1 own).1 - write.taken)
+
+-- a process of whose write they were taken
+abbrev pub taking : Own → WaitingWrite → Own
+taking own write = with_request console_writes (Some (record write { taken = write.taken + portion write own })) own
+
+-- a process whose write completes: upcall 1 tells how many bytes were taken
+abbrev pub writing : Own → WaitingWrite → Own
+writing own write = with_request console_writes None (scheduled console 1 (write.taken ∷ 0 ∷ 0 ∷ []) own)
+
+-- What the UART tells a process: that it took the next bytes of its write; that it had taken all. Nothing changes where
+-- no write waits.
+abbrev pub taken : Own → Own
+taken own = unwrap_or (option_map (taking own) (waiting_in console_writes own)) own
+
+abbrev pub write_done : Own → Own
+write_done own = unwrap_or (option_map (writing own) (waiting_in console_writes own)) own
+
+-- a buffer without bytes is told by TRD 104's code for a size
+abbrev pub read_status : Own → ℕ
+read_status own = if (held ReadWrite console 1 own).1 == 0 then code_of Size else 0
+
+-- a process whose read completes with bytes, which are moved to the start of the buffer that is held now: upcall 2 tells
+-- the status, and how many bytes were moved
+abbrev pub reading_in : List ℕ → Own → WaitingRead → Own
+reading_in bytes own read =
+    with_request console_reads None
+    (scheduled console 2 (read_status own ∷ length bytes ∷ 0 ∷ []) (with_written console 1 0 bytes own))
+
+-- What the UART tells a process: that bytes came in. Nothing changes where no read waits.
+abbrev pub input : List ℕ → Own → Own
+input bytes own = unwrap_or (option_map (reading_in bytes own) (waiting_in console_reads own)) own
+
+-- What a step of the UART's sending half comes to: what is then the process's own; the bytes that were printed; whether
+-- a write completed, so that its process waits no more.
+pub record Sent : Type 0 where
+  pub own : Own
+  pub printed : List ℕ
+  pub completed : Bool
+
+abbrev pub unsent : Own → Sent
+unsent own = record { own = own; printed = []; completed = false }
+
+-- the bytes of a write that come next, in the buffer that is held now
+abbrev pub next_bytes : List ℕ → WaitingWrite → Own → List ℕ
+next_bytes flash write own =
+    take (portion write own) (drop write.taken (bytes_at flash own (held ReadOnly console 1 own)))
+
+-- the next bytes of a write are taken and printed; where none is left it completes
+abbrev pub sending : List ℕ → Own → WaitingWrite → Sent
+sending flash own write =
+    if portion write own == 0 then record { own = write_done own; printed = []; completed = true }
+    else record { own = taken own; printed = next_bytes flash write own; completed = false }
+
+-- the step for a process of a life; nothing changes where it is not there, or no write of it waits
+unfoldable pub sent : List ℕ → ℕ → Own → Sent
+sent flash life own = unwrap_or (option_map (sending flash own) (waiting_of console_writes life own)) (unsent own)
+
+-- the time from which on the UART can send again, after bytes were printed at a time: so many ticks for each
+abbrev pub free_after : ℕ → ℕ → List ℕ → ℕ → ℕ
+free_after time ticks printed free = if length printed == 0 then free else time + length printed * ticks
+
+-- What a step of the UART's receiving half comes to: what is then the process's own; the bytes that were moved, the
+-- oldest that came in; whether a read completed, so that its process waits no more.
+pub record Received : Type 0 where
+  pub own : Own
+  pub moved : List ℕ
+  pub completed : Bool
+
+abbrev pub unreceived : Own → Received
+unreceived own = record { own = own; moved = []; completed = false }
+
+-- the oldest bytes that came in, as many as a read asks for, and no more than the buffer has that is held now
+abbrev pub moving : List ℕ → WaitingRead → Own → List ℕ
+moving ring read own = take (min read.length (held ReadWrite console 1 own).1) ring
+
+abbrev pub receiving : List ℕ → Own → WaitingRead → Received
+receiving ring own read =
+    let bytes = moving ring read own in
+    record { own = input bytes own; moved = bytes; completed = true }
+
+-- the step for a process of a life, with these bytes in the ring; nothing changes where it is not there, or no read of
+-- it waits
+unfoldable pub received : List ℕ → ℕ → Own → Received
+received ring life own =
+    unwrap_or (option_map (receiving ring own) (waiting_of console_reads life own)) (unreceived own)

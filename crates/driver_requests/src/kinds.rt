@@ -1,0 +1,69 @@
+//! The requests of the drivers.
+use crate::request::Request;
+use grant_values::{
+    Console, Random, RandomRequest, Storage, StorageRequest, WaitingRead, WaitingWrite,
+};
+
+impl Request for WaitingWrite {
+    ghost use Rattle.driver_model.specs.Console.{console_writes};
+
+    type Value = Console;
+
+    ghost desk = { console_writes };
+
+    fn waiting_in(value: &Console) -> Option<WaitingWrite> {
+        value.write
+    }
+
+    fn wait_in(self, value: &mut Console) {
+        value.write = Some(self);
+    }
+}
+
+impl Request for WaitingRead {
+    ghost use Rattle.driver_model.specs.Console.{console_reads};
+
+    type Value = Console;
+
+    ghost desk = { console_reads };
+
+    fn waiting_in(value: &Console) -> Option<WaitingRead> {
+        value.read
+    }
+
+    fn wait_in(self, value: &mut Console) {
+        value.read = Some(self);
+    }
+}
+
+impl Request for RandomRequest {
+    ghost use Rattle.driver_model.specs.Random.{randoms};
+
+    type Value = Random;
+
+    ghost desk = { randoms };
+
+    fn waiting_in(value: &Random) -> Option<RandomRequest> {
+        value.request
+    }
+
+    fn wait_in(self, value: &mut Random) {
+        value.request = Some(self);
+    }
+}
+
+impl Request for StorageRequest {
+    ghost use Rattle.driver_model.specs.Storage.{storages};
+
+    type Value = Storage;
+
+    ghost desk = { storages };
+
+    fn waiting_in(value: &Storage) -> Option<StorageRequest> {
+        value.request
+    }
+
+    fn wait_in(self, value: &mut Storage) {
+        value.request = Some(self);
+    }
+}

@@ -1,0 +1,24 @@
+//! Whether the object of a process permits a call (Tock Binary Format, "Permissions").
+ghost use Rattle.std.specs.Prelude.{◌≡◌};
+ghost use Rattle.kernel_model.specs.Calls.{permits};
+ghost use Rattle.kernel_calls.specs.Own.{object_in, HasHeader};
+
+use crate::headers::header_of;
+use process_own::Object;
+use syscall_abi::Call;
+use syscall_filter::filter;
+
+/// Whether an object in flash permits a call to its process. Its header is read only for the calls that it can
+/// forbid: yield, memop and exit are always permitted.
+pub fn is_permitted(flash: &[u8], object: &Object, call: &Call) -> bool
+    requires { HasHeader flash.now object.now }
+    ensures { result ≡ permits (object_in flash.now object.now) call.now }
+{
+    match *call {
+        Call::Yield { .. } | Call::Memop { .. } | Call::Exit { .. } => true,
+        Call::Subscribe { .. }
+        | Call::Command { .. }
+        | Call::AllowRw { .. }
+        | Call::AllowRo { .. } => filter(&header_of(flash, object), call).is_ok(),
+    }
+}

@@ -1,0 +1,93 @@
+-- A process's requests, once what is its own has changed.
+use Rattle.std.proofs.Common.{◌≡◌, ℕ, Bool, true, cond, List, [], Option, None, Some, is_some, IfSome, Result, Ok, Err, refl, sym, ap, ap₂, subst, ◌+◌, ◌≤◌}
+use Rattle.std.specs.Option.{option_and_then, option_map}
+use Rattle.tbf_headers.specs.declared.fault.HeaderFault.{HeaderFault}
+use Rattle.tbf_headers.specs.declared.program.Main.{Main}
+use Rattle.tbf_headers.specs.Meaning.{Meaning, reading}
+use Rattle.grant_values.specs.declared.storage.StorageRequest.{StorageRequest}
+use Rattle.grant_areas.specs.declared.kinds.PairKind.{PairKind}
+use Rattle.grant_areas.specs.Grants.{Grant, grant_of}
+use Rattle.process_own.specs.Own.{Own, ended}
+use Rattle.process_own.specs.Handed.{handing}
+use Rattle.driver_model.specs.Commands.{Commanded, gone}
+use Rattle.driver_model.specs.Drivers.{Surroundings}
+use Rattle.driver_model.specs.Laws.{StaysInPlace}
+use Rattle.driver_model.specs.Lines.{FollowsCommand, IsWithin, OnlyDriversMoveLines, has_waiting}
+use Rattle.driver_model.specs.Requests.{Desk, request_in}
+use Rattle.driver_model.specs.Console.{console_reads, console_writes}
+use Rattle.driver_model.specs.Random.{randoms}
+use Rattle.driver_model.specs.Storage.{storages}
+use Rattle.kernel_model.specs.Record.{Record}
+use Rattle.kernel_model.specs.Calls.{restart, restarted_by, restarted_main}
+use Rattle.kernel_model.specs.Laws.{CanStartAgain, KeepsLines, main_by}
+
+-- what drivers keep of a process, its life and its count of dropped upcalls are as they were
+pub record SameKept (own o : Own) : Type 0 where
+  pub grants : o.grants ≡ own.grants
+  pub lives : o.lives ≡ own.lives
+  pub life : o.life ≡ own.life
+  pub dropped : o.dropped ≡ own.dropped
+
+same_waiting : {R : Type 0} (desk : Desk R) (own o : Own) → SameKept own o → has_waiting desk o ≡ has_waiting desk own
+same_waiting desk own o s = ap₂ (λ (gs : List Grant) (b : Bool). is_some (cond b (option_and_then desk.told (option_map (λ g. g.value) (grant_of desk.driver gs))) None)) s.grants s.lives
+
+still_within : (size : ℕ) (own o : Own) → request_in storages o ≡ request_in storages own → IsWithin size own → IsWithin size o
+still_within size own o same within = subst (λ (q : Option StorageRequest). IfSome q (λ request. request.offset + request.length ≤ size)) (sym same) within
+
+-- a process of which drivers keep the same
+pub keeps_same : (size : ℕ) (own o : Own) → SameKept own o → KeepsLines size own o []
+keeps_same size own o s = record {
+  lines = record {
+    writes = same_waiting console_writes own o s;
+    reads = same_waiting console_reads own o s;
+    randoms = same_waiting randoms own o s;
+    stores = same_waiting storages own o s;
+  };
+  life = record { writes = λ e. s.life; reads = λ e. s.life; randoms = λ e. s.life; stores = λ e. s.life };
+  within = still_within size own o (ap (λ (gs : List Grant). option_and_then storages.told (option_map (λ g. g.value) (grant_of storages.driver gs))) s.grants);
+}
+
+-- one that ended
+pub keeps_ended : (size : ℕ) (own : Own) → KeepsLines size own (ended own) gone
+keeps_ended size own = record {
+  lines = record { writes = refl; reads = refl; randoms = refl; stores = refl };
+  life = record { writes = λ e. refl; reads = λ e. refl; randoms = λ e. refl; stores = λ e. refl };
+  within = λ h. h;
+}
+
+-- one that starts again
+pub keeps_restarted : (size : ℕ) (r : Record) → CanStartAgain r → KeepsLines size r.own (restart r).own gone
+unfolding restart
+keeps_restarted size r can = by_reading (reading r.object) can
+  where
+    by_main : (h : Meaning) (m : Option Main) → is_some m ≡ true → KeepsLines size r.own (restarted_main r h m).own gone
+    by_main h None can = absurd (cc)
+    by_main h (Some m) can = record {
+      lines = record { writes = refl; reads = refl; randoms = refl; stores = refl };
+      life = record { writes = λ e. absurd (cc); reads = λ e. absurd (cc); randoms = λ e. absurd (cc); stores = λ e. absurd (cc) };
+      within = λ h. tt;
+    }
+
+    by_reading : (h : Result Meaning HeaderFault) → is_some (main_by h) ≡ true → KeepsLines size r.own (restarted_by r h).own gone
+    by_reading (Ok h) can = by_main h h.main can
+    by_reading (Err fault) can = absurd (cc)
+
+-- one that handed a pair to a driver
+pub keeps_handed : OnlyDriversMoveLines → (size : ℕ) (kind : PairKind) (driver number : ℕ) (pair : ℕ × ℕ) (own : Own) → KeepsLines size own (handing kind driver number pair own) []
+keeps_handed law size kind driver number pair own =
+    let same = law.handing kind driver number pair own in
+    record {
+      lines = same.waiting;
+      life = record { writes = λ e. refl; reads = λ e. refl; randoms = λ e. refl; stores = λ e. refl };
+      within = still_within size own (handing kind driver number pair own) same.requests.stores;
+    }
+
+-- one that gave a command
+pub keeps_commanded : (around : Surroundings) (own : Own) (c : Commanded) → own.lives ≡ true → FollowsCommand around own c → StaysInPlace own c.own → KeepsLines around.storage own c.own c.acts
+keeps_commanded around own c lives follows stays =
+    let life : c.own.life ≡ own.life = ap (λ (o : Own). o.life) stays in
+    record {
+      lines = follows.lines lives;
+      life = record { writes = λ e. life; reads = λ e. life; randoms = λ e. life; stores = λ e. life };
+      within = follows.within;
+    }

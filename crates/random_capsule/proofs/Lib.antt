@@ -1,2 +1,0 @@
-mod Buffers
-mod Serving
