@@ -1,8 +1,8 @@
 """The worked examples: each has a name, what it shows, the files, the words of the command line, and the
 answer and the text that the program must give.
 
-The applications are written here instruction by instruction, and the expected texts come from the rules in
-docs/definitions.md; none was taken from the program. A text is laid out with its lines indented alike.
+The applications are written here instruction by instruction, but for those in C, and the expected texts come from
+the rules in docs/definitions.md; none was taken from the program. A text is laid out with its lines indented alike.
 """
 
 from dataclasses import dataclass
@@ -15,7 +15,8 @@ DIRECTORY = "a directory"
 
 @dataclass
 class Case:
-    """Without a file the name stands for nothing, or for a directory. A word may be text or bytes."""
+    """Without a file the name stands for nothing, or for a directory. A word may be text or bytes. A case that the
+    README shows has the files of the repository."""
     name: str
     shows: str
     words: list
@@ -23,6 +24,7 @@ class Case:
     text: str
     flash: object = None
     script: object = b""
+    is_in_readme: bool = False
 
     def output(self):
         return (cleandoc(self.text) + "\n").encode()
@@ -46,6 +48,11 @@ def soak(name, shows, number, turns, text):
 def listing(name, shows, flash, text, status=0):
     """A list of this flash file; there is no script."""
     return Case(name, shows, ["list", "flash"], status, text, flash, None)
+
+
+def readme(name, shows, command, text):
+    """A run that the README shows, with its command and its text word for word."""
+    return Case(name, shows, command.split()[1:], 0, text, is_in_readme=True)
 
 
 def no_command(name, shows, *words):
@@ -767,7 +774,7 @@ SEVERAL = [
     """),
 ]
 
-# Three applications with names, and padding before the third; examples/three.bin is this image.
+# Three applications with names, and padding before the third.
 THREE = (app(CODE_7, name="hello") + app(sw(ZERO, A1), sw(ZERO, A1, 256), name="stray") + padding()
          + app(memop(3), exits(), name="memop"))
 
@@ -783,15 +790,6 @@ def blink(footers):
 BAD_CHECKSUM = patched(EXIT_7, 12, b"\x43")
 
 IMAGES = [
-    boot("three-applications-with-names", "an exit, a store past the break, and a call that tells an address",
-         THREE, script=b"# 16 KiB of RAM\nram 16384\n", text="""
-        ==
-        slot 0 hello terminated 7 turns 4 restarts 0
-        slot 1 stray faulted store 80000500 no-region turns 2 restarts 0
-        slot 2 memop terminated 2147486720 turns 6 restarts 0
-        leds 0000
-        end done steps 12 time 12
-    """),
     boot("name-in-the-report", "the package name stands in the report", blink(b"\xff" * 12), """
         ==
         slot 0 blink terminated 7 turns 4 restarts 0
@@ -868,6 +866,13 @@ IMAGES = [
         objects 1
     """),
 ]
+
+# The images that are written here and kept as files, for whoever runs the program.
+KEPT = {
+    "examples/exit7.bin": EXIT_7,
+    "examples/three.bin": THREE,
+    "crates/tock_cli/data/exit7.bin": EXIT_7,
+}
 
 SCRIPTS = [
     boot("script-of-a-comment", "a comment is skipped", EXIT_7, RUN_OF_EXIT_7, script=b"# a comment\n"),
@@ -963,19 +968,6 @@ TRACES = [
         ==
         leds 0000
         end done steps 0 time 0
-    """),
-    trace("trace-of-three-applications", "an exit, a store past the break, and a call with its reply",
-          THREE, script=b"# 16 KiB of RAM\nram 16384\n", text="""
-        @3 0 call 6 00000000 00000007 00000400 80000100
-        @5 1 denied store 80000500 no-region
-        @8 2 call 5 00000003 80000800 00000400 80000900 = 00000081 80000c00 00000400 80000900
-        @11 2 call 6 00000000 80000c00 00000400 80000900
-        ==
-        slot 0 hello terminated 7 turns 4 restarts 0
-        slot 1 stray faulted store 80000500 no-region turns 2 restarts 0
-        slot 2 memop terminated 2147486720 turns 6 restarts 0
-        leds 0000
-        end done steps 12 time 12
     """),
     trace("trace-of-a-refused-allow", "a refusal tells its rule after the registers of the reply",
           app(swap(READ_WRITE, CONSOLE, 1, -16, 32), swap(READ_WRITE, CONSOLE, 1, -16, 0), exits()), """
@@ -1118,6 +1110,137 @@ SOAKS = [
     """),
 ]
 
+# The applications in C, and the README's other runs. Counts, times and addresses of code and stack are the compiler's:
+# they were counted in the disassembly of the images as they are kept. The text of soak 1 was computed by a model of the
+# eight programs and the round robin, apart from the program.
+README = [
+    readme("applications-in-c", "one prints, one strays into the next one's memory, one prints back what comes in",
+           "./tock boot examples/together.bin examples/hi.script --turns 1000", """
+        hello from C
+        hi
+        ==
+        slot 0 greet terminated 0 turns 55 restarts 0
+        slot 1 trespass faulted store 80000800 no-region turns 10 restarts 0
+        slot 2 echo yielded turns 155 restarts 0
+        leds 0000
+        end done steps 226 time 220
+    """),
+    readme("list-of-applications-in-c", "the three objects, one after another",
+           "./tock list examples/together.bin", """
+        object 0 196 app greet
+        object 196 84 app trespass
+        object 280 228 app echo
+        objects 3
+    """),
+    readme("greet", "a line is printed", "./tock boot examples/greet.bin examples/empty.script --turns 1000", """
+        hello from C
+        ==
+        slot 0 greet terminated 0 turns 55 restarts 0
+        leds 0000
+        end done steps 58 time 61
+    """),
+    readme("trace-of-greet", "a buffer in flash is lent, an upcall subscribed, and the write waited for",
+           "./tock trace examples/greet.bin examples/empty.script --turns 1000", """
+        @14 0 call 4 00000001 00000001 200000b4 0000000d = 00000082 00000000 00000000 0000000d
+        @21 0 call 1 00000001 00000001 2000003c 800000e0 = 00000082 00000000 00000000 800000e0
+        @27 0 call 2 00000001 00000001 0000000d 00000000 = 00000080 00000001 0000000d 00000000
+        @28 0 out 68656c6c6f2066726f6d20430a
+        @34 0 call 0 00000001 00000001 0000000d 00000000
+        @60 0 call 6 00000000 00000000 00000000 800000e0
+        ==
+        slot 0 greet terminated 0 turns 55 restarts 0
+        leds 0000
+        end done steps 58 time 61
+    """),
+    readme("echo-in-c", "what comes in is printed back, and more is waited for",
+           "./tock boot examples/echo.bin examples/hi.script --turns 1000", """
+        hi
+        ==
+        slot 0 echo yielded turns 155 restarts 0
+        leds 0000
+        end done steps 160 time 161
+    """),
+    readme("trace-of-echo-in-c", "a read, a write of what came in, and the next read",
+           "./tock trace examples/echo.bin examples/hi.script --turns 1000", """
+        @13 0 call 3 00000001 00000001 800000d0 00000010 = 00000082 00000000 00000000 00000010
+        @30 0 call 1 00000001 00000002 20000038 800000e0 = 00000082 00000000 00000000 800000e0
+        @36 0 call 2 00000001 00000002 00000010 00000000 = 00000080 00000002 00000010 00000000
+        @43 0 call 0 00000001 00000002 00000010 00000000
+        @75 0 call 4 00000001 00000001 800000d0 00000003 = 00000082 00000000 00000000 00000003
+        @92 0 call 1 00000001 00000001 20000038 800000e0 = 00000082 00000000 00000000 800000e0
+        @98 0 call 2 00000001 00000001 00000003 00000000 = 00000080 00000001 00000003 00000000
+        @99 0 out 68690a
+        @105 0 call 0 00000001 00000001 00000003 00000000
+        @130 0 call 3 00000001 00000001 800000d0 00000010 = 00000082 800000d0 00000010 00000010
+        @147 0 call 1 00000001 00000002 20000038 800000e0 = 00000082 20000038 800000e0 800000e0
+        @153 0 call 2 00000001 00000002 00000010 00000000 = 00000080 00000002 00000010 00000000
+        @160 0 call 0 00000001 00000002 00000010 00000000
+        ==
+        slot 0 echo yielded turns 155 restarts 0
+        leds 0000
+        end done steps 160 time 161
+    """),
+    readme("trespass", "a store behind a process's memory is denied",
+           "./tock boot examples/trespass.bin examples/empty.script --turns 1000", """
+        ==
+        slot 0 trespass faulted store 80000400 no-region turns 10 restarts 0
+        leds 0000
+        end done steps 10 time 10
+    """),
+    readme("trace-of-trespass", "memop tells where its memory ends, and the next store is denied",
+           "./tock trace examples/trespass.bin examples/empty.script --turns 1000", """
+        @7 0 call 5 00000003 00000000 00000000 00000000 = 00000081 80000400 00000000 00000000
+        @9 0 denied store 80000400 no-region
+        ==
+        slot 0 trespass faulted store 80000400 no-region turns 10 restarts 0
+        leds 0000
+        end done steps 10 time 10
+    """),
+    readme("three-applications-with-names", "an exit, a store past the break, and a call that tells an address",
+           "./tock boot examples/three.bin examples/16k.script --turns 1000", """
+        ==
+        slot 0 hello terminated 7 turns 4 restarts 0
+        slot 1 stray faulted store 80000500 no-region turns 2 restarts 0
+        slot 2 memop terminated 2147486720 turns 6 restarts 0
+        leds 0000
+        end done steps 12 time 12
+    """),
+    readme("trace-of-three-applications", "an exit, a store past the break, and a call with its reply",
+           "./tock trace examples/three.bin examples/16k.script --turns 1000", """
+        @3 0 call 6 00000000 00000007 00000400 80000100
+        @5 1 denied store 80000500 no-region
+        @8 2 call 5 00000003 80000800 00000400 80000900 = 00000081 80000c00 00000400 80000900
+        @11 2 call 6 00000000 80000c00 00000400 80000900
+        ==
+        slot 0 hello terminated 7 turns 4 restarts 0
+        slot 1 stray faulted store 80000500 no-region turns 2 restarts 0
+        slot 2 memop terminated 2147486720 turns 6 restarts 0
+        leds 0000
+        end done steps 12 time 12
+    """),
+    readme("list-of-three-applications", "padding is listed too", "./tock list examples/three.bin", """
+        object 0 60 app hello
+        object 60 52 app stray
+        object 112 16 padding -
+        object 128 68 app memop
+        objects 4
+    """),
+    readme("soak-of-a-million-turns", "a run that anyone can repeat", "./tock soak 1 --turns 1000000", """
+        printed 9240 sum 526146
+        ==
+        slot 0 - running turns 140808 restarts 0
+        slot 1 - running turns 140367 restarts 0
+        slot 2 - running turns 138473 restarts 0
+        slot 3 - running turns 138313 restarts 0
+        slot 4 - running turns 140469 restarts 0
+        slot 5 - terminated 81 turns 17940 restarts 0
+        slot 6 - running turns 140833 restarts 0
+        slot 7 - running turns 140487 restarts 0
+        leds 0000
+        end turns steps 1000000 time 997690
+    """),
+]
+
 COMMAND_LINES = [
     no_command("too-few-words", "boot wants its words", "boot", "a"),
     no_command("list-with-another-word", "list names one file", "list", "flash", "script"),
@@ -1134,4 +1257,4 @@ COMMAND_LINES = [
 ]
 
 CASES = RUNS + DENIALS + INSTRUCTIONS + CALLS + SWAPS + YIELDS + ALARMS + CONSOLES + LEDS + RANDOMS + STORAGES + SEVERAL + IMAGES + SCRIPTS + FILES + TRACES + SOAKS
-CASES += COMMAND_LINES
+CASES += README + COMMAND_LINES

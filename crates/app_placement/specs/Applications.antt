@@ -43,7 +43,8 @@ is_app App = true
 
 -- what an object that was found asks for, if it is an application
 abbrev pub application_of : List ℕ → Found → Option Application
-application_of flash f = if is_app f.verdict then application_in f.offset (reading (object_at flash f.offset f.size)) else None
+application_of flash f =
+    if is_app f.verdict then application_in f.offset (reading (object_at flash f.offset f.size)) else None
 
 -- the applications of a flash image, in the order in which they stand there
 abbrev pub applications : List ℕ → List Application

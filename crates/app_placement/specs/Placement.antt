@@ -31,7 +31,8 @@ is_taken last_end (Some fixed) = not (fixed % 8 == 0) || nat_lt fixed last_end
 
 -- the memory of an application whose block starts at an address, as it is at the application's start
 abbrev pub extents : Application → ℕ → Extents
-extents app start = extents_at_start app.flash_from app.flash_to start (start + block_length app.minimum_ram) app.minimum_ram
+extents app start =
+    extents_at_start app.flash_from app.flash_to start (start + block_length app.minimum_ram) app.minimum_ram
 
 -- an application's place in so many bytes of RAM, or the first cause for which it has none
 unfoldable pub place_of : ℕ → Filled → Application → Result Place PlaceFault
@@ -51,7 +52,8 @@ filled_after filled (Ok place) = record { last_end = place.layout.end; count = f
 unfoldable pub places_from : ℕ → Filled → List Application → List Placed
 places_from ram filled [] = []
 places_from ram filled (app ∷ apps) =
-    record { offset = app.offset; place = place_of ram filled app } ∷ places_from ram (filled_after filled (place_of ram filled app)) apps
+    record { offset = app.offset; place = place_of ram filled app }
+    ∷ places_from ram (filled_after filled (place_of ram filled app)) apps
 
 -- the places of all applications, of which none is placed at first
 abbrev pub placements : ℕ → List Application → List Placed
@@ -76,7 +78,8 @@ pub record IsAccessible (offset size from to : ℕ) : Type 0 where
 -- the accessible flash of an application that is placed lies in its object, which lies in flash, below RAM
 abbrev pub LiesInFlash : List ℕ → Placed → Type 0
 LiesInFlash flash p =
-    IfOk p.place (λ q. IsAccessible p.offset (size_at flash p.offset) q.layout.flash_start q.layout.flash_end × (p.offset + size_at flash p.offset ≤ length flash) × (q.layout.flash_end ≤ RAM_START))
+    IfOk p.place (λ q. IsAccessible p.offset (size_at flash p.offset) q.layout.flash_start q.layout.flash_end
+    × (p.offset + size_at flash p.offset ≤ length flash) × (q.layout.flash_end ≤ RAM_START))
 
 -- the object at an offset is an application
 abbrev pub IsApp : List ℕ → ℕ → Type 0
@@ -84,16 +87,20 @@ IsApp flash offset = verdict_of (FLASH_START + offset) (reading (object_bytes fl
 
 -- the memory that the application at an offset asks for, from its block's start on
 abbrev pub asked_extents : List ℕ → ℕ → ℕ → Option Extents
-asked_extents flash offset start = option_map (λ app. extents app start) (application_in offset (reading (object_bytes flash offset)))
+asked_extents flash offset start =
+    option_map (λ app. extents app start) (application_in offset (reading (object_bytes flash offset)))
 
 -- the object of each is an application, and the memory of one that is placed is what its header asks for, from
 -- its block's start on
 abbrev pub IsLaidOut : List ℕ → Placed → Type 0
-IsLaidOut flash p = IsApp flash p.offset × IfOk p.place (λ q. asked_extents flash p.offset q.layout.start ≡ Some q.layout)
+IsLaidOut flash p =
+    IsApp flash p.offset × IfOk p.place (λ q. asked_extents flash p.offset q.layout.start ≡ Some q.layout)
 
 abbrev pub is_placed : Placed → Bool
 is_placed p = is_ok p.place
 
 -- the slot of one that is placed is the number of those placed before it
 abbrev pub AreNumbered : List Placed → Type 0
-AreNumbered places = (k : ℕ) (d : Placed) → k < length places → IfOk (slice_index_or places k d).place (λ q. q.slot ≡ count_by is_placed (take k places))
+AreNumbered places =
+    (k : ℕ) (d : Placed) → k < length places
+    → IfOk (slice_index_or places k d).place (λ q. q.slot ≡ count_by is_placed (take k places))

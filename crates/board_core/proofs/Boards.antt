@@ -1,5 +1,5 @@
 -- What a board shows.
-use Rattle.std.proofs.Common.{◌≡◌, ℕ, zero, suc, ◌+◌, ◌-◌, ◌^◌, ◌<◌, ◌≤◌, Bool, true, false, List, [], ◌∷◌, ◌++◌, length, map, take, slice_get, slice_index_or, All, find, nat_lt, ◌&&◌, if◌then◌else◌, Option, None, Some, IfSome, IsTrue, refl, sym, ap, ap₂, subst, ◌∙◌, add-one, arith}
+use Rattle.std.proofs.Common.{◌≡◌, ℕ, zero, suc, ◌+◌, ◌-◌, ◌^◌, ◌<◌, ◌≤◌, Bool, true, false, List, [], ◌∷◌, ◌++◌, length, map, take, slice_get, slice_set, slice_index_or, All, find, nat_lt, ◌&&◌, if◌then◌else◌, Option, None, Some, IfSome, IsTrue, refl, sym, ap, ap₂, subst, ◌∙◌, add-one, arith}
 use Rattle.std.specs.List.{zip}
 use Rattle.std.specs.Option.{option_map, option_or}
 use Rattle.std.proofs.lemmas.Bool.Decides.{nat_tests}
@@ -20,7 +20,7 @@ use Rattle.process_record.specs.declared.summary.SlotLine.{SlotLine}
 use Rattle.process_record.specs.declared.summary.Summary.{Summary}
 use Rattle.process_record.specs.declared.summary.Unplaced.{Unplaced}
 use Rattle.driver_model.specs.Leds.{bits_of}
-use Rattle.grant_enter.specs.Homes.{Homes, nobody, own_of}
+use Rattle.grant_enter.specs.Homes.{ChangesOnly, Homes, nobody, own_of}
 use Rattle.kernel_model.specs.Record.{Record}
 use Rattle.kernel_model.specs.Turn.{may_turn}
 use Rattle.kernel_model.specs.World.{World, is_ready, may_be_made, can_run}
@@ -28,7 +28,7 @@ use Rattle.kernel_model.specs.Laws.{NextIsReady, NextLiesAhead}
 use Rattle.kernel_model.specs.Run.{next, next_time, ready_devices, ready_slots, situation_of}
 use Rattle.kernel_model.specs.Shown.{summary_of, line_of}
 use Rattle.board_core.specs.declared.board.Board.TheInside.{Inside}
-use Rattle.board_core.specs.Residents.{Resident, record_of, resident_turns, slot_turns, line_in, IsSeated}
+use Rattle.board_core.specs.Residents.{ChangesAt, Resident, record_of, resident_turns, slot_turns, line_in, IsSeated}
 use Rattle.board_core.specs.Shows.{IsBoard, world_of, residents}
 use Rattle.board_core.proofs.Records.{beside_get, reads_shown}
 use Rattle.board_core.proofs.Pairs.{zip-get, get_or-zip, length-firsts}
@@ -197,3 +197,14 @@ seated_at flash steps processes home slot index process i h n e all =
     let own : slice_get home.owns slot ≡ Some (own_of home slot) = slice_get-get_or home.owns slot nobody (omega (arith, h, n)) in
     let pair : slice_get (zip processes home.owns) slot ≡ Some (process, own_of home slot) = zip-get processes home.owns slot process (own_of home slot) here own in
     (here, own, subst (IsSeated flash steps) (get_or_from_slice_get (zip processes home.owns) slot (process, own_of home slot) (process, own_of home slot) pair) (all slot (process, own_of home slot) (slice_get_within (zip processes home.owns) slot (process, own_of home slot) pair)))
+
+-- where they are all that a call changed, which was given both
+abbrev pub changed_at : (processes : List Process) (home home_after : Homes) (slot index : ℕ) (process after : Process) → index ≡ slot → slot < length processes → length home.owns ≡ length processes → process ≡ slice_index_or processes index process → ChangesOnly slot home home_after → ChangesAt slot home home_after processes (slice_set processes index after)
+changed_at processes home home_after slot index process after i h n e only = record {
+  before = (process, own_of home slot);
+  after = (after, own_of home_after slot);
+  was = slice_get-get_or processes slot process h ∙ ap Some (ap (λ (k : ℕ). slice_index_or processes k process) (sym i) ∙ sym e);
+  own_was = slice_get-get_or home.owns slot nobody (omega (arith, h, n));
+  is = ap (λ (k : ℕ). slice_set processes k after) i;
+  own_is = only;
+}

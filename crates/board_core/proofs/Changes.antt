@@ -26,7 +26,7 @@ use Rattle.board_core.specs.Driven.{devices_of}
 use Rattle.board_core.specs.Residents.{Resident, record_of, id_of, ChangesAt, TurnsAt, IsSeated}
 use Rattle.board_core.specs.Settings.{pace}
 use Rattle.board_core.specs.Shows.{world_of, residents}
-use Rattle.board_core.proofs.Turns.{rests_seated}
+use Rattle.board_core.proofs.Turns.{rests_seated_on}
 use Rattle.board_core.proofs.Pairs.{zip-set, zip-get, length-firsts}
 use Rattle.board_core.proofs.Records.{beside_get}
 use Rattle.board_core.proofs.Routing.{drives_shown}
@@ -68,12 +68,15 @@ module _ (i : ℕ) (home home_after : Homes) (old new : List Process) (t : Chang
   pub kept_records : (slots : List (List ℕ)) → map (record_of home_after.flash) (zip (zip new home_after.owns) slots) ≡ slice_set (map (record_of home.flash) (zip (zip old home.owns) slots)) i (record_of home.flash (t.after, bytes_of slots i))
   kept_records slots = ap (λ (s : List (List ℕ)). map (record_of home_after.flash) (zip (zip new home_after.owns) s)) (sym (set-get_or slots i [])) ∙ changed_records slots (bytes_of slots i)
 
-  -- the processes after it
+  -- the processes after it, some steps later, so one step later
+  pub still_seated_on : (steps more : ℕ) → IsSeated home.flash (steps + more) t.after → All (IsSeated home.flash steps) (zip old home.owns) → All (IsSeated home_after.flash (steps + more)) (zip new home_after.owns)
+  still_seated_on steps more seated h =
+      subst (λ (f : List ℕ). All (IsSeated f (steps + more)) (zip new home_after.owns)) (sym flash_is)
+      (subst (λ (xs : List Resident). All (IsSeated home.flash (steps + more)) xs) (sym residents_after)
+      (All-set (IsSeated home.flash (steps + more)) (zip old home.owns) i t.after seated (All-weaker (IsSeated home.flash steps) (IsSeated home.flash (steps + more)) (rests_seated_on home.flash steps more) (zip old home.owns) h)))
+
   pub still_seated : (steps : ℕ) → IsSeated home.flash (steps + 1) t.after → All (IsSeated home.flash steps) (zip old home.owns) → All (IsSeated home_after.flash (steps + 1)) (zip new home_after.owns)
-  still_seated steps seated h =
-      subst (λ (f : List ℕ). All (IsSeated f (steps + 1)) (zip new home_after.owns)) (sym flash_is)
-      (subst (λ (xs : List Resident). All (IsSeated home.flash (steps + 1)) xs) (sym residents_after)
-      (All-set (IsSeated home.flash (steps + 1)) (zip old home.owns) i t.after seated (All-weaker (IsSeated home.flash steps) (IsSeated home.flash (steps + 1)) (rests_seated home.flash steps) (zip old home.owns) h)))
+  still_seated steps seated h = still_seated_on steps 1 seated h
 
   pub as_many : length old ≡ length new
   as_many = sym (ap length t.is ∙ length-set old i t.after.0)

@@ -18,8 +18,8 @@ use Rattle.process_own.specs.Own.{Own}
 use Rattle.process_record.specs.Emit.{nothing}
 use Rattle.process_record.specs.declared.emit.Emit.{Emit}
 use Rattle.process_record.specs.declared.process.Process.{Process}
-use Rattle.driver_model.specs.Answers.{FollowsAnswer, Remains}
-use Rattle.driver_model.specs.Commands.{Leaves, Line, Writes, Reads, Randoms, Stores, is_same}
+use Rattle.driver_model.specs.Answers.{Remains}
+use Rattle.driver_model.specs.Commands.{Leaves, Writes, Reads, Randoms, Stores, is_same}
 use Rattle.driver_model.specs.Console.{console_reads, console_writes}
 use Rattle.driver_model.specs.Lines.{IsWithin, has_waiting}
 use Rattle.driver_model.specs.Random.{randoms}
@@ -28,7 +28,7 @@ use Rattle.driver_model.specs.Storage.{storages}
 use Rattle.waiting_list.specs.Waiting.{without}
 use Rattle.grant_enter.specs.Homes.{Homes, ChangesOnly, nobody, own_of}
 use Rattle.kernel_model.specs.Record.{Record}
-use Rattle.kernel_model.specs.Turn.{Event, apply}
+use Rattle.kernel_model.specs.Turn.{Event}
 use Rattle.kernel_model.specs.World.{Answer, Answered, Deed, Printed, World, after, can_act, deed_of, done, is_ready, labels, may_be_made, printing, records_after, stepped, told_to, unmade}
 use Rattle.kernel_model.specs.Shown.{shown_by}
 use Rattle.board_core.specs.declared.board.Board.TheInside.{Inside}
@@ -40,6 +40,7 @@ use Rattle.board_core.specs.Guards.{GuardsOnly}
 use Rattle.board_core.specs.Makes.{Makes, shown_printed}
 use Rattle.board_core.specs.Residents.{ChangesAt, HasLost, IsSeated, Resident, record_of}
 use Rattle.board_core.specs.Shows.{IsBoard, world_of, residents}
+use Rattle.board_core.specs.Tells.{Told}
 use Rattle.board_core.proofs.Pairs.{zip-get}
 use Rattle.board_core.proofs.Lines.{line_after}
 use Rattle.board_core.proofs.Changes.{a_step_later, as_many_owns, beside, bytes_of, changed_records, found, still_seated, with_step}
@@ -84,11 +85,14 @@ pub lost_where : (steps : ℕ) (owns : List Own) (slot : ℕ) (own : Own) → sl
 lost_where steps owns slot own was lost =
     subst (HasLost steps) (get_or_from_slice_get owns slot own own was) (lost slot own (slice_get_within owns slot own was))
 
--- each process lost at most one upcall more
+-- each process lost at most as many upcalls more as steps were made, so one more in a step
+pub still_lost_on : (steps more slot : ℕ) (home home_after : Homes) (own : Own) → home_after ≡ record home { owns = slice_set home.owns slot own } → own.dropped ≤ steps + more → All (HasLost steps) home.owns → All (HasLost (steps + more)) home_after.owns
+still_lost_on steps more slot home home_after own only few lost =
+    subst (λ (h : Homes). All (HasLost (steps + more)) h.owns) (sym only)
+    (All-set (HasLost (steps + more)) home.owns slot own few (All-weaker (HasLost steps) (HasLost (steps + more)) (λ o h. omega (arith, h)) home.owns lost))
+
 pub still_lost : (steps slot : ℕ) (home home_after : Homes) (own : Own) → home_after ≡ record home { owns = slice_set home.owns slot own } → own.dropped ≤ steps + 1 → All (HasLost steps) home.owns → All (HasLost (steps + 1)) home_after.owns
-still_lost steps slot home home_after own only few lost =
-    subst (λ (h : Homes). All (HasLost (steps + 1)) h.owns) (sym only)
-    (All-set (HasLost (steps + 1)) home.owns slot own few (All-weaker (HasLost steps) (HasLost (steps + 1)) (λ o h. omega (arith, h)) home.owns lost))
+still_lost steps slot home home_after own only few lost = still_lost_on steps 1 slot home home_after own only few lost
 
 -- a device that may act is ready, below the limit of steps
 pub may_act : (w : World) (device : Dev) → w.clock.steps < STEP_LIMIT → can_act w device ≡ true → IsTrue (is_ready w (Device device))
@@ -97,31 +101,6 @@ may_act w device below e = subst (λ (c : Bool). IsTrue (nat_lt w.clock.steps ST
   where
     under : IsTrue (nat_lt w.clock.steps STEP_LIMIT && true)
     under = grind (arith, nat_tests)
-
--- What a device told the process in a slot, as the board has it: it follows what the device answered; the process left those
--- lists, and no other; and it is the deed of that device in the world.
-pub record Told (b : Inside) (device : Dev) (slot : ℕ) (printed : List ℕ) (home : Homes) (d : Drivers) : Type 0 where
-  pub process : Process
-  pub was : slice_get b.processes.items slot ≡ Some process
-  pub there : slot < length b.home.owns
-  pub only : ChangesOnly slot b.home home
-  pub left : Line → Bool
-  pub follows : FollowsAnswer left (own_of b.home slot) (own_of home slot)
-  pub writes : d.console.writes ≡ (if left Writes then without slot b.drivers.console.writes else b.drivers.console.writes)
-  pub reads : d.console.reads ≡ (if left Reads then without slot b.drivers.console.reads else b.drivers.console.reads)
-  pub randoms : d.random ≡ (if left Randoms then without slot b.drivers.random else b.drivers.random)
-  pub stores : d.storage ≡ (if left Stores then without slot b.drivers.storage else b.drivers.storage)
-  pub leds : length d.leds ≡ length b.drivers.leds
-  pub size : d.stores.size ≡ b.drivers.stores.size
-  pub ticks : d.uart.ticks ≡ b.drivers.uart.ticks
-  pub free : d.uart.free ≤ b.moment.time + 64000
-  pub counts : d.stores.served ≤ b.drivers.stores.served + 1
-  pub bytes : List ℕ
-  pub storage : d.stores.slots ≡ slice_set b.drivers.stores.slots slot bytes
-  pub event : Event
-  pub may : can_act (world_of b) device ≡ true
-  pub deed : deed_of (world_of b) device ≡ Some (record { told = Some (record { slot = slot; event = event }); printed = printed; devices = devices_of d })
-  pub tells : apply b.moment.settings event (record_of b.home.flash ((process, own_of b.home slot), bytes_of b.drivers.stores.slots slot)) ≡ record_of b.home.flash ((process, own_of home slot), bytes)
 
 -- there is one at each place of a list
 pub found_at : {X : Type 0} (xs : List X) (i : ℕ) → i < length xs → (x : X) × (slice_get xs i ≡ Some x)

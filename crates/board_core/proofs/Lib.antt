@@ -15,5 +15,8 @@ pub mod Ready
 pub mod Records
 pub mod Serving
 pub mod Sight
+pub mod Stretches
 pub mod TurnLines
 pub mod Turns
+pub mod Plays
+pub mod Openings

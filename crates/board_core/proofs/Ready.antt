@@ -13,10 +13,19 @@ use Rattle.kernel_model.specs.World.{World, after, is_ready, owns_in, stepped}
 use Rattle.kernel_model.specs.Run.{next_time, ready_devices, sending_time}
 use Rattle.board_core.specs.declared.board.Board.TheInside.{Inside}
 use Rattle.board_core.specs.Calm.{IsCalmAt}
+use Rattle.board_core.specs.declared.drivers.Drivers.{Drivers}
+use Rattle.board_core.specs.declared.moment.Moment.{Moment}
 use Rattle.board_core.specs.Driven.{devices_of}
 use Rattle.board_core.specs.Makes.{Makes, ready_in}
 use Rattle.board_core.specs.Shows.{IsBoard, world_of}
 use Rattle.board_core.proofs.Boards.{has_storage, owns_shown}
+
+six : {event alarm uart receive random store e a u v r s : Bool} → event ≡ e → alarm ≡ a → uart ≡ u → receive ≡ v → random ≡ r → store ≡ s → event ∷ alarm ∷ uart ∷ receive ∷ random ∷ store ∷ [] ≡ e ∷ a ∷ u ∷ v ∷ r ∷ s ∷ []
+six f g h i j k = cc
+
+-- where it is calm no device step is ready
+pub calm_ready : (m : Moment) (owns : List Own) (d : Drivers) → IsCalmAt m.settings.start m.time owns d → ready_in m owns d ≡ false ∷ false ∷ false ∷ false ∷ false ∷ false ∷ []
+calm_ready m owns d calm = six calm.sends.event (ap is_some calm.alarm) calm.sends.uart calm.serves.receive calm.serves.random calm.serves.store
 
 module _ (b : Inside) (board : IsBoard b) where
   -- what the owns of the world that a board shows are
@@ -31,12 +40,9 @@ module _ (b : Inside) (board : IsBoard b) where
   pub devices_shown : ready_in b.moment b.home.owns b.drivers ≡ ready_devices (world_of b)
   devices_shown = ap (λ (owns : List Own). ready_in b.moment owns b.drivers) (sym owns_in_world)
 
-  six : {event alarm uart receive random store e a u v r s : Bool} → event ≡ e → alarm ≡ a → uart ≡ u → receive ≡ v → random ≡ r → store ≡ s → event ∷ alarm ∷ uart ∷ receive ∷ random ∷ store ∷ [] ≡ e ∷ a ∷ u ∷ v ∷ r ∷ s ∷ []
-  six f g h i j k = cc
-
   -- as long as it is calm no device step is ready
   pub calm_shown : IsCalmAt b.moment.settings.start b.moment.time b.home.owns b.drivers → ready_devices (world_of b) ≡ false ∷ false ∷ false ∷ false ∷ false ∷ false ∷ []
-  calm_shown calm = sym devices_shown ∙ six calm.sends.event (ap is_some calm.alarm) calm.sends.uart calm.serves.receive calm.serves.random calm.serves.store
+  calm_shown calm = sym devices_shown ∙ calm_ready b.moment b.home.owns b.drivers calm
 
 -- the world after so many ticks
 pub passes : (b : Inside) (w : World) (ticks n : ℕ) (before after_it : Emit) → world_of b ≡ w → n ≡ ticks → IsTrue (is_ready w (Pass ticks)) → after_it ≡ nothing → Makes (Pass ticks) w (world_of (record b { moment = record b.moment { time = b.moment.time + n; steps = b.moment.steps + 1 } })) before after_it (Ok tt)

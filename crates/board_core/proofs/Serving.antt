@@ -1,5 +1,5 @@
 -- What each device tells the process that it serves, as a step of the board.
-use Rattle.std.proofs.Common.{◌≡◌, ℕ, zero, suc, ◌+◌, ◌*◌, ◌^◌, ◌==◌, ◌<◌, ◌≤◌, Bool, true, false, not, ◌&&◌, nat_le, if◌then◌else◌, List, [], ◌∷◌, drop, take, length, map, slice_get, slice_set, Option, None, Some, is_some, unwrap_or, refl, sym, ap, ap₂, subst, ◌∙◌, arith}
+use Rattle.std.proofs.Common.{◌≡◌, ℕ, zero, suc, ◌+◌, ◌*◌, ◌^◌, ◌==◌, ◌<◌, ◌≤◌, Bool, true, false, not, ◌&&◌, nat_le, if◌then◌else◌, List, [], ◌∷◌, drop, take, length, map, slice_get, slice_set, Option, None, Some, is_none, is_some, unwrap_or, refl, sym, ap, ap₂, subst, ◌∙◌, arith}
 use Rattle.std.specs.List.{AllByRecursion, zip}
 use Rattle.std.specs.Option.{option_map}
 use Rattle.std.proofs.lemmas.Bool.{false≢true}
@@ -7,6 +7,7 @@ use Rattle.std.proofs.lemmas.Bool.Decides.{nat_tests}
 use Rattle.std.proofs.lemmas.List.{set-get_or}
 use Rattle.std.proofs.lemmas.Nat.{mul-le}
 use Rattle.std.proofs.lemmas.Option.{slice_get-get_or}
+use Rattle.tk_base.specs.declared.process.Dev.{Dev}
 use Rattle.tk_base.specs.declared.process.Dev.TheVariants.{Alarm, Uart, Receive, Random, Store}
 use Rattle.tk_base.specs.declared.process.ProcessId.{ProcessId}
 use Rattle.board_devices.specs.Clock.{clock_at}
@@ -29,7 +30,9 @@ use Rattle.driver_model.specs.Laws.{DueSlotIsThere}
 use Rattle.driver_model.specs.Random as random
 use Rattle.driver_model.specs.Storage as storage
 use Rattle.alarm_capsule.specs.Answers as alarm_capsule
+use Rattle.random_capsule.specs.Answers as random_capsule
 use Rattle.random_capsule.specs.Answers.{answer_to as random_to}
+use Rattle.storage_capsule.specs.Answers as storage_capsule
 use Rattle.storage_capsule.specs.Answers.{answer_to as storage_to}
 use Rattle.storage_capsule.specs.Serving.{after_count, fails_next, stored}
 use Rattle.grant_values.specs.declared.storage.StorageRequest.{StorageRequest}
@@ -43,11 +46,13 @@ use Rattle.kernel_model.specs.Record.{Record, with_own}
 use Rattle.kernel_model.specs.Turn.{Alarmed, Taken, WriteDone, Input, Word, NoWord, Stored, apply, flash_of, written_over}
 use Rattle.kernel_model.specs.World.{Deed, Devices, World, alarmed, drawing, drawn, first_of, is_waited_for, left_of, owns_in, receiving, storing, transmitting}
 use Rattle.board_core.specs.declared.board.Board.TheInside.{Inside}
+use Rattle.board_core.specs.declared.drivers.Drivers.{Drivers}
 use Rattle.board_core.specs.Driven.{IsThere, devices_of, slots_of}
 use Rattle.board_core.specs.Residents.{IsSeated, Resident, record_of}
 use Rattle.board_core.specs.Shows.{IsBoard, residents, world_of}
 use Rattle.board_core.proofs.Changes.{beside, bytes_of, record_found}
-use Rattle.board_core.proofs.Devices.{Told, found_at, seated_there}
+use Rattle.board_core.specs.Tells.{Acted, Told}
+use Rattle.board_core.proofs.Devices.{found_at, seated_there}
 use Rattle.board_core.proofs.OwnFlash.{answered_of_own, sent_of_own}
 use Rattle.board_core.proofs.Records.{reads_shown}
 use Rattle.board_core.proofs.Routing.{slots_without}
@@ -461,3 +466,86 @@ told_alarmed b h id home lines law owns answers =
       deed = ap (option_map (alarmed (world_of b))) due;
       tells = alarm_applied b.moment.settings now r ∙ ap (λ (o : Own). with_own r o) (sym answers.2);
     }
+
+-- what a device did, by which device it is
+pub acted_by : (b : Inside) (device is : Dev) (o : Option ProcessId) (printed : List ℕ) (home : Homes) (d : Drivers) → device ≡ is → Acted b is o printed home d → Acted b device o printed home d
+acted_by b device is o printed home d e acted = subst (λ (x : Dev). Acted b x o printed home d) (sym e) acted
+
+-- What each device does where it is to act: it serves the first of those that wait, or may not act, and then nothing
+-- changes.
+pub acts_alarmed : (b : Inside) (h : IsBoard b) (o : Option ProcessId) (home : Homes)
+    → LinesFollowAnswers → DueSlotIsThere
+    → alarm_capsule.Answers (clock_at b.moment.settings.start b.moment.time) b.home o home
+    → (printed : List ℕ) → printed ≡ [] → Acted b Alarm o printed home b.drivers
+acts_alarmed b h None home lines law answers printed empty = (
+  ap is_some (ap (due_slot (clock_at b.moment.settings.start b.moment.time)) (owns_in_world b h) ∙ answers.0),
+  answers.1,
+  refl,
+)
+acts_alarmed b h (Some id) home lines law answers printed empty =
+    subst (λ (xs : List ℕ). Told b Alarm id.slot xs home b.drivers) (sym empty) (told_alarmed b h id home lines law (owns_in_world b h) answers)
+
+-- each buffer that a process holds may be lent
+abbrev Lent : Homes → Type 0
+Lent home = (slot : ℕ) → slot < length home.owns → HoldsInPlace (own_of home slot)
+
+pub acts_sent : (b : Inside) (h : IsBoard b) (o : Option ProcessId) (home : Homes) (capsule : Waiting) (line : SerialLine) (printed : List ℕ)
+    → LinesFollowAnswers → EventsTellSteps → ReadsOwnFlash → Lent b.home
+    → is_none o ≡ cannot_send b.drivers.console.writes b.drivers.uart b.moment.time
+    → capsule.reads ≡ b.drivers.console.reads
+    → Answers (sent_by b.drivers.uart b.moment.time b.home) b.drivers.console.writes (record { line = b.drivers.uart; printed = [] }) b.home o capsule.writes (record { line = line; printed = printed }) home
+    → Acted b Uart o printed home (record b.drivers { console = capsule; uart = line })
+acts_sent b h None home capsule line printed lines events law lent can reads answers = (
+  can_send b.drivers.console.writes b.drivers.uart b.moment.time ∙ ap not (sym can),
+  answers.2,
+  ap₂ (λ (ws rs : List ProcessId). record b.drivers { console = record { writes = ws; reads = rs }; uart = line }) answers.0 reads
+      ∙ ap (λ (p : Printing). record b.drivers { uart = p.line }) answers.1,
+)
+acts_sent b h (Some id) home capsule line printed lines events law lent can reads answers =
+    let there : IsThere b.home.owns id = first_is (IsThere b.home.owns) b.drivers.console.writes id answers.0 h.driven.writes.there in
+    told_sent b h id there home capsule line printed lines events law (lent id.slot there.0) can reads answers
+
+pub acts_received : (b : Inside) (h : IsBoard b) (o : Option ProcessId) (home : Homes) (capsule : Waiting) (line : SerialLine)
+    → LinesFollowAnswers → EventsTellSteps
+    → is_none o ≡ cannot_give b.drivers.console.reads b.drivers.uart
+    → capsule.writes ≡ b.drivers.console.writes
+    → Answers (received_by b.drivers.uart b.home) b.drivers.console.reads b.drivers.uart b.home o capsule.reads line home
+    → (printed : List ℕ) → printed ≡ [] → Acted b Receive o printed home (record b.drivers { console = capsule; uart = line })
+acts_received b h None home capsule line lines events can writes answers printed empty = (
+  can_give b.drivers.console.reads b.drivers.uart ∙ ap not (sym can),
+  answers.2,
+  ap₂ (λ (ws rs : List ProcessId). record b.drivers { console = record { writes = ws; reads = rs }; uart = line }) writes answers.0
+      ∙ ap (λ (l : SerialLine). record b.drivers { uart = l }) answers.1,
+)
+acts_received b h (Some id) home capsule line lines events can writes answers printed empty =
+    let there : IsThere b.home.owns id = first_is (IsThere b.home.owns) b.drivers.console.reads id answers.0 h.driven.reads.there in
+    subst (λ (xs : List ℕ). Told b Receive id.slot xs home (record b.drivers { console = capsule; uart = line })) (sym empty)
+    (told_received b h id there home capsule line lines events can writes answers)
+
+pub acts_drawn : (b : Inside) (h : IsBoard b) (o : Option ProcessId) (home : Homes) (ids : List ProcessId) (words : List ℕ)
+    → LinesFollowAnswers → EventsTellSteps
+    → random_capsule.Answers b.drivers.random b.drivers.words b.home o ids words home
+    → (printed : List ℕ) → printed ≡ [] → Acted b Random o printed home (record b.drivers { random = ids; words = words })
+acts_drawn b h None home ids words lines events answers printed empty = (
+  none_waits b.drivers.random answers.0,
+  answers.1.2,
+  ap₂ (λ (xs : List ProcessId) (ws : List ℕ). record b.drivers { random = xs; words = ws }) answers.1.0 answers.1.1,
+)
+acts_drawn b h (Some id) home ids words lines events answers printed empty =
+    let there : IsThere b.home.owns id = first_is (IsThere b.home.owns) b.drivers.random id answers.1.0 h.driven.randoms.there in
+    subst (λ (xs : List ℕ). Told b Random id.slot xs home (record b.drivers { random = ids; words = words })) (sym empty)
+    (told_drawn b h id there home ids words lines events answers.1)
+
+pub acts_stored : (b : Inside) (h : IsBoard b) (o : Option ProcessId) (home : Homes) (ids : List ProcessId) (stores : Storage)
+    → LinesFollowAnswers → ReadsOwnFlash → Lent b.home
+    → storage_capsule.Answers b.drivers.storage b.drivers.stores b.home o ids stores home
+    → (printed : List ℕ) → printed ≡ [] → Acted b Store o printed home (record b.drivers { storage = ids; stores = stores })
+acts_stored b h None home ids stores lines law lent answers printed empty = (
+  none_waits b.drivers.storage answers.0,
+  answers.1.2,
+  ap₂ (λ (xs : List ProcessId) (s : Storage). record b.drivers { storage = xs; stores = s }) answers.1.0 answers.1.1,
+)
+acts_stored b h (Some id) home ids stores lines law lent answers printed empty =
+    let there : IsThere b.home.owns id = first_is (IsThere b.home.owns) b.drivers.storage id answers.1.0 h.driven.stores.there in
+    subst (λ (xs : List ℕ). Told b Store id.slot xs home (record b.drivers { storage = ids; stores = stores })) (sym empty)
+    (told_stored b h id there home ids stores lines law (lent id.slot there.0) answers.1)

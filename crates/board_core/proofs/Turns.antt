@@ -133,9 +133,12 @@ module _ (m : Moment) (slot : ℕ) (flash : List ℕ) where
   rests r d (inl is) = is_quiet r r d (λ storage. ap (λ (s : State). turn_in m.settings m.time s (record_in flash r.0 r.1 storage)) is)
   rests r d (inr is) = is_quiet r r d (λ storage. ap (λ (s : State). turn_in m.settings m.time s (record_in flash r.0 r.1 storage)) is.1)
 
--- a process that had no turn is as it is to be, a step later
+-- a process that had no turn is as it is to be, some steps later, so one step later
+pub rests_seated_on : (flash : List ℕ) (steps more : ℕ) (r : Resident) → IsSeated flash steps r → IsSeated flash (steps + more) r
+rests_seated_on flash steps more r s = record { own = s.own; turns = omega (arith, s.turns); restarts = omega (arith, s.restarts) }
+
 pub rests_seated : (flash : List ℕ) (steps : ℕ) (r : Resident) → IsSeated flash steps r → IsSeated flash (steps + 1) r
-rests_seated flash steps r s = record { own = s.own; turns = omega (arith, s.turns); restarts = omega (arith, s.restarts) }
+rests_seated flash steps r s = rests_seated_on flash steps 1 r s
 
 -- an instruction leaves what a process asks of drivers
 pub may_serve_still : (m : Moment) (d : Drivers) (slot : ℕ) (own : Own) (t : UserTurn) → MayServe m d slot own → MayServe m d slot (with_write own t)

@@ -1,12 +1,15 @@
 -- As long as no device step is ready. Only proofs use this.
-use Rattle.std.specs.Prelude.{◌≡◌, ◌≤◌, ◌<◌, ℕ, ◌==◌, false, not, ◌&&◌, nat_le, List, length, None}
-use Rattle.board_devices.specs.Arriving.{is_time}
+use Rattle.std.specs.Prelude.{◌≡◌, ◌≤◌, ◌<◌, ℕ, ◌+◌, ◌==◌, false, not, ◌&&◌, nat_le, List, length, Option, None, Some}
+use Rattle.std.specs.Option.{option_map}
+use Rattle.board_devices.specs.Arriving.{is_time, next_time}
 use Rattle.board_devices.specs.Clock.{clock_at}
 use Rattle.process_own.specs.Own.{Own}
-use Rattle.driver_model.specs.Alarm.{due_slot}
+use Rattle.driver_model.specs.Alarm.{due_slot, nearer, next_left}
+use Rattle.kernel_model.specs.Run.{sending_time}
 use Rattle.kernel_model.specs.World.{is_waited_for}
 use Rattle.board_core.specs.declared.drivers.Drivers.{Drivers}
-use Rattle.board_core.specs.Driven.{slots_of}
+use Rattle.board_core.specs.declared.moment.Moment.{Moment}
+use Rattle.board_core.specs.Driven.{devices_of, slots_of}
 
 -- no bytes come in at a time, and the UART does not send
 pub record SendsNothing (time : ℕ) (d : Drivers) : Type 0 where
@@ -28,3 +31,16 @@ pub record IsCalmAt (start time : ℕ) (owns : List Own) (d : Drivers) : Type 0 
 -- none is from a time on, and before another
 abbrev pub IsCalm : ℕ → ℕ → ℕ → List Own → Drivers → Type 0
 IsCalm start from until owns d = (time : ℕ) → from ≤ time → time < until → IsCalmAt start time owns d
+
+-- the nearest time at which a device step becomes ready by itself: bytes come in, an alarm becomes due, or the UART is
+-- free for a write that waits
+abbrev pub coming : Moment → List Own → Drivers → Option ℕ
+coming m owns d =
+    nearer (next_time d.arrivals)
+    (nearer (option_map (λ n. m.time + n) (next_left (clock_at m.settings.start m.time) owns))
+    (sending_time (devices_of d)))
+
+-- there is a time, and it has come by another
+abbrev pub HasCome : ℕ → Option ℕ → Type 0
+HasCome now None = ⊥
+HasCome now (Some at) = at ≤ now

@@ -67,8 +67,8 @@ pub record IsLine {R : Type 0} (desk : Desk R) (ids : List ProcessId) (owns : Li
   pub there : AllByRecursion (IsThere owns) ids
   pub each : (slot : ℕ) → slot < length owns → waits slot ids ≡ has_waiting desk (slice_index_or owns slot nobody)
 
--- The drivers of a board with these settings, at a time: who waits has a request that waits; each request for storage lies in
--- what a slot has; so many LEDs there are; the UART is free soon.
+-- The drivers of a board with these settings, at a time: who waits has a request that waits; each request for storage
+-- lies in what a slot has; so many LEDs there are; the UART is free soon.
 pub record AreDriven (settings : Settings) (time : ℕ) (owns : List Own) (d : Drivers) : Type 0 where
   pub writes : IsLine console_writes d.console.writes owns
   pub reads : IsLine console_reads d.console.reads owns
@@ -116,5 +116,9 @@ pub record MayServe (m : Moment) (d : Drivers) (slot : ℕ) (own : Own) : Type 0
 abbrev pub Commands : ℕ → ProcessId → Order → Drivers → Own → Result Reply CallRule → Own → Drivers → Type 0
 Commands tick id order d own answer own_after d_after =
     (taker : Taker) → taker_of order.driver ≡ Some taker →
-    let c = taker (record { now = tick; leds = length d.leds; storage = d.stores.size }) order.number order.a2 order.a3 own in
+    let c = taker (record {
+      now = tick;
+      leds = length d.leds;
+      storage = d.stores.size;
+    }) order.number order.a2 order.a3 own in
     (answer ≡ c.answer) × (own_after ≡ c.own) × Drives id c.acts d d_after

@@ -3,7 +3,11 @@ pub mod Opening
 pub mod Guards
 pub mod Driven
 pub mod Calm
+pub mod Stretches
 pub mod Residents
 pub mod Boot
 pub mod Shows
 pub mod Makes
+pub mod Plays
+pub mod Tells
+pub mod Histories

@@ -16,7 +16,8 @@ use Rattle.board_core.specs.Driven.{slots_of}
 
 -- A choice that may be made is made: the world is the next one, and what it tells is shown. Any other is refused, and
 -- nothing changes.
-pub record Makes (choice : Choice) (old new : World) (before after_it : Emit) (result : Result Unit NotReady) : Type 0 where
+pub record Makes (choice : Choice) (old new : World) (before after_it : Emit)
+    (result : Result Unit NotReady) : Type 0 where
   pub ready : IsOk result ↔ IsTrue (is_ready old choice)
   pub ok : OnOk result (new ≡ after old choice)
   pub shown : OnOk result (after_it ≡ shown_by (labels old choice))
@@ -24,7 +25,10 @@ pub record Makes (choice : Choice) (old new : World) (before after_it : Emit) (r
 
 -- what a step shows that printed bytes for a slot's process
 abbrev pub shown_printed : ℕ → List ℕ → Emit
-shown_printed slot bytes = record nothing { slot = if length bytes == 0 then None else Some slot; printed = record { items = bytes } }
+shown_printed slot bytes = record nothing {
+  slot = if length bytes == 0 then None else Some slot;
+  printed = record { items = bytes };
+}
 
 -- which device steps are ready at a moment
 abbrev pub ready_in : Moment → List Own → Drivers → List Bool

@@ -19,8 +19,8 @@ use Rattle.kernel_model.specs.Record.{Record}
 use Rattle.kernel_model.specs.World.{World}
 use Rattle.board_core.specs.Settings.{erased, settings, pace}
 
--- the record of an application whose object stands at an offset: at its start, its block zeroed, so many bytes of storage
--- erased
+-- the record of an application whose object stands at an offset: at its start, its block zeroed, so many bytes of
+-- storage erased
 unfoldable pub opened : ℕ → List ℕ → ℕ → Extents → Meaning → Main → Record
 opened storage flash offset e h m = record {
   process = started (FLASH_START + offset) h m e.start (e.end - e.start) e.brk;
@@ -35,7 +35,8 @@ opened_by storage flash offset e (Err fault) = None
 
 -- the record of one that has a place
 abbrev pub record_in : ℕ → List ℕ → ℕ → Result Place PlaceFault → Option Record
-record_in storage flash offset (Ok place) = opened_by storage flash offset place.layout (reading (object_bytes flash offset))
+record_in storage flash offset (Ok place) =
+    opened_by storage flash offset place.layout (reading (object_bytes flash offset))
 record_in storage flash offset (Err fault) = None
 
 abbrev pub record_at : ℕ → List ℕ → Placed → Option Record
@@ -53,8 +54,8 @@ unplaced_at p = unplaced_in p.offset p.place
 abbrev pub places : ℕ → List ℕ → List Placed
 places ram flash = placements ram (applications flash)
 
--- the world before the first step: time and all counts are 0, nobody waits, all LEDs are off, nothing came in, and no slot
--- is present
+-- the world before the first step: time and all counts are 0, nobody waits, all LEDs are off, nothing came in, and no
+-- slot is present
 unfoldable pub opening : Script → List ℕ → World
 opening script flash = record {
   records = filter_map (record_at script.storage flash) (places script.ram flash);

@@ -63,8 +63,8 @@ pub record Shows (t : Turned) (shown : Shown) : Type 0 where
 abbrev pub id_of : ℕ → Own → ProcessId
 id_of slot own = record { slot = slot; life = own.life }
 
--- A turn, or a part of it, of the process in a slot leaves this, shows this, and has the drivers do what it asks of them,
--- whatever the process's storage is.
+-- A turn, or a part of it, of the process in a slot leaves this, shows this, and has the drivers do what it asks of
+-- them, whatever the process's storage is.
 abbrev pub Does : (List ℕ → Turned) → ℕ → List ℕ → Resident → Resident → Shown → Drivers → Drivers → Type 0
 Does turn slot flash old new shown d d_after = (storage : List ℕ) →
     let t = turn storage in
@@ -73,12 +73,14 @@ Does turn slot flash old new shown d d_after = (storage : List ℕ) →
 -- what serving the call of a process does at a moment
 abbrev pub Serves : Moment → ℕ → List ℕ → Resident → Resident → Shown → Drivers → Drivers → Type 0
 Serves m slot flash old new shown d d_after = (accesses : List Touch) →
-    Does (λ storage. calls m.settings m.time (record_in flash old.0 old.1 storage) accesses (call_of old.0.regs)) slot flash old new shown d d_after
+    Does (λ storage. calls m.settings m.time (record_in flash old.0 old.1 storage) accesses (call_of old.0.regs))
+    slot flash old new shown d d_after
 
 -- a fault of a process is settled as a policy decides
 abbrev pub Settles : Policy → List ℕ → Process → Own → Denial → Resident → Type 0
 Settles policy flash process own denial new = (storage : List ℕ) →
-    settled (record_in flash (after_fault process denial) own storage) (decision policy process.restarts) ≡ record_in flash new.0 new.1 storage
+    settled (record_in flash (after_fault process denial) own storage) (decision policy process.restarts)
+    ≡ record_in flash new.0 new.1 storage
 
 -- what a turn of a process does at a moment
 abbrev pub Turns : Moment → ℕ → List ℕ → Resident → Resident → Shown → Drivers → Drivers → Type 0
@@ -86,7 +88,8 @@ Turns m slot flash old new shown d d_after =
     Does (λ storage. turned m.settings m.time (record_in flash old.0 old.1 storage)) slot flash old new shown d d_after
 
 -- what a call of the process in a slot leaves at a moment, what comes of it, and what the drivers do for it
-pub record Finishes (m : Moment) (slot : ℕ) (home : Homes) (process : Process) (call : Call) (home_after : Homes) (process_after : Process) (outcome : Outcome) (d d_after : Drivers) : Type 0 where
+pub record Finishes (m : Moment) (slot : ℕ) (home : Homes) (process : Process) (call : Call) (home_after : Homes)
+    (process_after : Process) (outcome : Outcome) (d d_after : Drivers) : Type 0 where
   pub acts : List Act
   pub serves : (storage : List ℕ) →
       served (surroundings m.settings m.time) (record_at home slot process storage) call
@@ -119,7 +122,8 @@ pub record ChangesAt (slot : ℕ) (home home_after : Homes) (processes processes
   pub own_is : home_after ≡ record home { owns = slice_set home.owns slot after.1 }
 
 -- one turn of the process in a slot, and of no other
-pub record TurnsAt (m : Moment) (slot : ℕ) (home home_after : Homes) (processes processes_after : List Process) (shown : Shown) (d d_after : Drivers) : Type 0 where
+pub record TurnsAt (m : Moment) (slot : ℕ) (home home_after : Homes) (processes processes_after : List Process)
+    (shown : Shown) (d d_after : Drivers) : Type 0 where
   pub at : ChangesAt slot home home_after processes processes_after
   pub turns : Turns m slot home.flash at.before at.after shown d d_after
   pub seated : IsSeated home.flash (m.steps + 1) at.after

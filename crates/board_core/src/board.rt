@@ -1,5 +1,5 @@
 //! The board.
-ghost use Rattle.std.specs.Prelude.{◌≡◌, ◌+◌, ◌-◌, ◌^◌, [], ◌∷◌, false, ◌≤◌, ◌<◌, ◌↔◌, All, map, length, slice_get, IsOk, IsTrue, IfOk, IfSome, Some, OnOk, OnErr, vec_len};
+ghost use Rattle.std.specs.Prelude.{◌≡◌, ◌+◌, ◌-◌, ◌^◌, [], ◌∷◌, true, false, ◌≤◌, ◌<◌, ◌↔◌, All, map, length, slice_get, IsOk, IsTrue, IfOk, IfSome, Some, OnOk, OnErr, vec_len};
 ghost use Rattle.std.specs.List.{zip};
 ghost use Rattle.tk_base.specs.declared.process.Choice.TheVariants.{Run, Device, Pass};
 ghost use Rattle.tk_base.specs.declared.process.Dev.TheVariants.{Event, Alarm, Uart, Receive, Random, Store};
@@ -20,6 +20,7 @@ ghost use Rattle.board_core.specs.Driven.{MayServe};
 ghost use Rattle.grant_enter.specs.Homes.{own_of};
 ghost use Rattle.board_core.specs.Makes.{Makes, ready_in, shown_printed};
 ghost use Rattle.board_core.specs.Guards.{GuardsOnly};
+ghost use Rattle.board_core.specs.Tells.{tells_somebody};
 ghost use Rattle.board_core.specs.Residents.{IsSeated, InFlash, TurnsAt, nothing_shown, resident_turns, shown_in, slot_turns, line_in, with_shown};
 
 use crate::boot::{Crew, first_crew, placed_in, unplaced};
@@ -27,16 +28,13 @@ use crate::drivers::Drivers;
 use crate::guard::Guard;
 use crate::moment::Moment;
 use crate::turn::{can_turn, take_turn};
-use alarm_capsule::{answer, next_due};
+use alarm_capsule::next_due;
 use arrayvec::ArrayVec;
-use driver_model::{
-    a_due_slot_is_there, an_alarm_is_due_where_no_ticks_are_left, events_tell_steps,
-    lines_follow_answers,
-};
+use driver_model::an_alarm_is_due_where_no_ticks_are_left;
 use grant_enter::Home;
 use kernel_model::{Settings, grants_change_at_calls, next_is_ready, turns_keep_lines};
 use led_capsule::bits;
-use process_own::{Object, reads_own_flash};
+use process_own::Object;
 use process_record::{Emit, Process, SlotLine, Summary, Unplaced, object_name};
 use script_text::Script;
 use std::alloc::Global;
@@ -54,24 +52,24 @@ pub struct NotReady;
 #[derive(Drop)]
 pub struct Board {
     /// The memory of the processes.
-    home: Home,
+    pub(crate) home: Home,
     /// The processes, slot 0 first.
-    processes: Vec<Process>,
+    pub(crate) processes: Vec<Process>,
     /// The registers under which they run.
-    guard: Guard,
+    pub(crate) guard: Guard,
     /// The applications that have no place.
     unplaced: ArrayVec<Unplaced, 64>,
     /// The settings, the time and the steps so far.
-    moment: Moment,
+    pub(crate) moment: Moment,
     /// The drivers, with who waits for them and the devices that they serve.
-    drivers: Drivers,
+    pub(crate) drivers: Drivers,
     /// A time up to which no device step is ready.
-    calm: u64,
+    pub(crate) calm: u64,
     /// How many turns a process may have in a row while another is ready.
-    slice: u32,
+    pub(crate) slice: u32,
     /// The slot that had the last turn, and how many turns of its slice it has used.
-    present: Option<Slot>,
-    used: u32,
+    pub(crate) present: Option<Slot>,
+    pub(crate) used: u32,
 }
 
 impl Model for Board {
@@ -369,115 +367,22 @@ impl Board {
         Ok(())
     }
 
-    /// The alarm of the lowest slot whose alarm is due fires.
-    fn fire(&mut self, emit: &mut Emit) -> Result<(), NotReady>
-        ensures { Makes (Device Alarm) self.old self.new emit.old emit.new result }
+    /// A device tells a process something.
+    fn tell(&mut self, device: Dev, emit: &mut Emit) -> Result<(), NotReady>
+        requires { tells_somebody device ≡ true }
+        ensures { Makes (Device device) self.old self.new emit.old emit.new result }
     {
-        a_due_slot_is_there();
-        lines_follow_answers();
-        events_tell_steps();
-        if self.moment.steps >= STEP_LIMIT {
-            return Err(NotReady);
-        }
-        let Some(_) = answer(&mut self.home, self.moment.tick()) else {
-            return Err(NotReady);
-        };
-        hide(emit);
-        self.moment.steps += 1;
-        self.calm = self.moment.calm(&self.home, &self.drivers);
-        Ok(())
-    }
-
-    /// The UART takes the next bytes of the write that waits longest, or that write completes.
-    fn transmit(&mut self, emit: &mut Emit) -> Result<(), NotReady>
-        ensures { Makes (Device Uart) self.old self.new emit.old emit.new result }
-    {
-        lines_follow_answers();
-        events_tell_steps();
-        reads_own_flash();
-        self.home.held_buffers_lie_in_place();
         if self.moment.steps >= STEP_LIMIT {
             return Err(NotReady);
         }
         let mut printed = ArrayVec::new();
-        let Some(id) = self.drivers.console.transmit(
-            &mut self.home,
-            &mut self.drivers.uart,
-            self.moment.time,
-            &mut printed,
-        )
+        let Some(id) = self
+            .drivers
+            .act(&mut self.home, device, &self.moment, &mut printed)
         else {
             return Err(NotReady);
         };
         show(emit, id.slot, printed);
-        self.moment.steps += 1;
-        self.calm = self.moment.calm(&self.home, &self.drivers);
-        Ok(())
-    }
-
-    /// The bytes that came in go to the read that waits longest.
-    fn receive(&mut self, emit: &mut Emit) -> Result<(), NotReady>
-        ensures { Makes (Device Receive) self.old self.new emit.old emit.new result }
-    {
-        lines_follow_answers();
-        events_tell_steps();
-        if self.moment.steps >= STEP_LIMIT {
-            return Err(NotReady);
-        }
-        let Some(_) = self
-            .drivers
-            .console
-            .receive(&mut self.home, &mut self.drivers.uart)
-        else {
-            return Err(NotReady);
-        };
-        hide(emit);
-        self.moment.steps += 1;
-        self.calm = self.moment.calm(&self.home, &self.drivers);
-        Ok(())
-    }
-
-    /// A word is drawn for the request for random bytes that waits longest, or it completes.
-    fn draw(&mut self, emit: &mut Emit) -> Result<(), NotReady>
-        ensures { Makes (Device Random) self.old self.new emit.old emit.new result }
-    {
-        lines_follow_answers();
-        events_tell_steps();
-        if self.moment.steps >= STEP_LIMIT {
-            return Err(NotReady);
-        }
-        let Some(_) = self
-            .drivers
-            .random
-            .answer(&mut self.home, &mut self.drivers.words)
-        else {
-            return Err(NotReady);
-        };
-        hide(emit);
-        self.moment.steps += 1;
-        self.calm = self.moment.calm(&self.home, &self.drivers);
-        Ok(())
-    }
-
-    /// The storage serves the request that waits longest, or it fails.
-    fn store(&mut self, emit: &mut Emit) -> Result<(), NotReady>
-        ensures { Makes (Device Store) self.old self.new emit.old emit.new result }
-    {
-        lines_follow_answers();
-        events_tell_steps();
-        reads_own_flash();
-        self.home.held_buffers_lie_in_place();
-        if self.moment.steps >= STEP_LIMIT {
-            return Err(NotReady);
-        }
-        let Some(_) = self
-            .drivers
-            .storage
-            .answer(&mut self.home, &mut self.drivers.stores)
-        else {
-            return Err(NotReady);
-        };
-        hide(emit);
         self.moment.steps += 1;
         self.calm = self.moment.calm(&self.home, &self.drivers);
         Ok(())
@@ -490,11 +395,9 @@ impl Board {
     {
         match device {
             Dev::Event => self.arrive(emit),
-            Dev::Alarm => self.fire(emit),
-            Dev::Uart => self.transmit(emit),
-            Dev::Receive => self.receive(emit),
-            Dev::Random => self.draw(emit),
-            Dev::Store => self.store(emit),
+            Dev::Alarm | Dev::Uart | Dev::Receive | Dev::Random | Dev::Store => {
+                self.tell(device, emit)
+            }
         }
     }
 

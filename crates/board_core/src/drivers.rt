@@ -1,24 +1,33 @@
 //! The drivers of the board.
-ghost use Rattle.std.specs.Prelude.{◌≡◌, ◌+◌, ◌<◌, ◌^◌, ◌↔◌, ℕ, false, length, IfOk, IfSome};
+ghost use Rattle.std.specs.Prelude.{◌≡◌, ◌+◌, ◌*◌, ◌<◌, ◌≤◌, ◌^◌, ◌↔◌, ℕ, true, false, [], length, All, IfOk, IfSome};
 ghost use Rattle.board_devices.specs.Arriving.{next_time};
 ghost use Rattle.driver_model.specs.Commands.{gone};
 ghost use Rattle.grant_enter.specs.Homes.{own_of, ChangesOnly};
 ghost use Rattle.grant_enter.specs.Visits.{is_stale};
 ghost use Rattle.kernel_model.specs.Run.{sending_time};
 ghost use Rattle.board_core.specs.Calm.{ServesNobody};
-ghost use Rattle.board_core.specs.Driven.{AreFresh, Commands, Drives, IsTaken, MayAsk, devices_of};
+ghost use Rattle.board_core.specs.Residents.{HasLost};
+ghost use Rattle.board_core.specs.Tells.{Acts, tells_somebody};
+ghost use Rattle.tk_base.specs.declared.limits.TheConstants.{STEP_LIMIT};
+ghost use Rattle.board_core.specs.Driven.{AreDriven, AreFresh, Commands, Drives, IsTaken, MayAsk, devices_of};
 
+use crate::moment::Moment;
+use alarm_capsule::answer;
+use arrayvec::ArrayVec;
 use board_devices::{Arrivals, Leds, Stores, Uart, Words};
 use console_capsule::ConsoleCapsule;
-use driver_model::drivers_ask_for_their_own;
+use driver_model::{
+    a_due_slot_is_there, drivers_ask_for_their_own, events_tell_steps, lines_follow_answers,
+};
 use grant_enter::Home;
 use grant_values::{ALARM, CONSOLE, LED, RANDOM};
+use process_own::reads_own_flash;
 use random_capsule::RandomCapsule;
 use script_text::Script;
 use std::alloc::Global;
 use storage_capsule::StorageCapsule;
 use syscall_abi::Reply;
-use tk_base::{CallRule, ProcessId, Slot};
+use tk_base::{CallRule, Dev, ProcessId, Slot};
 use tk_outside::NoMemory;
 
 /// The drivers that have processes wait, each with who waits for it, and the devices that they serve.
@@ -98,6 +107,41 @@ impl Drivers {
             Some(self.uart.free())
         } else {
             None
+        }
+    }
+
+    /// Has a device act that tells a process something at a moment: the id of that process, and what was printed for
+    /// it. None, and nothing changes, where the device may not act.
+    #[inline(never)]
+    pub fn act(
+        &mut self,
+        home: &mut Home,
+        device: Dev,
+        moment: &Moment,
+        printed: &mut ArrayVec<u8, 64>,
+    ) -> Option<ProcessId>
+        requires tells { tells_somebody device ≡ true }
+        requires driven { AreDriven moment.now.settings moment.now.time home.old.owns self.old }
+        requires lost { All (HasLost moment.now.steps) home.old.owns }
+        requires limit { moment.now.steps < STEP_LIMIT }
+        requires time { moment.now.time ≤ moment.now.steps * 2 ^ 32 }
+        requires empty { printed.old.items ≡ [] }
+        ensures { Acts device moment.now home.old self.old result printed.new.items home.new self.new }
+    {
+        a_due_slot_is_there();
+        lines_follow_answers();
+        events_tell_steps();
+        reads_own_flash();
+        home.held_buffers_lie_in_place();
+        match device {
+            Dev::Event => None,
+            Dev::Alarm => answer(home, moment.tick()),
+            Dev::Uart => self
+                .console
+                .transmit(home, &mut self.uart, moment.time, printed),
+            Dev::Receive => self.console.receive(home, &mut self.uart),
+            Dev::Random => self.random.answer(home, &mut self.words),
+            Dev::Store => self.storage.answer(home, &mut self.stores),
         }
     }
 

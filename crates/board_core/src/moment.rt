@@ -5,7 +5,7 @@ ghost use Rattle.board_devices.specs.Arriving.{next_time};
 ghost use Rattle.board_devices.specs.Clock.{clock_at};
 ghost use Rattle.driver_model.specs.Alarm.{nearer, next_left};
 ghost use Rattle.kernel_model.specs.Run.{sending_time};
-ghost use Rattle.board_core.specs.Calm.{IsCalm};
+ghost use Rattle.board_core.specs.Calm.{HasCome, IsCalm, ServesNobody, coming};
 ghost use Rattle.board_core.specs.Driven.{devices_of};
 
 use crate::drivers::Drivers;
@@ -58,10 +58,7 @@ impl Moment {
     pub fn next_time(&self, home: &Home, drivers: &Drivers) -> Option<u64>
         requires time { self.now.time + 2 ^ 32 ≤ 2 ^ 64 }
         requires free { drivers.now.uart.free ≤ self.now.time + 64000 }
-        ensures at { let tick = clock_at self.now.settings.start self.now.time in
-            result ≡ nearer (next_time drivers.now.arrivals)
-            (nearer (option_map (λ n. self.now.time + n) (next_left tick home.now.owns))
-            (sending_time (devices_of drivers.now))) }
+        ensures at { result ≡ coming self.now home.now.owns drivers.now }
         ensures near { IfSome result (λ at. at - self.now.time < 2 ^ 32) }
     {
         let alarm = self.after(next_due(home, self.tick()));
@@ -72,12 +69,14 @@ impl Moment {
     }
 
     /// A time up to which no device step is ready: that of the next one, and the last that there is where none is
-    /// to come.
+    /// to come. Where it has come, somebody is served at once, or the next one has come.
     #[inline(never)]
-    pub fn calm(&self, home: &Home, drivers: &Drivers) -> u64
+    pub fn look_ahead(&self, home: &Home, drivers: &Drivers) -> u64
         requires time { self.now.time + 2 ^ 32 ≤ 2 ^ 64 }
         requires free { drivers.now.uart.free ≤ self.now.time + 64000 }
-        ensures { IsCalm self.now.settings.start self.now.time result home.now.owns drivers.now }
+        ensures calm { IsCalm self.now.settings.start self.now.time result home.now.owns drivers.now }
+        ensures come { result ≤ self.now.time → ServesNobody drivers.now
+            → HasCome self.now.time (coming self.now home.now.owns drivers.now) }
     {
         no_alarm_is_due_before_the_next();
         if drivers.is_busy() {
@@ -87,5 +86,14 @@ impl Moment {
             Some(at) => at,
             None => u64::MAX,
         }
+    }
+
+    /// A time up to which no device step is ready.
+    pub fn calm(&self, home: &Home, drivers: &Drivers) -> u64
+        requires time { self.now.time + 2 ^ 32 ≤ 2 ^ 64 }
+        requires free { drivers.now.uart.free ≤ self.now.time + 64000 }
+        ensures { IsCalm self.now.settings.start self.now.time result home.now.owns drivers.now }
+    {
+        self.look_ahead(home, drivers)
     }
 }

@@ -7,6 +7,7 @@ use std::process::Abort;
 use std::test::Fail;
 use test_objects::{Tlv, image, object};
 use tk_base::{Access, Choice, Denial, Rule, Slot};
+use tk_outside::MemSink;
 
 /// `j .`
 const SPIN: [u32; 1] = [0x0000_006f];
@@ -65,5 +66,40 @@ fn the_next_application_cannot_store_in_the_first_ones_block(rt: HostRuntime) ->
     assert!(rt; board.step(Choice::Run(Slot::new(1)), &mut emit).is_err());
     let summary = board.summary();
     assert_eq!(rt; summary.steps, 102);
+    Ok(())
+}
+
+#[test]
+fn the_first_choice_that_is_not_ready_is_named(rt: HostRuntime) -> Result<(), Fail> {
+    let Some(mut board) = board_of(rt.alloc()) else {
+        assert!(rt; false, "no memory");
+        return Ok(());
+    };
+    // Its second turn is denied, and ends it.
+    let stray = Choice::Run(Slot::new(1));
+    let choices = [Choice::Run(Slot::new(0)), stray, stray, stray, stray];
+    let mut out = MemSink::new(rt.alloc(), 1, 1, vec![in rt.alloc()]?)?;
+    assert_eq!(rt; board.play(&choices, &mut out), Err(PlayEnd::NotReady(3)));
+    assert_eq!(rt; board.summary().steps, 3);
+    Ok(())
+}
+
+#[test]
+fn a_quiet_stretch_ends_with_the_slice(rt: HostRuntime) -> Result<(), Fail> {
+    let Some(mut board) = board_of(rt.alloc()) else {
+        assert!(rt; false, "no memory");
+        return Ok(());
+    };
+    let mut emit = Emit::new();
+    assert_eq!(rt; board.run_quietly(10), 0);
+    assert!(rt; go_on(&mut board, &mut emit, 1));
+    assert_eq!(rt; board.run_quietly(10), 10);
+    assert_eq!(rt; board.run_quietly(1000), 89);
+    assert!(rt; board.next_choice() == Some(Choice::Run(Slot::new(1))));
+    // Its first instruction goes, and the second one is denied.
+    assert!(rt; go_on(&mut board, &mut emit, 1));
+    assert_eq!(rt; board.run_quietly(10), 0);
+    let summary = board.summary();
+    assert_eq!(rt; summary.steps, 101);
     Ok(())
 }

@@ -37,7 +37,9 @@ overwritten bytes offset written = take offset bytes ++ written ++ drop (offset 
 
 -- the storage with bytes put over those of a slot, from an offset on
 abbrev pub with_bytes : Storage → ℕ → ℕ → List ℕ → Storage
-with_bytes s slot offset written = record s { slots = slice_set s.slots slot (overwritten (slot_bytes s slot) offset written) }
+with_bytes s slot offset written = record s {
+  slots = slice_set s.slots slot (overwritten (slot_bytes s slot) offset written);
+}
 
 -- whether the request of a number fails
 abbrev pub is_fault : List ℕ → ℕ → Bool

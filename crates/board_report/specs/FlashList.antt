@@ -30,7 +30,10 @@ verdict_text App = codes "app"
 -- the line of an object of a flash image
 unfoldable pub object_text : List ℕ → Found → List ℕ
 object_text flash f =
-    codes "object " ++ (decimal f.offset ++ (codes " " ++ (decimal f.size ++ (codes " " ++ (verdict_text f.verdict ++ (codes " " ++ (name_text (name_of (object_at flash f.offset f.size)) ++ newline)))))))
+    codes "object " ++ (decimal f.offset
+    ++ (codes " " ++ (decimal f.size
+    ++ (codes " " ++ (verdict_text f.verdict
+    ++ (codes " " ++ (name_text (name_of (object_at flash f.offset f.size)) ++ newline)))))))
 
 -- the line of how many there are
 unfoldable pub count_text : ℕ → List ℕ

@@ -15,7 +15,8 @@ use Rattle.board_report.specs.declared.report.End.TheVariants.{Done, Turns}
 -- a denial: the access, the address in eight digits of base 16, and the rule
 abbrev pub denial_text : Option Denial → List ℕ
 denial_text None = []
-denial_text (Some d) = codes " " ++ (access_text d.access ++ (codes " " ++ (hex_digits 8 d.address ++ (codes " " ++ rule_text d.rule))))
+denial_text (Some d) =
+    codes " " ++ (access_text d.access ++ (codes " " ++ (hex_digits 8 d.address ++ (codes " " ++ rule_text d.rule))))
 
 abbrev pub state_text : State → Option Denial → List ℕ
 state_text Running denial = codes "running"
@@ -36,7 +37,9 @@ slot_turns line = codes " turns " ++ (decimal line.turns ++ (codes " restarts " 
 
 -- the line of a slot
 unfoldable pub slot_text : ℕ → SlotLine → List ℕ
-slot_text slot line = slot_head slot line ++ (state_text line.state line.denial ++ (slot_turns line ++ (dropped_text line.dropped ++ newline)))
+slot_text slot line =
+    slot_head slot line ++ (state_text line.state line.denial
+    ++ (slot_turns line ++ (dropped_text line.dropped ++ newline)))
 
 -- the lines of the slots from one on
 abbrev pub slot_texts : ℕ → List SlotLine → List ℕ
@@ -72,8 +75,12 @@ end_text Turns = codes "turns"
 
 -- the line of the end
 unfoldable pub end_line : End → ℕ → ℕ → List ℕ
-end_line end steps time = codes "end " ++ (end_text end ++ (codes " steps " ++ (decimal steps ++ (codes " time " ++ (decimal time ++ newline)))))
+end_line end steps time =
+    codes "end " ++ (end_text end ++ (codes " steps "
+    ++ (decimal steps ++ (codes " time " ++ (decimal time ++ newline)))))
 
 -- the whole report
 unfoldable pub report_text : Summary → End → List ℕ
-report_text s end = slot_texts 0 s.slots.items ++ (unplaced_texts s.unplaced.items ++ (leds_text s.leds s.led_count ++ end_line end s.steps s.time))
+report_text s end =
+    slot_texts 0 s.slots.items ++ (unplaced_texts s.unplaced.items
+    ++ (leds_text s.leds s.led_count ++ end_line end s.steps s.time))

@@ -33,7 +33,9 @@ refusal_text (Some rule) = codes " " ++ call_rule_text rule
 -- the line of a system call: its class, a0 to a3 before it, its reply and its refusal
 unfoldable pub call_line : ℕ → ℕ → CallMade → List ℕ
 call_line time slot call =
-    line_head time slot (codes " call ") ++ (decimal call.class ++ (registers_text call.args ++ (reply_text call.reply ++ (refusal_text call.rule ++ newline))))
+    line_head time slot (codes " call ")
+    ++ (decimal call.class ++ (registers_text call.args
+    ++ (reply_text call.reply ++ (refusal_text call.rule ++ newline))))
 
 -- the line of a denial
 unfoldable pub denial_line : ℕ → ℕ → Denial → List ℕ

@@ -148,7 +148,7 @@ serves_drawing : (left : ℕ) (request : RandomRequest) (own : Own) (word : Opti
 serves_drawing left request own None = serves _ _ _ own.ram own
 serves_drawing left request own (Some word) = serves_if own (nat_le left 4) _ _ (serves _ _ _ _ own) (serves_silently _ own)
 
-serves_progress : (word : Option ℕ) (request : RandomRequest) (own : Own) → Serves own (random.progress word request own).own
+pub serves_progress : (word : Option ℕ) (request : RandomRequest) (own : Own) → Serves own (random.progress word request own).own
 serves_progress word request own =
     serves_if own (nat_le (random.wanted request own) request.written) _ _ (serves _ _ _ own.ram own)
     (serves_drawing (random.wanted request own - request.written) request own word)
@@ -163,7 +163,7 @@ draws words life own = by_waiting (waiting_of randoms life own) refl
         put_randoms own _ (serves_progress (slice_get words 0) request own) request (random.progress (slice_get words 0) request own).rest (asks randoms life own request is)
 
 -- a storage request that is served
-serves_served : (fault : Bool) (flash bytes : List ℕ) (request : StorageRequest) (own : Own) → Serves own (storage.served fault flash bytes request own).own
+pub serves_served : (fault : Bool) (flash bytes : List ℕ) (request : StorageRequest) (own : Own) → Serves own (storage.served fault flash bytes request own).own
 serves_served fault flash bytes request own = by_fault fault request.kind
   where
     by_fault : (b : Bool) (kind : StorageKind) → Serves own (cond b (record { own = storage.completing request.kind 0 1 own; written = None }) (storage.moving kind flash bytes request own)).own

@@ -1,5 +1,5 @@
 -- What the commands to each driver ask of the board, by the rows of its table.
-use Rattle.std.proofs.Common.{◌≡◌, ◌⊎◌, inl, inr, ℕ, ◌==◌, ◌+◌, nat_le, nat_lt, Bool, true, false, cond, List, [], ◌∷◌, Option, None, Some, refl}
+use Rattle.std.proofs.Common.{◌≡◌, inl, inr, ℕ, ◌==◌, ◌+◌, nat_le, nat_lt, Bool, true, false, cond, List, [], ◌∷◌, Option, None, Some, refl}
 use Rattle.grant_values.specs.declared.alarm.Armed.{Armed}
 use Rattle.grant_values.specs.declared.console.WaitingRead.{WaitingRead}
 use Rattle.grant_values.specs.declared.storage.StorageRequest.{StorageRequest}
@@ -11,7 +11,7 @@ use Rattle.driver_model.specs.Commands.{Act, Commanded, Waits, Leaves, Lights, O
 use Rattle.driver_model.specs.Console as console
 use Rattle.driver_model.specs.Leds as leds
 use Rattle.driver_model.specs.Random as random
-use Rattle.driver_model.specs.Requests.{Desk, asking, asking_beside, beginning, request_in}
+use Rattle.driver_model.specs.Requests.{Desk, asking_beside, request_in}
 use Rattle.driver_model.specs.Storage as storage
 use Rattle.driver_model.proofs.Tables.{Each, commanded}
 

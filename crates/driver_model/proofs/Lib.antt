@@ -14,3 +14,6 @@ mod Follows
 mod Keeping
 mod Answering
 mod Telling
+mod Services
+mod Upcalls
+mod Pairs

@@ -41,7 +41,8 @@ abbrev pub stopping : Option Armed → Own → Commanded
 stopping None own = refused Nothing own
 stopping (Some alarm) own = accepted Success (with_alarm None own)
 
--- its commands: the driver is there; ticks a second; the clock; stop the alarm; arm it from now on, or from a reference on
+-- its commands: the driver is there; ticks a second; the clock; stop the alarm; arm it from now on, or from a reference
+-- on
 unfoldable pub commands : ℕ → ℕ → ℕ → Own → List (ℕ × Commanded)
 commands now a2 a3 own =
     (0, accepted Success own)

@@ -2,7 +2,7 @@
 use Rattle.std.specs.Prelude.{◌≡◌, ◌⊎◌, ℕ, List, [], ◌∷◌}
 use Rattle.process_own.specs.Own.{Own}
 use Rattle.driver_model.specs.Alarm as alarm
-use Rattle.driver_model.specs.Commands.{Act, Waits, Leaves, Lights, On, Off, Toggle, Writes, Reads, Randoms, Stores}
+use Rattle.driver_model.specs.Commands.{Waits, Leaves, Lights, On, Off, Toggle, Writes, Reads, Randoms, Stores}
 use Rattle.driver_model.specs.Console as console
 use Rattle.driver_model.specs.Leds as leds
 use Rattle.driver_model.specs.Random as random
@@ -13,11 +13,17 @@ abbrev pub OneOf : {X : Type 0} → X → List X → Type 0
 OneOf x [] = ⊥
 OneOf x (y ∷ ys) = (x ≡ y) ⊎ OneOf x ys
 
--- the alarm asks for nothing; the console that its caller begins to wait to write or to read, or stops to wait to read; the
--- LEDs that one is switched; the two others that their caller begins to wait
+-- the alarm asks for nothing; the console that its caller begins to wait to write or to read, or stops to wait to read;
+-- the LEDs that one is switched; the two others that their caller begins to wait
 pub record AskTheirOwn : Type 0 where
   pub alarm : (now number a2 a3 : ℕ) (own : Own) → (alarm.command now number a2 a3 own).acts ≡ []
-  pub console : (number count : ℕ) (own : Own) → OneOf (console.command number count own).acts ([] ∷ (Waits Writes ∷ []) ∷ (Waits Reads ∷ []) ∷ (Leaves Reads ∷ []) ∷ [])
-  pub leds : (count number led : ℕ) (own : Own) → OneOf (leds.command count number led own).acts ([] ∷ (Lights led On ∷ []) ∷ (Lights led Off ∷ []) ∷ (Lights led Toggle ∷ []) ∷ [])
-  pub random : (number count : ℕ) (own : Own) → OneOf (random.command number count own).acts ([] ∷ (Waits Randoms ∷ []) ∷ [])
-  pub storage : (size number a2 a3 : ℕ) (own : Own) → OneOf (storage.command size number a2 a3 own).acts ([] ∷ (Waits Stores ∷ []) ∷ [])
+  pub console : (number count : ℕ) (own : Own)
+      → OneOf (console.command number count own).acts ([] ∷ (Waits Writes ∷ []) ∷ (Waits Reads ∷ [])
+      ∷ (Leaves Reads ∷ []) ∷ [])
+  pub leds : (count number led : ℕ) (own : Own)
+      → OneOf (leds.command count number led own).acts ([] ∷ (Lights led On ∷ []) ∷ (Lights led Off ∷ [])
+      ∷ (Lights led Toggle ∷ []) ∷ [])
+  pub random : (number count : ℕ) (own : Own)
+      → OneOf (random.command number count own).acts ([] ∷ (Waits Randoms ∷ []) ∷ [])
+  pub storage : (size number a2 a3 : ℕ) (own : Own)
+      → OneOf (storage.command size number a2 a3 own).acts ([] ∷ (Waits Stores ∷ []) ∷ [])

@@ -9,8 +9,8 @@ use Rattle.driver_model.specs.Leds as leds
 use Rattle.driver_model.specs.Random as random
 use Rattle.driver_model.specs.Storage as storage
 
--- what a command may rest on beside what is the process's own: what the clock shows, how many LEDs there are, and how many
--- bytes of storage a slot has
+-- what a command may rest on beside what is the process's own: what the clock shows, how many LEDs there are, and how
+-- many bytes of storage a slot has
 pub record Surroundings : Type 0 where
   pub now : ℕ
   pub leds : ℕ

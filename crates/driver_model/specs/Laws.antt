@@ -66,8 +66,8 @@ QuietUntilNext =
 abbrev pub DueSlotIsThere : Type 0
 DueSlotIsThere = (now slot : ℕ) (owns : List Own) → due_slot now owns ≡ Some slot → slot < length owns
 
--- what an alarm changes of a process is what waits to be delivered, the count of dropped upcalls, and what it keeps for the
--- alarm; one upcall may be dropped
+-- what an alarm changes of a process is what waits to be delivered, the count of dropped upcalls, and what it keeps for
+-- the alarm; one upcall may be dropped
 abbrev pub AnAlarmLeavesTheRest : Type 0
 AnAlarmLeavesTheRest =
     (now : ℕ) (own : Own) →

@@ -10,3 +10,6 @@ pub mod Laws
 pub mod Asked
 pub mod Lines
 pub mod Answers
+pub mod Services
+pub mod Upcalls
+pub mod Pairs

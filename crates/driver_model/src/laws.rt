@@ -3,6 +3,10 @@ ghost use Rattle.driver_model.specs.Asked.{AskTheirOwn};
 ghost use Rattle.driver_model.specs.Laws.{AnAlarmLeavesTheRest, CommandsStayInPlace, DueSlotIsThere, IsDueWhereNoneAreLeft, QuietUntilNext, TimeBringsNearer};
 ghost use Rattle.driver_model.specs.Laws.{EachLedIsItsBit, OneLedTurns, TurnedWithItsBit};
 ghost use Rattle.driver_model.specs.Laws.{CommandDropsAtMostOne, RefusedByAnyDriver};
+ghost use Rattle.driver_model.specs.Pairs.{DriversLeavePairs};
+ghost use Rattle.driver_model.specs.Upcalls.{DriversScheduleHeld};
+
+use process_own::only_handing_changes_pairs;
 
 /// A command changes of what is a process's own its room for grants, its grants, what waits to be delivered and
 /// the count of dropped upcalls; where it lies, its life, and that it lives, stay.
@@ -69,3 +73,19 @@ pub fn one_led_turns()
 pub fn drivers_ask_for_their_own()
     ensures { AskTheirOwn }
 {}
+
+/// What waits for a process after a command, or after a device's answer, is what waited before, and then one upcall
+/// at most: the one that the process then holds of its driver and number, and not the null upcall (TRD 104,
+/// "Subscribe", "Yield").
+#[tactic(auto, using(crate::proofs::Upcalls::drivers_schedule_held))]
+pub fn drivers_schedule_what_is_held()
+    ensures { DriversScheduleHeld }
+{}
+
+/// Neither a command to any driver nor what a device answers changes a pair that the process has handed (TRD 104,
+/// "Subscribe", "Read-Only Allow", "Read-Write Allow").
+pub fn drivers_leave_pairs()
+    ensures { DriversLeavePairs }
+{
+    only_handing_changes_pairs();
+}

@@ -13,7 +13,8 @@ pub record Answered (D : Type 0) : Type 0 where
 
 -- The process that waited longest got its answer, and waits no more where its request completed; nothing else changed.
 -- Or none was answered, and nothing changed.
-abbrev pub Answers : {D : Type 0} → (ProcessId → Answered D) → List ProcessId → D → Homes → Option ProcessId → List ProcessId → D → Homes → Type 0
+abbrev pub Answers : {D : Type 0} → (ProcessId → Answered D) → List ProcessId → D → Homes → Option ProcessId
+    → List ProcessId → D → Homes → Type 0
 Answers answer_to ids device old None ids' device' new = (ids' ≡ ids) × (device' ≡ device) × (new ≡ old)
 Answers answer_to ids device old (Some id) ids' device' new =
     let a = answer_to id in

@@ -26,7 +26,9 @@ is_bad_binary_end protected_end total (Some binary_end) = nat_lt total binary_en
 -- the header and the protected bytes pass the object, the binary's end is bad, or the entry is odd or outside
 abbrev pub has_bad_entry : ℕ → Meaning → Main → Bool
 has_bad_entry start h m =
-    nat_lt h.total_size (h.header_size + m.protected) || is_bad_binary_end (h.header_size + m.protected) h.total_size m.binary_end || entry_of start h m % 2 == 1 || is_outside start h m
+    nat_lt h.total_size (h.header_size + m.protected)
+    || is_bad_binary_end (h.header_size + m.protected) h.total_size m.binary_end || entry_of start h m % 2 == 1
+    || is_outside start h m
 
 -- the flash start that the application is linked for, where there is one, is not where it stands
 abbrev pub is_wrong_flash : ℕ → Option (ℕ × ℕ) → Bool
@@ -63,7 +65,8 @@ object_bytes flash at = object_at flash at (size_at flash at)
 -- 16, no multiple of 4 or beyond what is left
 abbrev pub ends_at : List ℕ → ℕ → Bool
 ends_at flash at =
-    nat_lt (length flash - at) 16 || not (half flash at == 2) || nat_lt (size_at flash at) 16 || not (size_at flash at % 4 == 0) || nat_lt (length flash - at) (size_at flash at)
+    nat_lt (length flash - at) 16 || not (half flash at == 2) || nat_lt (size_at flash at) 16
+    || not (size_at flash at % 4 == 0) || nat_lt (length flash - at) (size_at flash at)
 
 -- the object at a place
 unfoldable pub found_at : List ℕ → ℕ → Found
@@ -76,7 +79,8 @@ found_at flash at = record {
 -- at most n objects from a place on
 unfoldable pub objects_from : ℕ → List ℕ → ℕ → List Found
 objects_from zero flash at = []
-objects_from (suc n) flash at = if ends_at flash at then [] else found_at flash at ∷ objects_from n flash (at + size_at flash at)
+objects_from (suc n) flash at =
+    if ends_at flash at then [] else found_at flash at ∷ objects_from n flash (at + size_at flash at)
 
 -- the objects of a flash image, of which at most 64 are found
 abbrev pub objects : List ℕ → List Found

@@ -23,7 +23,8 @@ pub record IsAreaOf (driver : ℕ) (kernel : List ℕ) (area : Area) : Type 0 wh
 
 -- a driver has an area exactly where it has a grant
 pub record AreasAreFound : Type 0 where
-  pub found : (driver : ℕ) (kernel : List ℕ) (area : Area) → IsLaid kernel → Some area ≡ area_of driver (read_back kernel) → IsAreaOf driver kernel area
+  pub found : (driver : ℕ) (kernel : List ℕ) (area : Area) → IsLaid kernel
+      → Some area ≡ area_of driver (read_back kernel) → IsAreaOf driver kernel area
   pub absent : (driver : ℕ) (gs : List Grant) → None ≡ area_of driver gs → grant_of driver gs ≡ None
 
 -- in which word pair n of a kind begins, of a driver whose area this is
@@ -38,16 +39,19 @@ pub record ArePair (kernel : List ℕ) (i : ℕ) (kind : PairKind) (driver n : �
   pub first : slice_index (words_of kernel) i ≡ (pair_of kind n (grant_of driver (read_back kernel))).0
   pub second : slice_index (words_of kernel) (i + 1) ≡ (pair_of kind n (grant_of driver (read_back kernel))).1
   pub put : (pair : ℕ × ℕ) → pair.0 < 2 ^ 32 → pair.1 < 2 ^ 32
-      → Tells (bytes_of (slice_set (slice_set (words_of kernel) i pair.0) (i + 1) pair.1)) (with_grant driver (with_pair kind n pair) (read_back kernel))
+      → Tells (bytes_of (slice_set (slice_set (words_of kernel) i pair.0) (i + 1) pair.1))
+      (with_grant driver (with_pair kind n pair) (read_back kernel))
 
 -- pairs stand in a driver's area in the order of their kinds and numbers
 pub record PairsAreFound : Type 0 where
-  pub at : (kind : PairKind) (driver n : ℕ) (kernel : List ℕ) (area : Area) → IsLaid kernel → Some area ≡ area_of driver (read_back kernel)
+  pub at : (kind : PairKind) (driver n : ℕ) (kernel : List ℕ) (area : Area) → IsLaid kernel
+      → Some area ≡ area_of driver (read_back kernel)
       → n < count_of kind (shape_of driver) → ArePair kernel (word_of_pair kind driver n area) kind driver n
 
 -- where the value of a driver whose area this is begins in the kernel's bytes, and how many bytes of words it has
 abbrev pub value_offset : ℕ → Area → ℕ
-value_offset driver area = area.offset + 8 + 8 * ((shape_of driver).upcalls + (shape_of driver).ro + (shape_of driver).rw)
+value_offset driver area =
+    area.offset + 8 + 8 * ((shape_of driver).upcalls + (shape_of driver).ro + (shape_of driver).rw)
 
 abbrev pub value_bytes : ℕ → ℕ
 value_bytes driver = 4 * ((shape_of driver).value / 4)
@@ -62,7 +66,8 @@ pub record IsValue (kernel : List ℕ) (at size driver : ℕ) : Type 0 where
   pub within : at + size ≤ length kernel
   pub taken : words_of (take size (drop at kernel)) ≡ grant.value
   pub put : (words : List ℕ) → length words ≡ (shape_of driver).value / 4 → AllByRecursion IsWord words
-      → Tells (take at kernel ++ (bytes_of words ++ drop size (drop at kernel))) (with_grant driver (with_value words) (read_back kernel))
+      → Tells (take at kernel ++ (bytes_of words
+      ++ drop size (drop at kernel))) (with_grant driver (with_value words) (read_back kernel))
 
 -- the value stands in a driver's area after its pairs
 pub record ValuesAreFound : Type 0 where

@@ -76,20 +76,35 @@ writes_own law m pmp s t seated p (Some w) d =
     place : (address start : ℕ) → RAM_START ≤ start → start ≤ address → address - RAM_START - (start - RAM_START) ≡ address - start
     place address start from in_block = omega arith
 
+-- what is the own of a process in its seat lies in its place
+pub own_in_place : (m : MemoryBytes) (s : Seat) → IsSettled (length m.flash) (length m.ram) s.layout → IsSeated (length m.flash) m.ram s → IsInPlace (own_in m.ram s)
+own_in_place m s t seated =
+    let e = s.layout in
+    record {
+      ordered = t.ordered;
+      apart = omega (arith, t.below, t.from);
+      ram = length_window m.ram (e.start - RAM_START) (e.kernel_break - RAM_START) (omega (arith, t.to, t.from, t.ordered.end)) ∙ differ e.start e.kernel_break t.from (omega (arith, t.ordered.block, t.ordered.grants));
+      kernel = ap length (sym seated.kept.laid.bytes) ∙ length_window m.ram (e.kernel_break - RAM_START) (e.end - RAM_START) (omega (arith, t.to, t.from)) ∙ differ e.kernel_break e.end (omega (arith, t.from, t.ordered.block, t.ordered.grants)) t.ordered.end;
+      sound = seated.kept.laid.sound;
+    }
+  where
+    differ : (a b : ℕ) → RAM_START ≤ a → a ≤ b → b - RAM_START - (a - RAM_START) ≡ b - a
+    differ a b low order = omega arith
+
 module _ (law : AStoreIsPut) (h : Inside) (slot : ℕ) (low : slot < length (homes_of h).owns) (home : IsHome h) (pmp : List Entry) where
-  abbrev seat : Seat
+  abbrev pub seat : Seat
   seat = slice_index_or h.seats.items slot (first_seat (record { object = nobody.object; layout = nobody.layout }))
 
-  read : seat ≡ slice_index_or h.seats.items slot seat
+  pub read : seat ≡ slice_index_or h.seats.items slot seat
   read = any_default h.seats.items slot _ _ (omega (arith, length-map h.seats.items (own_in h.memory.ram), low))
 
-  here : own_of (homes_of h) slot ≡ own_in h.memory.ram seat
+  pub here : own_of (homes_of h) slot ≡ own_in h.memory.ram seat
   here = own_is h slot slot seat refl read low
 
-  settled : IsSettled (length h.memory.flash) (length h.memory.ram) seat.layout
+  pub settled : IsSettled (length h.memory.flash) (length h.memory.ram) seat.layout
   settled = settled_is h slot slot seat refl read low home
 
-  seated : IsSeated (length h.memory.flash) h.memory.ram seat
+  pub seated : IsSeated (length h.memory.flash) h.memory.ram seat
   seated = seated_is h slot slot seat refl read low home
 
   -- the layout that the registers protect
@@ -118,21 +133,7 @@ module _ (law : AStoreIsPut) (h : Inside) (slot : ℕ) (low : slot < length (hom
 
   -- what is the slot's own lies in its place
   pub in_place : (old : Homes) → homes_of h ≡ old → IsInPlace (own_of old slot)
-  in_place old shown =
-      let t = settled in
-      let e = seat.layout in
-      let kernel : length (kernel_in h.memory.ram seat.layout) ≡ seat.layout.end - seat.layout.kernel_break = length_window h.memory.ram (e.kernel_break - RAM_START) (e.end - RAM_START) (omega (arith, t.to, t.from)) ∙ differ e.kernel_break e.end (omega (arith, t.from, t.ordered.block, t.ordered.grants)) t.ordered.end in
-      let place : IsInPlace (own_in h.memory.ram seat) = record {
-        ordered = t.ordered;
-        apart = omega (arith, t.below, t.from);
-        ram = length_window h.memory.ram (e.start - RAM_START) (e.kernel_break - RAM_START) (omega (arith, t.to, t.from, t.ordered.end)) ∙ differ e.start e.kernel_break t.from (omega (arith, t.ordered.block, t.ordered.grants));
-        kernel = ap length (sym seated.kept.laid.bytes) ∙ kernel;
-        sound = seated.kept.laid.sound;
-      } in
-      subst IsInPlace (sym (ap (λ (x : Homes). own_of x slot) (sym shown) ∙ here)) place
-    where
-      differ : (a b : ℕ) → RAM_START ≤ a → a ≤ b → b - RAM_START - (a - RAM_START) ≡ b - a
-      differ a b low order = omega arith
+  in_place old shown = subst IsInPlace (sym (ap (λ (x : Homes). own_of x slot) (sym shown) ∙ here)) (own_in_place h.memory seat settled seated)
 
   pub makes_only : (old : Homes) (m : MemoryBytes) (regs : Regs) → homes_of h ≡ old → slot < length old.owns → Protect pmp (own_of old slot).layout → WritesArePermitted → m ≡ record h.memory { ram = ram_after RAM_START (turn_under pmp h.memory.flash h.memory.ram regs).write h.memory.ram } → ChangesOnly slot old (homes_of (record { memory = m; seats = h.seats }))
   makes_only old m regs shown within p writes left = put_only old (homes_of (record { memory = m; seats = h.seats })) slot (with_write (own_of old slot) (turn_under pmp h.memory.flash h.memory.ram regs)) within (written old m regs shown p writes left)

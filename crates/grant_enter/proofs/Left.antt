@@ -1,5 +1,5 @@
--- What is left of RAM after an instruction over it.
-use Rattle.std.proofs.Common.{◌≡◌, ◌∷◌, ℕ, ◌-◌, List, length, IfSome, Option, None, Some, sym, ap, ◌∙◌}
+-- What is left of RAM after instructions over it.
+use Rattle.std.proofs.Common.{◌≡◌, ℕ, ◌-◌, List, length, IfSome, Option, None, Some, refl, sym, ◌∙◌}
 use Rattle.tk_base.specs.declared.access.Access.TheVariants.{Store}
 use Rattle.tk_base.specs.declared.access.TheConstants.{RAM_START}
 use Rattle.tk_base.specs.Bus.{put}
@@ -11,16 +11,15 @@ use Rattle.board_memory.specs.Laws.{AStoreInRamIsPut, BytesTellTheRam}
 use Rattle.process_own.specs.Instruction.{ram_after}
 
 -- RAM whose bytes by address are those after a permitted write
-follows : (flash other ram left : List ℕ) (pmp : List Entry) (w : Option Write) → AStoreInRamIsPut → BytesTellTheRam → StoresLieIn (length ram) pmp → length left ≡ length ram → IfSome w (λ x. denied_by pmp Store x.address x.width ≡ None) → byte_at other left ≡ after_write w (byte_at flash ram) → left ≡ ram_after RAM_START w ram
+pub follows : (other flash ram left : List ℕ) (pmp : List Entry) (w : Option Write) → AStoreInRamIsPut → BytesTellTheRam → StoresLieIn (length ram) pmp → length left ≡ length ram → IfSome w (λ x. denied_by pmp Store x.address x.width ≡ None) → byte_at other left ≡ after_write w (byte_at flash ram) → left ≡ ram_after RAM_START w ram
 unfolding ram_after
-follows flash other ram left pmp None stored told s n d h = told flash other ram left n h
-follows flash other ram left pmp (Some w) stored told s n d h =
+follows other flash ram left pmp None stored told s n d h = told flash other ram left n h
+follows other flash ram left pmp (Some w) stored told s n d h =
     let at = stored flash ram w.address w.width w.value (s.stores w.address w.width d) in
     told flash other (put ram (w.address - RAM_START) w.width w.value) left (n ∙ sym at.1) (h ∙ sym at.0)
 
--- What is left of RAM that was lent to a view, which had other RAM and flash at the end under another name: the same
--- loan ended, so RAM is what the view had.
-pub ram_left : (name name' : ℕ) (flash flash' ram ram' left : List ℕ) (pmp : List Entry) (w : Option Write) → AStoreInRamIsPut → BytesTellTheRam → StoresLieIn (length ram) pmp → name' ∷ length ram' ∷ flash' ≡ name ∷ length ram ∷ flash → length left ≡ length ram → (name ≡ name' → left ≡ ram') → IfSome w (λ x. denied_by pmp Store x.address x.width ≡ None) → byte_at flash' ram' ≡ after_write w (byte_at flash ram) → left ≡ ram_after RAM_START w ram
-ram_left name name' flash flash' ram ram' left pmp w stored told s frame n tie d h =
-    let names : name ≡ name' = cc in
-    follows flash flash' ram left pmp w stored told s n d (ap (byte_at flash') (tie names) ∙ h)
+-- and they are, where RAM is what it leaves
+pub written_is : (flash ram : List ℕ) (pmp : List Entry) (w : Option Write) → AStoreInRamIsPut → StoresLieIn (length ram) pmp → IfSome w (λ x. denied_by pmp Store x.address x.width ≡ None) → byte_at flash (ram_after RAM_START w ram) ≡ after_write w (byte_at flash ram)
+unfolding ram_after
+written_is flash ram pmp None stored s d = refl
+written_is flash ram pmp (Some w) stored s d = (stored flash ram w.address w.width w.value (s.stores w.address w.width d)).0

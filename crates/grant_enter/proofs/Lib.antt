@@ -5,6 +5,7 @@ mod Boot
 mod Left
 mod Sight
 mod Instructions
+mod Stretch
 mod Blocks
 mod Holding
 mod Handed

@@ -22,7 +22,11 @@ last_of e buffer = if buffer.1 == 0 then e.start else buffer.0 + buffer.1
 
 -- a process whose read-write buffer has these bytes
 abbrev pub with_buffer : Entered → ℕ → List ℕ → Entered
-with_buffer e n bytes = record e { memory = record e.memory { now = with_run e.memory.now (first_of e.seat.now.layout (held ReadWrite e.driver n (own_entered e))) bytes } }
+with_buffer e n bytes = record e {
+  memory = record e.memory {
+    now = with_run e.memory.now (first_of e.seat.now.layout (held ReadWrite e.driver n (own_entered e))) bytes;
+  };
+}
 
 abbrev pub LendsBuffer : MutBor Entered → ℕ → MutBor (List ℕ) → Fml
 LendsBuffer entered n buffer =
@@ -43,9 +47,14 @@ ABufferIsWritten =
 -- the bytes of the buffers that a process has allowed a driver
 pub record BuffersAreWhole : Type 0 where
   -- there are as many as the process said
-  pub read_only : (e : Entered) (n : ℕ) → IsLent e → let buffer = held ReadOnly e.driver n (own_entered e) in length (bytes_at e.memory.now.flash (own_entered e) buffer) ≡ buffer.1
-  pub read_write : (e : Entered) (n : ℕ) → IsLent e → let buffer = held ReadWrite e.driver n (own_entered e) in length (ram_at (own_entered e) buffer) ≡ buffer.1
+  pub read_only : (e : Entered) (n : ℕ) → IsLent e
+      → let buffer = held ReadOnly e.driver n (own_entered e) in
+      length (bytes_at e.memory.now.flash (own_entered e) buffer) ≡ buffer.1
+  pub read_write : (e : Entered) (n : ℕ) → IsLent e
+      → let buffer = held ReadWrite e.driver n (own_entered e) in
+      length (ram_at (own_entered e) buffer) ≡ buffer.1
   -- to put some at a buffer's start, and to write that over the buffer, is to write these at its start
-  pub front : (own : Own) (buffer : ℕ × ℕ) (bytes : List ℕ) → length bytes ≤ length (ram_at own buffer) → writing buffer 0 (over (ram_at own buffer) 0 bytes) own ≡ writing buffer 0 bytes own
+  pub front : (own : Own) (buffer : ℕ × ℕ) (bytes : List ℕ) → length bytes ≤ length (ram_at own buffer)
+      → writing buffer 0 (over (ram_at own buffer) 0 bytes) own ≡ writing buffer 0 bytes own
   -- to write a buffer's own bytes over it changes nothing
   pub same : (own : Own) (buffer : ℕ × ℕ) → writing buffer 0 (ram_at own buffer) own ≡ own

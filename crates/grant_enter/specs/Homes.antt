@@ -1,10 +1,11 @@
 -- What contracts see of the memory of all processes: flash, and by slot what is a process's own.
-use Rattle.std.specs.Prelude.{◌≡◌, ◌≤◌, ◌<◌, ℕ, ◌+◌, ◌-◌, ◌%◌, ◌^◌, true, if◌then◌else◌, List, [], length, slice_index_or, slice_set, Option, None, Some}
+use Rattle.std.specs.Prelude.{◌≡◌, ◌≢◌, ◌≤◌, ◌<◌, ℕ, zero, suc, ◌+◌, ◌-◌, ◌%◌, ◌^◌, true, if◌then◌else◌, List, [], length, slice_index_or, slice_set, Option, None, Some}
 use Rattle.std.specs.List.{AllByRecursion}
 use Rattle.tk_base.specs.declared.access.TheConstants.{FLASH_START, RAM_START}
 use Rattle.tk_base.specs.declared.process.ProcessId.{ProcessId}
 use Rattle.tk_base.specs.declared.regs.Regs.{Regs}
 use Rattle.rv32_model.specs.declared.turn_end.TurnEnd.{TurnEnd}
+use Rattle.rv32_model.specs.declared.turn_end.TurnEnd.TheVariants.{Went}
 use Rattle.process_layout.specs.Extents.{Extents}
 use Rattle.process_layout.specs.Ordered.{IsOrdered}
 use Rattle.grant_areas.specs.Laid.{laid, IsSound}
@@ -89,3 +90,18 @@ Makes flash own regs own_after regs_after end =
     (seen : ℕ → ℕ) → Sees flash own seen →
     let t = instruction_of own seen regs in
     (own_after ≡ with_write own t) × (regs_after ≡ t.regs) × (end ≡ t.end)
+
+-- So many instructions of a process, each of which goes, lead from its own and its registers to others. As always its
+-- own lies in its place; and each instruction is the one that its own bytes give.
+unfoldable pub MakesAll : ℕ → List ℕ → Own → Regs → Own → Regs → Type 0
+MakesAll zero flash own regs own_after regs_after = (own_after ≡ own) × (regs_after ≡ regs)
+MakesAll (suc k) flash own regs own_after regs_after =
+    IsInPlace own
+    × ((seen : ℕ → ℕ) → Sees flash own seen →
+    let t = instruction_of own seen regs in
+    (t.end ≡ Went) × MakesAll k flash (with_write own t) t.regs own_after regs_after)
+
+-- the next instruction of a process does not go: it makes a system call or is denied
+abbrev pub IsStopped : List ℕ → Own → Regs → Type 0
+IsStopped flash own regs =
+    IsInPlace own × ((seen : ℕ → ℕ) → Sees flash own seen → (instruction_of own seen regs).end ≢ Went)

@@ -76,7 +76,9 @@ LiesBelowMark e pair = 0 < pair.1 → (e.start ≤ pair.0) × (pair.0 + pair.1 �
 
 -- a read-only buffer that has bytes lies there, or in accessible flash
 abbrev pub MayBeRead : Extents → ℕ × ℕ → Type 0
-MayBeRead e pair = 0 < pair.1 → IsTrue (lies_within e.start e.mark pair.0 pair.1 || lies_within e.flash_start e.flash_end pair.0 pair.1)
+MayBeRead e pair =
+    0 < pair.1 → IsTrue (lies_within e.start e.mark pair.0 pair.1
+    || lies_within e.flash_start e.flash_end pair.0 pair.1)
 
 -- the buffers of a grant lie where they may
 pub record Holds (e : Extents) (g : Grant) : Type 0 where
@@ -116,7 +118,8 @@ pub record Regrants (m : MemoryBytes) (e : Extents) (m' : MemoryBytes) (e' : Ext
   pub tells : Tells (kernel_in m'.ram e') gs
 
 -- a swap in a block of memory gives the former pair, and leaves the new one among the grants
-pub record SwapsIn (kind : PairKind) (driver number : ℕ) (pair : ℕ × ℕ) (m : MemoryBytes) (e : Extents) (m' : MemoryBytes) (e' : Extents) (answer : ℕ × ℕ) : Type 0 where
+pub record SwapsIn (kind : PairKind) (driver number : ℕ) (pair : ℕ × ℕ) (m : MemoryBytes) (e : Extents)
+    (m' : MemoryBytes) (e' : Extents) (answer : ℕ × ℕ) : Type 0 where
   pub former : answer ≡ held_pair kind driver number (kernel_in m.ram e)
   pub layout : e' ≡ roomed driver e (grant_of driver (read_back (kernel_in m.ram e)))
   pub grants : Regrants m e m' e' (swapped kind driver number pair (kernel_in m.ram e))
@@ -134,7 +137,8 @@ pub record MakesRoom (driver : ℕ) (m : MemoryBytes) (e : Extents) (m' : Memory
 abbrev pub queued : Upcall → Pending → Pending
 queued upcall pending =
     if upcall.function == 0 then pending
-    else (if has_room pending.queue then record pending { queue = pending.queue ++ upcall ∷ [] } else record pending { dropped = pending.dropped + 1 })
+    else (if has_room pending.queue then record pending { queue = pending.queue ++ upcall ∷ [] }
+    else record pending { dropped = pending.dropped + 1 })
 
 -- the bytes of a buffer that may be read, which has none where its size is 0
 abbrev pub readable : MemoryBytes → Extents → ℕ × ℕ → List ℕ

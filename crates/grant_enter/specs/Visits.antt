@@ -20,7 +20,9 @@ Asks asks value_of driver counts flash own =
 
 -- A visitor was given the value that the process kept, and left by its own contract some value and some own; the process
 -- is that own, and keeps that value.
-pub record Visited {T A : Type 0} (leaves : T → Seen → A → T → Own → Type 0) (value_of : List ℕ → T) (words_of : T → List ℕ) (driver : ℕ) (counts : Counts) (flash : List ℕ) (old : Own) (answer : A) (new : Own) : Type 0 where
+pub record Visited {T A : Type 0} (leaves : T → Seen → A → T → Own → Type 0) (value_of : List ℕ → T)
+    (words_of : T → List ℕ) (driver : ℕ) (counts : Counts) (flash : List ℕ) (old : Own) (answer : A)
+    (new : Own) : Type 0 where
   pub words : List ℕ
   pub was : kept driver old ≡ Some words
   pub value : T
@@ -32,7 +34,8 @@ pub record Visited {T A : Type 0} (leaves : T → Seen → A → T → Own → T
 
 -- A driver enters a process of a life: it visits the value that is kept, or the fresh one, which is made; or the process
 -- is not there; or there is no room. Where it is refused the process is as it was.
-abbrev pub Enters : {T A : Type 0} → (T → Seen → A → T → Own → Type 0) → (List ℕ → T) → (T → List ℕ) → ℕ → Counts → ℕ → List ℕ → Own → Result A EnterError → Own → Type 0
+abbrev pub Enters : {T A : Type 0} → (T → Seen → A → T → Own → Type 0) → (List ℕ → T) → (T → List ℕ) → ℕ → Counts → ℕ
+    → List ℕ → Own → Result A EnterError → Own → Type 0
 Enters leaves value_of words_of driver counts life flash old (Ok answer) new =
     (is_stale life old ≡ false) × (has_place driver old ≡ true)
     × Visited leaves value_of words_of driver counts flash (entering driver old) answer new
@@ -40,9 +43,10 @@ Enters leaves value_of words_of driver counts life flash old (Err Stale) new = (
 Enters leaves value_of words_of driver counts life flash old (Err NoRoom) new =
     (is_stale life old ≡ false) × (has_place driver old ≡ false) × (new ≡ old)
 
--- A driver visits a process of a life, and makes nothing: it visits the value that is kept; or none is; or the process is
--- not there.
-abbrev pub Visits : {T A : Type 0} → (T → Seen → A → T → Own → Type 0) → (List ℕ → T) → (T → List ℕ) → ℕ → Counts → ℕ → List ℕ → Own → Result (Option A) IsStale → Own → Type 0
+-- A driver visits a process of a life, and makes nothing: it visits the value that is kept; or none is; or the process
+-- is not there.
+abbrev pub Visits : {T A : Type 0} → (T → Seen → A → T → Own → Type 0) → (List ℕ → T) → (T → List ℕ) → ℕ → Counts → ℕ
+    → List ℕ → Own → Result (Option A) IsStale → Own → Type 0
 Visits leaves value_of words_of driver counts life flash old (Ok (Some answer)) new =
     (is_stale life old ≡ false) × Visited leaves value_of words_of driver counts flash old answer new
 Visits leaves value_of words_of driver counts life flash old (Ok None) new =

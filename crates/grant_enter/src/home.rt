@@ -10,12 +10,12 @@ ghost use Rattle.process_own.specs.Handed.{HoldsInPlace, entering, handing, has_
 ghost use Rattle.process_own.specs.Served.{kept};
 ghost use Rattle.grant_values.specs.Drivers.{counts_of};
 ghost use Rattle.swap_tables.specs.Swaps.{IsPair};
-ghost use Rattle.grant_enter.specs.Homes.{own_of, living, ChangesOnly, IsInPlace, CanMoveIn, LiesBefore, Makes};
+ghost use Rattle.grant_enter.specs.Homes.{own_of, living, ChangesOnly, IsInPlace, IsStopped, CanMoveIn, LiesBefore, Makes, MakesAll};
 ghost use Rattle.grant_enter.specs.Visits.{Asks, Enters, Visits, is_stale};
 
 use crate::flag::put_flag_at;
 use crate::handing::hand_at;
-use crate::instruction::turn_in;
+use crate::instruction::{instruction_laws, turn_in, turns_in};
 use crate::seat::Seat;
 use crate::visit::{EnterError, Stale, Visit, block_at, enter_seat, peek_seat, visit_seat};
 use board_memory::{Memory, set_process};
@@ -323,5 +323,22 @@ impl Home {
         writes_are_permitted();
         a_store_is_put();
         turn_in(regs, &mut self.memory, pmp)
+    }
+
+    /// As many instructions of the process in a slot as go, one after another, at most `most`, while the registers
+    /// protect it, and how many they were. It stops before one that makes a system call or is denied. Each sees the
+    /// process's own accessible bytes and no other, and writes to its own accessible RAM alone: nothing of another
+    /// slot changes.
+    pub fn instruct_quietly(&mut self, slot: Slot, pmp: &Pmp, regs: &mut Regs, most: u32) -> u32
+        requires slot { slot < length self.old.owns }
+        requires protect { Protect pmp.now (own_of self.old slot).layout }
+        ensures most { result ≤ most }
+        ensures made { MakesAll result self.old.flash (own_of self.old slot) regs.old
+            (own_of self.new slot) regs.new }
+        ensures stops { result < most → IsStopped self.old.flash (own_of self.new slot) regs.new }
+        ensures rest { ChangesOnly slot self.old self.new }
+    {
+        instruction_laws();
+        turns_in(regs, &mut self.memory, pmp, most).went
     }
 }

@@ -1,27 +1,51 @@
-//! One instruction over flash and the whole of RAM, under protection registers.
-ghost use Rattle.std.specs.Prelude.{◌≡◌, length};
+//! Instructions over flash and the whole of RAM, under protection registers.
+ghost use Rattle.std.specs.Prelude.{◌≡◌, ◌≤◌, length};
 ghost use Rattle.tk_base.specs.declared.access.TheConstants.{RAM_START};
 ghost use Rattle.board_memory.specs.Bytes.{StoresLieIn};
 ghost use Rattle.process_own.specs.Instruction.{ram_after};
-ghost use Rattle.grant_enter.specs.Reach.{turn_under};
+ghost use Rattle.grant_enter.specs.Reach.{InstructionLaws, GoesUnder, StopsUnder, turn_under};
 
 use board_memory::{Memory, View, a_store_in_ram_is_put, bytes_tell_the_ram};
 use pmp_regions::Pmp;
-use rv32_model::TurnEnd;
-use rv32_step::turn;
-use tk_base::Regs;
+use rv32_model::{TurnEnd, one_is_the_turn, sees_only_permitted, writes_are_permitted};
+use rv32_step::{Stretch, turns};
+use tk_base::{Regs, a_store_is_put};
 
-/// One instruction over the bytes of flash and of RAM.
-fn turn_over(regs: &mut Regs, flash: &[u8], ram: &mut [u8], pmp: &Pmp) -> TurnEnd
-    requires { StoresLieIn (length ram.old) pmp.now }
-    ensures regs { regs.new ≡ (turn_under pmp.now flash.now ram.old regs.old).regs }
-    ensures end { result ≡ (turn_under pmp.now flash.now ram.old regs.old).end }
-    ensures ram { ram.new ≡ ram_after RAM_START (turn_under pmp.now flash.now ram.old regs.old).write ram.old }
+/// The laws that instructions over RAM rest on.
+pub(crate) fn instruction_laws()
+    ensures { InstructionLaws }
 {
+    a_store_is_put();
     a_store_in_ram_is_put();
     bytes_tell_the_ram();
+    writes_are_permitted();
+    sees_only_permitted();
+}
+
+/// As many instructions over the bytes of flash and of RAM as go, at most `most`, and how the next one ends.
+fn turns_over(regs: &mut Regs, flash: &[u8], ram: &mut [u8], pmp: &Pmp, most: u32) -> Stretch
+    requires { StoresLieIn (length ram.old) pmp.now }
+    ensures most { result.went ≤ most }
+    ensures goes { GoesUnder pmp.now flash.now result.went regs.old ram.old regs.new ram.new }
+    ensures stops { StopsUnder pmp.now flash.now most result.went result.end regs.new ram.new }
+    ensures long { length ram.new ≡ length ram.old }
+{
     let mut view = View { flash, ram, pmp };
-    turn(regs, &mut view)
+    turns(regs, &mut view, most)
+}
+
+/// As many instructions over flash and RAM as go, at most `most`, and how the next one ends. Memory lends what is
+/// reached once for all of them.
+pub(crate) fn turns_in(regs: &mut Regs, memory: &mut Memory, pmp: &Pmp, most: u32) -> Stretch
+    requires { StoresLieIn (length memory.old.ram) pmp.now }
+    ensures most { result.went ≤ most }
+    ensures goes { GoesUnder pmp.now memory.old.flash result.went regs.old memory.old.ram regs.new memory.new.ram }
+    ensures stops { StopsUnder pmp.now memory.old.flash most result.went result.end regs.new memory.new.ram }
+    ensures long { length memory.new.ram ≡ length memory.old.ram }
+    ensures rest { memory.new ≡ record memory.old { ram = memory.new.ram } }
+{
+    let View { flash, ram, pmp } = memory.view(pmp);
+    turns_over(regs, flash, ram, pmp, most)
 }
 
 /// One instruction over flash and RAM.
@@ -33,6 +57,9 @@ pub(crate) fn turn_in(regs: &mut Regs, memory: &mut Memory, pmp: &Pmp) -> TurnEn
       ram = ram_after RAM_START (turn_under pmp.now memory.old.flash memory.old.ram regs.old).write memory.old.ram;
     } }
 {
-    let View { flash, ram, pmp } = memory.view(pmp);
-    turn_over(regs, flash, ram, pmp)
+    one_is_the_turn();
+    writes_are_permitted();
+    a_store_in_ram_is_put();
+    bytes_tell_the_ram();
+    turns_in(regs, memory, pmp, 1).end
 }

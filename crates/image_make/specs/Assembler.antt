@@ -21,7 +21,8 @@ number_of A4 = 14
 
 -- imm[11:0] rs1 funct3 rd opcode
 unfoldable pub i_type : ℕ → ℕ → Register → Register → ℕ → ℕ
-i_type opcode funct3 rd rs1 imm = imm % 2 ^ 12 * 2 ^ 20 + number_of rs1 * 2 ^ 15 + funct3 * 2 ^ 12 + number_of rd * 2 ^ 7 + opcode
+i_type opcode funct3 rd rs1 imm =
+    imm % 2 ^ 12 * 2 ^ 20 + number_of rs1 * 2 ^ 15 + funct3 * 2 ^ 12 + number_of rd * 2 ^ 7 + opcode
 
 -- imm[12] imm[10:5] rs2 rs1 funct3 imm[4:1] imm[11] opcode
 unfoldable pub b_type : ℕ → ℕ → Register → Register → ℕ → ℕ

@@ -18,7 +18,8 @@ message k d = codes "p" ++ (48 + k) ∷ codes " " ++ hex_digits 4 (d / 2 ^ 16) +
 abbrev pub assembled : List Instruction → List ℕ
 assembled code = flat_map (λ instruction. to_le_bytes w32 (word_of instruction)) code
 
--- the object of application k, from the four draws after a draw: for its rounds, its spins, its exit code and its message
+-- the object of application k, from the four draws after a draw: for its rounds, its spins, its exit code and its
+-- message
 unfoldable pub object_of : ℕ → ℕ → List ℕ
 object_of k x =
     let d1 = drawn x in

@@ -14,8 +14,8 @@ use Rattle.kernel_model.specs.Record.{Record}
 use Rattle.kernel_model.specs.Calls.{Served, deliver, permits, served}
 use Rattle.kernel_calls.specs.Own.{object_in, record_in}
 
--- what the board is to do for a call that the kernel serves itself, by what comes of it: one whose process ends or starts
--- again waits in no list any more
+-- what the board is to do for a call that the kernel serves itself, by what comes of it: one whose process ends or
+-- starts again waits in no list any more
 abbrev pub acts_for : Outcome → List Act
 acts_for (Replied reply rule) = []
 acts_for ToDriver = []
@@ -55,10 +55,12 @@ pub record IsLeft (home home_after : Homes) (process process_after : Process) (c
 
 -- a call of the process in a slot that the kernel serves itself: it comes to what its definition says, whatever a driver
 -- would see of the board, and whatever the process's storage is
-pub record IsServed (slot : ℕ) (home home_after : Homes) (process process_after : Process) (call : Call) (outcome : Outcome) : Type 0 where
+pub record IsServed (slot : ℕ) (home home_after : Homes) (process process_after : Process) (call : Call)
+    (outcome : Outcome) : Type 0 where
   pub not_for_driver : is_for_driver (object_in home.flash process.object) call ≡ false
   pub comes : (around : Surroundings) (storage : List ℕ) →
-      ComesTo (served around (record_at home slot process storage) call) (record_at home_after slot process_after storage) outcome
+      ComesTo (served around (record_at home slot process storage) call)
+      (record_at home_after slot process_after storage) outcome
 
 -- what holds where a call is left to its driver, and what at every other outcome
 abbrev pub LeftOrServed : Type 0 → (Outcome → Type 0) → Outcome → Type 0

@@ -21,7 +21,12 @@ object_in flash object = object_at flash (object.address - FLASH_START) object.s
 
 -- the record that flash, a process, what is its own and its storage show
 abbrev pub record_in : List ℕ → Process → Own → List ℕ → Record
-record_in flash process own storage = record { process = process; object = object_in flash process.object; own = own; storage = storage }
+record_in flash process own storage = record {
+  process = process;
+  object = object_in flash process.object;
+  own = own;
+  storage = storage;
+}
 
 -- an application's start has addresses below 2^32, and its block holds the RAM that it needs at least
 pub record CanStart (address : ℕ) (e : Extents) (h : Meaning) (m : Main) : Type 0 where

@@ -44,7 +44,7 @@ pub record OfBoth (P : Served → Type 0) (around : Surroundings) (r : Record) (
 pub no_more : (dropped : ℕ) → IsAtMostOneMore dropped dropped
 no_more dropped = record { not_less = omega arith; not_more = omega arith }
 
-abbrev plain : CallRule → Reply
+abbrev pub plain : CallRule → Reply
 plain rule = Failure (error_of rule)
 
 -- what was served, and asks nothing of the board, of a process of which drivers keep the same
@@ -115,7 +115,7 @@ of_yield P around r number at both =
     (by_test P (number == 1) _ _ (both.served _ (served_so around r _ refl (all_same r.own) (λ e. cc) refl)) (both.served _ (served_so around r _ refl (all_same r.own) (λ e. cc) refl)))
 
 -- a swap that is refused hands back the passed pair
-abbrev passed : ℕ × ℕ → CallRule → Reply
+abbrev pub passed : ℕ × ℕ → CallRule → Reply
 passed pair rule = FailureU32U32 (error_of rule) pair.0 pair.1
 
 of_swap : (P : Served → Type 0) (promise : DriversPromise) (around : Surroundings) (r : Record) (kind : PairKind) (driver number : ℕ) (pair : ℕ × ℕ) (o : Option CallRule) → OfBoth P around r (passed pair) → P (swap_by r kind driver number pair o)

@@ -1,9 +1,6 @@
 -- A process's requests, once what is its own has changed.
-use Rattle.std.proofs.Common.{◌≡◌, ℕ, Bool, true, cond, List, [], Option, None, Some, is_some, IfSome, Result, Ok, Err, refl, sym, ap, ap₂, subst, ◌+◌, ◌≤◌}
+use Rattle.std.proofs.Common.{◌≡◌, ℕ, Bool, true, cond, List, [], Option, None, is_some, IfSome, refl, sym, ap, ap₂, subst, ◌+◌, ◌≤◌}
 use Rattle.std.specs.Option.{option_and_then, option_map}
-use Rattle.tbf_headers.specs.declared.fault.HeaderFault.{HeaderFault}
-use Rattle.tbf_headers.specs.declared.program.Main.{Main}
-use Rattle.tbf_headers.specs.Meaning.{Meaning, reading}
 use Rattle.grant_values.specs.declared.storage.StorageRequest.{StorageRequest}
 use Rattle.grant_areas.specs.declared.kinds.PairKind.{PairKind}
 use Rattle.grant_areas.specs.Grants.{Grant, grant_of}
@@ -18,8 +15,9 @@ use Rattle.driver_model.specs.Console.{console_reads, console_writes}
 use Rattle.driver_model.specs.Random.{randoms}
 use Rattle.driver_model.specs.Storage.{storages}
 use Rattle.kernel_model.specs.Record.{Record}
-use Rattle.kernel_model.specs.Calls.{restart, restarted_by, restarted_main}
-use Rattle.kernel_model.specs.Laws.{CanStartAgain, KeepsLines, main_by}
+use Rattle.kernel_model.specs.Calls.{restart}
+use Rattle.kernel_model.specs.Laws.{CanStartAgain, KeepsLines}
+use Rattle.kernel_model.proofs.Restarts.{restarts}
 
 -- what drivers keep of a process, its life and its count of dropped upcalls are as they were
 pub record SameKept (own o : Own) : Type 0 where
@@ -57,20 +55,13 @@ keeps_ended size own = record {
 
 -- one that starts again
 pub keeps_restarted : (size : ℕ) (r : Record) → CanStartAgain r → KeepsLines size r.own (restart r).own gone
-unfolding restart
-keeps_restarted size r can = by_reading (reading r.object) can
-  where
-    by_main : (h : Meaning) (m : Option Main) → is_some m ≡ true → KeepsLines size r.own (restarted_main r h m).own gone
-    by_main h None can = absurd (cc)
-    by_main h (Some m) can = record {
+keeps_restarted size r can =
+    restarts (λ s. KeepsLines size r.own s.own gone) r can
+    (λ h m. record {
       lines = record { writes = refl; reads = refl; randoms = refl; stores = refl };
       life = record { writes = λ e. absurd (cc); reads = λ e. absurd (cc); randoms = λ e. absurd (cc); stores = λ e. absurd (cc) };
       within = λ h. tt;
-    }
-
-    by_reading : (h : Result Meaning HeaderFault) → is_some (main_by h) ≡ true → KeepsLines size r.own (restarted_by r h).own gone
-    by_reading (Ok h) can = by_main h h.main can
-    by_reading (Err fault) can = absurd (cc)
+    })
 
 -- one that handed a pair to a driver
 pub keeps_handed : OnlyDriversMoveLines → (size : ℕ) (kind : PairKind) (driver number : ℕ) (pair : ℕ × ℕ) (own : Own) → KeepsLines size own (handing kind driver number pair own) []

@@ -4,12 +4,14 @@ use Rattle.std.specs.Option.{option_map}
 use Rattle.std.proofs.lemmas.Option.{slice_get_within, slice_get-get_or}
 use Rattle.std.proofs.lemmas.List.{get_or-set_same, length-set}
 use Rattle.kernel_model.specs.Record.{Record}
-use Rattle.kernel_model.specs.Turn.{Turn, apply, turned}
-use Rattle.kernel_model.specs.World.{Answer, Deed, World, acted_by, can_act, deed_of, done, ran, records_after, told_to, unmade}
+use Rattle.kernel_model.specs.Turn.{Turn, Turned, apply, turned}
+use Rattle.kernel_model.specs.World.{Answer, Deed, World, acted_by, after, after_deed, after_turn_of, can_act, deed_of, done, passed, ran, records_after, stepped, told_to, unmade}
 use Rattle.kernel_model.specs.Laws.{answer_of}
+use Rattle.tk_base.specs.declared.process.Choice.{Choice}
+use Rattle.tk_base.specs.declared.process.Choice.TheVariants.{Run, Device, Pass}
 use Rattle.tk_base.specs.declared.process.Dev.{Dev}
 
-slice_get-set_same : {X : Type 0} (xs : List X) (i : ℕ) (y : X) → i < length xs → slice_get (slice_set xs i y) i ≡ Some y
+pub slice_get-set_same : {X : Type 0} (xs : List X) (i : ℕ) (y : X) → i < length xs → slice_get (slice_set xs i y) i ≡ Some y
 slice_get-set_same xs i y h = slice_get-get_or (slice_set xs i y) i y (rw length-set h) ∙ ap Some (get_or-set_same xs i y y h)
 
 slice_get-set_other : {X : Type 0} (xs : List X) (i j : ℕ) (y : X) → j ≢ i → slice_get (slice_set xs i y) j ≡ slice_get xs j
@@ -51,3 +53,26 @@ acted_records w device = by_ready (can_act w device)
     by_ready : (b : Bool) → (cond b (done w (deed_of w device)) (unmade w)).after.records ≡ records_after w (cond b (option_and_then (λ (deed : Deed). deed.told) (deed_of w device)) None)
     by_ready true = by_deed (deed_of w device)
     by_ready false = refl
+
+-- what holds of a world holds of the one after a step, where it holds after each turn, each deed and each pass of time
+module _ (P : World → Type 0) (w : World) (before : P w) where
+  pub of_acted : ((deed : Deed) → P (after_deed w deed)) → (device : Dev) → P (acted_by w device).after
+  of_acted acts device = by_ready (can_act w device)
+    where
+      by_deed : (o : Option Deed) → P (done w o).after
+      by_deed None = before
+      by_deed (Some deed) = acts deed
+
+      by_ready : (b : Bool) → P (cond b (done w (deed_of w device)) (unmade w)).after
+      by_ready true = by_deed (deed_of w device)
+      by_ready false = before
+
+  pub of_world : ((slot : ℕ) (t : Turned) → P (after_turn_of w slot t)) → ((deed : Deed) → P (after_deed w deed)) → ((ticks : ℕ) → P (passed w ticks)) → (choice : Choice) → P (after w choice)
+  unfolding stepped
+  of_world turns acts passes (Run slot) = by_record (slice_get w.records slot)
+    where
+      by_record : (o : Option Record) → P (ran w slot o).after
+      by_record None = before
+      by_record (Some r) = turns slot (turned w.settings w.clock.time r)
+  of_world turns acts passes (Device device) = of_acted acts device
+  of_world turns acts passes (Pass ticks) = passes ticks

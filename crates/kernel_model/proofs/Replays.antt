@@ -9,29 +9,14 @@ use Rattle.tk_base.specs.declared.process.Dev.{Dev}
 use Rattle.kernel_model.specs.Record.{Record}
 use Rattle.kernel_model.specs.declared.settings.Settings.{Settings}
 use Rattle.kernel_model.specs.Turn.{Event, Turn, apply}
-use Rattle.kernel_model.specs.World.{Answer, Deed, Printed, Stepped, World, after, can_act, deed_of, done, labels_of, printing, ran, records_after, stepped, unmade}
+use Rattle.kernel_model.specs.World.{Answer, Deed, Label, Printed, Stepped, World, after, can_act, deed_of, done, labels_of, printing, ran, records_after, stepped, unmade}
 use Rattle.kernel_model.specs.Run.{next, on_choice, round, stays, goes_on}
 use Rattle.kernel_model.specs.Replay.{after_all, chosen, events, happened, history, replay, RecordIsReplay, RoundFollowsChoices, SameHistorySameRecord}
-use Rattle.kernel_model.proofs.Places.{ran-other, ran-own, told-other, told-own}
+use Rattle.kernel_model.proofs.Places.{of_world, ran-other, ran-own, told-other, told-own}
 
 -- no step changes the settings
-ran_settings : (w : World) (slot : ℕ) (o : Option Record) → (ran w slot o).after.settings ≡ w.settings
-ran_settings w slot None = refl
-ran_settings w slot (Some r) = refl
-
-deed_settings : (w : World) (o : Option Deed) → (done w o).after.settings ≡ w.settings
-deed_settings w None = refl
-deed_settings w (Some deed) = refl
-
-device_settings : (w : World) (device : Dev) (b : Bool) → (cond b (done w (deed_of w device)) (unmade w)).after.settings ≡ w.settings
-device_settings w device true = deed_settings w (deed_of w device)
-device_settings w device false = refl
-
 kept_settings : (w : World) (choice : Choice) → (after w choice).settings ≡ w.settings
-unfolding stepped
-kept_settings w (Run slot) = ran_settings w slot (slice_get w.records slot)
-kept_settings w (Device device) = device_settings w device (can_act w device)
-kept_settings w (Pass ticks) = refl
+kept_settings w choice = of_world (λ v. v.settings ≡ w.settings) w refl (λ slot t. refl) (λ deed. refl) (λ ticks. refl) choice
 
 mapped_none : (settings : Settings) (o : Option Record) → o ≡ option_map (replay settings []) o
 mapped_none settings None = refl
@@ -67,19 +52,19 @@ ran_replayed w other slot (Some r) e =
     lands w (ran w other (Some r)).after.records other slot (Turn w.clock.time)
     (ran-own w other (Some r) e ∙ ap (option_map (apply w.settings (Turn w.clock.time))) (sym e)) (λ s ne. ran-other w other s (Some r) ne)
 
--- what is printed happens to nobody
-nobody_printed : (slot at : ℕ) (bytes : List ℕ) → flat_map (happened slot) (printing at bytes) ≡ []
-nobody_printed slot at bytes = by_length (length bytes == 0)
+-- what reads nothing of what is printed
+pub nothing_printed : {X : Type 0} (read : Label → List X) (at : ℕ) (bytes : List ℕ) → read (Printed at bytes) ≡ [] → flat_map read (printing at bytes) ≡ []
+nothing_printed {X = X} read at bytes none = by_length (length bytes == 0)
   where
-    by_length : (b : Bool) → flat_map (happened slot) (cond b [] (Printed at bytes ∷ [])) ≡ []
+    by_length : (b : Bool) → flat_map read (cond b [] (Printed at bytes ∷ [])) ≡ []
     by_length true = refl
-    by_length false = refl
+    by_length false = ap (λ (read_of : List X). read_of ++ []) none
 
 told_replayed : (w : World) (deed : Deed) (slot : ℕ) (o : Option Answer) → slice_get (records_after w o) slot ≡ option_map (replay w.settings (flat_map (happened slot) (labels_of deed o))) (slice_get w.records slot)
 told_replayed w deed slot None = mapped_none w.settings (slice_get w.records slot)
 told_replayed w deed slot (Some a) =
     lands w (records_after w (Some a)) a.slot slot a.event (told-own w a (slice_get w.records a.slot) refl) (λ other ne. told-other w a other (slice_get w.records a.slot) ne)
-    ∙ ap (λ (rest : List Event). option_map (replay w.settings (cond (a.slot == slot) (a.event ∷ []) [] ++ rest)) (slice_get w.records slot)) (sym (nobody_printed slot a.slot deed.printed))
+    ∙ ap (λ (rest : List Event). option_map (replay w.settings (cond (a.slot == slot) (a.event ∷ []) [] ++ rest)) (slice_get w.records slot)) (sym (nothing_printed (happened slot) a.slot deed.printed refl))
 
 deed_replayed : (w : World) (slot : ℕ) (o : Option Deed) → replayed w slot (done w o)
 deed_replayed w slot None = mapped_none w.settings (slice_get w.records slot)

@@ -26,7 +26,7 @@ found_passes p (y ∷ ys) x e = by_test (p y) refl e (found_passes p ys x)
     by_test false f g later = later g
 
 -- the slot that is next is ready
-next_slot_ready : (ready : List Bool) (present : Option ℕ) (used slice s : ℕ) → next_slot ready present used slice ≡ Some s → is_ready_at ready s ≡ true
+pub next_slot_ready : (ready : List Bool) (present : Option ℕ) (used slice s : ℕ) → next_slot ready present used slice ≡ Some s → is_ready_at ready s ≡ true
 unfolding next_slot
 next_slot_ready ready None used slice s e = found_passes (is_ready_at ready) (slots_after None) s e
 next_slot_ready ready (Some p) used slice s e = by_ready (is_ready_at ready p) (nat_lt used slice) refl e
@@ -36,7 +36,7 @@ next_slot_ready ready (Some p) used slice s e = by_ready (is_ready_at ready p) (
     by_ready true false f g = found_passes (is_ready_at ready) (slots_after (Some p)) s g
     by_ready false u f g = found_passes (is_ready_at ready) (slots_after (Some p)) s g
 
-ready_runs : (records : List Record) (s : ℕ) → slice_index_or (map may_turn records) s false ≡ true → can_run (slice_get records s) ≡ true
+pub ready_runs : (records : List Record) (s : ℕ) → slice_index_or (map may_turn records) s false ≡ true → can_run (slice_get records s) ≡ true
 ready_runs [] s e = e
 ready_runs (r ∷ rs) zero e = e
 ready_runs (r ∷ rs) (suc s) e = ready_runs rs s e

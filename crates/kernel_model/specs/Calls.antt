@@ -36,17 +36,26 @@ pub record Served : Type 0 where
   pub acts : List Act
 
 abbrev pub replied : Record → Reply → Served
-replied r reply = record { after = with_process r (after_reply r.process reply); outcome = Replied reply None; acts = [] }
+replied r reply = record {
+  after = with_process r (after_reply r.process reply);
+  outcome = Replied reply None;
+  acts = [];
+}
 
 -- a refused call changes the reply registers, pc and the recorded refusal alone
 abbrev pub refused_with : Record → CallRule → Reply → Served
-refused_with r rule reply = record { after = with_process r (after_refusal r.process rule reply); outcome = Replied reply (Some rule); acts = [] }
+refused_with r rule reply = record {
+  after = with_process r (after_refusal r.process rule reply);
+  outcome = Replied reply (Some rule);
+  acts = [];
+}
 
 abbrev pub refused : Record → CallRule → Served
 refused r rule = refused_with r rule (Failure (error_of rule))
 
--- Why a process may not hand a pair to a driver, the first cause first: there is no such driver; the driver has no upcall
--- or buffer of that number; the bytes do not lie where the process may have them; the driver's grant has no room.
+-- Why a process may not hand a pair to a driver, the first cause first: there is no such driver; the driver has no
+-- upcall or buffer of that number; the bytes do not lie where the process may have them; the driver's grant has no
+-- room.
 unfoldable pub swap_refusal : PairKind → ℕ → ℕ → ℕ × ℕ → Own → Option CallRule
 swap_refusal kind driver number pair o =
     if is_none (counts_of driver) then Some NoDriver
@@ -81,7 +90,11 @@ flagged r at byte = record r { process = after_call r.process; own = with_flag a
 -- it writes 0, and the process goes on.
 abbrev pub yield_now : Record → ℕ → List Scheduled → Served
 yield_now r at [] = record { after = flagged r at 0; outcome = GoesOn; acts = [] }
-yield_now r at (upcall ∷ more) = record { after = deliver_by (flagged r at 1) (upcall ∷ more); outcome = Delivered; acts = [] }
+yield_now r at (upcall ∷ more) = record {
+  after = deliver_by (flagged r at 1) (upcall ∷ more);
+  outcome = Delivered;
+  acts = [];
+}
 
 -- yield with 0 does not wait, with 1 waits for an upcall; another number goes on
 unfoldable pub yielding : Record → ℕ → ℕ → Served
@@ -92,7 +105,9 @@ yielding r number at =
 
 -- sbrk moves the break by a signed number; none is below 0
 abbrev pub moved_by : ℕ → ℕ → Option ℕ
-moved_by brk by = if nat_lt by (2 ^ 31) then Some (brk + by) else (if nat_le (2 ^ 32) (brk + by) then Some (brk + by - 2 ^ 32) else None)
+moved_by brk by =
+    if nat_lt by (2 ^ 31) then Some (brk + by)
+    else (if nat_le (2 ^ 32) (brk + by) then Some (brk + by - 2 ^ 32) else None)
 
 -- the break moved to an address, rounded up to a multiple of 4
 abbrev pub with_break_at : Record → ℕ → Record
@@ -165,7 +180,11 @@ restart r = restarted_by r (reading r.object)
 -- exit with 0 ends the process with its completion code, with 1 it starts again; another number is refused
 unfoldable pub exit : Record → ℕ → ℕ → Served
 exit r kind code =
-    if kind == 0 then record { after = record r { process = after_exit r.process code; own = own.ended r.own }; outcome = Ended; acts = gone }
+    if kind == 0 then record {
+      after = record r { process = after_exit r.process code; own = own.ended r.own };
+      outcome = Ended;
+      acts = gone;
+    }
     else (if kind == 1 then record { after = restart r; outcome = Again; acts = gone }
     else refused r NoOperation)
 

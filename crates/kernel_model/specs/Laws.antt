@@ -28,13 +28,19 @@ use Rattle.turn_scheduler.specs.RoundRobin.{ready_device}
 abbrev pub answer_of : World → Dev → Option Answer
 answer_of w device = if can_act w device then option_and_then (λ deed. deed.told) (deed_of w device) else None
 
--- A turn changes the record of no process but the one whose turn it is, and that one by its turn; what a device does that
--- of no process but the one that it tells something, and that one by what it tells it; a pass of time none.
+-- A turn changes the record of no process but the one whose turn it is, and that one by its turn; what a device does
+-- that of no process but the one that it tells something, and that one by what it tells it; a pass of time none.
 pub record OnlyItsOwnEvents : Type 0 where
-  pub turn : (w : World) (slot : ℕ) → slice_get (after w (Run slot)).records slot ≡ option_map (apply w.settings (Turn w.clock.time)) (slice_get w.records slot)
-  pub no_other_turn : (w : World) (slot other : ℕ) → other ≢ slot → slice_get (after w (Run slot)).records other ≡ slice_get w.records other
-  pub answer : (w : World) (device : Dev) (a : Answer) → answer_of w device ≡ Some a → slice_get (after w (Device device)).records a.slot ≡ option_map (apply w.settings a.event) (slice_get w.records a.slot)
-  pub no_other_answer : (w : World) (device : Dev) (a : Answer) (other : ℕ) → answer_of w device ≡ Some a → other ≢ a.slot → slice_get (after w (Device device)).records other ≡ slice_get w.records other
+  pub turn : (w : World) (slot : ℕ)
+      → slice_get (after w (Run slot)).records slot
+      ≡ option_map (apply w.settings (Turn w.clock.time)) (slice_get w.records slot)
+  pub no_other_turn : (w : World) (slot other : ℕ) → other ≢ slot
+      → slice_get (after w (Run slot)).records other ≡ slice_get w.records other
+  pub answer : (w : World) (device : Dev) (a : Answer) → answer_of w device ≡ Some a
+      → slice_get (after w (Device device)).records a.slot
+      ≡ option_map (apply w.settings a.event) (slice_get w.records a.slot)
+  pub no_other_answer : (w : World) (device : Dev) (a : Answer) (other : ℕ) → answer_of w device ≡ Some a
+      → other ≢ a.slot → slice_get (after w (Device device)).records other ≡ slice_get w.records other
   pub no_answer : (w : World) (device : Dev) → answer_of w device ≡ None → (after w (Device device)).records ≡ w.records
   pub pass : (w : World) (ticks : ℕ) → (after w (Pass ticks)).records ≡ w.records
 
@@ -46,10 +52,14 @@ NextIsReady = (w : World) (c : Choice) → next w ≡ Some c → w.clock.steps <
 abbrev pub NextLiesAhead : Type 0
 NextLiesAhead = (w : World) → ready_device (ready_devices w) ≡ None → IfSome (next_time w) (λ at. w.clock.time < at)
 
--- A call that is refused, a command to a driver too, gets the failure of the rule that it broke; of the process it changes
--- the reply registers, pc and the recorded refusal, and nothing of what else is its own (TRD 104, "Return Values").
+-- A call that is refused, a command to a driver too, gets the failure of the rule that it broke; of the process it
+-- changes the reply registers, pc and the recorded refusal, and nothing of what else is its own (TRD 104, "Return
+-- Values").
 abbrev pub RefusedChangesNothingElse : Type 0
-RefusedChangesNothingElse = (around : Surroundings) (r : Record) (call : SystemCall) (rule : CallRule) → rule_shown (served around r call).outcome ≡ Some rule → served around r call ≡ refused_with r rule (failure_of call rule)
+RefusedChangesNothingElse =
+    (around : Surroundings) (r : Record) (call : SystemCall) (rule : CallRule)
+    → rule_shown (served around r call).outcome ≡ Some rule
+    → served around r call ≡ refused_with r rule (failure_of call rule)
 
 -- a call has come to its end once it is served: no driver has it still to answer
 abbrev pub NoneIsLeft : Type 0
@@ -72,7 +82,8 @@ abbrev pub main_by : Result Meaning HeaderFault → Option Main
 main_by (Ok h) = h.main
 main_by (Err fault) = None
 
--- a process can start again: its object is that of an application (TRD 104, "Exit"; Tock Binary Format, "Main", "Program")
+-- a process can start again: its object is that of an application (TRD 104, "Exit"; Tock Binary Format, "Main",
+-- "Program")
 abbrev pub CanStartAgain : Record → Type 0
 CanStartAgain r = is_some (main_by (reading r.object)) ≡ true
 

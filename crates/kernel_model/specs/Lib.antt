@@ -3,7 +3,13 @@ pub mod Calls
 pub mod Turn
 pub mod World
 pub mod Run
+pub mod Choices
 pub mod Replay
 pub mod Shown
+pub mod Accesses
+pub mod Fairness
+pub mod Stretch
 pub mod Laws
+pub mod Histories
+pub mod Deliveries
 pub mod Worked

@@ -5,8 +5,8 @@ use Rattle.process_own.specs.Own.{Own}
 use Rattle.process_own.specs.Instruction.{instruction_of, with_write}
 use Rattle.process_record.specs.declared.process.Process.{Process}
 
--- one process: its registers, state and counts, the bytes of its object, what the kernel keeps of it, and the bytes of its
--- storage
+-- one process: its registers, state and counts, the bytes of its object, what the kernel keeps of it, and the bytes of
+-- its storage
 pub record Record : Type 0 where
   pub process : Process
   pub object : List ℕ

@@ -40,8 +40,8 @@ RecordIsReplay = (w : World) (choices : List Choice) (slot : ℕ) →
     slice_get (after_all w choices).records slot
     ≡ option_map (replay w.settings (history slot w choices)) (slice_get w.records slot)
 
--- In any two worlds in which a process has the same record under the same settings, and after any choices in which it has
--- the same turns and answers, it has the same record: of all other processes, devices and slots nothing counts.
+-- In any two worlds in which a process has the same record under the same settings, and after any choices in which it
+-- has the same turns and answers, it has the same record: of all other processes, devices and slots nothing counts.
 abbrev pub SameHistorySameRecord : Type 0
 SameHistorySameRecord = (v w : World) (choices others : List Choice) (slot place : ℕ) →
     v.settings ≡ w.settings → slice_get v.records slot ≡ slice_get w.records place →

@@ -17,8 +17,8 @@ ready_slots w = map may_turn w.records
 abbrev pub ready_devices : World → List Bool
 ready_devices w = map (can_act w) device_order
 
--- the times at which a device step becomes ready by itself: bytes come in, an alarm becomes due, and the UART is free for a
--- write that waits
+-- the times at which a device step becomes ready by itself: bytes come in, an alarm becomes due, and the UART is free
+-- for a write that waits
 abbrev pub alarm_time : World → Option ℕ
 alarm_time w = option_map (λ left. w.clock.time + left) (next_left (now_in w) (owns_in w))
 

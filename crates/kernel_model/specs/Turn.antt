@@ -76,7 +76,12 @@ rule_shown outcomes.Again = None
 
 -- the call as the step shows it, from the registers before it and what came of it
 abbrev pub made : Regs → Outcome → CallMade
-made regs outcome = record { class = class regs; args = arguments regs; reply = reply_shown regs outcome; rule = rule_shown outcome }
+made regs outcome = record {
+  class = class regs;
+  args = arguments regs;
+  reply = reply_shown regs outcome;
+  rule = rule_shown outcome;
+}
 
 -- a process that faulted ends, or starts again, as the policy decides
 abbrev pub settled : Record → Action → Record
@@ -109,13 +114,22 @@ flag_of r (Exit kind code) = None
 abbrev pub called : Record → List Touch → SystemCall → Served → Turned
 called r accesses call s = record {
   after = s.after;
-  told = record { accesses = accesses; call = Some (made r.process.regs s.outcome); flag = flag_of r call; denial = None };
+  told = record {
+    accesses = accesses;
+    call = Some (made r.process.regs s.outcome);
+    flag = flag_of r call;
+    denial = None;
+  };
   acts = s.acts;
 }
 
 -- what a command sees of the board at a time
 abbrev pub surroundings : Settings → ℕ → Surroundings
-surroundings settings time = record { now = clock_at settings.start time; leds = settings.leds; storage = settings.storage }
+surroundings settings time = record {
+  now = clock_at settings.start time;
+  leds = settings.leds;
+  storage = settings.storage;
+}
 
 abbrev pub calls : Settings → ℕ → Record → List Touch → Option SystemCall → Turned
 calls settings time r accesses (Some call) = called r accesses call (served (surroundings settings time) r call)
@@ -123,7 +137,11 @@ calls settings time r accesses None = faulted settings r (unknown_call r.process
 
 -- what the end of an instruction asks for, once its effect stands; a denied one had none
 abbrev pub ended : Settings → ℕ → Record → List Touch → TurnEnd → Turned
-ended settings time r accesses Went = record { after = r; told = record { accesses = accesses; call = None; flag = None; denial = None }; acts = [] }
+ended settings time r accesses Went = record {
+  after = r;
+  told = record { accesses = accesses; call = None; flag = None; denial = None };
+  acts = [];
+}
 ended settings time r accesses Call = calls settings time r accesses (call_of r.process.regs)
 ended settings time r accesses (Trap denial) = faulted settings r denial
 
@@ -153,9 +171,9 @@ turn_in settings time (Terminated code) r = idle r
 unfoldable pub turned : Settings → ℕ → Record → Turned
 turned settings time r = turn_in settings time r.process.state r
 
--- What happens to a process: its turn at a time; and what devices tell it. Its alarm fires, when the clock shows a tick. The
--- UART took the next bytes of its write, or has taken all; bytes came in for its read. A random word was drawn for it, or
--- none; its storage request was served, or failed.
+-- What happens to a process: its turn at a time; and what devices tell it. Its alarm fires, when the clock shows a
+-- tick. The UART took the next bytes of its write, or has taken all; bytes came in for its read. A random word was
+-- drawn for it, or none; its storage request was served, or failed.
 pub data Event : Type 0 where
   Turn : (time : ℕ) → Event
   Alarmed : (now : ℕ) → Event

@@ -1,48 +1,70 @@
--- A small board for worked cases: in each slot a process that stands at an `ecall`, the only instruction of its object,
--- and asks for an operation of memop (TRD 104, "Memop").
-use Rattle.std.specs.Prelude.{ℕ, ◌+◌, List, [], ◌∷◌, None}
+-- A small board for worked cases: in each slot a process that stands at an `ecall`, and asks for an operation of memop,
+-- or subscribes an upcall (TRD 104, "Memop", "Subscribe").
+use Rattle.std.specs.Prelude.{ℕ, ◌+◌, List, [], ◌∷◌, length, None}
 use Rattle.tk_base.specs.declared.access.TheConstants.{FLASH_START, RAM_START}
+use Rattle.tk_base.specs.declared.regs.Regs.{Regs}
 use Rattle.tk_base.specs.Regs.{with_register}
 use Rattle.fault_policy.specs.declared.Policy.TheVariants.{Stop}
 use Rattle.process_record.specs.declared.process.State.TheVariants.{Running}
 use Rattle.process_record.specs.Process.{cleared}
+use Rattle.grant_areas.specs.declared.kinds.PairKind.TheVariants.{Upcall}
 use Rattle.process_own.specs.Own.{opened}
 use Rattle.kernel_model.specs.Record.{Record}
 use Rattle.kernel_model.specs.declared.settings.Settings.{Settings}
 use Rattle.kernel_model.specs.Turn.{Turned, turned}
 use Rattle.kernel_model.specs.World.{World}
+use Rattle.kernel_model.specs.Histories.{Key}
 
--- The process that asks for an operation with an argument, before its first turn: its object has the 4 bytes of the
--- `ecall`, and its block 16, of which it may access 8.
-abbrev pub asks : ℕ → ℕ → Record
-asks operation argument = record {
+-- a process at the start of its object, which has these bytes, with registers and a block of so many bytes, of which it
+-- may access 8
+abbrev pub standing : List ℕ → ℕ → Regs → Record
+standing object block regs = record {
   process = record {
-    regs = with_register (with_register (with_register (cleared FLASH_START) 14 5) 10 operation) 11 argument;
-    object = record { address = FLASH_START; size = 4 };
+    regs = regs;
+    object = record { address = FLASH_START; size = length object };
     state = Running;
     restarts = 0;
     turns = 0;
     denial = None;
     refusal = None;
   };
-  object = 0x73 ∷ 0 ∷ 0 ∷ 0 ∷ [];
+  object = object;
   own = opened (record {
-    object = record { address = FLASH_START; size = 4 };
+    object = record { address = FLASH_START; size = length object };
     layout = record {
       flash_start = FLASH_START;
-      flash_end = FLASH_START + 4;
+      flash_end = FLASH_START + length object;
       start = RAM_START;
-      end = RAM_START + 16;
+      end = RAM_START + block;
       brk = RAM_START + 8;
-      kernel_break = RAM_START + 16;
+      kernel_break = RAM_START + block;
       mark = RAM_START;
     };
   });
   storage = [];
 }
 
+-- the process that asks for an operation with an argument, before its first turn: its object is the `ecall`
+abbrev pub asks : ℕ → ℕ → Record
+asks operation argument =
+    let regs = with_register (with_register (cleared FLASH_START) 14 5) 10 operation in
+    standing (0x73 ∷ 0 ∷ 0 ∷ 0 ∷ []) 16 (with_register regs 11 argument)
+
+-- A process that subscribes upcall 0 of the alarm twice, to the null upcall: with 7 and then with 9 as its data. Its
+-- object has an `ecall`, an `addi` for each of a0 to a3, and an `ecall`.
+abbrev pub subscribes : Record
+subscribes =
+    let object =
+    0x73 ∷ 0 ∷ 0 ∷ 0 ∷ 0x13 ∷ 0x05 ∷ 0 ∷ 0 ∷ 0x93 ∷ 0x05 ∷ 0 ∷ 0
+    ∷ 0x13 ∷ 0x06 ∷ 0 ∷ 0 ∷ 0x93 ∷ 0x06 ∷ 0x90 ∷ 0 ∷ 0x73 ∷ 0 ∷ 0 ∷ 0 ∷ [] in
+    standing object 64 (with_register (with_register (cleared FLASH_START) 14 1) 13 7)
+
 abbrev pub settings : Settings
 settings = record { leds = 0; start = 0; storage = 0; policy = Stop }
+
+-- the key of its upcall
+abbrev pub alarm_upcall : Key
+alarm_upcall = record { kind = Upcall; driver = 0; number = 0 }
 
 -- its first turn
 abbrev pub turn_of : Record → Turned

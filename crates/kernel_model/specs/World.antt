@@ -29,9 +29,9 @@ use Rattle.kernel_model.specs.Turn.{Event, Alarmed, Taken, WriteDone, Input, Wor
 pub record Pace : Type 0 where
   pub slice : ℕ
 
--- What the devices hold: the slots that wait in each list, the first one first; the LEDs, bit n for LED n; the serial line;
--- the bytes that are still to come in, and when; the random words that are left; how many storage requests were served, and
--- the numbers of those that fail
+-- What the devices hold: the slots that wait in each list, the first one first; the LEDs, bit n for LED n; the serial
+-- line; the bytes that are still to come in, and when; the random words that are left; how many storage requests were
+-- served, and the numbers of those that fail
 pub record Devices : Type 0 where
   pub writes : List ℕ
   pub reads : List ℕ
@@ -110,7 +110,11 @@ arriving d arrival rest = record {
 
 -- the alarm of the process in a slot fires
 abbrev pub alarmed : World → ℕ → Deed
-alarmed w slot = record { told = Some (record { slot = slot; event = Alarmed (now_in w) }); printed = []; devices = w.devices }
+alarmed w slot = record {
+  told = Some (record { slot = slot; event = Alarmed (now_in w) });
+  printed = [];
+  devices = w.devices;
+}
 
 -- the UART takes the next bytes of the write of the process in a slot, or the write completes
 abbrev pub transmitting : World → ℕ → Record → Deed
@@ -165,7 +169,10 @@ storing w slot r =
     record {
       told = Some (record { slot = slot; event = Stored (not fails) });
       printed = [];
-      devices = record d { stores = left_of a.completed slot d.stores; served = if a.completed then d.served + 1 else d.served };
+      devices = record d {
+        stores = left_of a.completed slot d.stores;
+        served = if a.completed then d.served + 1 else d.served;
+      };
     }
 
 -- the first of those that wait, with its record
@@ -190,8 +197,8 @@ deed_of w dev.Store = first_of storing w w.devices.stores
 abbrev pub is_waited_for : List ℕ → Bool
 is_waited_for slots = not (length slots == 0)
 
--- Whether a device step is ready: bytes are to come in; an alarm is due; a write waits and the UART is free; a read waits
--- and bytes came in; a request for random bytes waits; one for storage waits.
+-- Whether a device step is ready: bytes are to come in; an alarm is due; a write waits and the UART is free; a read
+-- waits and bytes came in; a request for random bytes waits; one for storage waits.
 abbrev pub can_act : World → Dev → Bool
 can_act w dev.Event = is_time w.clock.time w.devices.arrivals
 can_act w dev.Alarm = is_some (alarm.due_slot (now_in w) (owns_in w))

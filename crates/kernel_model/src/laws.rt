@@ -1,13 +1,16 @@
 //! Laws of the definitions, each the contract of a function that does nothing.
+ghost use Rattle.kernel_model.specs.Histories.{SwapsGiveBackTheLast};
 ghost use Rattle.kernel_model.specs.Laws.{DriversPromise, DropsAtMostOne, GrantsChangeAtCalls, NextIsReady, NextLiesAhead, NoneIsLeft};
 ghost use Rattle.kernel_model.specs.Laws.{OnlyItsOwnEvents, RefusedChangesNothingElse, TurnsActAtCalls, TurnsKeepLines};
+ghost use Rattle.kernel_model.specs.Stretch.{NoneIsStretch, RoundIsStretch, RoundsJoin, StretchesJoin};
 ghost use Rattle.kernel_model.specs.Replay.{RecordIsReplay, RoundFollowsChoices, SameHistorySameRecord};
 
 use driver_model::{
     a_command_drops_at_most_one_upcall, a_driver_that_refuses_changes_nothing,
-    an_alarm_is_due_where_no_ticks_are_left, commands_stay_in_place, lines_follow_commands,
-    only_drivers_move_lines,
+    an_alarm_is_due_where_no_ticks_are_left, commands_stay_in_place, drivers_leave_pairs,
+    lines_follow_commands, only_drivers_move_lines,
 };
+use process_own::only_handing_changes_pairs;
 
 /// What the laws of calls rest on: the laws of the drivers' commands, and of the requests that drivers keep.
 fn drivers_promise()
@@ -83,3 +86,27 @@ pub fn turns_keep_lines()
 {
     drivers_promise();
 }
+
+/// Over all choices, from a world in which a process has handed nothing yet: each subscribe and each allow of it
+/// that succeeds gives back the pair of the last one of its kind, driver and number that succeeded in its present
+/// life, and (0, 0) where there was none (TRD 104, "Subscribe", "Read-Only Allow", "Read-Write Allow").
+pub fn swaps_give_back_the_last()
+    ensures { SwapsGiveBackTheLast }
+{
+    only_handing_changes_pairs();
+    drivers_leave_pairs();
+}
+/// As long as no device step is ready, the round robin makes the instructions of the present slot's process that go,
+/// one after another, up to the end of its slice. Such a stretch may be followed by another.
+#[tactic(auto, using(crate::proofs::Stretch::round_is_stretch, crate::proofs::Stretch::none_is_stretch))]
+pub fn round_is_stretch()
+    ensures round { RoundIsStretch }
+    ensures none { NoneIsStretch }
+    ensures join { StretchesJoin }
+{}
+
+/// A run is one of its first steps, and then one of the others.
+#[tactic(auto, using(crate::proofs::Stretch::rounds_join))]
+pub fn rounds_join()
+    ensures { RoundsJoin }
+{}

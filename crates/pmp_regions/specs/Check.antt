@@ -47,7 +47,8 @@ lacking entry Store = if entry.write then None else Some NoWrite
 -- entry an access from user mode fails.
 abbrev pub denied_at : List Entry → Access → ℕ → Width → Option ℕ → Option Rule
 denied_at pmp access at width None = Some NoRegion
-denied_at pmp access at width (Some i) = if matches_all pmp i at width then lacking (entry_of pmp i) access else Some NoRegion
+denied_at pmp access at width (Some i) =
+    if matches_all pmp i at width then lacking (entry_of pmp i) access else Some NoRegion
 
 -- why the registers deny an access from user mode, if they do
 abbrev pub denied_by : List Entry → Access → ℕ → Width → Option Rule

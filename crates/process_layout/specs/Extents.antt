@@ -16,7 +16,8 @@ pub record Extents : Type 0 where
 -- whether the break may be moved (TRD 104, "Memop", brk): rounded up to a multiple of 4 it lies in
 -- the block, not above the kernel break and not below the end of an allowed buffer
 abbrev pub permits_break : Extents → ℕ → Bool
-permits_break e new = nat_le e.start (rounded_up new) && nat_le (rounded_up new) e.kernel_break && nat_le e.mark (rounded_up new)
+permits_break e new =
+    nat_le e.start (rounded_up new) && nat_le (rounded_up new) e.kernel_break && nat_le e.mark (rounded_up new)
 
 -- where the memory of a process lies with its first break: there are no grants and no buffers (TRD 104, "Exit";
 -- Levy et al., SOSP 2017)
@@ -31,4 +32,12 @@ first_break start minimum_ram = rounded_up (start + minimum_ram)
 abbrev pub extents_at_start : ℕ → ℕ → ℕ → ℕ → ℕ → Extents
 extents_at_start flash_start flash_end start end minimum_ram =
     with_break (first_break start minimum_ram)
-    (record { flash_start = flash_start; flash_end = flash_end; start = start; end = end; brk = start; kernel_break = end; mark = start })
+    (record {
+      flash_start = flash_start;
+      flash_end = flash_end;
+      start = start;
+      end = end;
+      brk = start;
+      kernel_break = end;
+      mark = start;
+    })

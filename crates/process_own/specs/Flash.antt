@@ -29,4 +29,5 @@ only_object object flash =
 abbrev pub ReadsOwnFlash : Type 0
 ReadsOwnFlash =
     (flash : List ℕ) (own : Own) (buffer : ℕ × ℕ) → HasObject (length flash) own.object own.layout
-    → IsTrue (may_hand ReadOnly own.layout buffer) → bytes_at flash own buffer ≡ bytes_at (only_object own.object flash) own buffer
+    → IsTrue (may_hand ReadOnly own.layout buffer)
+    → bytes_at flash own buffer ≡ bytes_at (only_object own.object flash) own buffer

@@ -45,7 +45,9 @@ held kind driver number own = pair_of kind number (grant_of driver own.grants)
 
 -- the break may not move below the end of a buffer in RAM that has bytes
 abbrev pub raised : ℕ × ℕ → Extents → Extents
-raised pair e = if pair.1 == 0 then e else (if lies_in_ram e pair.0 pair.1 then record e { mark = max e.mark (pair.0 + pair.1) } else e)
+raised pair e =
+    if pair.1 == 0 then e
+    else (if lies_in_ram e pair.0 pair.1 then record e { mark = max e.mark (pair.0 + pair.1) } else e)
 
 abbrev pub marked : PairKind → ℕ × ℕ → Extents → Extents
 marked Upcall pair e = e

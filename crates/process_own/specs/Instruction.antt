@@ -23,5 +23,6 @@ with_write own t = record own { ram = ram_after own.layout.start t.write own.ram
 -- Bytes by address as a process sees them: those of its accessible flash and of its accessible RAM. Elsewhere they may
 -- be any.
 pub record Sees (flash : List ℕ) (own : Own) (seen : ℕ → ℕ) : Type 0 where
-  pub in_flash : (a : ℕ) → own.layout.flash_start ≤ a → a < own.layout.flash_end → seen a ≡ slice_index flash (a - FLASH_START)
+  pub in_flash : (a : ℕ) → own.layout.flash_start ≤ a → a < own.layout.flash_end
+      → seen a ≡ slice_index flash (a - FLASH_START)
   pub in_ram : (a : ℕ) → own.layout.start ≤ a → a < own.layout.brk → seen a ≡ slice_index own.ram (a - own.layout.start)

@@ -6,3 +6,4 @@ pub mod Flag
 pub mod Served
 pub mod Flash
 pub mod Laws
+pub mod Pairs

@@ -25,7 +25,8 @@ is_queued upcall own = not (upcall.function == 0) && has_room own.pending
 abbrev pub queueing : Scheduled → Own → Own
 queueing upcall own =
     if upcall.function == 0 then own
-    else (if has_room own.pending then record own { pending = own.pending ++ upcall ∷ [] } else record own { dropped = own.dropped + 1 })
+    else (if has_room own.pending then record own { pending = own.pending ++ upcall ∷ [] }
+    else record own { dropped = own.dropped + 1 })
 
 -- the same of the upcall that the process now holds
 abbrev pub scheduled : ℕ → ℕ → List ℕ → Own → Own

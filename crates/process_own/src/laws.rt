@@ -1,6 +1,7 @@
 //! Laws of the definitions. The functions do nothing.
 ghost use Rattle.process_own.specs.Flash.{ReadsOwnFlash};
 ghost use Rattle.process_own.specs.Laws.{RestartForgets};
+ghost use Rattle.process_own.specs.Pairs.{OnlyHandingChangesPairs};
 
 /// A restart forgets every byte of a process's block, its grants and its pending upcalls, and where the
 /// breaks were.
@@ -12,4 +13,11 @@ pub fn restart_forgets()
 /// RAM, or in its own object in flash (TRD 104, "Read-Only Allow").
 pub fn reads_own_flash()
     ensures { ReadsOwnFlash }
+{}
+
+/// A pair that a process hands to a driver changes that pair alone, and nothing else that becomes of the process
+/// changes any, but a restart, after which it has handed none (TRD 104, "Subscribe", "Read-Only Allow",
+/// "Read-Write Allow").
+pub fn only_handing_changes_pairs()
+    ensures { OnlyHandingChangesPairs }
 {}

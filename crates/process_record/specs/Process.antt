@@ -21,7 +21,8 @@ cleared pc = record { x = replicate 32 0; pc = pc }
 -- and the protected bytes, a1 and sp the start of the RAM, a2 the block's length, a3 the break
 abbrev pub start_regs : ℕ → Meaning → Main → ℕ → ℕ → ℕ → Regs
 start_regs object h m ram length brk =
-    with_register (with_register (with_register (with_register (with_register (cleared (entry_of object h m)) 2 ram) 10 (after_protected object h m)) 11 ram) 12 length) 13 brk
+    with_register (with_register (with_register (with_register (with_register (cleared (entry_of object h m))
+    2 ram) 10 (after_protected object h m)) 11 ram) 12 length) 13 brk
 
 -- a process at its start
 abbrev pub started : ℕ → Meaning → Main → ℕ → ℕ → ℕ → Process
@@ -64,7 +65,9 @@ after_reply p reply = record p { regs = past_call (put_reply reply p.regs) }
 
 -- the refused call is recorded, by the address of its `ecall` and the rule that it broke, and replied to
 abbrev pub after_refusal : Process → CallRule → Reply → Process
-after_refusal p rule reply = record (after_reply p reply) { refusal = Some (record { address = p.regs.pc; rule = rule }) }
+after_refusal p rule reply = record (after_reply p reply) {
+  refusal = Some (record { address = p.regs.pc; rule = rule });
+}
 
 -- the process goes on past an `ecall` that has no reply
 abbrev pub after_call : Process → Process
@@ -78,7 +81,8 @@ waiting p = record (after_call p) { state = Yielded }
 -- with bit 0 cleared
 abbrev pub upcall_regs : Upcall → Regs → Regs
 upcall_regs u regs =
-    let called = with_register (with_register (with_register (with_register (with_register regs 10 (slice_index u.args 0)) 11 (slice_index u.args 1)) 12 (slice_index u.args 2)) 13 u.app) 1 regs.pc in
+    let called = with_register (with_register (with_register (with_register (with_register regs
+    10 (slice_index u.args 0)) 11 (slice_index u.args 1)) 12 (slice_index u.args 2)) 13 u.app) 1 regs.pc in
     record called { pc = u.function / 2 * 2 }
 
 -- an upcall is delivered (TRD 104, "Yield")

@@ -1,3 +1,5 @@
 pub mod Rows
 pub mod Sight
+pub mod Stretch
 pub mod Turns
+mod Denials

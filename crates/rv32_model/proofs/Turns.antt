@@ -10,7 +10,7 @@ use Rattle.tk_base.specs.declared.access.Access.TheVariants.{Fetch, Load, Store}
 use Rattle.tk_base.specs.declared.access.Width.{Width}
 use Rattle.tk_base.specs.declared.access.Width.TheVariants.{Half}
 use Rattle.tk_base.specs.declared.access.Rule.{Rule}
-use Rattle.tk_base.specs.declared.access.Rule.TheVariants.{Misaligned}
+use Rattle.tk_base.specs.declared.access.Rule.TheVariants.{Breakpoint, Illegal, Misaligned}
 use Rattle.tk_base.specs.declared.access.Denial.{Denial}
 use Rattle.tk_base.specs.declared.regs.Regs.{Regs}
 use Rattle.tk_base.specs.Access.{width_bytes, is_misaligned, misaligned_first}
@@ -19,56 +19,79 @@ use Rattle.tk_base.specs.Regs.{register}
 use Rattle.rv32_model.specs.declared.instr.LoadKind.{LoadKind}
 use Rattle.rv32_model.specs.declared.instr.Instr.{Instr}
 use Rattle.rv32_model.specs.declared.instr.Instr.TheVariants as instrs
-use Rattle.rv32_model.specs.declared.turn_end.TurnEnd.TheVariants.{Trap}
+use Rattle.rv32_model.specs.declared.turn_end.TurnEnd.TheVariants.{Call, Trap, Went}
 use Rattle.rv32_model.specs.Laws.{Denies, stores_at, AccessesArePermitted, DataIsAligned, DeniedTurnsChangeNothing, OnlyStoresWrite, WritesArePermitted}
-use Rattle.rv32_model.specs.UserTurn.{Touch, UserTurn, user_turn, on_word, executed, fetched, after_write, after_load, after_store, effect, fetches, load_width, touch_of, w32_of, judged_parcel, with_first, with_second, parcel_at, length_of, instr_of}
+use Rattle.rv32_model.specs.Stretch.{StoppedTurnsChangeNothing}
+use Rattle.rv32_model.specs.UserTurn.{Touch, UserTurn, denied_at, trapped, user_turn, on_word, executed, fetched, after_write, after_load, after_store, effect, fetches, load_width, touch_of, w32_of, judged_parcel, with_first, with_second, parcel_at, length_of, instr_of}
 
--- a denied turn changes nothing
+-- a turn that does not go changes nothing, and a denied one lists no access
 Kept : (ℕ → ℕ) → Regs → UserTurn → Type 0
-Kept bytes regs t = (denial : Denial) → t.end ≡ Trap denial → (t.regs ≡ regs) × (after_write t.write bytes ≡ bytes) × (t.accesses ≡ [])
+Kept bytes regs t =
+    (t.end ≢ Went → (t.regs ≡ regs) × (after_write t.write bytes ≡ bytes))
+    × ((denial : Denial) → t.end ≡ Trap denial → t.accesses ≡ [])
+
+went : (bytes : ℕ → ℕ) (regs : Regs) (t : UserTurn) → t.end ≡ Went → Kept bytes regs t
+unfolding Kept
+went bytes regs t e = (λ n. absurd (n e), λ d f. cc)
+
+denied_kept : (bytes : ℕ → ℕ) (regs : Regs) (denial : Denial) → Kept bytes regs (trapped regs denial)
+unfolding Kept
+denied_kept bytes regs denial = (λ n. (refl, refl), λ d f. refl)
+
+call_kept : (bytes : ℕ → ℕ) (length : ℕ) (regs : Regs) → Kept bytes regs (record { regs = regs; write = None; accesses = fetches length regs; end = Call })
+unfolding Kept
+call_kept bytes length regs = (λ n. (refl, refl), λ d f. cc)
 
 load_kept : (bytes : ℕ → ℕ) (length : ℕ) (regs : Regs) (kind : LoadKind) (rd at number : ℕ) (o : Option Rule) → Kept bytes regs (after_load length regs kind rd at number o)
-unfolding Kept
-load_kept bytes length regs kind rd at number None d e = cc
-load_kept bytes length regs kind rd at number (Some rule) d e = (refl, refl, refl)
+load_kept bytes length regs kind rd at number None = went bytes regs (after_load length regs kind rd at number None) refl
+load_kept bytes length regs kind rd at number (Some rule) = denied_kept bytes regs (denied_at Load at rule)
 
 store_kept : (bytes : ℕ → ℕ) (length : ℕ) (regs : Regs) (width : Width) (at value : ℕ) (o : Option Rule) → Kept bytes regs (after_store length regs width at value o)
-unfolding Kept
-store_kept bytes length regs width at value None d e = cc
-store_kept bytes length regs width at value (Some rule) d e = (refl, refl, refl)
+store_kept bytes length regs width at value None = went bytes regs (after_store length regs width at value None) refl
+store_kept bytes length regs width at value (Some rule) = denied_kept bytes regs (denied_at Store at rule)
 
 effect_kept : (denies : Denies) (bytes : ℕ → ℕ) (length : ℕ) (i : Instr) (regs : Regs) → Kept bytes regs (effect denies bytes length i regs)
-unfolding Kept
-effect_kept denies bytes length (instrs.Lui rd imm) regs d e = cc
-effect_kept denies bytes length (instrs.Auipc rd imm) regs d e = cc
-effect_kept denies bytes length (instrs.Jal rd offset) regs d e = cc
-effect_kept denies bytes length (instrs.Jalr rd rs1 offset) regs d e = cc
-effect_kept denies bytes length (instrs.Branch test rs1 rs2 offset) regs d e = cc
-effect_kept denies bytes length (instrs.Load kind rd rs1 offset) regs d e =
+effect_kept denies bytes length (instrs.Lui rd imm) regs = went bytes regs _ refl
+effect_kept denies bytes length (instrs.Auipc rd imm) regs = went bytes regs _ refl
+effect_kept denies bytes length (instrs.Jal rd offset) regs = went bytes regs _ refl
+effect_kept denies bytes length (instrs.Jalr rd rs1 offset) regs = went bytes regs _ refl
+effect_kept denies bytes length (instrs.Branch test rs1 rs2 offset) regs = went bytes regs _ refl
+effect_kept denies bytes length (instrs.Load kind rd rs1 offset) regs =
     let at = w32_of (register regs rs1 + offset) in
-    load_kept bytes length regs kind rd at (number_at bytes at (load_width kind)) (misaligned_first denies Load at (load_width kind)) d e
-effect_kept denies bytes length (instrs.Store width rs1 rs2 offset) regs d e =
+    load_kept bytes length regs kind rd at (number_at bytes at (load_width kind)) (misaligned_first denies Load at (load_width kind))
+effect_kept denies bytes length (instrs.Store width rs1 rs2 offset) regs =
     let at = w32_of (register regs rs1 + offset) in
-    store_kept bytes length regs width at (register regs rs2) (misaligned_first denies Store at width) d e
-effect_kept denies bytes length (instrs.OpImm op rd rs1 imm) regs d e = cc
-effect_kept denies bytes length (instrs.Op op rd rs1 rs2) regs d e = cc
-effect_kept denies bytes length instrs.Fence regs d e = cc
-effect_kept denies bytes length instrs.Ecall regs d e = cc
-effect_kept denies bytes length instrs.Ebreak regs d e = (refl, refl, refl)
+    store_kept bytes length regs width at (register regs rs2) (misaligned_first denies Store at width)
+effect_kept denies bytes length (instrs.OpImm op rd rs1 imm) regs = went bytes regs _ refl
+effect_kept denies bytes length (instrs.Op op rd rs1 rs2) regs = went bytes regs _ refl
+effect_kept denies bytes length instrs.Fence regs = went bytes regs _ refl
+effect_kept denies bytes length instrs.Ecall regs = call_kept bytes length regs
+effect_kept denies bytes length instrs.Ebreak regs = denied_kept bytes regs (denied_at Fetch regs.pc Breakpoint)
 
 executed_kept : (denies : Denies) (bytes : ℕ → ℕ) (length : ℕ) (o : Option Instr) (regs : Regs) → Kept bytes regs (executed denies bytes length o regs)
-unfolding Kept executed
-executed_kept denies bytes length (Some i) regs d e = effect_kept denies bytes length i regs d e
-executed_kept denies bytes length None regs d e = (refl, refl, refl)
+unfolding executed
+executed_kept denies bytes length (Some i) regs = effect_kept denies bytes length i regs
+executed_kept denies bytes length None regs = denied_kept bytes regs (denied_at Fetch regs.pc Illegal)
 
 word_kept : (denies : Denies) (bytes : ℕ → ℕ) (r : Result ℕ Denial) (regs : Regs) → Kept bytes regs (on_word denies bytes r regs)
-unfolding Kept on_word
-word_kept denies bytes (Ok word) regs d e = executed_kept denies bytes (length_of word) (instr_of word) regs d e
-word_kept denies bytes (Err denial) regs d e = (refl, refl, refl)
+unfolding on_word
+word_kept denies bytes (Ok word) regs = executed_kept denies bytes (length_of word) (instr_of word) regs
+word_kept denies bytes (Err denial) regs = denied_kept bytes regs denial
+
+turn_kept : (denies : Denies) (bytes : ℕ → ℕ) (regs : Regs) → Kept bytes regs (user_turn denies bytes regs)
+unfolding user_turn
+turn_kept denies bytes regs = word_kept denies bytes (fetched denies bytes regs.pc) regs
+
+pub stopped_turns_change_nothing : StoppedTurnsChangeNothing
+unfolding Kept
+stopped_turns_change_nothing denies bytes regs n = (turn_kept denies bytes regs).0 n
 
 pub denied_turns_change_nothing : DeniedTurnsChangeNothing
-unfolding Kept user_turn
-denied_turns_change_nothing denies bytes regs d e = word_kept denies bytes (fetched denies bytes regs.pc) regs d e
+unfolding Kept
+denied_turns_change_nothing denies bytes regs d e =
+    let kept = turn_kept denies bytes regs in
+    let nothing = kept.0 (λ w. cc) in
+    (nothing.0, nothing.1, kept.1 d e)
 
 -- what holds of each fetch, and of each load and store that is not denied, holds of each access
 load_touches : (P : Touch → Type 0) (length : ℕ) (regs : Regs) (kind : LoadKind) (rd at number : ℕ) (o : Option Rule) → All P (fetches length regs) → (o ≡ None → P (touch_of Load at (load_width kind))) → All P (after_load length regs kind rd at number o).accesses

@@ -36,16 +36,22 @@ abbrev pub imm_ci : ℕ → ℕ
 imm_ci w = sign_extended 6 (bits_of w 12 1 * 2 ^ 5 + bits_of w 2 5)
 
 abbrev pub imm_addi16sp : ℕ → ℕ
-imm_addi16sp w = sign_extended 10 (bits_of w 12 1 * 2 ^ 9 + bits_of w 6 1 * 2 ^ 4 + bits_of w 5 1 * 2 ^ 6 + bits_of w 3 2 * 2 ^ 7 + bits_of w 2 1 * 2 ^ 5)
+imm_addi16sp w =
+    sign_extended 10 (bits_of w 12 1 * 2 ^ 9 + bits_of w 6 1 * 2 ^ 4 + bits_of w 5 1 * 2 ^ 6
+    + bits_of w 3 2 * 2 ^ 7 + bits_of w 2 1 * 2 ^ 5)
 
 abbrev pub imm_lui : ℕ → ℕ
 imm_lui w = sign_extended 18 (bits_of w 12 1 * 2 ^ 17 + bits_of w 2 5 * 2 ^ 12)
 
 abbrev pub imm_cj : ℕ → ℕ
-imm_cj w = sign_extended 12 (bits_of w 12 1 * 2 ^ 11 + bits_of w 11 1 * 2 ^ 4 + bits_of w 9 2 * 2 ^ 8 + bits_of w 8 1 * 2 ^ 10 + bits_of w 7 1 * 2 ^ 6 + bits_of w 6 1 * 2 ^ 7 + bits_of w 3 3 * 2 + bits_of w 2 1 * 2 ^ 5)
+imm_cj w =
+    sign_extended 12 (bits_of w 12 1 * 2 ^ 11 + bits_of w 11 1 * 2 ^ 4 + bits_of w 9 2 * 2 ^ 8 + bits_of w 8 1 * 2 ^ 10
+    + bits_of w 7 1 * 2 ^ 6 + bits_of w 6 1 * 2 ^ 7 + bits_of w 3 3 * 2 + bits_of w 2 1 * 2 ^ 5)
 
 abbrev pub imm_cb : ℕ → ℕ
-imm_cb w = sign_extended 9 (bits_of w 12 1 * 2 ^ 8 + bits_of w 10 2 * 2 ^ 3 + bits_of w 5 2 * 2 ^ 6 + bits_of w 3 2 * 2 + bits_of w 2 1 * 2 ^ 5)
+imm_cb w =
+    sign_extended 9 (bits_of w 12 1 * 2 ^ 8 + bits_of w 10 2 * 2 ^ 3 + bits_of w 5 2 * 2 ^ 6 + bits_of w 3 2 * 2
+    + bits_of w 2 1 * 2 ^ 5)
 
 abbrev pub imm_lwsp : ℕ → ℕ
 imm_lwsp w = bits_of w 12 1 * 2 ^ 5 + bits_of w 4 3 * 2 ^ 2 + bits_of w 2 2 * 2 ^ 6

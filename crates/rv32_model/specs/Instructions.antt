@@ -39,13 +39,15 @@ abbrev pub imm_s : ℕ → ℕ
 imm_s w = sign_extended 12 (bits_of w 25 7 * 2 ^ 5 + bits_of w 7 5)
 
 abbrev pub imm_b : ℕ → ℕ
-imm_b w = sign_extended 13 (bits_of w 31 1 * 2 ^ 12 + bits_of w 7 1 * 2 ^ 11 + bits_of w 25 6 * 2 ^ 5 + bits_of w 8 4 * 2)
+imm_b w =
+    sign_extended 13 (bits_of w 31 1 * 2 ^ 12 + bits_of w 7 1 * 2 ^ 11 + bits_of w 25 6 * 2 ^ 5 + bits_of w 8 4 * 2)
 
 abbrev pub imm_u : ℕ → ℕ
 imm_u w = bits_of w 12 20 * 4096
 
 abbrev pub imm_j : ℕ → ℕ
-imm_j w = sign_extended 21 (bits_of w 31 1 * 2 ^ 20 + bits_of w 12 8 * 2 ^ 12 + bits_of w 20 1 * 2 ^ 11 + bits_of w 21 10 * 2)
+imm_j w =
+    sign_extended 21 (bits_of w 31 1 * 2 ^ 20 + bits_of w 12 8 * 2 ^ 12 + bits_of w 20 1 * 2 ^ 11 + bits_of w 21 10 * 2)
 
 -- a row fits the words whose bits under the mask are those of its value
 pub record Row : Type 0 where
@@ -65,7 +67,11 @@ abbrev pub by_funct3 : ℕ → ℕ → (ℕ → Instr) → Row
 by_funct3 opcode funct3 form = record { mask = 0x707f; value = opcode + funct3 * 2 ^ 12; form = form }
 
 abbrev pub by_funct7 : ℕ → ℕ → ℕ → (ℕ → Instr) → Row
-by_funct7 opcode funct3 funct7 form = record { mask = 0xfe00707f; value = opcode + funct3 * 2 ^ 12 + funct7 * 2 ^ 25; form = form }
+by_funct7 opcode funct3 funct7 form = record {
+  mask = 0xfe00707f;
+  value = opcode + funct3 * 2 ^ 12 + funct7 * 2 ^ 25;
+  form = form;
+}
 
 abbrev pub by_word : ℕ → Instr → Row
 by_word word instr = record { mask = 0xffffffff; value = word; form = λ _. instr }

@@ -3,3 +3,4 @@ pub mod Instructions
 pub mod Laws
 pub mod UserTurn
 pub mod Worked
+pub mod Stretch

@@ -82,7 +82,8 @@ with_second first (Err denial) = Err denial
 -- Low bits 11 mean an instruction of 32 bits, whose second parcel is at pc + 2; others one of 16
 -- ("Base Instruction-Length Encoding").
 abbrev pub with_first : (Access → ℕ → Width → Option Rule) → (ℕ → ℕ) → ℕ → Result ℕ Denial → Result ℕ Denial
-with_first denies bytes pc (Ok first) = if first % 4 == 3 then with_second first (parcel_at denies bytes (w32_of (pc + 2))) else Ok first
+with_first denies bytes pc (Ok first) =
+    if first % 4 == 3 then with_second first (parcel_at denies bytes (w32_of (pc + 2))) else Ok first
 with_first denies bytes pc (Err denial) = Err denial
 
 -- the bits of the instruction at pc; a denied fetch names the first parcel that is denied
@@ -105,11 +106,17 @@ touch_of access address width = record { access = access; address = address; wid
 
 -- the accesses that fetch an instruction: each parcel is one of its own
 abbrev pub fetches : ℕ → Regs → List Touch
-fetches length regs = touch_of Fetch regs.pc Half ∷ (if length == 2 then [] else touch_of Fetch (w32_of (regs.pc + 2)) Half ∷ [])
+fetches length regs =
+    touch_of Fetch regs.pc Half ∷ (if length == 2 then [] else touch_of Fetch (w32_of (regs.pc + 2)) Half ∷ [])
 
 -- a turn that leaves these registers and goes on at an address, and accesses nothing but its instruction
 abbrev pub gone : ℕ → Regs → Regs → ℕ → UserTurn
-gone length regs after to = record { regs = record after { pc = to }; write = None; accesses = fetches length regs; end = Went }
+gone length regs after to = record {
+  regs = record after { pc = to };
+  write = None;
+  accesses = fetches length regs;
+  end = Went;
+}
 
 -- an instruction that only sets a register
 abbrev pub computed : ℕ → Regs → ℕ → ℕ → UserTurn
@@ -180,39 +187,59 @@ loaded Lbu n = n % 2 ^ 8
 loaded Lhu n = n % 2 ^ 16
 
 abbrev pub after_load : ℕ → Regs → LoadKind → ℕ → ℕ → ℕ → Option Rule → UserTurn
-after_load length regs kind rd at number None = record (computed length regs rd (loaded kind number)) { accesses = fetches length regs ++ (touch_of Load at (load_width kind) ∷ []) }
+after_load length regs kind rd at number None = record (computed length regs rd (loaded kind number)) {
+  accesses = fetches length regs ++ (touch_of Load at (load_width kind) ∷ []);
+}
 after_load length regs kind rd at number (Some rule) = trapped regs (denied_at Load at rule)
 
 abbrev pub after_store : ℕ → Regs → Width → ℕ → ℕ → Option Rule → UserTurn
-after_store length regs width at value None = record { regs = record regs { pc = link length regs }; write = Some (record { address = at; width = width; value = value }); accesses = fetches length regs ++ (touch_of Store at width ∷ []); end = Went }
+after_store length regs width at value None = record {
+  regs = record regs { pc = link length regs };
+  write = Some (record { address = at; width = width; value = value });
+  accesses = fetches length regs ++ (touch_of Store at width ∷ []);
+  end = Went;
+}
 after_store length regs width at value (Some rule) = trapped regs (denied_at Store at rule)
 
 -- the effect of a branch by an instruction of a length in bytes
 abbrev pub branch_effect : ℕ → Regs → BranchTest → ℕ → ℕ → ℕ → UserTurn
 branch_effect length regs test rs1 rs2 offset =
-    gone length regs regs (if is_taken test (register regs rs1) (register regs rs2) then w32_of (regs.pc + offset) else link length regs)
+    gone length regs regs
+    (if is_taken test (register regs rs1) (register regs rs2) then w32_of (regs.pc + offset) else link length regs)
 
 -- the effect of a load from an address, and of a store at one, by an instruction of a length in bytes
 abbrev pub load_effect : (Access → ℕ → Width → Option Rule) → (ℕ → ℕ) → ℕ → Regs → LoadKind → ℕ → ℕ → UserTurn
 load_effect denies bytes length regs kind rd at =
-    after_load length regs kind rd at (number_at bytes at (load_width kind)) (misaligned_first denies Load at (load_width kind))
+    after_load length regs kind rd at (number_at bytes at (load_width kind))
+    (misaligned_first denies Load at (load_width kind))
 
 abbrev pub store_effect : (Access → ℕ → Width → Option Rule) → ℕ → Regs → Width → ℕ → ℕ → UserTurn
-store_effect denies length regs width at value = after_store length regs width at value (misaligned_first denies Store at width)
+store_effect denies length regs width at value =
+    after_store length regs width at value (misaligned_first denies Store at width)
 
 -- the effect of an instruction of a length in bytes
 abbrev pub effect : (Access → ℕ → Width → Option Rule) → (ℕ → ℕ) → ℕ → Instr → Regs → UserTurn
 effect denies bytes length (instrs.Lui rd imm) regs = computed length regs rd imm
 effect denies bytes length (instrs.Auipc rd imm) regs = computed length regs rd (w32_of (regs.pc + imm))
 effect denies bytes length (instrs.Jal rd offset) regs = jumped length regs rd (w32_of (regs.pc + offset))
-effect denies bytes length (instrs.Jalr rd rs1 offset) regs = jumped length regs rd (w32_of (register regs rs1 + offset) / 2 * 2)
+effect denies bytes length (instrs.Jalr rd rs1 offset) regs =
+    jumped length regs rd (w32_of (register regs rs1 + offset) / 2 * 2)
 effect denies bytes length (instrs.Branch test rs1 rs2 offset) regs = branch_effect length regs test rs1 rs2 offset
-effect denies bytes length (instrs.Load kind rd rs1 offset) regs = load_effect denies bytes length regs kind rd (w32_of (register regs rs1 + offset))
-effect denies bytes length (instrs.Store width rs1 rs2 offset) regs = store_effect denies length regs width (w32_of (register regs rs1 + offset)) (register regs rs2)
-effect denies bytes length (instrs.OpImm op rd rs1 imm) regs = computed length regs rd (operation op (register regs rs1) imm)
-effect denies bytes length (instrs.Op op rd rs1 rs2) regs = computed length regs rd (operation op (register regs rs1) (register regs rs2))
+effect denies bytes length (instrs.Load kind rd rs1 offset) regs =
+    load_effect denies bytes length regs kind rd (w32_of (register regs rs1 + offset))
+effect denies bytes length (instrs.Store width rs1 rs2 offset) regs =
+    store_effect denies length regs width (w32_of (register regs rs1 + offset)) (register regs rs2)
+effect denies bytes length (instrs.OpImm op rd rs1 imm) regs =
+    computed length regs rd (operation op (register regs rs1) imm)
+effect denies bytes length (instrs.Op op rd rs1 rs2) regs =
+    computed length regs rd (operation op (register regs rs1) (register regs rs2))
 effect denies bytes length instrs.Fence regs = gone length regs regs (link length regs)
-effect denies bytes length instrs.Ecall regs = record { regs = regs; write = None; accesses = fetches length regs; end = Call }
+effect denies bytes length instrs.Ecall regs = record {
+  regs = regs;
+  write = None;
+  accesses = fetches length regs;
+  end = Call;
+}
 effect denies bytes length instrs.Ebreak regs = trapped regs (denied_at Fetch regs.pc Breakpoint)
 
 -- what no row fits is illegal

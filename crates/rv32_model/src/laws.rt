@@ -1,6 +1,7 @@
 //! What holds of the instruction table and of every turn. The functions do nothing: each stands for
 //! the law that it ensures.
-ghost use Rattle.rv32_model.specs.Laws.{NoWordFitsTwoRows, AccessesArePermitted, DataIsAligned, DeniedTurnsChangeNothing, OnlyStoresWrite, SeesOnlyPermitted, WritesArePermitted};
+ghost use Rattle.rv32_model.specs.Laws.{NoWordFitsTwoRows, AccessesArePermitted, DataIsAligned, DenialsAreDue, DeniedTurnsChangeNothing, OnlyStoresWrite, SeesOnlyPermitted, WritesArePermitted};
+ghost use Rattle.rv32_model.specs.Stretch.{NoneGoes, OneIsTheTurn, OneMoreGoes, StoppedTurnsChangeNothing, StoppedTurnsStop};
 
 /// No word fits two rows of the instruction table.
 #[tactic(auto, using(crate::proofs::Rows::no_word_fits_two_rows))]
@@ -18,6 +19,13 @@ pub fn accesses_are_permitted()
 #[tactic(auto, using(crate::proofs::Turns::data_is_aligned))]
 pub fn data_is_aligned()
     ensures { DataIsAligned }
+{}
+
+/// What a denied turn is denied for is so: it names an access that is denied, with the rule that denies it, or an
+/// illegal instruction or a breakpoint at pc.
+#[tactic(auto, using(crate::proofs::Denials::denials_are_due))]
+pub fn denials_are_due()
+    ensures { DenialsAreDue }
 {}
 
 /// A denied turn changes neither registers nor bytes, and lists no access.
@@ -42,4 +50,25 @@ pub fn writes_are_permitted()
 #[tactic(auto, using(crate::proofs::Sight::sees_only_permitted))]
 pub fn sees_only_permitted()
     ensures { SeesOnlyPermitted }
+{}
+
+/// A turn that does not go, since it makes a system call or is denied, changes neither registers nor bytes.
+#[tactic(auto, using(crate::proofs::Turns::stopped_turns_change_nothing))]
+pub fn stopped_turns_change_nothing()
+    ensures { StoppedTurnsChangeNothing }
+{}
+
+/// How turns that follow one another go on: none leads nowhere, one that goes is one more, and one that does not go is
+/// where they stop.
+#[tactic(auto, using(crate::proofs::Stretch::none_goes, crate::proofs::Stretch::one_more_goes, crate::proofs::Stretch::stopped_turns_stop))]
+pub fn turns_follow()
+    ensures none { NoneGoes }
+    ensures more { OneMoreGoes }
+    ensures stop { StoppedTurnsStop }
+{}
+
+/// At most one turn is the turn.
+#[tactic(auto, using(crate::proofs::Stretch::one_is_the_turn))]
+pub fn one_is_the_turn()
+    ensures { OneIsTheTurn }
 {}

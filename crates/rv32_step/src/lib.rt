@@ -5,14 +5,17 @@ mod execute;
 mod operate;
 mod processor;
 
-ghost use Rattle.std.specs.Prelude.{◌≡◌, ◌≢◌, ◌%◌, ◌<◌, ◌^◌, IfOk};
+ghost use Rattle.std.specs.Prelude.{◌≡◌, ◌≢◌, ◌%◌, ◌<◌, ◌≤◌, ◌^◌, IfOk};
 ghost use Rattle.rv32_model.specs.UserTurn.{user_turn, fetched, parcel_at, bytes_after};
+ghost use Rattle.rv32_model.specs.Stretch.{Goes, Stops};
 ghost use Rattle.rv32_step.specs.Fetched.{Fetches};
 ghost use Rattle.rv32_model.specs.Laws.{MayWrite};
 
 use crate::execute::denial;
 use crate::processor::{narrow, wide};
-use rv32_model::{TurnEnd, writes_are_permitted};
+use rv32_model::{
+    TurnEnd, one_is_the_turn, stopped_turns_change_nothing, turns_follow, writes_are_permitted,
+};
 use rv32_traits::FetchAhead;
 use tk_base::{Access, Addr, Bus, Denial, Regs};
 
@@ -53,19 +56,16 @@ fn fetch<B: FetchAhead>(bus: &B, pc: Addr) -> Result<u32, Denial>
     }
 }
 
-/// One instruction of the process whose registers these are, 32 or 16 bits long (RISC-V
-/// unprivileged manual). `Call` leaves pc at the `ecall`; a trap leaves registers and bytes as they
-/// were. The answer, the registers and the bytes are those of the definition of a user turn.
+/// One instruction, as [`turn`] has it.
+#[inline(always)]
 #[tactic(auto, unfolding(rv32_model::specs::UserTurn::user_turn, rv32_model::specs::UserTurn::on_word, rv32_model::specs::UserTurn::instr_of))]
-pub fn turn<B: FetchAhead>(regs: &mut Regs, bus: &mut B) -> TurnEnd
+fn turn_of<B: FetchAhead>(regs: &mut Regs, bus: &mut B) -> TurnEnd
     ensures regs { regs.new ≡ (user_turn (B.denies bus.old) (B.bytes bus.old) regs.old).regs }
     ensures end { result ≡ (user_turn (B.denies bus.old) (B.bytes bus.old) regs.old).end }
     ensures bytes { B.bytes bus.new ≡ bytes_after (B.denies bus.old) (B.bytes bus.old) regs.old }
     ensures denies { B.denies bus.new ≡ B.denies bus.old }
     ensures frame { B.frame bus.new ≡ B.frame bus.old }
-    ensures permitted { MayWrite (B.denies bus.old) (B.bytes bus.old) regs.old }
 {
-    writes_are_permitted();
     let word = match fetch(bus, regs.pc) {
         Ok(word) => word,
         Err(denial) => return TurnEnd::Trap(denial),
@@ -75,6 +75,54 @@ pub fn turn<B: FetchAhead>(regs: &mut Regs, bus: &mut B) -> TurnEnd
     } else {
         narrow((word % 65536) as u16, regs, bus)
     }
+}
+
+/// What instructions that follow one another did.
+#[derive(Clone, Copy, Debug, PartialEq, Eq)]
+pub struct Stretch {
+    /// How many went.
+    pub went: u32,
+    /// How the one after them ends, where it does not go; else `Went`.
+    pub end: TurnEnd,
+}
+
+/// As many instructions as go, one after another, at most `most`. It stops before one that makes a system call or is
+/// denied, and says how that one ends: it leaves registers and bytes as they are. Where all went, the end is `Went`.
+pub fn turns<B: FetchAhead>(regs: &mut Regs, bus: &mut B, most: u32) -> Stretch
+    ensures most { result.went ≤ most }
+    ensures goes { Goes (B.denies bus.old) result.went regs.old (B.bytes bus.old) regs.new (B.bytes bus.new) }
+    ensures stops { Stops (B.denies bus.old) most result.went result.end regs.new (B.bytes bus.new) }
+    ensures denies { B.denies bus.new ≡ B.denies bus.old }
+    ensures frame { B.frame bus.new ≡ B.frame bus.old }
+{
+    stopped_turns_change_nothing();
+    turns_follow();
+    for went in 0..most {
+        match turn_of(regs, bus) {
+            TurnEnd::Went => {}
+            end => return Stretch { went, end },
+        }
+    }
+    Stretch {
+        went: most,
+        end: TurnEnd::Went,
+    }
+}
+
+/// One instruction of the process whose registers these are, 32 or 16 bits long (RISC-V
+/// unprivileged manual). `Call` leaves pc at the `ecall`; a trap leaves registers and bytes as they
+/// were. The answer, the registers and the bytes are those of the definition of a user turn.
+pub fn turn<B: FetchAhead>(regs: &mut Regs, bus: &mut B) -> TurnEnd
+    ensures regs { regs.new ≡ (user_turn (B.denies bus.old) (B.bytes bus.old) regs.old).regs }
+    ensures end { result ≡ (user_turn (B.denies bus.old) (B.bytes bus.old) regs.old).end }
+    ensures bytes { B.bytes bus.new ≡ bytes_after (B.denies bus.old) (B.bytes bus.old) regs.old }
+    ensures denies { B.denies bus.new ≡ B.denies bus.old }
+    ensures frame { B.frame bus.new ≡ B.frame bus.old }
+    ensures permitted { MayWrite (B.denies bus.old) (B.bytes bus.old) regs.old }
+{
+    writes_are_permitted();
+    one_is_the_turn();
+    turns(regs, bus, 1).end
 }
 
 #[cfg(test)]

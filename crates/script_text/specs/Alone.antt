@@ -10,7 +10,12 @@ use Rattle.script_text.specs.Text.{words}
 
 -- the first rule that words break where they are looked at alone
 abbrev pub broken_alone : Form → List (List ℕ) → Option ScriptRule
-broken_alone form ws = if miscounts form ws then Some Words else if misspells form ws then Some BadNumber else if has_bad_hex form ws then Some BadHex else if is_outside form ws then Some OutOfRange else None
+broken_alone form ws =
+    if miscounts form ws then Some Words
+    else if misspells form ws then Some BadNumber
+    else if has_bad_hex form ws then Some BadHex
+    else if is_outside form ws then Some OutOfRange
+    else None
 
 -- these words are those of a line of the table, which break no rule where they are looked at alone
 pub record IsLine (ws : List (List ℕ)) (line : Line) : Type 0 where

@@ -28,7 +28,9 @@ said_by d = record {
 
 -- which of them stand among lines
 abbrev pub stood_in : List (List ℕ) → List Bool
-stood_in all = stands Ram all ∷ stands Leds all ∷ stands Slice all ∷ stands Start all ∷ stands Uart all ∷ stands Storage all ∷ stands Stop all ∷ []
+stood_in all =
+    stands Ram all ∷ stands Leds all ∷ stands Slice all ∷ stands Start all ∷ stands Uart all ∷ stands Storage all
+    ∷ stands Stop all ∷ []
 
 -- a draft has what these lines say
 pub record Made (before : List (List ℕ)) (draft : Draft) : Type 0 where
@@ -46,7 +48,9 @@ with_line Uart ws said = record said { uart = number (word ws 1) }
 with_line Storage ws said = record said { storage = number (word ws 1) }
 with_line StorageFault ws said = record said { faults = said.faults ++ number (word ws 1) ∷ [] }
 with_line Random ws said = record said { words = said.words ++ map hex_word (drop 1 ws) }
-with_line Input ws said = record said { events = said.events ++ record { time = number (word ws 1); bytes = hex_bytes (word ws 3) } ∷ [] }
+with_line Input ws said = record said {
+  events = said.events ++ record { time = number (word ws 1); bytes = hex_bytes (word ws 3) } ∷ [];
+}
 with_line line ws said = record said { policy = policy_by line ws }
 
 -- a line was added, or the first rule that it breaks was found

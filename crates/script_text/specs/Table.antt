@@ -69,7 +69,12 @@ row Random = record {
 row Input = record {
   name = codes "at";
   key = Some (record { place = 2; word = codes "input" });
-  form = record { words = 4; more = false; number = Some (record { place = 1; range = from_to 0 4294967295 }); hex = Some (record { place = 3; digits = None }) };
+  form = record {
+    words = 4;
+    more = false;
+    number = Some (record { place = 1; range = from_to 0 4294967295 });
+    hex = Some (record { place = 3; digits = None });
+  };
   default = 0;
 }
 

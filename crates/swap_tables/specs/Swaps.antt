@@ -24,16 +24,19 @@ has_place e driver kernel = fits e driver (grant_of driver (read_back kernel))
 
 -- a process's grants once the driver is entered and its pair is another
 abbrev pub swapped : PairKind → ℕ → ℕ → ℕ × ℕ → List ℕ → List Grant
-swapped kind driver number pair kernel = with_grant driver (with_pair kind number pair) (entered driver (read_back kernel))
+swapped kind driver number pair kernel =
+    with_grant driver (with_pair kind number pair) (entered driver (read_back kernel))
 
 -- a swap gives the former pair and stores the new one; all else is as it was
-pub record Swaps (kind : PairKind) (driver number : ℕ) (pair : ℕ × ℕ) (e e' : Extents) (app app' kernel kernel' : List ℕ) (answer : ℕ × ℕ) : Type 0 where
+pub record Swaps (kind : PairKind) (driver number : ℕ) (pair : ℕ × ℕ) (e e' : Extents)
+    (app app' kernel kernel' : List ℕ) (answer : ℕ × ℕ) : Type 0 where
   pub former : answer ≡ held_pair kind driver number kernel
   pub layout : e' ≡ roomed driver e (grant_of driver (read_back kernel))
   pub grants : Leaves e' app app' kernel' (swapped kind driver number pair kernel)
 
 -- the same where the driver is entered, of the kernel's bytes alone
-pub record SwapsHeld (kind : PairKind) (driver number : ℕ) (pair : ℕ × ℕ) (kernel kernel' : List ℕ) (answer : ℕ × ℕ) : Type 0 where
+pub record SwapsHeld (kind : PairKind) (driver number : ℕ) (pair : ℕ × ℕ) (kernel kernel' : List ℕ)
+    (answer : ℕ × ℕ) : Type 0 where
   pub grant : Grant
   pub is : grant_of driver (read_back kernel) ≡ Some grant
   pub former : answer ≡ held_pair kind driver number kernel

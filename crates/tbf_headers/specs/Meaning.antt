@@ -39,7 +39,8 @@ fixed_of c = (word c 0, word c 4)
 -- or no multiple of 4
 abbrev pub has_bad_sizes : List ℕ → Bool
 has_bad_sizes bytes =
-    word bytes 4 == 0 || nat_lt (length bytes) (word bytes 4) || not (word bytes 4 % 4 == 0) || nat_lt (half bytes 2) 16 || nat_lt (word bytes 4) (half bytes 2) || not (half bytes 2 % 4 == 0)
+    word bytes 4 == 0 || nat_lt (length bytes) (word bytes 4) || not (word bytes 4 % 4 == 0) || nat_lt (half bytes 2) 16
+    || nat_lt (word bytes 4) (half bytes 2) || not (half bytes 2 % 4 == 0)
 
 -- the bytes of the header
 abbrev pub header_of : List ℕ → List ℕ

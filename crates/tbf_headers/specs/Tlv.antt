@@ -18,7 +18,8 @@ place_after header at = at + 4 + rounded_up (length_at header at)
 -- the places of the TLVs from a place on: none at the header's end, of which there are no more than the number
 unfoldable pub places_from : ℕ → List ℕ → ℕ → List ℕ
 places_from zero header at = []
-places_from (suc n) header at = if nat_le (length header) at then [] else at ∷ places_from n header (place_after header at)
+places_from (suc n) header at =
+    if nat_le (length header) at then [] else at ∷ places_from n header (place_after header at)
 
 -- the places of all TLVs of a header
 abbrev pub places : List ℕ → List ℕ
@@ -26,13 +27,16 @@ places header = places_from (length header - 16) header 16
 
 -- the shortest content of a TLV of each type: Main, Fixed addresses, Program, Permissions
 abbrev pub least_length : ℕ → ℕ
-least_length kind = if kind == 1 then 12 else (if kind == 5 then 8 else (if kind == 9 then 20 else (if kind == 6 then 2 else 0)))
+least_length kind =
+    if kind == 1 then 12 else (if kind == 5 then 8 else (if kind == 9 then 20 else (if kind == 6 then 2 else 0)))
 
 -- a TLV is bad where its content passes the header's end, where it is too short for its type, or where it
 -- is too short for the entries of Permissions that it counts
 abbrev pub is_bad : List ℕ → ℕ → Bool
 is_bad header at =
-    nat_lt (length header) (at + 4 + length_at header at) || nat_lt (length_at header at) (least_length (type_at header at)) || (type_at header at == 6 && nat_lt (length_at header at) (2 + 16 * half header (at + 4)))
+    nat_lt (length header) (at + 4 + length_at header at)
+    || nat_lt (length_at header at) (least_length (type_at header at))
+    || (type_at header at == 6 && nat_lt (length_at header at) (2 + 16 * half header (at + 4)))
 
 -- the first TLV that is bad
 abbrev pub first_bad : List ℕ → Option ℕ
@@ -48,4 +52,5 @@ first_of kind header = find (is_of kind header) (places header)
 
 -- the content of the first TLV of a type, a slice of the header's bytes
 abbrev pub content : ℕ → List ℕ → Option (List ℕ)
-content kind header = option_map (λ at. slice_range header (at + 4) (at + 4 + length_at header at)) (first_of kind header)
+content kind header =
+    option_map (λ at. slice_range header (at + 4) (at + 4 + length_at header at)) (first_of kind header)

@@ -24,7 +24,8 @@ is_misaligned Store at width = not (at % width_bytes width == 0)
 -- a misaligned load or store is denied as such, whatever else would deny it: the higher of the two priorities that
 -- the privileged manual permits ("Machine Cause Register (mcause)", the table of exception priority)
 abbrev pub misaligned_first : (Access → ℕ → Width → Option Rule) → Access → ℕ → Width → Option Rule
-misaligned_first denies access at width = if is_misaligned access at width then Some Misaligned else denies access at width
+misaligned_first denies access at width =
+    if is_misaligned access at width then Some Misaligned else denies access at width
 
 -- the exception code of an address that is misaligned
 abbrev pub misaligned_cause : Access → ℕ

@@ -22,10 +22,13 @@ byte_of value k = value / 256 ^ k % 256
 
 -- the bytes with the lowest bytes of a value at an address
 abbrev pub written : (ℕ → ℕ) → ℕ → Width → ℕ → ℕ → ℕ
-written bytes at width value a = if nat_le at a && nat_lt a (at + width_bytes width) then byte_of value (a - at) else bytes a
+written bytes at width value a =
+    if nat_le at a && nat_lt a (at + width_bytes width) then byte_of value (a - at) else bytes a
 
 -- a list with the lowest bytes of a value put at a place
 abbrev pub put : List ℕ → ℕ → Width → ℕ → List ℕ
 put xs at Byte v = slice_set xs at (byte_of v 0)
 put xs at Half v = slice_set (slice_set xs at (byte_of v 0)) (at + 1) (byte_of v 1)
-put xs at Word v = slice_set (slice_set (slice_set (slice_set xs at (byte_of v 0)) (at + 1) (byte_of v 1)) (at + 2) (byte_of v 2)) (at + 3) (byte_of v 3)
+put xs at Word v =
+    slice_set (slice_set (slice_set (slice_set xs
+    at (byte_of v 0)) (at + 1) (byte_of v 1)) (at + 2) (byte_of v 2)) (at + 3) (byte_of v 3)

@@ -12,4 +12,5 @@ pub record IsPut (xs : List ℕ) (at : ℕ) (width : Width) (value : ℕ) : Type
 
 -- this holds of every store that lies in the list
 abbrev pub AStoreIsPut : Type 0
-AStoreIsPut = (xs : List ℕ) (at : ℕ) (width : Width) (value : ℕ) → at + width_bytes width ≤ length xs → IsPut xs at width value
+AStoreIsPut =
+    (xs : List ℕ) (at : ℕ) (width : Width) (value : ℕ) → at + width_bytes width ≤ length xs → IsPut xs at width value

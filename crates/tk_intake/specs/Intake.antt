@@ -18,7 +18,8 @@ IfSoundAndLonger shelf name limit P = IfSome (shelf.bytes name) (λ b. limit < l
 
 -- where a file has more bytes than a limit, and the shelf's count of faults did not rise
 abbrev pub IfCalmAndLonger : {H : Type 0} → (H → ShelfFacts) → H → H → List ℕ → ℕ → Type 0 → Type 0
-IfCalmAndLonger tells old new name limit P = IfSome ((tells old).bytes name) (λ b. limit < length b → ¬ FaultsRose tells old new → P)
+IfCalmAndLonger tells old new name limit P =
+    IfSome ((tells old).bytes name) (λ b. limit < length b → ¬ FaultsRose tells old new → P)
 
 -- where a sound file is within a limit
 abbrev pub IfSoundAndWithin : ShelfFacts → List ℕ → ℕ → Type 0 → Type 0

@@ -25,4 +25,5 @@ faults_of s = s.schedule.faults
 abbrev pub taken_of : MemSink → List ℕ → Option ℕ
 taken_of s piece =
     let left = s.room - length s.bytes.items in
-    if fails_next s.schedule || (nat_lt 0 (length piece) && (left == 0)) then None else Some (min (min (length piece) s.most) left)
+    if fails_next s.schedule || (nat_lt 0 (length piece) && (left == 0)) then None
+    else Some (min (min (length piece) s.most) left)

@@ -20,4 +20,5 @@ pub record WrotePart {K : Type 0} (tells : K → SinkFacts) (old new : K) (text 
 
 -- a call writes the text: all of it where it succeeds, and only a part where it fails
 abbrev pub Writes : {K A E : Type 0} → (K → SinkFacts) → K → K → List ℕ → Result A E → Type 0
-Writes tells old new text result = MatchResult result (λ _. WroteAll tells old new text) (λ _. WrotePart tells old new text)
+Writes tells old new text result =
+    MatchResult result (λ _. WroteAll tells old new text) (λ _. WrotePart tells old new text)

@@ -11,14 +11,15 @@ use Rattle.process_record.specs.declared.emit.Emit.{Emit}
 use Rattle.kernel_model.specs.Record.{Record}
 use Rattle.kernel_model.specs.World.{Deed, World, after, can_act, deed_of, done, labels, ran, stepped, unmade}
 use Rattle.kernel_model.specs.Shown.{shown_by}
+use Rattle.kernel_model.specs.Stretch.{IsStretch, RoundsJoin}
 use Rattle.kernel_model.specs.Run.{Ran, next, round, printed, stays}
-use Rattle.tock_cli.proofs.Runs.{printed_in, printed-round, round-stop, round-step, round-zero, round-more, shown_by-printed, steps-stop, steps-step, steps-zero}
-use Rattle.tock_cli.proofs.Telling.{told_on-step, told_text-step}
+use Rattle.tock_cli.proofs.Runs.{printed_in, printed-round, round-stop, round-step, round-zero, round-more, shown_by-printed, steps-plus, steps-stop, steps-step, steps-zero}
+use Rattle.tock_cli.proofs.Telling.{nothing_told, passed_on-steps, told_on-step, told_text-step}
 use Rattle.tock_cli.specs.declared.run.Mode.{Mode}
 use Rattle.tock_cli.specs.declared.run.Mode.TheVariants.{Boot, Trace, Soak}
 use Rattle.tock_cli.specs.declared.teller.Telling.{Telling}
 use Rattle.tock_cli.specs.RunText.{Step, step_of, steps, IsWorldOf}
-use Rattle.tock_cli.specs.Telling.{count_of, step_text, steps_text, telling_of, told_on, told_text}
+use Rattle.tock_cli.specs.Telling.{count_of, passed_on, step_text, steps_text, telling_of, told_on, told_text}
 
 -- After i steps of a run of n steps, from a world to another: what the mode tells of the steps done is written, what it
 -- needs of them is kept, and the run goes on as the rest of it would from there.
@@ -104,6 +105,31 @@ module _ {K : Type 0} {tells : K → SinkFacts} {mode : Mode} {n i : ℕ} {from 
 
       more : printed_in (r.done ++ step_of here c ∷ []) ≡ printed_in r.done ++ printed (labels here c)
       more = flat_map-more (λ (x : Step). printed x.labels) r.done (step_of here c)
+
+  -- a quiet stretch more
+  pub ran_on : RoundsJoin → (k j : ℕ) (then : World) (kept : Telling) → k ≤ n - i → j ≡ i + k → IsStretch k here then → kept ≡ passed_on telling then → RunsOn tells mode n j from then old now kept
+  ran_on law k j then kept h e s p = record {
+    done = r.done ++ steps k here;
+    wrote = subst (λ (text : List ℕ). WroteAll tells old now text) (sym same_text) r.wrote;
+    kept = passed.0 ∙ ap (telling_of mode then) (sym same_printed);
+    few = omega (arith, passed.1, r.few, e);
+    goes = r.goes ∙ ap (λ (ss : List Step). r.done ++ ss) (steps-plus k (n - j) (n - i) here left ∙ ap (λ (v : World). steps k here ++ steps (n - j) v) (sym s.reached)) ∙ sym (append_assoc r.done (steps k here) (steps (n - j) then));
+    leads = r.leads ∙ ap (λ (q : Ran). q.world) (law k (n - j) (n - i) here left) ∙ ap (λ (v : World). (round (n - j) v).world) (sym s.reached);
+    came = s.reached ∙ ap (λ (v : World). (round k v).world) r.came ∙ sym (ap (λ (q : Ran). q.world) (law i k j from e));
+    steps_made = omega (arith, r.steps_made, s.steps, e);
+  }
+    where
+      left : n - i ≡ k + (n - j)
+      left = omega (arith, h, e)
+
+      passed : (kept ≡ telling_of mode then (printed_in r.done)) × (count_of kept ≡ count_of telling)
+      passed = passed_on-steps mode here then (printed_in r.done) telling kept r.kept p
+
+      same_text : steps_text mode (r.done ++ steps k here) ≡ steps_text mode r.done
+      same_text = flat_map-append (step_text mode) r.done (steps k here) ∙ ap (λ (t : List ℕ). steps_text mode r.done ++ t) (nothing_told mode k here then s) ∙ append-nil (steps_text mode r.done)
+
+      same_printed : printed_in (r.done ++ steps k here) ≡ printed_in r.done
+      same_printed = flat_map-append (λ (x : Step). printed x.labels) r.done (steps k here) ∙ ap (λ (t : List ℕ). printed_in r.done ++ t) (sym (printed-round k here) ∙ s.prints) ∙ append-nil (printed_in r.done)
 
   -- a write that failed in a step
   pub part : WritesCompose tells → (c : Choice) (later : K) (step : Emit) → i < n → next here ≡ Some c → step ≡ shown_by (labels here c) → WrotePart tells now later (told_text telling step) → WrotePart tells old later (steps_text mode (steps n from))

@@ -1,5 +1,5 @@
 -- Runs by the round robin, step by step.
-use Rattle.std.proofs.Common.{◌≡◌, ℕ, zero, suc, List, [], ◌∷◌, ◌++◌, Option, None, Some, refl, sym, ap, ◌∙◌}
+use Rattle.std.proofs.Common.{◌≡◌, ℕ, zero, suc, ◌+◌, List, [], ◌∷◌, ◌++◌, Option, None, Some, refl, sym, ap, ◌∙◌, arith}
 use Rattle.std.proofs.lemmas.Grind.{flat_map-append}
 use Rattle.std.specs.List.{flat_map}
 use Rattle.tk_base.specs.declared.process.Choice.{Choice}
@@ -58,6 +58,27 @@ steps-step n w c e = ap (on_choice [] (λ choice. step_of w choice ∷ steps n (
 pub steps-zero : (w : World) → steps zero w ≡ []
 unfolding steps
 steps-zero w = refl
+
+-- the steps of a run are those of its front, and then those of the rest
+pub steps-plus : (k m n : ℕ) (w : World) → n ≡ k + m → steps n w ≡ steps k w ++ steps m (round k w).world
+steps-plus zero m n w e =
+    ap (λ (j : ℕ). steps j w) (none_first m n e) ∙ ap (λ (v : World). steps m v) (sym (ap (λ (r : Ran). r.world) (round-zero w))) ∙ ap (λ (ss : List Step). ss ++ steps m (round zero w).world) (sym (steps-zero w))
+  where
+    none_first : (m n : ℕ) → n ≡ 0 + m → n ≡ m
+    none_first m n e = omega (arith, e)
+steps-plus (suc k) m n w e = ap (λ (j : ℕ). steps j w) (one_more k m n e) ∙ by_next (next w) refl (λ c. steps-plus k m (k + m) (after w c) refl)
+  where
+    one_more : (k m n : ℕ) → n ≡ suc k + m → n ≡ suc (k + m)
+    one_more k m n e = omega (arith, e)
+
+    by_next : (o : Option Choice) → next w ≡ o → ((c : Choice) → steps (k + m) (after w c) ≡ steps k (after w c) ++ steps m (round k (after w c)).world) → steps (suc (k + m)) w ≡ steps (suc k) w ++ steps m (round (suc k) w).world
+    by_next None f later =
+        steps-stop (suc (k + m)) w f
+        ∙ sym (ap (λ (ss : List Step). ss ++ steps m (round (suc k) w).world) (steps-stop (suc k) w f) ∙ ap (λ (r : Ran). steps m r.world) (round-stop (suc k) w f) ∙ steps-stop m w f)
+    by_next (Some c) f later =
+        steps-step (k + m) w c f
+        ∙ ap (λ (ss : List Step). step_of w c ∷ ss) (later c)
+        ∙ sym (ap (λ (ss : List Step). ss ++ steps m (round (suc k) w).world) (steps-step k w c f) ∙ ap (λ (r : Ran). step_of w c ∷ (steps k (after w c) ++ steps m r.world)) (round-step k w c f))
 
 -- what a run prints is what its steps print
 pub printed-round : (n : ℕ) (w : World) → printed (round n w).labels ≡ printed_in (steps n w)

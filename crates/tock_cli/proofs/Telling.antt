@@ -1,22 +1,26 @@
 -- What is told of a run, by what its steps show and by their labels.
-use Rattle.std.proofs.Common.{◌≡◌, ℕ, ◌==◌, Bool, true, false, cond, List, [], ◌∷◌, ◌++◌, length, slice_get, Option, None, Some, refl, sym, ap, ◌∙◌, append-nil}
+use Rattle.std.proofs.Common.{◌≡◌, ℕ, zero, suc, ◌==◌, Bool, true, false, cond, List, [], ◌∷◌, ◌++◌, length, slice_get, Option, None, Some, All, refl, sym, ap, ap₂, subst, ◌∙◌, append-nil}
 use Rattle.std.specs.List.{flat_map}
+use Rattle.std.proofs.lemmas.List.Elements.{All-cons, All-head, All-nil, All-tail}
+use Rattle.tk_base.specs.declared.access.Denial.{Denial}
 use Rattle.tk_base.specs.declared.process.Choice.{Choice}
 use Rattle.tk_base.specs.declared.process.Choice.TheVariants.{Run, Device, Pass}
+use Rattle.process_record.specs.declared.emit.CallMade.{CallMade}
 use Rattle.process_record.specs.declared.emit.Emit.{Emit}
 use Rattle.kernel_model.specs.Record.{Record}
-use Rattle.kernel_model.specs.World.{Answer, Deed, Printed, World, can_act, deed_of, done, labels, labels_of, ran, stepped, unmade}
-use Rattle.kernel_model.specs.Run.{printed, round}
+use Rattle.kernel_model.specs.World.{Answer, Answered, Deed, Label, Printed, TurnOf, World, after, can_act, deed_of, done, labels, labels_of, ran, stepped, unmade}
+use Rattle.kernel_model.specs.Run.{Ran, next, printed, round}
+use Rattle.kernel_model.specs.Stretch.{IsQuietTurn, IsStretch}
 use Rattle.kernel_model.specs.Shown.{shown_by}
-use Rattle.board_report.specs.Trace.{out_text, trace_text}
-use Rattle.tock_cli.proofs.Runs.{printed-round, shown_by-printed}
+use Rattle.board_report.specs.Trace.{out_text, trace_text, turn_text}
+use Rattle.tock_cli.proofs.Runs.{printed-round, round-step, shown_by-printed, steps-step, steps-stop, steps-zero}
 use Rattle.tock_cli.proofs.Tallies.{counting-tally_of}
 use Rattle.tock_cli.specs.declared.run.Mode.{Mode}
 use Rattle.tock_cli.specs.declared.run.Mode.TheVariants.{Boot, Trace, Soak}
 use Rattle.tock_cli.specs.declared.teller.Telling.{Telling}
 use Rattle.tock_cli.specs.declared.teller.Telling.TheVariants as tellings
-use Rattle.tock_cli.specs.RunText.{Step, step_of, steps, label_lines, shown_in, tally_of}
-use Rattle.tock_cli.specs.Telling.{step_text, steps_text, telling_of, told_on, told_text, total_text}
+use Rattle.tock_cli.specs.RunText.{Step, step_lines, step_of, steps, label_lines, shown_in, tally_of}
+use Rattle.tock_cli.specs.Telling.{count_of, passed_on, step_text, steps_text, telling_of, told_on, told_text, total_text}
 
 -- the lines of a step by what it shows are those of its labels
 trace_text-shown_by : (time : ℕ) (w : World) (c : Choice) → trace_text time (shown_by (labels w c)) ≡ flat_map (label_lines time) (labels w c)
@@ -64,6 +68,22 @@ told_on-step mode w then bytes more telling step t s = ap (λ (x : Telling). tol
     by_mode Trace = refl
     by_mode Soak = ap tellings.Soak (counting-tally_of bytes step.printed.items ∙ ap (λ (xs : List ℕ). tally_of (bytes ++ xs)) s)
 
+-- what is kept after steps that print nothing
+pub passed_on-steps : (mode : Mode) (w then : World) (bytes : List ℕ) (telling kept : Telling) → telling ≡ telling_of mode w bytes → kept ≡ passed_on telling then → (kept ≡ telling_of mode then bytes) × (count_of kept ≡ count_of telling)
+passed_on-steps mode w then bytes telling kept t k =
+    let is : kept ≡ passed_on (telling_of mode w bytes) then = k ∙ ap (λ (x : Telling). passed_on x then) t in
+    (is ∙ by_mode mode, ap count_of is ∙ same_count mode ∙ sym (ap count_of t))
+  where
+    by_mode : (m : Mode) → passed_on (telling_of m w bytes) then ≡ telling_of m then bytes
+    by_mode Boot = refl
+    by_mode Trace = refl
+    by_mode Soak = refl
+
+    same_count : (m : Mode) → count_of (passed_on (telling_of m w bytes) then) ≡ count_of (telling_of m w bytes)
+    same_count Boot = refl
+    same_count Trace = refl
+    same_count Soak = refl
+
 silent : (ss : List Step) → steps_text Soak ss ≡ []
 silent [] = refl
 silent (step ∷ ss) = silent ss
@@ -73,3 +93,36 @@ pub text_in : (mode : Mode) (n : ℕ) (w : World) (end : List ℕ) → steps_tex
 text_in Boot n w end = ap (λ (t : List ℕ). t ++ end) (sym (printed-round n w))
 text_in Trace n w end = refl
 text_in Soak n w end = ap (λ (t : List ℕ). t ++ (total_text (telling_of Soak (round n w).world (printed (round n w).labels)) ++ end)) (silent (steps n w))
+
+-- quiet turns have no lines
+quiet_lines : (present : Option ℕ) (time : ℕ) (ls : List Label) → All (IsQuietTurn present) ls → flat_map (label_lines time) ls ≡ []
+quiet_lines present time [] all = refl
+quiet_lines present time (TurnOf slot at told ∷ ls) all =
+    let quiet = All-head (IsQuietTurn present) (TurnOf slot at told) ls all in
+    ap (λ (t : List ℕ). turn_text time slot told.call told.denial ++ t) (quiet_lines present time ls (All-tail (IsQuietTurn present) (TurnOf slot at told) ls all))
+    ∙ ap₂ (λ (call : Option CallMade) (denial : Option Denial). turn_text time slot call denial ++ []) quiet.1 quiet.3
+quiet_lines present time (Answered slot event ∷ ls) all = absurd (All-head (IsQuietTurn present) (Answered slot event) ls all)
+quiet_lines present time (Printed slot bytes ∷ ls) all = absurd (All-head (IsQuietTurn present) (Printed slot bytes) ls all)
+
+both_parts : {X : Type 0} (P : X → Type 0) (xs ys : List X) → All P (xs ++ ys) → All P xs × All P ys
+both_parts P [] ys all = (All-nil P, all)
+both_parts P (x ∷ xs) ys all =
+    let rest = both_parts P xs ys (All-tail P x (xs ++ ys) all) in
+    (All-cons P x xs (All-head P x (xs ++ ys) all) rest.0, rest.1)
+
+quiet_steps : (present : Option ℕ) (k : ℕ) (w : World) → All (IsQuietTurn present) (round k w).labels → flat_map step_lines (steps k w) ≡ []
+quiet_steps present zero w all = ap (flat_map step_lines) (steps-zero w)
+quiet_steps present (suc k) w all = by_next (next w) refl (λ c. quiet_steps present k (after w c))
+  where
+    by_next : (o : Option Choice) → next w ≡ o → ((c : Choice) → All (IsQuietTurn present) (round k (after w c)).labels → flat_map step_lines (steps k (after w c)) ≡ []) → flat_map step_lines (steps (suc k) w) ≡ []
+    by_next None e later = ap (flat_map step_lines) (steps-stop (suc k) w e)
+    by_next (Some c) e later =
+        let parts = both_parts (IsQuietTurn present) (labels w c) (round k (after w c)).labels (subst (λ (r : Ran). All (IsQuietTurn present) r.labels) (round-step k w c e) all) in
+        ap (flat_map step_lines) (steps-step k w c e)
+        ∙ ap₂ (λ (a b : List ℕ). a ++ b) (quiet_lines present w.clock.time (labels w c) parts.0) (later c parts.1)
+
+-- so nothing is told of a quiet stretch
+pub nothing_told : (mode : Mode) (k : ℕ) (w v : World) → IsStretch k w v → steps_text mode (steps k w) ≡ []
+nothing_told Boot k w v s = sym (printed-round k w) ∙ s.prints
+nothing_told Trace k w v s = quiet_steps w.present.slot k w s.quiet
+nothing_told Soak k w v s = silent (steps k w)

@@ -65,11 +65,13 @@ pub record IsOpening (bytes : List ℕ → Option (List ℕ)) (words : RunWords)
 -- The task that a command gives, by the bytes under each name. That of `soak` is the run of the files which are
 -- generated from its number.
 abbrev pub IsTaskOf : (List ℕ → Option (List ℕ)) → Command → Task → Type 0
-IsTaskOf bytes (Runs words) (Running mode n world) = (mode ≡ words.mode) × (n ≡ words.turns) × IsOpening bytes words world
+IsTaskOf bytes (Runs words) (Running mode n world) =
+    (mode ≡ words.mode) × (n ≡ words.turns) × IsOpening bytes words world
 IsTaskOf bytes (Runs words) (Listing flash) = ⊥
 IsTaskOf bytes (Lists name) (Running mode n world) = ⊥
 IsTaskOf bytes (Lists name) (Listing flash) = IsRead bytes Flash name flash
-IsTaskOf bytes (Soaks number turns) (Running mode n world) = (mode ≡ Soak) × (n ≡ turns) × Opens (soak_flash number) (soak_script number) world
+IsTaskOf bytes (Soaks number turns) (Running mode n world) =
+    (mode ≡ Soak) × (n ≡ turns) × Opens (soak_flash number) (soak_script number) world
 IsTaskOf bytes (Soaks number turns) (Listing flash) = ⊥
 
 -- words that are no command give none

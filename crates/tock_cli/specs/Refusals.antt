@@ -24,7 +24,8 @@ file_text Flash = codes "flash"
 file_text ScriptFile = codes "script"
 
 abbrev pub usage_line : List ℕ
-usage_line = codes "usage: tock boot FLASH SCRIPT --turns N | trace FLASH SCRIPT --turns N | list FLASH | soak NUMBER --turns N\n"
+usage_line =
+    codes "usage: tock boot FLASH SCRIPT --turns N | trace FLASH SCRIPT --turns N | list FLASH | soak NUMBER --turns N\n"
 
 -- the line of a refusal; that of a script's names its bad line, and the rule that it breaks
 abbrev pub line_of : Refusal → List ℕ
@@ -67,10 +68,14 @@ IsPast told command ScriptFile = IsWithin told command Flash
 -- The cause of each refusal, where the words are a command. A file that a line names is one that the words name.
 abbrev pub CauseOf : Told → Command → Refusal → Type 0
 CauseOf told command Usage = ⊥
-CauseOf told command (Fault file) = told.rose × IsSomeAnd (name_in command file) (λ name. ¬ told.is_sound name) × IsPast told command file
-CauseOf told command (TooLong file) = IsSome (name_in command file) × IfSome (bytes_in told command file) (λ b. limit_of file < length b) × IsPast told command file
+CauseOf told command (Fault file) =
+    told.rose × IsSomeAnd (name_in command file) (λ name. ¬ told.is_sound name) × IsPast told command file
+CauseOf told command (TooLong file) =
+    IsSome (name_in command file) × IfSome (bytes_in told command file) (λ b. limit_of file < length b)
+    × IsPast told command file
 CauseOf told command (Script line rule) =
-    IsSome (script_of command) × IsWithin told command Flash × IsWithin told command ScriptFile × IfSome (bytes_in told command ScriptFile) (λ s. reading s ≡ Err (record { line = line; rule = rule }))
+    IsSome (script_of command) × IsWithin told command Flash × IsWithin told command ScriptFile
+    × IfSome (bytes_in told command ScriptFile) (λ s. reading s ≡ Err (record { line = line; rule = rule }))
 CauseOf told command Memory = Unit {0}
 
 -- and where they are none: nothing else is looked at
@@ -88,4 +93,8 @@ Cause told (Some command) refusal = CauseOf told command refusal
 
 -- what a shelf tells over a call, by what it tells before and after it
 abbrev pub told_by : {H : Type 0} → (H → ShelfFacts) → H → H → Told
-told_by tells old new = record { bytes = (tells old).bytes; is_sound = (tells old).is_sound; rose = FaultsRose tells old new }
+told_by tells old new = record {
+  bytes = (tells old).bytes;
+  is_sound = (tells old).is_sound;
+  rose = FaultsRose tells old new;
+}

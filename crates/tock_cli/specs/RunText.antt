@@ -38,8 +38,8 @@ unfoldable pub steps : ℕ → World → List Step
 steps zero w = []
 steps (suc n) w = on_choice [] (λ choice. step_of w choice ∷ steps n (after w choice)) (next w)
 
--- the lines of a label of a step that began at a time, which is a turn's own time too: those of a turn tell the call or the
--- denial in it, the others what was printed
+-- the lines of a label of a step that began at a time, which is a turn's own time too: those of a turn tell the call or
+-- the denial in it, the others what was printed
 abbrev pub label_lines : ℕ → Label → List ℕ
 label_lines time (TurnOf slot at told) = turn_text time slot told.call told.denial
 label_lines time (Answered slot event) = []
@@ -57,8 +57,8 @@ tally_of bytes = record { count = length bytes; sum = sum bytes % 2 ^ 32 }
 unfoldable pub tally_line : Tally → List ℕ
 tally_line tally = codes "printed " ++ (decimal tally.count ++ (codes " sum " ++ (decimal tally.sum ++ codes "\n")))
 
--- what is written of the run of n steps from a world before its end: the bytes that it printed, or the lines of its steps,
--- or how many bytes it printed, and their sum
+-- what is written of the run of n steps from a world before its end: the bytes that it printed, or the lines of its
+-- steps, or how many bytes it printed, and their sum
 abbrev pub shown_in : Mode → ℕ → World → List ℕ
 shown_in Boot n w = printed (round n w).labels
 shown_in Trace n w = flat_map step_lines (steps n w)

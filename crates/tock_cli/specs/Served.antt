@@ -113,18 +113,40 @@ IsTold told command file = IfSome (name_in command file) (λ name. IsSome (told.
 
 -- the script, where the words name one, is told, within its limit, and has a reading
 abbrev pub HasReading : Told → Command → Type 0
-HasReading told command = IfSome (script_of command) (λ name. IsSomeAnd (told.bytes name) (λ s. (length s ≤ limit_of ScriptFile) × IsOk (reading s)))
+HasReading told command =
+    IfSome (script_of command) (λ name. IsSomeAnd (told.bytes name) (λ s. (length s ≤ limit_of ScriptFile)
+    × IsOk (reading s)))
+
+-- an answer is this one, or 7 for want of memory
+abbrev pub IsOrMemory : ℕ → ℕ → Type 0
+IsOrMemory this answer = (answer ≡ this) ⊎ (answer ≡ 7)
+
+-- what holds where the flash file is within its limit, nothing hindered the reading of either file, and the sink did not
+-- fail
+abbrev pub WhereRead : Told → Sent → Command → Type 0 → Type 0
+WhereRead told sent command Holds =
+    IsWithin told command Flash → IsUnhindered told command Flash → IsUnhindered told command ScriptFile
+    → IsWritten sent → Holds
+
+-- what holds of the script's bytes, where the words name both files and both are told
+abbrev pub OfScript : Told → Command → (List ℕ → Type 0) → Type 0
+OfScript told command Holds =
+    IfSome (bytes_in told command Flash) (λ f. IfSome (bytes_in told command ScriptFile) Holds)
 
 -- The answer is decided by the files, want of memory (7) aside, where nothing outside failed.
 pub record DecidedFor (told : Told) (sent : Sent) (command : Command) (answer : ℕ) : Type 0 where
   -- a flash file that is too long
-  pub long_flash : IfSome (bytes_in told command Flash) (λ f. limit_of Flash < length f → IsUnhindered told command Flash → IsWritten sent → (answer ≡ 4) ⊎ (answer ≡ 7))
+  pub long_flash : IfSome (bytes_in told command Flash) (λ f. limit_of Flash < length f
+      → IsUnhindered told command Flash → IsWritten sent → IsOrMemory 4 answer)
   -- a script file that is too long
-  pub long_script : IsWithin told command Flash → IsUnhindered told command Flash → IsUnhindered told command ScriptFile → IsWritten sent → IfSome (bytes_in told command Flash) (λ f. IfSome (bytes_in told command ScriptFile) (λ s. limit_of ScriptFile < length s → (answer ≡ 4) ⊎ (answer ≡ 7)))
+  pub long_script : WhereRead told sent command
+      (OfScript told command (λ s. limit_of ScriptFile < length s → IsOrMemory 4 answer))
   -- a script with no reading
-  pub bad_script : IsWithin told command Flash → IsUnhindered told command Flash → IsUnhindered told command ScriptFile → IsWritten sent → IfSome (bytes_in told command Flash) (λ f. IfSome (bytes_in told command ScriptFile) (λ s. length s ≤ limit_of ScriptFile → IsErr (reading s) → (answer ≡ 5) ⊎ (answer ≡ 7)))
+  pub bad_script : WhereRead told sent command
+      (OfScript told command (λ s. length s ≤ limit_of ScriptFile → IsErr (reading s) → IsOrMemory 5 answer))
   -- sound files, or none: the task is done
-  pub complete : IsWithin told command Flash → IsUnhindered told command Flash → IsUnhindered told command ScriptFile → IsWritten sent → IsTold told command Flash → HasReading told command → (answer ≡ 0) ⊎ (answer ≡ 7)
+  pub complete : WhereRead told sent command
+      (IsTold told command Flash → HasReading told command → IsOrMemory 0 answer)
 
 -- Words that are no command are always answered by 2.
 abbrev pub Decided : Told → Sent → Option Command → ℕ → Type 0
@@ -155,6 +177,7 @@ pub record Answers (told : Told) (sent : Sent) (words : Option Command) (last : 
 
 -- What the program does with the words of its command line, over a shelf and a sink that were the first of each two and
 -- are now the second.
-abbrev pub Serves : {H K Z : Type 0} → (H → ShelfFacts) → H → H → (K → SinkFacts) → K → K → List (String Z) → Option World → ℕ → Type 0
+abbrev pub Serves : {H K Z : Type 0} → (H → ShelfFacts) → H → H → (K → SinkFacts) → K → K → List (String Z)
+    → Option World → ℕ → Type 0
 Serves shelf shelf_old shelf_new sink sink_old sink_new words last answer =
     Answers (told_by shelf shelf_old shelf_new) (sent_by sink sink_old sink_new) (command_of words) last answer

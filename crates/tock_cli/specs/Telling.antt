@@ -44,6 +44,12 @@ told_on tellings.Boot w step = tellings.Boot
 told_on (tellings.Trace time) w step = tellings.Trace w.clock.time
 told_on (tellings.Soak tally) w step = tellings.Soak (counting step.printed.items tally)
 
+-- what is kept after steps that show nothing, which led to a world
+abbrev pub passed_on : Telling → World → Telling
+passed_on tellings.Boot w = tellings.Boot
+passed_on (tellings.Trace time) w = tellings.Trace w.clock.time
+passed_on (tellings.Soak tally) w = tellings.Soak tally
+
 -- how many bytes were counted
 abbrev pub count_of : Telling → ℕ
 count_of tellings.Boot = 0

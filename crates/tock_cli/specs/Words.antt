@@ -57,11 +57,17 @@ list_of name flash = if bytes_eq name (codes "list") then Some (Lists flash) els
 
 unfoldable pub soak_of : List ℕ → List ℕ → List ℕ → List ℕ → Option Command
 soak_of name number flag turns =
-    if bytes_eq name (codes "soak") && bytes_eq flag (codes "--turns") then option_and_then (λ n. option_map (Soaks n) (turns_in turns)) (number_up_to most_number number) else None
+    if bytes_eq name (codes "soak") && bytes_eq flag (codes "--turns")
+    then option_and_then (λ n. option_map (Soaks n) (turns_in turns)) (number_up_to most_number number)
+    else None
 
 unfoldable pub run_of : List ℕ → List ℕ → List ℕ → List ℕ → List ℕ → Option Command
 run_of name flash script flag turns =
-    if bytes_eq flag (codes "--turns") then option_and_then (λ mode. option_map (λ n. Runs (record { mode = mode; flash = flash; script = script; turns = n })) (turns_in turns)) (mode_named name) else None
+    if bytes_eq flag (codes "--turns")
+    then option_and_then (λ mode.
+    option_map (λ n. Runs (record { mode = mode; flash = flash; script = script; turns = n })) (turns_in turns))
+    (mode_named name)
+    else None
 
 -- The words after the program's name are `list` and a file; `soak`, a number, `--turns` and a number; or `boot` or
 -- `trace`, two files, `--turns` and a number; in this order. Nothing else is accepted.

@@ -9,6 +9,7 @@ ghost use Rattle.tock_cli.specs.Telling.{steps_text, telling_of};
 use crate::teller::Telling;
 use board_core::Board;
 use board_report::{End, write_report};
+use kernel_model::rounds_join;
 use process_record::Emit;
 use tk_outside::{Failed, Sink, put_all, writes_compose};
 
@@ -23,7 +24,8 @@ pub enum Mode {
     Soak,
 }
 
-/// Makes the run, and tells its steps.
+/// Makes the run, and tells its steps. Of quiet turns there is nothing to tell: the board makes as many as follow one
+/// another at once.
 fn run_steps<K: Sink>(
     board: &mut Board,
     mode: Mode,
@@ -38,9 +40,16 @@ fn run_steps<K: Sink>(
     ensures some { OnErr result (IsWorldOf turns board.old board.new) }
 {
     writes_compose::<K>();
+    rounds_join();
     let mut emit = Emit::new();
     let mut telling = Telling::of(mode, board);
-    for _ in 0..turns {
+    let mut made = 0;
+    while made < turns {
+        made += board.run_quietly(turns - made);
+        telling.pass(board);
+        if made == turns {
+            return Ok(telling);
+        }
         let Some(choice) = board.next_choice() else {
             return Ok(telling);
         };
@@ -48,6 +57,7 @@ fn run_steps<K: Sink>(
             unreachable!()
         };
         telling.tell(board, &emit, out)?;
+        made += 1;
     }
     Ok(telling)
 }

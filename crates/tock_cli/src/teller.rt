@@ -1,7 +1,7 @@
 //! What is told of a run while it goes on.
 ghost use Rattle.std.specs.Prelude.{◌≡◌, ◌+◌, ◌<◌, ◌≤◌, ◌^◌, [], OnOk};
 ghost use Rattle.tk_outside.specs.Writes.{Writes};
-ghost use Rattle.tock_cli.specs.Telling.{count_of, telling_of, told_text, told_on, total_text};
+ghost use Rattle.tock_cli.specs.Telling.{count_of, passed_on, telling_of, told_text, told_on, total_text};
 
 use crate::run::Mode;
 use crate::tally::Tally;
@@ -71,6 +71,15 @@ impl Telling {
                 tally.add(&step.printed);
                 Ok(())
             }
+        }
+    }
+
+    /// Steps that show nothing led to this board: there is nothing to write, and what is asked of it later is kept.
+    pub fn pass(&mut self, board: &Board)
+        ensures { self.new ≡ passed_on self.old board.now }
+    {
+        if let Telling::Trace { time } = self {
+            *time = board.status().time;
         }
     }
 

@@ -1,5 +1,9 @@
+use Rattle.std.proofs.Common.{◌-◌}
 use Rattle.tock_cli.proofs.Running.{RunsOn}
 use Rattle.tock_cli.proofs.run.run_steps.Given as goal
 
-abbrev pub invariant-loop : goal.invariant-loop
-invariant-loop g l = RunsOn g.K.Sink.tells l.fn.mode l.turns l.counter l.fn.board l.board l.fn.out l.out l.telling
+abbrev pub invariant-loop-made : goal.invariant-loop-made
+invariant-loop-made g l = RunsOn g.K.Sink.tells l.fn.mode l.turns l.made l.fn.board l.board l.fn.out l.out l.telling
+
+abbrev pub decreases-loop-made : goal.decreases-loop-made
+decreases-loop-made g l = l.turns - l.made

@@ -1,0 +1,139 @@
+-- Choices from outside, one after another.
+use Rattle.std.proofs.Common.{◌≡◌, ℕ, suc, ◌+◌, ◌<◌, ◌≤◌, Bool, true, false, ◌&&◌, List, [], ◌∷◌, ◌++◌, take, length, slice_get, slice_index_or, Some, refl, sym, ap, subst, ◌∙◌, arith, append_assoc, append-nil, length-append}
+use Rattle.std.proofs.lemmas.Option.{slice_get-get_or}
+use Rattle.std.proofs.KnownBytes.{Appends-trans}
+use Rattle.tk_outside.specs.Count.{Rose}
+use Rattle.std.proofs.lemmas.Grind.{flat_map-append}
+use Rattle.std.proofs.lemmas.List.{take_all, take_more}
+use Rattle.tk_base.specs.declared.process.Choice.{Choice}
+use Rattle.tk_outside.specs.Sink.{SinkFacts}
+use Rattle.tk_outside.specs.Writes.{WroteAll, WrotePart}
+use Rattle.tk_outside.specs.Laws.{WritesCompose}
+use Rattle.process_record.specs.declared.emit.Emit.{Emit}
+use Rattle.kernel_model.specs.World.{World, Label, TurnOf, Answered, Printed, after, is_ready, labels}
+use Rattle.kernel_model.specs.Run.{printed, printed_by}
+use Rattle.kernel_model.specs.Shown.{shown_by}
+use Rattle.kernel_model.specs.Replay.{RecordIsReplay, after_all}
+use Rattle.kernel_model.specs.Choices.{are_ready, labels_of_all, printed_by_all}
+use Rattle.board_core.specs.Plays.{FailedAfter, Made, PlayedAll, StoppedAt}
+
+-- a choice more, after others
+after-more : (w : World) (cs : List Choice) (c : Choice) → after_all w (cs ++ c ∷ []) ≡ after (after_all w cs) c
+after-more w [] c = refl
+after-more w (d ∷ cs) c = after-more (after w d) cs c
+
+ready-more : (w : World) (cs : List Choice) (c : Choice) → are_ready w cs ≡ true → is_ready (after_all w cs) c ≡ true → are_ready w (cs ++ c ∷ []) ≡ true
+ready-more w [] c e r = ap (λ (b : Bool). b && true) r
+ready-more w (d ∷ cs) c e r = by_first (is_ready w d) e (λ f. ready-more (after w d) cs c f r)
+  where
+    by_first : (b : Bool) → (b && are_ready (after w d) cs) ≡ true → (are_ready (after w d) cs ≡ true → are_ready (after w d) (cs ++ c ∷ []) ≡ true) → (b && are_ready (after w d) (cs ++ c ∷ [])) ≡ true
+    by_first true f later = later f
+    by_first false f later = f
+
+labels-more : (w : World) (cs : List Choice) (c : Choice) → labels_of_all w (cs ++ c ∷ []) ≡ labels_of_all w cs ++ labels (after_all w cs) c
+labels-more w [] c = append-nil (labels w c)
+labels-more w (d ∷ cs) c =
+    ap (λ (ls : List Label). labels w d ++ ls) (labels-more (after w d) cs c)
+    ∙ sym (append_assoc (labels w d) (labels_of_all (after w d) cs) (labels (after_all (after w d) cs) c))
+
+printed-more : (w : World) (cs : List Choice) (c : Choice) → printed_by_all w (cs ++ c ∷ []) ≡ printed_by_all w cs ++ printed (labels (after_all w cs) c)
+printed-more w cs c = ap printed (labels-more w cs c) ∙ flat_map-append printed_by (labels_of_all w cs) (labels (after_all w cs) c)
+
+-- what a step shows that it printed
+shown-printed : (ls : List Label) → (shown_by ls).printed.items ≡ printed ls
+unfolding shown_by
+shown-printed [] = refl
+shown-printed (TurnOf slot time told ∷ ls) = shown-printed ls
+shown-printed (Answered slot event ∷ ls) = shown-printed ls
+shown-printed (Printed slot bytes ∷ ls) = ap (λ (xs : List ℕ). bytes ++ xs) (shown-printed ls)
+
+number : (i : ℕ) → suc i ≡ i + 1
+number i = omega arith
+
+-- a count that rose after it did not fall rose over both
+rose_later : (a b c : ℕ) → a ≤ b → Rose b c → Rose a c
+rose_later a b c kept rose = omega arith
+
+-- i choices of a list were made, and all that they printed was written
+pub record PlaysOn {K : Type 0} (tells : K → SinkFacts) (old new : World) (choices : List Choice) (i : ℕ) (out now : K) : Type 0 where
+  pub ready : are_ready old (take i choices) ≡ true
+  pub world : new ≡ after_all old (take i choices)
+  pub wrote : WroteAll tells out now (printed_by_all old (take i choices))
+
+pub begins : {K : Type 0} (tells : K → SinkFacts) (old : World) (choices : List Choice) (out : K) → WritesCompose tells → PlaysOn tells old old choices 0 out out
+begins tells old choices out law = record { ready = refl; world = refl; wrote = law.wrote_nothing out }
+
+module _ {K : Type 0} {tells : K → SinkFacts} {old new : World} {choices : List Choice} {i : ℕ} {out now : K} (p : PlaysOn tells old new choices i out now) where
+  -- what was made is known of each process
+  made : RecordIsReplay → Made old new (take i choices)
+  made law = record {
+    ready = p.ready;
+    world = p.world;
+    records = λ slot. ap (λ (w : World). slice_get w.records slot) p.world ∙ law old (take i choices) slot;
+  }
+
+  module _ (c : Choice) (h : i < length choices) (is : slice_index_or choices i c ≡ c) where
+    one_longer : take (i + 1) choices ≡ take i choices ++ c ∷ []
+    one_longer = take_more choices i c h ∙ ap (λ (x : Choice). take i choices ++ x ∷ []) is
+
+    bytes : (step : Emit) → step ≡ shown_by (labels new c) → printed_by_all old (take (i + 1) choices) ≡ printed_by_all old (take i choices) ++ step.printed.items
+    bytes step s =
+        ap (printed_by_all old) one_longer ∙ printed-more old (take i choices) c
+        ∙ ap (λ (w : World). printed_by_all old (take i choices) ++ printed (labels w c)) (sym p.world)
+        ∙ ap (λ (xs : List ℕ). printed_by_all old (take i choices) ++ xs) (sym (ap (λ (x : Emit). x.printed.items) s ∙ shown-printed (labels new c)))
+
+    -- one more was made
+    steps : (then : World) → is_ready new c ≡ true → then ≡ after new c → (are_ready old (take (i + 1) choices) ≡ true) × (then ≡ after_all old (take (i + 1) choices))
+    steps then r e = (
+      ap (are_ready old) one_longer ∙ ready-more old (take i choices) c p.ready (ap (λ (w : World). is_ready w c) (sym p.world) ∙ r),
+      e ∙ ap (λ (w : World). after w c) p.world ∙ sym (after-more old (take i choices) c) ∙ ap (after_all old) (sym one_longer),
+    )
+
+    pub plays_on : WritesCompose tells → (then : World) (later : K) (step : Emit) → is_ready new c ≡ true → then ≡ after new c → step ≡ shown_by (labels new c) → WroteAll tells now later step.printed.items → PlaysOn tells old then choices (i + 1) out later
+    plays_on law then later step r e s w = record {
+      ready = (steps then r e).0;
+      world = (steps then r e).1;
+      wrote = subst (λ (text : List ℕ). WroteAll tells out later text) (sym (bytes step s)) (law.all_then_all p.wrote w);
+    }
+
+    -- the sink failed after it
+    pub failed : WritesCompose tells → RecordIsReplay → (then : World) (later : K) (step : Emit) → is_ready new c ≡ true → then ≡ after new c → step ≡ shown_by (labels new c) → WrotePart tells now later step.printed.items → FailedAfter tells old then choices out later
+    failed law replay then later step r e s w = record {
+      before = i;
+      within = h;
+      made = record {
+        ready = ap (λ (k : ℕ). are_ready old (take k choices)) (number i) ∙ (steps then r e).0;
+        world = (steps then r e).1 ∙ ap (λ (k : ℕ). after_all old (take k choices)) (sym (number i));
+        records = λ slot. ap (λ (v : World). slice_get v.records slot) ((steps then r e).1 ∙ ap (λ (k : ℕ). after_all old (take k choices)) (sym (number i))) ∙ replay old (take (suc i) choices) slot;
+      };
+      wrote = record {
+        front = printed_by_all old (take i choices) ++ w.front;
+        missing = w.missing;
+        parts = ap (λ (k : ℕ). printed_by_all old (take k choices)) (number i) ∙ bytes step s ∙ ap (λ (xs : List ℕ). printed_by_all old (take i choices) ++ xs) w.parts
+            ∙ sym (append_assoc (printed_by_all old (take i choices)) w.front w.missing);
+        lacks = w.lacks;
+        appended = Appends-trans (tells out).written (tells now).written (tells later).written (printed_by_all old (take i choices)) w.front p.wrote.appended w.appended;
+        count = omega (arith, p.wrote.count, w.count);
+        rose = rose_later (tells out).faults (tells now).faults (tells later).faults p.wrote.count w.rose;
+      };
+      fewest = omega (arith, length-append (printed_by_all old (take i choices)) w.front);
+    }
+
+    -- it was not ready
+    pub stopped : RecordIsReplay → is_ready new c ≡ false → StoppedAt tells old new choices out now i
+    stopped replay r = record {
+      choice = c;
+      there = slice_get-get_or choices i c h ∙ ap Some is;
+      refused = r;
+      made = made replay;
+      wrote = p.wrote;
+    }
+
+  -- all were made
+  pub whole : RecordIsReplay → length choices ≤ i → PlayedAll tells old new choices out now
+  whole replay h =
+      let all : take i choices ≡ choices = take_all i choices h in
+      record {
+        made = subst (λ (cs : List Choice). Made old new cs) all (made replay);
+        wrote = subst (λ (cs : List Choice). WroteAll tells out now (printed_by_all old cs)) all p.wrote;
+      }

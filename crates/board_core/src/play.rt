@@ -1,0 +1,43 @@
+//! Choices from outside, one after another.
+ghost use Rattle.board_core.specs.Plays.{Plays};
+
+use crate::board::Board;
+use kernel_model::a_record_is_the_replay_of_its_events;
+use process_record::Emit;
+use tk_base::Choice;
+use tk_outside::{Sink, put_all, writes_compose};
+
+/// Why a list of choices was not made to its end.
+#[derive(Clone, Copy, Debug, PartialEq, Eq)]
+pub enum PlayEnd {
+    /// The choice at this place was not ready. Those before it were made, and what they printed was written.
+    NotReady(usize),
+    /// What the last choice made had printed could not be written whole: the sink failed.
+    Failed,
+}
+
+impl Board {
+    /// Makes the choices of a list, one after another, and writes what the processes print. Whoever calls it decides
+    /// whose turn it is, and when devices act: the board's processes and devices may be interleaved in any way.
+    ///
+    /// `NotReady` comes exactly where a choice is not ready in its turn, with the place of the first such one: the
+    /// board then shows the world after those before it, and all that they printed was written. `Failed` comes only
+    /// where the sink's count of faults rose; what was written is a front of what the choices made print, and they
+    /// are as few as print more than that. No memory is taken.
+    pub fn play<K: Sink>(&mut self, choices: &[Choice], out: &mut K) -> Result<(), PlayEnd>
+        ensures { Plays K.tells self.old self.new choices.now out.old out.new result }
+    {
+        writes_compose::<K>();
+        a_record_is_the_replay_of_its_events();
+        let mut emit = Emit::new();
+        for (place, choice) in choices.iter().enumerate() {
+            let Ok(()) = self.step(*choice, &mut emit) else {
+                return Err(PlayEnd::NotReady(place));
+            };
+            let Ok(()) = put_all(out, &emit.printed) else {
+                return Err(PlayEnd::Failed);
+            };
+        }
+        Ok(())
+    }
+}

@@ -1,0 +1,198 @@
+//! A quiet stretch: turns of the present slot's process, one after another, that only execute an instruction.
+ghost use Rattle.std.specs.Prelude.{◌≡◌, ◌≢◌, ◌+◌, ◌≤◌, ◌<◌, ◌^◌, All, true, false, length, slice_get};
+ghost use Rattle.std.specs.List.{zip};
+ghost use Rattle.tk_base.specs.declared.limits.TheConstants.{STEP_LIMIT};
+ghost use Rattle.grant_enter.specs.Homes.{own_of, ChangesOnly};
+ghost use Rattle.kernel_model.specs.Stretch.{GoesOn, IsStretch};
+ghost use Rattle.board_core.specs.Calm.{HasCome, IsCalm, ServesNobody, coming};
+ghost use Rattle.board_core.specs.Guards.{GuardsOnly, IsSetFor};
+ghost use Rattle.board_core.specs.Residents.{IsSeated, resident};
+ghost use Rattle.board_core.specs.Stretches.{EndsStretch, QuietAt, Quietly, slot_runs};
+
+use crate::board::Board;
+use crate::drivers::Drivers;
+use crate::guard::Guard;
+use crate::moment::Moment;
+use grant_enter::Home;
+use kernel_model::{next_is_ready, round_is_stretch};
+use process_record::{Process, State};
+use tk_base::{STEP_LIMIT, Slot};
+
+/// A part of a stretch: how many turns were made, and whether the stretch ends with them.
+#[derive(Clone, Copy)]
+pub struct Part {
+    pub made: u32,
+    pub is_over: bool,
+}
+
+/// Whether the process in a slot runs.
+fn runs(processes: &[Process], slot: Slot) -> bool
+    ensures { result ≡ slot_runs (slice_get processes.now slot) }
+{
+    match processes.get(slot.index()) {
+        Some(process) => match process.state {
+            State::Running => true,
+            State::Yielded | State::Faulted | State::Terminated(_) => false,
+        },
+        None => false,
+    }
+}
+
+/// How many turns are left, of so many, up to the end of the slice, to the limit of steps, and to a time that lies
+/// ahead.
+fn turns_left(used: u32, slice: u32, moment: &Moment, until: u64, most: u32) -> u32
+    requires used { used ≤ slice }
+    requires steps { moment.now.steps ≤ STEP_LIMIT }
+    requires ahead { moment.now.time ≤ until }
+    ensures most { result ≤ most }
+    ensures slice { used + result ≤ slice }
+    ensures limit { moment.now.steps + result ≤ STEP_LIMIT }
+    ensures until { moment.now.time + result ≤ until }
+    ensures all { result < most → used + result < slice → moment.now.steps + result < STEP_LIMIT
+        → moment.now.time + result < until → ⊥ }
+{
+    let left = u64::from(most.min(slice - used));
+    let left = left.min(STEP_LIMIT - moment.steps);
+    left.min(until - moment.time) as u32
+}
+
+/// A time up to which no device step is ready, which lies ahead where none is ready now: the one so far, while it
+/// lies ahead.
+#[inline(always)]
+fn calm_ahead(calm: u64, moment: &Moment, home: &Home, drivers: &Drivers) -> u64
+    requires time { moment.now.time + 2 ^ 32 ≤ 2 ^ 64 }
+    requires free { drivers.now.uart.free ≤ moment.now.time + 64000 }
+    requires calm { IsCalm moment.now.settings.start moment.now.time calm home.now.owns drivers.now }
+    ensures calm { IsCalm moment.now.settings.start moment.now.time result home.now.owns drivers.now }
+    ensures come { result ≤ moment.now.time → ServesNobody drivers.now
+        → HasCome moment.now.time (coming moment.now home.now.owns drivers.now) }
+{
+    if moment.time < calm {
+        return calm;
+    }
+    moment.look_ahead(home, drivers)
+}
+
+/// Whether a stretch ends after these turns, of so many that were left: the next one is none of it, or the slice or
+/// the limit was reached before that time.
+fn is_over(made: u32, left: u32, time: u64, until: u64) -> bool
+    ensures over { result ≡ true → left ≤ made → time < until }
+    ensures on { result ≡ false → (left ≤ made) × (until ≤ time) }
+{
+    made < left || time < until
+}
+
+/// As many turns of the process in a slot as only execute an instruction, at most `most`. The registers are set, and
+/// memory is lent, once for all of them.
+fn take_turns(
+    home: &mut Home,
+    process: &mut Process,
+    guard: &mut Guard,
+    slot: Slot,
+    moment: &Moment,
+    most: u32,
+) -> u32
+    requires slot { slot < length home.old.owns }
+    requires seated { IsSeated home.old.flash moment.now.steps (resident home.old slot process.old) }
+    requires limit { moment.now.steps + most ≤ STEP_LIMIT }
+    requires guard { GuardsOnly guard.old home.old }
+    ensures most { result ≤ most }
+    ensures quiet { Quietly result most home.old.flash (resident home.old slot process.old)
+        (resident home.new slot process.new) }
+    ensures seated { IsSeated home.old.flash (moment.now.steps + result) (resident home.new slot process.new) }
+    ensures rest { ChangesOnly slot home.old home.new }
+    ensures guard { IsSetFor slot guard.new home.new }
+{
+    guard.turn_to(home, slot);
+    let made = home.instruct_quietly(slot, &guard.pmp, &mut process.regs, most);
+    process.turns += made;
+    made
+}
+
+/// The same of the process at its place in the table.
+fn turns_at(
+    home: &mut Home,
+    processes: &mut Vec<Process>,
+    guard: &mut Guard,
+    slot: Slot,
+    moment: &Moment,
+    most: u32,
+) -> u32
+    requires within { slot < length processes.old.items }
+    requires owns { length home.old.owns ≡ length processes.old.items }
+    requires seated { All (IsSeated home.old.flash moment.now.steps) (zip processes.old.items home.old.owns) }
+    requires limit { moment.now.steps + most ≤ STEP_LIMIT }
+    requires guard { GuardsOnly guard.old home.old }
+    ensures most { result ≤ most }
+    ensures quiet { QuietAt result most moment.now slot home.old home.new processes.old.items processes.new.items }
+    ensures guard { GuardsOnly guard.new home.new }
+{
+    let process = &mut processes[slot.index()];
+    take_turns(home, process, guard, slot, moment, most)
+}
+
+impl Board {
+    /// A part of a stretch, at most so many turns, up to when a device step may be ready.
+    fn run_part(&mut self, most: u32) -> Part
+        requires { 0 < most }
+        ensures most { result.made ≤ most }
+        ensures stretch { IsStretch result.made self.old self.new }
+        ensures ends { EndsStretch most result self.new }
+        ensures more { result.is_over ≡ false → 0 < result.made }
+    {
+        round_is_stretch();
+        next_is_ready();
+        let ends = Part {
+            made: 0,
+            is_over: true,
+        };
+        let Some(slot) = self.present else {
+            return ends;
+        };
+        if !runs(&self.processes, slot) {
+            return ends;
+        }
+        self.calm = calm_ahead(self.calm, &self.moment, &self.home, &self.drivers);
+        if self.calm <= self.moment.time {
+            return ends;
+        }
+        let left = turns_left(self.used, self.slice, &self.moment, self.calm, most);
+        let made = turns_at(
+            &mut self.home,
+            &mut self.processes,
+            &mut self.guard,
+            slot,
+            &self.moment,
+            left,
+        );
+        let ticks = u64::from(made);
+        self.used += made;
+        self.moment.time += ticks;
+        self.moment.steps += ticks;
+        Part {
+            made,
+            is_over: is_over(made, left, self.moment.time, self.calm),
+        }
+    }
+
+    /// Makes as many of the round robin's next steps as are turns of the present slot's process that only execute
+    /// an instruction, one after another, at most `most`, and answers how many. It ends with the slice. None of
+    /// these steps makes a system call, is denied or prints. Where it answers less than `most`, the next step is not
+    /// such a turn.
+    pub fn run_quietly(&mut self, most: u32) -> u32
+        ensures most { result ≤ most }
+        ensures stretch { IsStretch result self.old self.new }
+        ensures ends { result < most → GoesOn self.new → ⊥ }
+    {
+        round_is_stretch();
+        let mut made = 0;
+        while made < most {
+            let part = self.run_part(most - made);
+            made += part.made;
+            if part.is_over {
+                return made;
+            }
+        }
+        made
+    }
+}

@@ -1,0 +1,20 @@
+-- The pairs that a process has handed, after commands and answers.
+use Rattle.std.proofs.Common.{refl, ap, ◌∙◌}
+use Rattle.process_own.specs.Own.{Own}
+use Rattle.process_own.specs.Handed.{entering}
+use Rattle.process_own.specs.Pairs.{HandsTheSame, OnlyHandingChangesPairs}
+use Rattle.driver_model.specs.Pairs.{DriversLeavePairs}
+use Rattle.driver_model.proofs.Services.{of_services}
+
+-- first one thing, and then another
+then : {a b c : Own} → HandsTheSame a b → HandsTheSame b c → HandsTheSame a c
+then first second = record { pairs = λ kind driver. second.pairs kind driver ∙ first.pairs kind driver }
+
+pub drivers_leave_pairs : OnlyHandingChangesPairs → DriversLeavePairs
+drivers_leave_pairs law =
+    of_services HandsTheSame (record {
+      same = λ own. law.grants own own refl;
+      keeps = law.keeping;
+      enters = λ driver words own. then (law.entering driver own) (law.keeping driver words (entering driver own));
+      serves = λ driver words own o s. then (law.grants own o (ap (λ (x : Own). x.grants) s.rest)) (law.keeping driver words o);
+    })

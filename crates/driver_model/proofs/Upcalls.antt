@@ -1,0 +1,14 @@
+-- Each upcall that drivers schedule is the one that the process holds.
+use Rattle.std.proofs.Common.{refl}
+use Rattle.driver_model.specs.Upcalls.{DriversScheduleHeld, SchedulesHeld}
+use Rattle.driver_model.proofs.Scheduled.{schedules_none}
+use Rattle.driver_model.proofs.Services.{of_services}
+
+pub drivers_schedule_held : DriversScheduleHeld
+drivers_schedule_held =
+    of_services SchedulesHeld (record {
+      same = λ own. schedules_none own own refl;
+      keeps = λ driver words own. schedules_none own _ refl;
+      enters = λ driver words own. schedules_none own _ refl;
+      serves = λ driver words own o s. record { more = s.upcalls.more; pending = s.upcalls.pending; one = s.upcalls.one; each = s.upcalls.each };
+    })

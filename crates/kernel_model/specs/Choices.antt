@@ -1,0 +1,19 @@
+-- Choices that are made one after another, by whomever: what holds of every list of them.
+use Rattle.std.specs.Prelude.{ℕ, Bool, true, ◌&&◌, List, [], ◌∷◌, ◌++◌}
+use Rattle.tk_base.specs.declared.process.Choice.{Choice}
+use Rattle.kernel_model.specs.World.{World, Label, after, is_ready, labels}
+use Rattle.kernel_model.specs.Run.{printed}
+
+-- whether each choice is ready in its turn
+abbrev pub are_ready : World → List Choice → Bool
+are_ready w [] = true
+are_ready w (choice ∷ choices) = is_ready w choice && are_ready (after w choice) choices
+
+-- what their steps tell, in order
+abbrev pub labels_of_all : World → List Choice → List Label
+labels_of_all w [] = []
+labels_of_all w (choice ∷ choices) = labels w choice ++ labels_of_all (after w choice) choices
+
+-- the bytes that they print
+abbrev pub printed_by_all : World → List Choice → List ℕ
+printed_by_all w choices = printed (labels_of_all w choices)

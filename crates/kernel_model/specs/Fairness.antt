@@ -1,0 +1,46 @@
+-- That no process which is ready waits for good in a run of the round robin.
+use Rattle.std.specs.Prelude.{◌≡◌, ◌≤◌, ℕ, ◌*◌, Bool, true, false, List, [], ◌∷◌, ◌++◌, filter, length, slice_get, Option, None, Some, All, Any}
+use Rattle.tk_base.specs.declared.process.Choice.{Choice}
+use Rattle.tk_base.specs.declared.process.Choice.TheVariants.{Run, Device, Pass}
+use Rattle.kernel_model.specs.World.{World, after, can_run}
+use Rattle.kernel_model.specs.Run.{next}
+use Rattle.kernel_model.specs.Replay.{chosen}
+
+-- the worlds before each of some choices, which are made one after another
+abbrev pub worlds : World → List Choice → List World
+worlds w [] = []
+worlds w (choice ∷ choices) = w ∷ worlds (after w choice) choices
+
+-- whether a choice is a turn of a process
+abbrev pub is_turn : Option Choice → Bool
+is_turn None = false
+is_turn (Some (Run slot)) = true
+is_turn (Some (Device device)) = false
+is_turn (Some (Pass ticks)) = false
+
+-- those before the turns of processes in the run of n steps by the round robin: device steps, and passes of time, may
+-- come between them
+abbrev pub turn_worlds : ℕ → World → List World
+turn_worlds n w = filter (λ v. is_turn (next v)) (worlds w (chosen n w))
+
+-- whether the process in a slot may have a turn
+abbrev pub IsReadyIn : ℕ → World → Type 0
+IsReadyIn slot v = can_run (slice_get v.records slot) ≡ true
+
+-- the round robin gives the process in a slot the next turn
+abbrev pub HasTurn : ℕ → World → Type 0
+HasTurn slot v = next v ≡ Some (Run slot)
+
+-- Of a world: in the run of any length from it, each window of 8 * slice turns of processes, one after another, in
+-- which the process in a slot is ready before each turn, has a turn of that process.
+abbrev pub IsFair : World → Type 0
+IsFair w =
+    (n slot : ℕ) (earlier window later : List World) →
+    turn_worlds n w ≡ earlier ++ (window ++ later) →
+    8 * w.pace.slice ≤ length window →
+    All (IsReadyIn slot) window →
+    Any (HasTurn slot) window
+
+-- so it is on a board of at most eight processes
+abbrev pub ReadyProcessesHaveTurns : Type 0
+ReadyProcessesHaveTurns = (w : World) → length w.records ≤ 8 → 1 ≤ w.pace.slice → IsFair w
