@@ -17,6 +17,3 @@ pub use leds::Leds;
 pub use stores::Stores;
 pub use uart::Uart;
 pub use words::Words;
-
-#[cfg(test)]
-mod tests;

@@ -18,6 +18,3 @@ pub use grant::Grant;
 pub use home::Home;
 pub use laws::{a_buffer_is_written, buffers_are_whole, frames_join};
 pub use visit::{EnterError, Stale, Visit};
-
-#[cfg(test)]
-mod tests;

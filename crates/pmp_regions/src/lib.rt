@@ -399,6 +399,3 @@ impl Span {
         }
     }
 }
-
-#[cfg(test)]
-mod tests;
