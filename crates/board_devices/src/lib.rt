@@ -17,3 +17,6 @@ pub use leds::Leds;
 pub use stores::Stores;
 pub use uart::Uart;
 pub use words::Words;
+
+#[cfg(test)]
+mod tests;

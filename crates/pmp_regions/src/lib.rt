@@ -399,3 +399,6 @@ impl Span {
         }
     }
 }
+
+#[cfg(test)]
+mod tests;

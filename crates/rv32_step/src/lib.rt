@@ -124,3 +124,6 @@ pub fn turn<B: FetchAhead>(regs: &mut Regs, bus: &mut B) -> TurnEnd
     one_is_the_turn();
     turns(regs, bus, 1).end
 }
+
+#[cfg(test)]
+mod tests;

@@ -18,3 +18,6 @@ pub use numbers::{half_at, word_at};
 pub use object::object_at;
 pub use perms::Perms;
 pub use program::Main;
+
+#[cfg(test)]
+mod tests;
