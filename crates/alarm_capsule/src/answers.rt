@@ -3,7 +3,7 @@ ghost use Rattle.std.specs.Prelude.{◌≡◌, ◌+◌, ◌-◌, ◌<◌, ◌^�
 ghost use Rattle.std.specs.List.{range_with_len};
 ghost use Rattle.std.specs.Option.{option_map};
 ghost use Rattle.grant_enter.specs.Homes.{own_of, ChangesOnly};
-ghost use Rattle.grant_enter.specs.Visits.{is_stale};
+ghost use Rattle.driver_requests.specs.Asking.{IsPresent};
 ghost use Rattle.driver_model.specs.Alarm.{answered, due_alarm, due_slot, has_due, is_due};
 ghost use Rattle.alarm_capsule.specs.Answers.{Answers};
 ghost use Rattle.alarm_capsule.specs.Due.{IsDue};
@@ -30,8 +30,7 @@ fn is_due(alarm: &Armed, now: u32) -> bool
 
 /// The alarm of a process, where it is due.
 fn due_alarm(home: &Home, id: &ProcessId, now: u32) -> Option<Armed>
-    requires slot { id.now.slot < length home.now.owns }
-    requires present { is_stale id.now.life (own_of home.now id.now.slot) ≡ false }
+    requires { IsPresent home.now id.now }
     ensures { result ≡ due_alarm now (own_of home.now id.now.slot) }
 {
     match alarms().peek(home, *id) {

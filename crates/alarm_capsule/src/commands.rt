@@ -1,7 +1,7 @@
 //! Commands to the alarm (TRD 104, "Command").
 ghost use Rattle.std.specs.Prelude.{◌≡◌, ◌+◌, ◌%◌, ◌<◌, ◌^◌, false, length, is_some};
 ghost use Rattle.grant_enter.specs.Homes.{own_of, ChangesOnly};
-ghost use Rattle.grant_enter.specs.Visits.{is_stale};
+ghost use Rattle.driver_requests.specs.Asking.{IsPresent};
 ghost use Rattle.driver_model.specs.Alarm.{alarm_in, arming, command, expiration, stopping};
 ghost use Rattle.alarm_capsule.specs.Answers.{commanded};
 
@@ -23,8 +23,7 @@ pub(crate) fn expiration(alarm: &Armed) -> u32
 
 /// Arms an alarm of a process, in place of the one before.
 fn arm(home: &mut Home, id: ProcessId, alarm: Armed) -> Result<Reply, CallRule>
-    requires slot { id.slot < length home.old.owns }
-    requires present { is_stale id.life (own_of home.old id.slot) ≡ false }
+    requires { IsPresent home.old id }
     ensures answer { commanded result (own_of home.new id.slot) ≡ arming alarm (own_of home.old id.slot) }
     ensures rest { ChangesOnly id.slot home.old home.new }
 {
@@ -37,8 +36,7 @@ fn arm(home: &mut Home, id: ProcessId, alarm: Armed) -> Result<Reply, CallRule>
 
 /// Whether a process has an alarm armed.
 fn is_armed(home: &Home, id: &ProcessId) -> bool
-    requires slot { id.now.slot < length home.now.owns }
-    requires present { is_stale id.now.life (own_of home.now id.now.slot) ≡ false }
+    requires { IsPresent home.now id.now }
     ensures { result ≡ is_some (alarm_in (own_of home.now id.now.slot)) }
 {
     matches!(alarms().peek(home, *id), Ok(Some(Alarm { armed: Some(_) })))
@@ -46,8 +44,7 @@ fn is_armed(home: &Home, id: &ProcessId) -> bool
 
 /// Stops the alarm of a process; it is refused where none is armed.
 fn stop(home: &mut Home, id: ProcessId) -> Result<Reply, CallRule>
-    requires slot { id.slot < length home.old.owns }
-    requires present { is_stale id.life (own_of home.old id.slot) ≡ false }
+    requires { IsPresent home.old id }
     ensures answer { let own = own_of home.old id.slot in
         commanded result (own_of home.new id.slot) ≡ stopping (alarm_in own) own }
     ensures rest { ChangesOnly id.slot home.old home.new }
@@ -74,8 +71,7 @@ pub fn command(
     a2: u32,
     a3: u32,
 ) -> Result<Reply, CallRule>
-    requires slot { id.slot < length home.old.owns }
-    requires present { is_stale id.life (own_of home.old id.slot) ≡ false }
+    requires { IsPresent home.old id }
     ensures answer { commanded result (own_of home.new id.slot)
         ≡ command now number a2 a3 (own_of home.old id.slot) }
     ensures rest { ChangesOnly id.slot home.old home.new }

@@ -1,7 +1,7 @@
 //! When the next alarm becomes due.
 ghost use Rattle.std.specs.Prelude.{◌≡◌, ◌<◌, false, length};
 ghost use Rattle.grant_enter.specs.Homes.{own_of};
-ghost use Rattle.grant_enter.specs.Visits.{is_stale};
+ghost use Rattle.driver_requests.specs.Asking.{IsPresent};
 ghost use Rattle.driver_model.specs.Alarm.{left_in, left_of, nearer, next_left, ticks_left};
 
 use crate::visits::alarms;
@@ -20,8 +20,7 @@ fn ticks_left(alarm: &Armed, now: u32) -> u32
 
 /// The ticks that are left of the alarm of a process. None exactly where it has none armed.
 fn left_of(home: &Home, id: &ProcessId, now: u32) -> Option<u32>
-    requires slot { id.now.slot < length home.now.owns }
-    requires present { is_stale id.now.life (own_of home.now id.now.slot) ≡ false }
+    requires { IsPresent home.now id.now }
     ensures { result ≡ left_of now (own_of home.now id.now.slot) }
 {
     match alarms().peek(home, *id) {

@@ -1,5 +1,5 @@
 -- What a board shows.
-use Rattle.std.proofs.Common.{◌≡◌, ℕ, zero, suc, ◌+◌, ◌-◌, ◌^◌, ◌<◌, ◌≤◌, Bool, true, false, List, [], ◌∷◌, ◌++◌, length, map, take, slice_get, slice_set, slice_index_or, All, find, nat_lt, ◌&&◌, if◌then◌else◌, Option, None, Some, IfSome, IsTrue, refl, sym, ap, ap₂, subst, ◌∙◌, add-one, arith}
+use Rattle.std.proofs.Common.{◌≡◌, ℕ, zero, suc, ◌+◌, ◌-◌, ◌^◌, ◌<◌, ◌≤◌, Bool, true, false, List, [], ◌∷◌, ◌++◌, length, map, take, slice_get, slice_index_or, nat_lt, ◌&&◌, Option, None, Some, IfSome, IsTrue, refl, sym, ap, ap₂, subst, ◌∙◌, add-one, arith}
 use Rattle.std.specs.List.{zip}
 use Rattle.std.specs.Option.{option_map, option_or}
 use Rattle.std.proofs.lemmas.Bool.Decides.{nat_tests}
@@ -11,7 +11,7 @@ use Rattle.tk_base.specs.declared.limits.TheConstants.{STEP_LIMIT}
 use Rattle.tk_base.specs.declared.process.Choice.TheVariants.{Run, Device, Pass}
 use Rattle.tk_base.specs.declared.process.Choice.{Choice}
 use Rattle.turn_scheduler.specs.Situation.{Situation}
-use Rattle.turn_scheduler.specs.RoundRobin.{IsNextAhead, choice, is_ready as is_ready_at, next_slot, ready_device, slots_after}
+use Rattle.turn_scheduler.specs.RoundRobin.{IsNextAhead, choice, next_slot, ready_device}
 use Rattle.process_own.specs.Own.{Own}
 use Rattle.process_record.specs.Name.{name_of}
 use Rattle.kernel_calls.specs.Own.{object_in}
@@ -20,7 +20,7 @@ use Rattle.process_record.specs.declared.summary.SlotLine.{SlotLine}
 use Rattle.process_record.specs.declared.summary.Summary.{Summary}
 use Rattle.process_record.specs.declared.summary.Unplaced.{Unplaced}
 use Rattle.driver_model.specs.Leds.{bits_of}
-use Rattle.grant_enter.specs.Homes.{ChangesOnly, Homes, nobody, own_of}
+use Rattle.grant_enter.specs.Homes.{Homes, nobody, own_of}
 use Rattle.kernel_model.specs.Record.{Record}
 use Rattle.kernel_model.specs.Turn.{may_turn}
 use Rattle.kernel_model.specs.World.{World, is_ready, may_be_made, can_run}
@@ -28,7 +28,7 @@ use Rattle.kernel_model.specs.Laws.{NextIsReady, NextLiesAhead}
 use Rattle.kernel_model.specs.Run.{next, next_time, ready_devices, ready_slots, situation_of}
 use Rattle.kernel_model.specs.Shown.{summary_of, line_of}
 use Rattle.board_core.specs.declared.board.Board.TheInside.{Inside}
-use Rattle.board_core.specs.Residents.{ChangesAt, Resident, record_of, resident_turns, slot_turns, line_in, IsSeated}
+use Rattle.board_core.specs.Residents.{Resident, record_of, resident_turns, slot_turns, line_in}
 use Rattle.board_core.specs.Shows.{IsBoard, world_of, residents}
 use Rattle.board_core.proofs.Records.{beside_get, reads_shown}
 use Rattle.board_core.proofs.Pairs.{zip-get, get_or-zip, length-firsts}
@@ -65,17 +65,17 @@ summary_shown b lines unplaced leds board e f lit =
     ∙ ap₂ (λ (xs : List Unplaced) (bits : ℕ). record { slots = record { items = map line_of (world_of b).records }; unplaced = record { items = xs }; leds = bits; led_count = b.moment.settings.leds; steps = b.moment.steps; time = b.moment.time }) f lit
 
 -- the line that was made of a slot
-pub line_is : (home : Homes) (ps : List Process) (d : Process) (slot known : ℕ) (flash name : List ℕ) (dropped : ℕ) → let p = slice_index_or ps slot d in name ≡ name_of (object_in flash p.object) → flash ≡ home.flash → known ≡ slot → dropped ≡ (own_of home known).dropped → record { name = record { items = name }; state = p.state; denial = p.denial; turns = p.turns; restarts = p.restarts; dropped = dropped } ≡ line_in home.flash (p, slice_index_or home.owns slot nobody)
-line_is home ps d slot known flash name dropped named here is count =
-    let p = slice_index_or ps slot d in
+pub line_is : (home : Homes) (ps : List Process) (p : Process) (slot known : ℕ) (flash name : List ℕ) (dropped : ℕ) → p ≡ slice_index_or ps slot p → name ≡ name_of (object_in flash p.object) → flash ≡ home.flash → known ≡ slot → dropped ≡ (own_of home known).dropped → record { name = record { items = name }; state = p.state; denial = p.denial; turns = p.turns; restarts = p.restarts; dropped = dropped } ≡ line_in home.flash (slice_index_or ps slot p, slice_index_or home.owns slot nobody)
+line_is home ps p slot known flash name dropped at named here is count =
     let title : name ≡ name_of (object_in home.flash p.object) = named ∙ ap (λ (f : List ℕ). name_of (object_in f p.object)) here in
     let counted : dropped ≡ (slice_index_or home.owns slot nobody).dropped = count ∙ ap (λ (k : ℕ). (own_of home k).dropped) is in
     ap (λ (n : List ℕ). record { name = record { items = n }; state = p.state; denial = p.denial; turns = p.turns; restarts = p.restarts; dropped = dropped }) title
     ∙ ap (λ (d : ℕ). record { name = record { items = name_of (object_in home.flash p.object) }; state = p.state; denial = p.denial; turns = p.turns; restarts = p.restarts; dropped = d }) counted
+    ∙ ap (λ (q : Process). line_in home.flash (q, slice_index_or home.owns slot nobody)) at
 
 -- whether the process of a slot can have a turn, by its place
-pub turns_at : (home : Homes) (ps : List Process) (d : Process) (slot known : ℕ) (answer : Bool) → answer ≡ resident_turns (slice_index_or ps slot d, own_of home known) → known ≡ slot → answer ≡ resident_turns (slice_index_or ps slot d, slice_index_or home.owns slot nobody)
-turns_at home ps d slot known answer e is = e ∙ ap (λ (k : ℕ). resident_turns (slice_index_or ps slot d, own_of home k)) is
+pub turns_at : (home : Homes) (ps : List Process) (p : Process) (slot known : ℕ) (answer : Bool) → p ≡ slice_index_or ps slot p → answer ≡ resident_turns (p, own_of home known) → known ≡ slot → answer ≡ resident_turns (slice_index_or ps slot p, slice_index_or home.owns slot nobody)
+turns_at home ps p slot known answer at e is = e ∙ ap (λ (k : ℕ). resident_turns (p, own_of home k)) is ∙ ap (λ (q : Process). resident_turns (q, slice_index_or home.owns slot nobody)) at
 
 -- one more that is read of each resident
 pub lines_more : {X : Type 0} (f : Resident → X) (ps : List Process) (owns : List Own) (i : ℕ) (d : Process) (line : X) (lines more : List X) → length owns ≡ length ps → i < length ps → line ≡ f (slice_index_or ps i d, slice_index_or owns i nobody) → lines ≡ map f (take i (zip ps owns)) → more ≡ lines ++ line ∷ [] → more ≡ map f (take (i + 1) (zip ps owns))
@@ -155,26 +155,15 @@ ready_within b slot board e =
     resident None f h = cc
     resident (Some s) f h = slice_get_within (residents b) slot s f
 
--- where no device step is ready, a present slot that goes on is the next choice
-pub goes_on_next : (b : Inside) (slot : ℕ) → IsBoard b → ready_devices (world_of b) ≡ false ∷ false ∷ false ∷ false ∷ false ∷ false ∷ [] → b.present ≡ Some slot → b.used < b.slice → slot_turns (slice_get (residents b) slot) ≡ true → Some (Run slot) ≡ next (world_of b)
-unfolding next choice ready_device next_slot
-goes_on_next b slot board calm p u c =
+-- where no device step is ready, the slot that has the next turn is the next choice
+pub next_in_calm : (b : Inside) (ready : List Bool) (o : Option ℕ) → IsBoard b → ready ≡ map resident_turns (residents b) → ready_devices (world_of b) ≡ false ∷ false ∷ false ∷ false ∷ false ∷ false ∷ [] → o ≡ next_slot ready b.present b.used b.slice → IfSome o (λ slot. Some (Run slot) ≡ next (world_of b))
+unfolding next choice ready_device
+next_in_calm b ready None board r calm is = tt
+next_in_calm b ready (Some slot) board r calm is =
     let passes : Option Choice = option_map (λ at. Pass (at - b.moment.time)) (next_time (world_of b)) in
     sym (ap (λ (ds : List Bool). option_or (option_map Device (ready_device ds)) (option_or (option_map Run (next_slot (ready_slots (world_of b)) b.present b.used b.slice)) passes)) calm
-    ∙ ap (λ (o : Option ℕ). option_or (option_map Run o) passes) (subst (λ (o : Option ℕ). next_slot (ready_slots (world_of b)) o b.used b.slice ≡ Some slot) (sym p) stays))
-  where
-    of_resident : (o : Option Resident) → slice_get (residents b) slot ≡ o → slot_turns o ≡ true → is_ready_at (map resident_turns (residents b)) slot ≡ true
-    of_resident None f h = cc
-    of_resident (Some s) f h = get_or_from_slice_get (map resident_turns (residents b)) slot true false (slice_get-map resident_turns (residents b) slot ∙ ap (option_map resident_turns) f ∙ ap Some h)
-
-    ready : is_ready_at (ready_slots (world_of b)) slot ≡ true
-    ready = ap (λ (xs : List Bool). is_ready_at xs slot) (ready_slots_shown b board) ∙ of_resident (slice_get (residents b) slot) refl c
-
-    left : (true && nat_lt b.used b.slice) ≡ true
-    left = grind (arith, nat_tests)
-
-    stays : next_slot (ready_slots (world_of b)) (Some slot) b.used b.slice ≡ Some slot
-    stays = ap (λ (g : Bool). if g then Some slot else find (is_ready_at (ready_slots (world_of b))) (slots_after (Some slot))) (ap (λ (r : Bool). r && nat_lt b.used b.slice) ready ∙ left)
+    ∙ ap (λ (xs : List Bool). option_or (option_map Run (next_slot xs b.present b.used b.slice)) passes) (ready_slots_shown b board ∙ sym r)
+    ∙ ap (λ (q : Option ℕ). option_or (option_map Run q) passes) (sym is))
 
 -- and that choice may be made
 pub next_may : (w : World) (o : Option Choice) → NextIsReady → o ≡ next w → IfSome o (λ choice. w.clock.steps < STEP_LIMIT → IsTrue (is_ready w choice))
@@ -189,22 +178,3 @@ next_ahead s w e near law none at is =
     let ahead : w.clock.time < at = subst (λ (o : Option ℕ). IfSome o (λ n. w.clock.time < n)) is later in
     let same : s.time ≡ w.clock.time = ap (λ (x : Situation). x.time) e in
     (omega (arith, ahead, same), subst (λ (o : Option ℕ). IfSome o (λ n. n - s.time < 2 ^ 32)) is near)
-
--- the process at a place, and what is its own
-pub seated_at : (flash : List ℕ) (steps : ℕ) (processes : List Process) (home : Homes) (slot index : ℕ) (process : Process) → index ≡ slot → slot < length processes → length home.owns ≡ length processes → process ≡ slice_index_or processes index process → All (IsSeated flash steps) (zip processes home.owns) → (slice_get processes slot ≡ Some process) × (slice_get home.owns slot ≡ Some (own_of home slot)) × IsSeated flash steps (process, own_of home slot)
-seated_at flash steps processes home slot index process i h n e all =
-    let here : slice_get processes slot ≡ Some process = slice_get-get_or processes slot process h ∙ ap Some (ap (λ (k : ℕ). slice_index_or processes k process) (sym i) ∙ sym e) in
-    let own : slice_get home.owns slot ≡ Some (own_of home slot) = slice_get-get_or home.owns slot nobody (omega (arith, h, n)) in
-    let pair : slice_get (zip processes home.owns) slot ≡ Some (process, own_of home slot) = zip-get processes home.owns slot process (own_of home slot) here own in
-    (here, own, subst (IsSeated flash steps) (get_or_from_slice_get (zip processes home.owns) slot (process, own_of home slot) (process, own_of home slot) pair) (all slot (process, own_of home slot) (slice_get_within (zip processes home.owns) slot (process, own_of home slot) pair)))
-
--- where they are all that a call changed, which was given both
-abbrev pub changed_at : (processes : List Process) (home home_after : Homes) (slot index : ℕ) (process after : Process) → index ≡ slot → slot < length processes → length home.owns ≡ length processes → process ≡ slice_index_or processes index process → ChangesOnly slot home home_after → ChangesAt slot home home_after processes (slice_set processes index after)
-changed_at processes home home_after slot index process after i h n e only = record {
-  before = (process, own_of home slot);
-  after = (after, own_of home_after slot);
-  was = slice_get-get_or processes slot process h ∙ ap Some (ap (λ (k : ℕ). slice_index_or processes k process) (sym i) ∙ sym e);
-  own_was = slice_get-get_or home.owns slot nobody (omega (arith, h, n));
-  is = ap (λ (k : ℕ). slice_set processes k after) i;
-  own_is = only;
-}

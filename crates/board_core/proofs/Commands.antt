@@ -154,19 +154,18 @@ still_starts address e k (Ok h) a = by_main h.main a
     by_main (Some m) s = record { entry = s.entry; protected = s.protected; fits = s.fits }
 
 -- a process that stays in its place stays seated
-pub stays_seated : (flash flash' : List ℕ) (steps : ℕ) (p p' : Process) (own own' : Own) → flash' ≡ flash → StaysInPlace own own' → p' ≡ record p { regs = p'.regs; refusal = p'.refusal } → IsSeated flash steps (p, own) → IsSeated flash' steps (p', own')
-stays_seated flash flash' steps p p' own own' same place stays s =
-    subst (λ (f : List ℕ). IsSeated f steps (p', own')) (sym same) (record {
-      own = record {
-        object = subst (λ (x : Object). IsOwnObject flash x own'.layout) (sym (ap (λ (q : Process). q.object) stays)) (subst (IsOwnObject flash p.object) (sym (ap (λ (o : Own). o.layout) place)) (record {
-          lies = record { from = s.own.object.lies.from; to = s.own.object.lies.to; accessible_from = s.own.object.lies.accessible_from; accessible_to = s.own.object.lies.accessible_to };
-          below = s.own.object.below;
-          application = still_starts p.object.address own.layout own'.layout.kernel_break (reading (object_in flash p.object)) s.own.object.application;
-        }));
-        object_is = ap (λ (o : Own). o.object) place ∙ s.own.object_is ∙ sym (ap (λ (q : Process). q.object) stays);
-        lives = ap (λ (o : Own). o.lives) place ∙ s.own.lives ∙ sym (ap (λ (q : Process). is_alive q.state) stays);
-        life = ap (λ (o : Own). o.life) place ∙ s.own.life ∙ sym (ap (λ (q : Process). q.restarts) stays);
-      };
-      turns = omega (arith, s.turns, ap (λ (q : Process). q.turns) stays);
-      restarts = omega (arith, s.restarts, ap (λ (q : Process). q.restarts) stays);
-    })
+pub stays_seated : (flash : List ℕ) (steps : ℕ) (p p' : Process) (own own' : Own) → StaysInPlace own own' → p' ≡ record p { regs = p'.regs; refusal = p'.refusal } → IsSeated flash steps (p, own) → IsSeated flash steps (p', own')
+stays_seated flash steps p p' own own' place stays s = record {
+  own = record {
+    object = subst (λ (x : Object). IsOwnObject flash x own'.layout) (sym (ap (λ (q : Process). q.object) stays)) (subst (IsOwnObject flash p.object) (sym (ap (λ (o : Own). o.layout) place)) (record {
+      lies = record { from = s.own.object.lies.from; to = s.own.object.lies.to; accessible_from = s.own.object.lies.accessible_from; accessible_to = s.own.object.lies.accessible_to };
+      below = s.own.object.below;
+      application = still_starts p.object.address own.layout own'.layout.kernel_break (reading (object_in flash p.object)) s.own.object.application;
+    }));
+    object_is = ap (λ (o : Own). o.object) place ∙ s.own.object_is ∙ sym (ap (λ (q : Process). q.object) stays);
+    lives = ap (λ (o : Own). o.lives) place ∙ s.own.lives ∙ sym (ap (λ (q : Process). is_alive q.state) stays);
+    life = ap (λ (o : Own). o.life) place ∙ s.own.life ∙ sym (ap (λ (q : Process). q.restarts) stays);
+  };
+  turns = omega (arith, s.turns, ap (λ (q : Process). q.turns) stays);
+  restarts = omega (arith, s.restarts, ap (λ (q : Process). q.restarts) stays);
+}

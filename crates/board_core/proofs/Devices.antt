@@ -19,13 +19,14 @@ use Rattle.process_record.specs.Emit.{nothing}
 use Rattle.process_record.specs.declared.emit.Emit.{Emit}
 use Rattle.process_record.specs.declared.process.Process.{Process}
 use Rattle.driver_model.specs.Answers.{Remains}
-use Rattle.driver_model.specs.Commands.{Leaves, Writes, Reads, Randoms, Stores, is_same}
+use Rattle.driver_model.specs.Commands.{Leaves, is_same}
 use Rattle.driver_model.specs.Console.{console_reads, console_writes}
 use Rattle.driver_model.specs.Lines.{IsWithin, has_waiting}
 use Rattle.driver_model.specs.Random.{randoms}
 use Rattle.driver_model.specs.Requests.{Desk}
 use Rattle.driver_model.specs.Storage.{storages}
 use Rattle.waiting_list.specs.Waiting.{without}
+use Rattle.driver_requests.specs.Waiting.{waiting_still}
 use Rattle.grant_enter.specs.Homes.{Homes, ChangesOnly, nobody, own_of}
 use Rattle.kernel_model.specs.Record.{Record}
 use Rattle.kernel_model.specs.Turn.{Event}
@@ -35,7 +36,7 @@ use Rattle.board_core.specs.declared.board.Board.TheInside.{Inside}
 use Rattle.board_core.specs.declared.drivers.Drivers.{Drivers}
 use Rattle.board_core.specs.declared.guard.Guard.{Guard}
 use Rattle.board_core.specs.Calm.{IsCalm}
-use Rattle.board_core.specs.Driven.{AreDriven, IsLine, devices_of}
+use Rattle.board_core.specs.Driven.{AreDriven, IsLine, devices_of, line_of}
 use Rattle.board_core.specs.Guards.{GuardsOnly}
 use Rattle.board_core.specs.Makes.{Makes, shown_printed}
 use Rattle.board_core.specs.Residents.{ChangesAt, HasLost, IsSeated, Resident, record_of}
@@ -133,7 +134,7 @@ left_line : {R : Type 0} (desk : Desk R) (left : Bool) (ids ids' : List ProcessI
     → ((x y : List ProcessId) → cond (is_same desk.line desk.line) x y ≡ x) → ((x y : Bool) → cond (is_same desk.line desk.line) x y ≡ x)
     → IsLine desk ids owns → slice_get owns slot ≡ Some own
     → has_waiting desk o ≡ (if left then false else has_waiting desk own) → o.life ≡ own.life
-    → ids' ≡ (if left then without slot ids else ids)
+    → ids' ≡ waiting_still left slot ids
     → IsLine desk ids' (slice_set owns slot o)
 left_line desk true ids ids' owns slot own o is is_b line was waits life e =
     subst (λ (xs : List ProcessId). IsLine desk xs (slice_set owns slot o)) (is (without slot ids) ids ∙ sym e)
@@ -186,23 +187,23 @@ module _ (b : Inside) (device : Dev) (slot : ℕ) (printed : List ℕ) (home : H
   unfolding stepped told_at
   world_told =
       let w = world_of b in
-      let answer : Answer = record { slot = slot; event = t.event } in
+      let answer : Answer = record { slot = slot; event = t.serves.event } in
       let deed : Deed = record { told = Some answer; printed = printed; devices = devices_of d } in
-      let changed : map (record_of home.flash) (zip (zip b.processes.items home.owns) d.stores.slots) ≡ slice_set w.records slot (record_of b.home.flash ((t.process, own_of home slot), t.bytes)) =
-      ap (λ (s : List (List ℕ)). map (record_of home.flash) (zip (zip b.processes.items home.owns) s)) t.storage
-      ∙ changed_records slot b.home home b.processes.items b.processes.items told_at b.drivers.stores.slots t.bytes in
+      let changed : map (record_of home.flash) (zip (zip b.processes.items home.owns) d.stores.slots) ≡ slice_set w.records slot (record_of b.home.flash ((t.process, own_of home slot), t.serves.bytes)) =
+      ap (λ (s : List (List ℕ)). map (record_of home.flash) (zip (zip b.processes.items home.owns) s)) t.serves.stores.slots
+      ∙ changed_records slot b.home home b.processes.items b.processes.items told_at b.drivers.stores.slots t.serves.bytes in
       let records : map (record_of home.flash) (zip (zip b.processes.items home.owns) d.stores.slots) ≡ records_after w (Some answer) =
-      changed ∙ ap (slice_set w.records slot) (sym t.tells) ∙ sym (ap (told_to w answer) told_found) in
+      changed ∙ ap (slice_set w.records slot) (sym t.serves.tells) ∙ sym (ap (told_to w answer) told_found) in
       ap (λ (rs : List Record). with_step b rs (devices_of d) (a_step_later b.moment) b.present b.used) records
-      ∙ sym (ap (λ (c : Bool). (if c then done w (deed_of w device) else unmade w).after) t.may ∙ ap (λ (o : Option Deed). (done w o).after) t.deed)
+      ∙ sym (ap (λ (c : Bool). (if c then done w (deed_of w device) else unmade w).after) t.may ∙ ap (λ (o : Option Deed). (done w o).after) t.serves.deed)
 
   -- what it shows
   pub told_shown : shown_printed slot printed ≡ shown_by (labels (world_of b) (Device device))
   unfolding stepped
   told_shown =
       let w = world_of b in
-      printed_shown slot t.event printed
-      ∙ sym (ap (λ (c : Bool). shown_by (if c then done w (deed_of w device) else unmade w).labels) t.may ∙ ap (λ (o : Option Deed). shown_by (done w o).labels) t.deed)
+      printed_shown slot t.serves.event printed
+      ∙ sym (ap (λ (c : Bool). shown_by (if c then done w (deed_of w device) else unmade w).labels) t.may ∙ ap (λ (o : Option Deed). shown_by (done w o).labels) t.serves.deed)
 
   -- it may be made below the limit of steps
   pub may_tell : b.moment.steps < STEP_LIMIT → IsTrue (is_ready (world_of b) (Device device))
@@ -212,34 +213,42 @@ module _ (b : Inside) (device : Dev) (slot : ℕ) (printed : List ℕ) (home : H
   told_owns = ap (λ (x : Homes). x.owns) t.only
 
   own_life : (own_of home slot).life ≡ (own_of b.home slot).life
-  own_life = ap (λ (o : Own). o.life) t.follows.rest
+  own_life = ap (λ (o : Own). o.life) t.serves.follows.rest
 
-  -- who waits has a request then, and no other
+  -- who waits in a line has a request there then, and no other
+  told_line : {R : Type 0} (desk : Desk R)
+      → ((x y : List ProcessId) → cond (is_same desk.line desk.line) x y ≡ x) → ((x y : Bool) → cond (is_same desk.line desk.line) x y ≡ x)
+      → IsLine desk (line_of b.drivers desk.line) b.home.owns
+      → has_waiting desk (own_of home slot) ≡ (if t.serves.left desk.line then false else has_waiting desk (own_of b.home slot))
+      → IsLine desk (line_of d desk.line) (slice_set b.home.owns slot (own_of home slot))
+  told_line desk is is_b line waits =
+      left_line desk (t.serves.left desk.line) (line_of b.drivers desk.line) (line_of d desk.line) b.home.owns slot (own_of b.home slot) (own_of home slot) is is_b line own_was waits own_life (t.serves.lines desk.line)
+
   told_driven : AreDriven b.moment.settings b.moment.time home.owns d
   told_driven = subst (λ (owns : List Own). AreDriven b.moment.settings b.moment.time owns d) (sym told_owns) (record {
-    writes = left_line console_writes (t.left Writes) b.drivers.console.writes d.console.writes b.home.owns slot (own_of b.home slot) (own_of home slot) (λ x y. refl) (λ x y. refl) h.driven.writes own_was t.follows.lines.writes own_life t.writes;
-    reads = left_line console_reads (t.left Reads) b.drivers.console.reads d.console.reads b.home.owns slot (own_of b.home slot) (own_of home slot) (λ x y. refl) (λ x y. refl) h.driven.reads own_was t.follows.lines.reads own_life t.reads;
-    randoms = left_line randoms (t.left Randoms) b.drivers.random d.random b.home.owns slot (own_of b.home slot) (own_of home slot) (λ x y. refl) (λ x y. refl) h.driven.randoms own_was t.follows.lines.randoms own_life t.randoms;
-    stores = left_line storages (t.left Stores) b.drivers.storage d.storage b.home.owns slot (own_of b.home slot) (own_of home slot) (λ x y. refl) (λ x y. refl) h.driven.stores own_was t.follows.lines.stores own_life t.stores;
-    within = All-set (IsWithin b.moment.settings.storage) b.home.owns slot (own_of home slot) (t.follows.within b.moment.settings.storage (h.driven.within slot nobody t.there)) h.driven.within;
-    leds = t.leds ∙ h.driven.leds;
-    size = t.size ∙ h.driven.size;
-    slots = ap length t.storage ∙ length-set b.drivers.stores.slots slot t.bytes ∙ h.driven.slots;
-    ticks = omega (arith, t.ticks, h.driven.ticks);
-    free = t.free;
+    writes = told_line console_writes (λ x y. refl) (λ x y. refl) h.driven.writes t.serves.follows.lines.writes;
+    reads = told_line console_reads (λ x y. refl) (λ x y. refl) h.driven.reads t.serves.follows.lines.reads;
+    randoms = told_line randoms (λ x y. refl) (λ x y. refl) h.driven.randoms t.serves.follows.lines.randoms;
+    stores = told_line storages (λ x y. refl) (λ x y. refl) h.driven.stores t.serves.follows.lines.stores;
+    within = All-set (IsWithin b.moment.settings.storage) b.home.owns slot (own_of home slot) (t.serves.follows.within b.moment.settings.storage (h.driven.within slot nobody t.there)) h.driven.within;
+    leds = t.serves.leds ∙ h.driven.leds;
+    size = t.serves.stores.size ∙ h.driven.size;
+    slots = ap length t.serves.stores.slots ∙ length-set b.drivers.stores.slots slot t.serves.bytes ∙ h.driven.slots;
+    ticks = omega (arith, t.serves.uart.ticks, h.driven.ticks);
+    free = t.serves.uart.free;
   })
 
   -- what always holds of a board holds then
   pub told_board : (calm : ℕ) → b.moment.steps < STEP_LIMIT → IsCalm b.moment.settings.start b.moment.time calm home.owns d → IsBoard (record b { home = home; drivers = d; moment = a_step_later b.moment; calm = calm })
   unfolding told_at
   told_board calm below quiet = record {
-    seated = still_seated slot b.home home b.processes.items b.processes.items told_at b.moment.steps (remains_seated b.home.flash b.moment.steps t.process (own_of b.home slot) (own_of home slot) t.follows.rest (seated_there b.home.flash b.moment.steps b.processes.items b.home.owns slot (t.process, own_of b.home slot) t.was own_was h.seated)) h.seated;
-    lost = still_lost b.moment.steps slot b.home home (own_of home slot) t.only (omega (arith, t.follows.dropped.not_more, lost_there b.moment.steps b.home slot h.lost)) h.lost;
+    seated = still_seated slot b.home home b.processes.items b.processes.items told_at b.moment.steps (remains_seated b.home.flash b.moment.steps t.process (own_of b.home slot) (own_of home slot) t.serves.follows.rest (seated_there b.home.flash b.moment.steps b.processes.items b.home.owns slot (t.process, own_of b.home slot) t.was own_was h.seated)) h.seated;
+    lost = still_lost b.moment.steps slot b.home home (own_of home slot) t.only (omega (arith, t.serves.follows.dropped.not_more, lost_there b.moment.steps b.home slot h.lost)) h.lost;
     owns = as_many_owns slot b.home home b.processes.items b.processes.items told_at ∙ h.owns;
     few = h.few;
-    guard = still_guards b.guard b.home home slot t.only (ap (λ (o : Own). o.layout) t.follows.rest) h.guard;
+    guard = still_guards b.guard b.home home slot t.only (ap (λ (o : Own). o.layout) t.serves.follows.rest) h.guard;
     driven = told_driven;
-    served = omega (arith, t.counts, h.served);
+    served = omega (arith, t.serves.stores.counts, h.served);
     steps = omega (arith, below);
     time = omega (arith, h.time);
     calm = quiet;

@@ -1,5 +1,6 @@
 pub mod Arrivals
 pub mod Boards
+pub mod Tables
 pub mod Changes
 pub mod Calm
 pub mod Lines

@@ -112,7 +112,7 @@ record OthersStay (d d' : Drivers) : Type 0 where
 
 lists_drive : (id : ProcessId) (acts : List Act) (d d' : Drivers) → OthersStay d d' → lit_after acts (bits_of d.leds) ≡ bits_of d.leds
     → d'.console.writes ≡ waiting_after Writes id d.console.writes acts → d'.console.reads ≡ waiting_after Reads id d.console.reads acts
-    → d'.random ≡ waiting_after Randoms id d.random acts → d'.storage ≡ waiting_after Stores id d.storage acts → Drives id acts d d'
+    → d'.random.waiting ≡ waiting_after Randoms id d.random.waiting acts → d'.storage.waiting ≡ waiting_after Stores id d.storage.waiting acts → Drives id acts d d'
 lists_drive id acts d d' stay unlit writes reads randoms stores = record {
   writes = writes;
   reads = reads;
@@ -143,21 +143,21 @@ module _ (id : ProcessId) (d : Drivers) where
       stay = record { leds = refl; line = refl; arrivals = refl; words = refl; bytes = refl }
 
   -- the source of random bytes
-  pub random_drives : (randoms : List ProcessId) (acts : List Act) → OneOf acts ([] ∷ (Waits Randoms ∷ []) ∷ []) → randoms ≡ waiting_after Randoms id d.random acts → Drives id acts d (record d { random = randoms })
+  pub random_drives : (randoms : List ProcessId) (acts : List Act) → OneOf acts ([] ∷ (Waits Randoms ∷ []) ∷ []) → randoms ≡ waiting_after Randoms id d.random.waiting acts → Drives id acts d (record d { random = record { waiting = randoms } })
   random_drives randoms acts of =
-      by_list (λ acts. randoms ≡ waiting_after Randoms id d.random acts → Drives id acts d (record d { random = randoms })) acts ([] ∷ (Waits Randoms ∷ []) ∷ []) of
+      by_list (λ acts. randoms ≡ waiting_after Randoms id d.random.waiting acts → Drives id acts d (record d { random = record { waiting = randoms } })) acts ([] ∷ (Waits Randoms ∷ []) ∷ []) of
       (λ r. lists_drive id [] d _ stay refl refl refl r refl, (λ r. lists_drive id (Waits Randoms ∷ []) d _ stay refl refl refl r refl, tt))
     where
-      stay : OthersStay d (record d { random = randoms })
+      stay : OthersStay d (record d { random = record { waiting = randoms } })
       stay = record { leds = refl; line = refl; arrivals = refl; words = refl; bytes = refl }
 
   -- the storage
-  pub storage_drives : (stores : List ProcessId) (acts : List Act) → OneOf acts ([] ∷ (Waits Stores ∷ []) ∷ []) → stores ≡ waiting_after Stores id d.storage acts → Drives id acts d (record d { storage = stores })
+  pub storage_drives : (stores : List ProcessId) (acts : List Act) → OneOf acts ([] ∷ (Waits Stores ∷ []) ∷ []) → stores ≡ waiting_after Stores id d.storage.waiting acts → Drives id acts d (record d { storage = record { waiting = stores } })
   storage_drives stores acts of =
-      by_list (λ acts. stores ≡ waiting_after Stores id d.storage acts → Drives id acts d (record d { storage = stores })) acts ([] ∷ (Waits Stores ∷ []) ∷ []) of
+      by_list (λ acts. stores ≡ waiting_after Stores id d.storage.waiting acts → Drives id acts d (record d { storage = record { waiting = stores } })) acts ([] ∷ (Waits Stores ∷ []) ∷ []) of
       (λ r. lists_drive id [] d _ stay refl refl refl refl r, (λ r. lists_drive id (Waits Stores ∷ []) d _ stay refl refl refl refl r, tt))
     where
-      stay : OthersStay d (record d { storage = stores })
+      stay : OthersStay d (record d { storage = record { waiting = stores } })
       stay = record { leds = refl; line = refl; arrivals = refl; words = refl; bytes = refl }
 
   -- the LEDs
@@ -166,5 +166,5 @@ module _ (id : ProcessId) (d : Drivers) where
       by_list (λ acts. bits_of lit ≡ lit_after acts (bits_of d.leds) → length lit ≡ length d.leds → Drives id acts d (record d { leds = lit })) acts ([] ∷ (Lights led On ∷ []) ∷ (Lights led Off ∷ []) ∷ (Lights led Toggle ∷ []) ∷ []) of
       (λ b n. switched [] refl refl refl refl b n, (λ b n. switched (Lights led On ∷ []) refl refl refl refl b n, (λ b n. switched (Lights led Off ∷ []) refl refl refl refl b n, (λ b n. switched (Lights led Toggle ∷ []) refl refl refl refl b n, tt))))
     where
-      switched : (acts : List Act) → d.console.writes ≡ waiting_after Writes id d.console.writes acts → d.console.reads ≡ waiting_after Reads id d.console.reads acts → d.random ≡ waiting_after Randoms id d.random acts → d.storage ≡ waiting_after Stores id d.storage acts → bits_of lit ≡ lit_after acts (bits_of d.leds) → length lit ≡ length d.leds → Drives id acts d (record d { leds = lit })
+      switched : (acts : List Act) → d.console.writes ≡ waiting_after Writes id d.console.writes acts → d.console.reads ≡ waiting_after Reads id d.console.reads acts → d.random.waiting ≡ waiting_after Randoms id d.random.waiting acts → d.storage.waiting ≡ waiting_after Stores id d.storage.waiting acts → bits_of lit ≡ lit_after acts (bits_of d.leds) → length lit ≡ length d.leds → Drives id acts d (record d { leds = lit })
       switched acts writes reads randoms stores b n = record { writes = writes; reads = reads; randoms = randoms; stores = stores; leds = b; lit = n; line = refl; arrivals = refl; words = refl; bytes = refl }

@@ -76,13 +76,13 @@ routed_is slot (act ∷ acts) d = ap (routed slot acts) (acted_is slot act d) �
 pub drives_shown : (id : ProcessId) (acts : List Act) (d d' : Drivers) → Drives id acts d d' → devices_of d' ≡ routed id.slot acts (devices_of d)
 drives_shown id acts d d' t =
     ap₂ (λ (xs ys : List ℕ). record (devices_of d') { writes = xs; reads = ys }) (ap slots_of t.writes ∙ slots_acts Writes id d.console.writes acts) (ap slots_of t.reads ∙ slots_acts Reads id d.console.reads acts)
-    ∙ ap₂ (λ (xs ys : List ℕ). with_lists (devices_of d') (slots_after Writes id.slot (slots_of d.console.writes) acts) (slots_after Reads id.slot (slots_of d.console.reads) acts) xs ys (bits_of d'.leds)) (ap slots_of t.randoms ∙ slots_acts Randoms id d.random acts) (ap slots_of t.stores ∙ slots_acts Stores id d.storage acts)
-    ∙ ap (λ (n : ℕ). with_lists (devices_of d') (slots_after Writes id.slot (slots_of d.console.writes) acts) (slots_after Reads id.slot (slots_of d.console.reads) acts) (slots_after Randoms id.slot (slots_of d.random) acts) (slots_after Stores id.slot (slots_of d.storage) acts) n) t.leds
+    ∙ ap₂ (λ (xs ys : List ℕ). with_lists (devices_of d') (slots_after Writes id.slot (slots_of d.console.writes) acts) (slots_after Reads id.slot (slots_of d.console.reads) acts) xs ys (bits_of d'.leds)) (ap slots_of t.randoms ∙ slots_acts Randoms id d.random.waiting acts) (ap slots_of t.stores ∙ slots_acts Stores id d.storage.waiting acts)
+    ∙ ap (λ (n : ℕ). with_lists (devices_of d') (slots_after Writes id.slot (slots_of d.console.writes) acts) (slots_after Reads id.slot (slots_of d.console.reads) acts) (slots_after Randoms id.slot (slots_of d.random.waiting) acts) (slots_after Stores id.slot (slots_of d.storage.waiting) acts) n) t.leds
     ∙ others
     ∙ sym (routed_is id.slot acts (devices_of d))
   where
     lists : Devices → Devices
-    lists x = with_lists x (slots_after Writes id.slot (slots_of d.console.writes) acts) (slots_after Reads id.slot (slots_of d.console.reads) acts) (slots_after Randoms id.slot (slots_of d.random) acts) (slots_after Stores id.slot (slots_of d.storage) acts) (lit_after acts (bits_of d.leds))
+    lists x = with_lists x (slots_after Writes id.slot (slots_of d.console.writes) acts) (slots_after Reads id.slot (slots_of d.console.reads) acts) (slots_after Randoms id.slot (slots_of d.random.waiting) acts) (slots_after Stores id.slot (slots_of d.storage.waiting) acts) (lit_after acts (bits_of d.leds))
 
     others : lists (devices_of d') ≡ lists (devices_of d)
     others =

@@ -1,12 +1,13 @@
 -- What each device tells the process that it serves, as a step of the board.
-use Rattle.std.proofs.Common.{◌≡◌, ℕ, zero, suc, ◌+◌, ◌*◌, ◌^◌, ◌==◌, ◌<◌, ◌≤◌, Bool, true, false, not, ◌&&◌, nat_le, if◌then◌else◌, List, [], ◌∷◌, drop, take, length, map, slice_get, slice_set, Option, None, Some, is_none, is_some, unwrap_or, refl, sym, ap, ap₂, subst, ◌∙◌, arith}
-use Rattle.std.specs.List.{AllByRecursion, zip}
+use Rattle.std.proofs.Common.{◌≡◌, ℕ, zero, suc, ◌+◌, ◌*◌, ◌^◌, ◌==◌, ◌<◌, ◌≤◌, Bool, true, false, not, ◌&&◌, nat_le, if◌then◌else◌, List, [], ◌∷◌, drop, take, length, slice_get, slice_set, Option, None, Some, is_none, is_some, IfNone, unwrap_or, refl, sym, ap, ap₂, subst, ◌∙◌, arith}
+use Rattle.std.specs.List.{AllByRecursion}
 use Rattle.std.specs.Option.{option_map}
 use Rattle.std.proofs.lemmas.Bool.{false≢true}
 use Rattle.std.proofs.lemmas.Bool.Decides.{nat_tests}
 use Rattle.std.proofs.lemmas.List.{set-get_or}
 use Rattle.std.proofs.lemmas.Nat.{mul-le}
 use Rattle.std.proofs.lemmas.Option.{slice_get-get_or}
+use Rattle.arrayvec.specs.ArrayVec.{ArrayVec}
 use Rattle.tk_base.specs.declared.process.Dev.{Dev}
 use Rattle.tk_base.specs.declared.process.Dev.TheVariants.{Alarm, Uart, Receive, Random, Store}
 use Rattle.tk_base.specs.declared.process.ProcessId.{ProcessId}
@@ -21,8 +22,8 @@ use Rattle.grant_areas.specs.declared.kinds.PairKind.TheVariants.{ReadOnly}
 use Rattle.grant_values.specs.declared.console.WaitingWrite.{WaitingWrite}
 use Rattle.process_own.specs.Own.{Own}
 use Rattle.process_record.specs.declared.process.Process.{Process}
-use Rattle.driver_model.specs.Answers.{EventsTellSteps, FollowsAnswer, drawn_word, LinesFollowAnswers, left_by}
-use Rattle.driver_model.specs.Commands.{Writes, Reads, Randoms, Stores}
+use Rattle.driver_model.specs.Answers.{EventsTellSteps, drawn_word, LinesFollowAnswers, left_by}
+use Rattle.driver_model.specs.Commands.{Line, Writes, Reads, Randoms, Stores}
 use Rattle.driver_model.specs.Console.{Received, Sent, console, console_writes, free_after, input, next_bytes, portion, received, sending, sent, taken, unsent, write_done}
 use Rattle.driver_model.specs.Requests.{waiting_of}
 use Rattle.driver_model.specs.Alarm.{answered, due_slot}
@@ -30,31 +31,31 @@ use Rattle.driver_model.specs.Laws.{DueSlotIsThere}
 use Rattle.driver_model.specs.Random as random
 use Rattle.driver_model.specs.Storage as storage
 use Rattle.alarm_capsule.specs.Answers as alarm_capsule
-use Rattle.random_capsule.specs.Answers as random_capsule
 use Rattle.random_capsule.specs.Answers.{answer_to as random_to}
-use Rattle.storage_capsule.specs.Answers as storage_capsule
 use Rattle.storage_capsule.specs.Answers.{answer_to as storage_to}
 use Rattle.storage_capsule.specs.Serving.{after_count, fails_next, stored}
 use Rattle.grant_values.specs.declared.storage.StorageRequest.{StorageRequest}
-use Rattle.driver_requests.specs.Answers.{Answers}
-use Rattle.waiting_list.specs.Waiting.{without}
-use Rattle.console_capsule.specs.Answers.{Printing, cannot_give, cannot_send, received_by, sent_by}
-use Rattle.console_capsule.specs.Waiting.{Waiting}
-use Rattle.grant_enter.specs.Homes.{Homes, nobody, own_of}
+use Rattle.driver_requests.specs.Answers.{Answered, Answers}
+use Rattle.driver_requests.specs.Waiting.{waiting_still}
+use Rattle.console_capsule.specs.Answers.{cannot_give, cannot_send, received_by, sending_at, sent_by}
+use Rattle.console_capsule.specs.declared.capsule.ConsoleCapsule.{ConsoleCapsule}
+use Rattle.random_capsule.specs.declared.capsule.RandomCapsule.{RandomCapsule}
+use Rattle.storage_capsule.specs.declared.capsule.StorageCapsule.{StorageCapsule}
+use Rattle.grant_enter.specs.Homes.{Homes, ChangesOnly, nobody, own_of}
 use Rattle.kernel_model.specs.declared.settings.Settings.{Settings}
 use Rattle.kernel_model.specs.Record.{Record, with_own}
-use Rattle.kernel_model.specs.Turn.{Alarmed, Taken, WriteDone, Input, Word, NoWord, Stored, apply, flash_of, written_over}
-use Rattle.kernel_model.specs.World.{Deed, Devices, World, alarmed, drawing, drawn, first_of, is_waited_for, left_of, owns_in, receiving, storing, transmitting}
+use Rattle.kernel_model.specs.Turn.{Event, Alarmed, Taken, WriteDone, Input, Word, NoWord, Stored, apply, flash_of, written_over}
+use Rattle.kernel_model.specs.World.{Deed, Devices, World, alarmed, can_act, drawing, drawn, first_of, is_waited_for, left_of, owns_in, receiving, storing, transmitting}
 use Rattle.board_core.specs.declared.board.Board.TheInside.{Inside}
 use Rattle.board_core.specs.declared.drivers.Drivers.{Drivers}
-use Rattle.board_core.specs.Driven.{IsThere, devices_of, slots_of}
-use Rattle.board_core.specs.Residents.{IsSeated, Resident, record_of}
-use Rattle.board_core.specs.Shows.{IsBoard, residents, world_of}
+use Rattle.board_core.specs.Driven.{IsThere, devices_of, line_of, slots_of}
+use Rattle.board_core.specs.Residents.{IsSeated, record_of}
+use Rattle.board_core.specs.Shows.{IsBoard, world_of}
 use Rattle.board_core.proofs.Changes.{beside, bytes_of, record_found}
-use Rattle.board_core.specs.Tells.{Acted, Told}
+use Rattle.board_core.specs.Tells.{Acted, HoldsFor, IsFreeSoon, Serves, Told}
 use Rattle.board_core.proofs.Devices.{found_at, seated_there}
 use Rattle.board_core.proofs.OwnFlash.{answered_of_own, sent_of_own}
-use Rattle.board_core.proofs.Records.{reads_shown}
+use Rattle.board_core.proofs.Ready.{owns_in_world}
 use Rattle.board_core.proofs.Routing.{slots_without}
 
 -- what holds of all that wait holds of the first
@@ -65,20 +66,23 @@ first_is P (x ∷ ids) id e all = subst P (the_one x id e) all.0
     the_one : (x y : ProcessId) → Some x ≡ Some y → x ≡ y
     the_one x y e = cc
 
--- the deed of a device for the first of those that wait
-first_deed : (deed : World → ℕ → Record → Deed) (w : World) (ids : List ProcessId) (id : ProcessId) (r : Record) → slice_get ids 0 ≡ Some id → slice_get w.records id.slot ≡ Some r → first_of deed w (slots_of ids) ≡ Some (deed w id.slot r)
-first_deed deed w [] id r e f = cc
-first_deed deed w (x ∷ ids) id r e f =
+-- those that wait after an answer, as the world has them
+slots_left : (completed : Bool) (slot : ℕ) (ids : List ProcessId) → slots_of (waiting_still completed slot ids) ≡ left_of completed slot (slots_of ids)
+slots_left true slot ids = slots_without slot ids
+slots_left false slot ids = refl
+
+-- the deed of a device for the first of those that wait, by those that wait afterwards
+first_deed : (deed : World → ℕ → Record → Deed) (w : World) (ids : List ProcessId) (id : ProcessId) (r : Record) (completed : Bool) (shown : List ℕ → Deed)
+    → slice_get ids 0 ≡ Some id → slice_get w.records id.slot ≡ Some r → deed w id.slot r ≡ shown (left_of completed id.slot (slots_of ids))
+    → first_of deed w (slots_of ids) ≡ Some (shown (slots_of (waiting_still completed id.slot ids)))
+first_deed deed w [] id r completed shown e f does = cc
+first_deed deed w (x ∷ ids) id r completed shown e f does =
     let same : x ≡ id = the_one x id e in
     ap (λ (y : ProcessId). option_map (deed w y.slot) (slice_get w.records y.slot)) same ∙ ap (option_map (deed w id.slot)) f
+    ∙ ap Some (does ∙ ap shown (sym (slots_left completed id.slot (x ∷ ids))))
   where
     the_one : (x y : ProcessId) → Some x ≡ Some y → x ≡ y
     the_one x y e = cc
-
--- those that wait after an answer, as the world has them
-slots_left : (completed : Bool) (slot : ℕ) (ids : List ProcessId) → slots_of (if completed then without slot ids else ids) ≡ left_of completed slot (slots_of ids)
-slots_left true slot ids = slots_without slot ids
-slots_left false slot ids = refl
 
 -- a count that is far from its last value
 counted_next : (n : ℕ) → n < 2 ^ 32 → counted n ≡ n + 1
@@ -93,26 +97,15 @@ pub can_give : (ids : List ProcessId) (line : SerialLine) → (is_waited_for (sl
 can_give [] line = refl
 can_give (id ∷ ids) line = grind (arith, nat_tests)
 
--- some wait where there is a first
-pub some_wait : (ids : List ProcessId) (id : ProcessId) → slice_get ids 0 ≡ Some id → is_waited_for (slots_of ids) ≡ true
-some_wait [] id e = cc
-some_wait (x ∷ ids) id e = grind (arith, nat_tests)
-
--- and none where there is none
-pub none_waits : (ids : List ProcessId) → ids ≡ [] → is_waited_for (slots_of ids) ≡ false
-none_waits ids e = ap (λ (xs : List ProcessId). is_waited_for (slots_of xs)) e
-
--- what the owns of the world that a board shows are
-pub owns_in_world : (b : Inside) → IsBoard b → owns_in (world_of b) ≡ b.home.owns
-owns_in_world b h =
-    reads_shown (λ (r : Record). r.own) (λ (r : Resident). r.1) b.home.flash (residents b) b.drivers.stores.slots (beside b.processes.items b.home.owns b.drivers.stores.slots h.owns h.few h.driven.slots) (λ p. refl)
-    ∙ seconds b.processes.items b.home.owns h.owns
+-- some wait exactly where one was answered
+waited_for : {D : Type 0} (answer_to : ProcessId → Answered D) (ids : List ProcessId) (x : D) (old : Homes) (o : Option ProcessId) (ids' : List ProcessId) (y : D) (new : Homes)
+    → IfNone o (ids ≡ []) → Answers answer_to ids x old o ids' y new → is_waited_for (slots_of ids) ≡ not (is_none o)
+waited_for answer_to ids x old None ids' y new none answers = ap (λ (xs : List ProcessId). is_waited_for (slots_of xs)) none
+waited_for answer_to ids x old (Some id) ids' y new none answers = some_wait ids id answers.0
   where
-    seconds : (ps : List Process) (owns : List Own) → length owns ≡ length ps → map (λ (r : Resident). r.1) (zip ps owns) ≡ owns
-    seconds [] [] n = refl
-    seconds [] (o ∷ owns) n = absurd (omega (arith, n))
-    seconds (p ∷ ps) [] n = absurd (omega (arith, n))
-    seconds (p ∷ ps) (o ∷ owns) n = ap (λ (os : List Own). o ∷ os) (seconds ps owns (omega (arith, n)))
+    some_wait : (ids : List ProcessId) (id : ProcessId) → slice_get ids 0 ≡ Some id → is_waited_for (slots_of ids) ≡ true
+    some_wait [] id e = cc
+    some_wait (x ∷ ids) id e = grind (arith, nat_tests)
 
 module _ (b : Inside) (h : IsBoard b) (id : ProcessId) (is_there : IsThere b.home.owns id) where
   own : Own
@@ -143,6 +136,74 @@ module _ (b : Inside) (h : IsBoard b) (id : ProcessId) (is_there : IsThere b.hom
 
   pub its_record_was : slice_get (world_of b).records id.slot ≡ Some its_record
   its_record_was = record_found b.home.flash b.processes.items b.home.owns b.drivers.stores.slots id.slot its_process (own_of b.home id.slot) its_process_was own_was (beside b.processes.items b.home.owns b.drivers.stores.slots h.owns h.few h.driven.slots)
+
+  -- a device that does not serve the serial line leaves it as it is
+  uart_stays : IsFreeSoon b.moment.time b.drivers.uart b.drivers.uart
+  uart_stays = record { ticks = refl; free = h.driven.free }
+
+  -- and one that is not the storage leaves the storage as it is
+  stores_stay : HoldsFor id.slot (bytes_of b.drivers.stores.slots id.slot) b.drivers.stores b.drivers.stores
+  stores_stay = record { size = refl; counts = omega arith; slots = sym (set-get_or b.drivers.stores.slots id.slot []) }
+
+  -- what a device did for a process is what it told it
+  told_by : (device : Dev) (printed : List ℕ) (o : Own) (home : Homes) (d : Drivers)
+      → ChangesOnly id.slot b.home home → own_of home id.slot ≡ o → can_act (world_of b) device ≡ true
+      → Serves b its_process device id.slot printed o d → Told b device id.slot printed home d
+  told_by device printed o home d only is may serves = record {
+    process = its_process;
+    was = its_process_was;
+    there = is_there.0;
+    only = only;
+    may = may;
+    serves = subst (λ (x : Own). Serves b its_process device id.slot printed x d) (sym is) serves;
+  }
+
+-- each buffer that a process holds may be lent
+abbrev Lent : Homes → Type 0
+Lent home = (slot : ℕ) → slot < length home.owns → HoldsInPlace (own_of home slot)
+
+-- whoever waits is there
+waiters_there : (b : Inside) → IsBoard b → (here : Line) → AllByRecursion (IsThere b.home.owns) (line_of b.drivers here)
+waiters_there b h Writes = h.driven.writes.there
+waiters_there b h Reads = h.driven.reads.there
+waiters_there b h Randoms = h.driven.randoms.there
+waiters_there b h Stores = h.driven.stores.there
+
+-- A device that answers the first of a line: what its answer to a process comes to; the drivers by who waits in the line
+-- and by the device afterwards, and what was printed then.
+record Answering (D : Type 0) : Type 0 where
+  device : Dev
+  here : Line
+  answer_to : ProcessId → Answered D
+  after : List ProcessId → D → Drivers
+  prints : D → List ℕ
+
+-- what such a device does for a process by an answer, where it is the first
+abbrev ServesFirst : {D : Type 0} (b : Inside) (h : IsBoard b) (id : ProcessId) → IsThere b.home.owns id → Answering D → Answered D → Type 0
+ServesFirst b h id there is a = Serves b (its_process b h id there) is.device id.slot (is.prints a.device) a.own (is.after (waiting_still a.completed id.slot (line_of b.drivers is.here)) a.device)
+
+-- and that it does it for whoever is the first
+abbrev ServesWhoeverIsFirst : {D : Type 0} (b : Inside) → IsBoard b → Answering D → Type 0
+ServesWhoeverIsFirst b h is = (id : ProcessId) (there : IsThere b.home.owns id) → slice_get (line_of b.drivers is.here) 0 ≡ Some id → ServesFirst b h id there is (is.answer_to id)
+
+-- So it does where it is to act: it serves the first, or may not act, and then nothing changes.
+acts_on : {D : Type 0} (b : Inside) (h : IsBoard b) (is : Answering D) (x : D)
+    → is.after (line_of b.drivers is.here) x ≡ b.drivers → ServesWhoeverIsFirst b h is
+    → (o : Option ProcessId) (home : Homes) (ids : List ProcessId) (y : D)
+    → can_act (world_of b) is.device ≡ not (is_none o) → Answers is.answer_to (line_of b.drivers is.here) x b.home o ids y home
+    → Acted b is.device o (is.prints y) home (is.after ids y)
+acts_on b h is x before serves None home ids y may answers = (may, answers.2, ap₂ is.after answers.0 answers.1 ∙ before)
+acts_on b h is x before serves (Some id) home ids y may answers =
+    let there : IsThere b.home.owns id = first_is (IsThere b.home.owns) (line_of b.drivers is.here) id answers.0 (waiters_there b h is.here) in
+    let a = is.answer_to id in
+    told_by b h id there is.device (is.prints y) a.own home (is.after ids y) answers.4 answers.1 may
+    (subst (λ (xs : List ProcessId). Serves b (its_process b h id there) is.device id.slot (is.prints y) a.own (is.after xs y)) (sym answers.3)
+    (subst (λ (z : _). Serves b (its_process b h id there) is.device id.slot (is.prints z) a.own (is.after (waiting_still a.completed id.slot (line_of b.drivers is.here)) z)) (sym answers.2)
+    (serves id there answers.0)))
+
+-- what a device does that tells a process something
+abbrev telling : ℕ → Event → List ℕ → Devices → Deed
+telling slot event printed devices = record { told = Some (record { slot = slot; event = event }); printed = printed; devices = devices }
 
 -- what is then its own, as an event tells
 sent_applied : (settings : Settings) (done : Bool) (r : Record) (own : Own) → own ≡ (if done then write_done r.own else taken r.own) → apply settings (if done then WriteDone else Taken) r ≡ with_own r own
@@ -183,107 +244,76 @@ sent_few flash life own = by_write (waiting_of console_writes life own)
     by_write None = omega arith
     by_write (Some write) = by_portion (portion write own == 0) write
 
--- the UART took bytes of a write, or the write completed
-pub told_sent : (b : Inside) (h : IsBoard b) (id : ProcessId) (is_there : IsThere b.home.owns id) (home : Homes) (capsule : Waiting) (line : SerialLine) (printed : List ℕ)
-    → LinesFollowAnswers → EventsTellSteps → ReadsOwnFlash → HoldsInPlace (own_of b.home id.slot)
-    → false ≡ cannot_send b.drivers.console.writes b.drivers.uart b.moment.time
-    → capsule.reads ≡ b.drivers.console.reads
-    → Answers (sent_by b.drivers.uart b.moment.time b.home) b.drivers.console.writes (record { line = b.drivers.uart; printed = [] }) b.home (Some id) capsule.writes (record { line = line; printed = printed }) home
-    → Told b Uart id.slot printed home (record b.drivers { console = capsule; uart = line })
-told_sent b h id is_there home capsule line printed lines events flash_law holds can reads answers =
+-- the UART, as it takes bytes of a write
+abbrev sends : Inside → Answering (ArrayVec ℕ)
+sends b = record {
+  device = Uart;
+  here = Writes;
+  answer_to = sent_by b.home;
+  after = λ ids printed. record b.drivers { console = record { writes = ids; reads = b.drivers.console.reads }; uart = sending_at b.moment.time printed.items b.drivers.uart };
+  prints = λ printed. printed.items;
+}
+
+serves_sent : (b : Inside) (h : IsBoard b) → LinesFollowAnswers → EventsTellSteps → ReadsOwnFlash → Lent b.home → ServesWhoeverIsFirst b h (sends b)
+serves_sent b h lines events law lent id is_there first =
     let own : Own = own_of b.home id.slot in
     let r : Record = its_record b h id is_there in
-    let seat = its_seat b h id is_there in
     let s : Sent = sent (flash_of r) own.life own in
     let same : sent b.home.flash id.life own ≡ s =
     ap (λ (life : ℕ). sent b.home.flash life own) (sym is_there.1)
-    ∙ sent_of_own b.home.flash own.life own flash_law (its_object b h id is_there) holds
-    ∙ ap (λ (o : _). sent (only_object o b.home.flash) own.life own) seat.own.object_is in
-    let own_is : own_of home id.slot ≡ s.own = answers.1 ∙ ap (λ (x : Sent). x.own) same in
-    let printed_is : printed ≡ s.printed = ap (λ (p : Printing). p.printed) answers.2 ∙ ap (λ (x : Sent). x.printed) same in
-    let line_is : line ≡ record b.drivers.uart { free = free_after b.moment.time b.drivers.uart.ticks s.printed b.drivers.uart.free } =
-    ap (λ (p : Printing). p.line) answers.2 ∙ ap (λ (x : Sent). record b.drivers.uart { free = free_after b.moment.time b.drivers.uart.ticks x.printed b.drivers.uart.free }) same in
-    let writes_is : capsule.writes ≡ (if s.completed then without id.slot b.drivers.console.writes else b.drivers.console.writes) =
-    answers.3 ∙ ap (λ (x : Sent). if x.completed then without id.slot b.drivers.console.writes else b.drivers.console.writes) same in
-    record {
-      process = its_process b h id is_there;
-      was = its_process_was b h id is_there;
-      there = is_there.0;
-      only = answers.4;
+    ∙ sent_of_own b.home.flash own.life own law (its_object b h id is_there) (lent id.slot is_there.0)
+    ∙ ap (λ (o : _). sent (only_object o b.home.flash) own.life own) (its_seat b h id is_there).own.object_is in
+    subst (λ (x : Sent). ServesFirst b h id is_there (sends b) (record { own = x.own; device = record { items = x.printed }; completed = x.completed })) (sym same)
+    (record {
       left = left_by Writes s.completed;
-      follows = subst (FollowsAnswer (left_by Writes s.completed) own) (sym own_is) (lines.writes (flash_of r) own.life own);
-      writes = writes_is;
-      reads = reads;
-      randoms = refl;
-      stores = refl;
+      follows = lines.writes (flash_of r) own.life own;
+      lines = elim [ Writes ↦ refl | Reads ↦ refl | Randoms ↦ refl | Stores ↦ refl ];
       leds = refl;
-      size = refl;
-      ticks = ap (λ (l : SerialLine). l.ticks) line_is;
-      free = subst (λ (l : SerialLine). l.free ≤ b.moment.time + 64000) (sym line_is) (free_soon b.moment.time b.drivers.uart.ticks b.drivers.uart.free s.printed h.driven.ticks (sent_few (flash_of r) own.life own) h.driven.free);
-      counts = omega arith;
+      uart = record { ticks = refl; free = free_soon b.moment.time b.drivers.uart.ticks b.drivers.uart.free s.printed h.driven.ticks (sent_few (flash_of r) own.life own) h.driven.free };
       bytes = bytes_of b.drivers.stores.slots id.slot;
-      storage = sym (set-get_or b.drivers.stores.slots id.slot []);
+      stores = stores_stay b h id is_there;
       event = if s.completed then WriteDone else Taken;
-      may = can_send b.drivers.console.writes b.drivers.uart b.moment.time ∙ ap not (sym can);
-      deed = first_deed transmitting (world_of b) b.drivers.console.writes id r answers.0 (its_record_was b h id is_there)
-          ∙ ap Some (ap (λ (xs : List ℕ). deed_with s xs (record (devices_of b.drivers) { writes = left_of s.completed id.slot (slots_of b.drivers.console.writes); line = record b.drivers.uart { free = free_after b.moment.time b.drivers.uart.ticks s.printed b.drivers.uart.free } })) (sym printed_is)
-          ∙ ap₂ (λ (xs : List ℕ) (l : SerialLine). deed_with s printed (record (devices_of b.drivers) { writes = xs; line = l })) (sym (ap slots_of writes_is ∙ slots_left s.completed id.slot b.drivers.console.writes)) (sym line_is)
-          ∙ ap (λ (xs : List ProcessId). deed_with s printed (record (devices_of b.drivers) { writes = slots_of capsule.writes; reads = slots_of xs; line = line })) (sym reads));
-      tells = sent_applied b.moment.settings s.completed r s.own (events.writes (flash_of r) own) ∙ ap (λ (o : Own). with_own r o) (sym own_is);
-    }
-  where
-    deed_with : Sent → List ℕ → Devices → Deed
-    deed_with s printed devices = record { told = Some (record { slot = id.slot; event = if s.completed then WriteDone else Taken }); printed = printed; devices = devices }
+      deed = first_deed transmitting (world_of b) b.drivers.console.writes id r s.completed
+          (λ (slots : List ℕ). telling id.slot (if s.completed then WriteDone else Taken) s.printed (record (devices_of b.drivers) { writes = slots; line = sending_at b.moment.time s.printed b.drivers.uart }))
+          first (its_record_was b h id is_there) refl;
+      tells = sent_applied b.moment.settings s.completed r s.own (events.writes (flash_of r) own);
+    })
 
 input_applied : (settings : Settings) (bytes : List ℕ) (r : Record) (o : Own) → o ≡ input bytes r.own → apply settings (Input bytes) r ≡ with_own r o
 unfolding apply
 input_applied settings bytes r o e = ap (with_own r) (sym e)
 
--- bytes that came in went to a read
-pub told_received : (b : Inside) (h : IsBoard b) (id : ProcessId) (is_there : IsThere b.home.owns id) (home : Homes) (capsule : Waiting) (line : SerialLine)
-    → LinesFollowAnswers → EventsTellSteps
-    → false ≡ cannot_give b.drivers.console.reads b.drivers.uart
-    → capsule.writes ≡ b.drivers.console.writes
-    → Answers (received_by b.drivers.uart b.home) b.drivers.console.reads b.drivers.uart b.home (Some id) capsule.reads line home
-    → Told b Receive id.slot [] home (record b.drivers { console = capsule; uart = line })
-told_received b h id is_there home capsule line lines events can writes answers =
+-- the UART, as bytes that came in go to a read
+abbrev receives : Inside → Answering SerialLine
+receives b = record {
+  device = Receive;
+  here = Reads;
+  answer_to = received_by b.drivers.uart b.home;
+  after = λ ids line. record b.drivers { console = record { writes = b.drivers.console.writes; reads = ids }; uart = line };
+  prints = λ line. [];
+}
+
+serves_received : (b : Inside) (h : IsBoard b) → LinesFollowAnswers → EventsTellSteps → ServesWhoeverIsFirst b h (receives b)
+serves_received b h lines events id is_there first =
     let own : Own = own_of b.home id.slot in
     let r : Record = its_record b h id is_there in
-    let s : Received = received b.drivers.uart.ring own.life own in
-    let same : received b.drivers.uart.ring id.life own ≡ s = ap (λ (life : ℕ). received b.drivers.uart.ring life own) (sym is_there.1) in
-    let own_is : own_of home id.slot ≡ s.own = answers.1 ∙ ap (λ (x : Received). x.own) same in
-    let line_is : line ≡ record b.drivers.uart { ring = drop (length s.moved) b.drivers.uart.ring } =
-    answers.2 ∙ ap (λ (x : Received). record b.drivers.uart { ring = drop (length x.moved) b.drivers.uart.ring }) same in
-    let reads_is : capsule.reads ≡ (if s.completed then without id.slot b.drivers.console.reads else b.drivers.console.reads) =
-    answers.3 ∙ ap (λ (x : Received). if x.completed then without id.slot b.drivers.console.reads else b.drivers.console.reads) same in
-    record {
-      process = its_process b h id is_there;
-      was = its_process_was b h id is_there;
-      there = is_there.0;
-      only = answers.4;
+    let ring : List ℕ = b.drivers.uart.ring in
+    let s : Received = received ring own.life own in
+    subst (λ (life : ℕ). let x = received ring life own in ServesFirst b h id is_there (receives b) (record { own = x.own; device = record b.drivers.uart { ring = drop (length x.moved) ring }; completed = x.completed })) is_there.1
+    (record {
       left = left_by Reads s.completed;
-      follows = subst (FollowsAnswer (left_by Reads s.completed) own) (sym own_is) (lines.reads b.drivers.uart.ring own.life own);
-      writes = writes;
-      reads = reads_is;
-      randoms = refl;
-      stores = refl;
+      follows = lines.reads ring own.life own;
+      lines = elim [ Writes ↦ refl | Reads ↦ refl | Randoms ↦ refl | Stores ↦ refl ];
       leds = refl;
-      size = refl;
-      ticks = ap (λ (l : SerialLine). l.ticks) line_is;
-      free = subst (λ (l : SerialLine). l.free ≤ b.moment.time + 64000) (sym line_is) h.driven.free;
-      counts = omega arith;
+      uart = record { ticks = refl; free = h.driven.free };
       bytes = bytes_of b.drivers.stores.slots id.slot;
-      storage = sym (set-get_or b.drivers.stores.slots id.slot []);
+      stores = stores_stay b h id is_there;
       event = Input s.moved;
-      may = can_give b.drivers.console.reads b.drivers.uart ∙ ap not (sym can);
-      deed = first_deed receiving (world_of b) b.drivers.console.reads id r answers.0 (its_record_was b h id is_there)
-          ∙ ap Some (ap₂ (λ (xs : List ℕ) (l : SerialLine). deed_with s (record (devices_of b.drivers) { reads = xs; line = l })) (sym (ap slots_of reads_is ∙ slots_left s.completed id.slot b.drivers.console.reads)) (sym line_is)
-          ∙ ap (λ (xs : List ProcessId). deed_with s (record (devices_of b.drivers) { writes = slots_of xs; reads = slots_of capsule.reads; line = line })) (sym writes));
-      tells = input_applied b.moment.settings s.moved r s.own (events.reads b.drivers.uart.ring own) ∙ ap (λ (o : Own). with_own r o) (sym own_is);
-    }
-  where
-    deed_with : Received → Devices → Deed
-    deed_with s devices = record { told = Some (record { slot = id.slot; event = Input s.moved }); printed = []; devices = devices }
+      deed = first_deed receiving (world_of b) b.drivers.console.reads id r s.completed
+          (λ (slots : List ℕ). telling id.slot (Input s.moved) [] (record (devices_of b.drivers) { reads = slots; line = record b.drivers.uart { ring = drop (length s.moved) ring } }))
+          first (its_record_was b h id is_there) refl;
+      tells = input_applied b.moment.settings s.moved r s.own (events.reads ring own);
+    })
 
 -- what a process has as its own once a word was drawn for it, or none
 drawn_applied : (settings : Settings) (words rest : List ℕ) (r : Record) (o : Own) → o ≡ (random.answered (drawn_word words rest) r.own.life r.own).own → apply settings (drawn words rest) r ≡ with_own r o
@@ -295,47 +325,37 @@ drawn_applied settings (word ∷ words) rest r o e = by_length (length rest == l
     by_length true e = ap (with_own r) (sym e)
     by_length false e = ap (with_own r) (sym e)
 
--- a word was drawn for a request
-pub told_drawn : (b : Inside) (h : IsBoard b) (id : ProcessId) (is_there : IsThere b.home.owns id) (home : Homes) (ids : List ProcessId) (words : List ℕ)
-    → LinesFollowAnswers → EventsTellSteps
-    → Answers (random_to b.drivers.words b.home) b.drivers.random b.drivers.words b.home (Some id) ids words home
-    → Told b Random id.slot [] home (record b.drivers { random = ids; words = words })
-told_drawn b h id is_there home ids words lines events answers =
+-- the source of random bytes, as it answers a request
+abbrev draws : Inside → Answering (List ℕ)
+draws b = record {
+  device = Random;
+  here = Randoms;
+  answer_to = random_to b.drivers.words b.home;
+  after = λ ids words. record b.drivers { random = record { waiting = ids }; words = words };
+  prints = λ words. [];
+}
+
+serves_drawn : (b : Inside) (h : IsBoard b) → LinesFollowAnswers → EventsTellSteps → ServesWhoeverIsFirst b h (draws b)
+serves_drawn b h lines events id is_there first =
     let own : Own = own_of b.home id.slot in
     let r : Record = its_record b h id is_there in
-    let s : random.Answered = random.answered b.drivers.words own.life own in
-    let same : random.answered b.drivers.words id.life own ≡ s = ap (λ (life : ℕ). random.answered b.drivers.words life own) (sym is_there.1) in
-    let own_is : own_of home id.slot ≡ s.own = answers.1 ∙ ap (λ (x : random.Answered). x.own) same in
-    let words_is : words ≡ s.words = answers.2 ∙ ap (λ (x : random.Answered). x.words) same in
-    let ids_is : ids ≡ (if s.completed then without id.slot b.drivers.random else b.drivers.random) =
-    answers.3 ∙ ap (λ (x : random.Answered). if x.completed then without id.slot b.drivers.random else b.drivers.random) same in
-    record {
-      process = its_process b h id is_there;
-      was = its_process_was b h id is_there;
-      there = is_there.0;
-      only = answers.4;
+    let words : List ℕ = b.drivers.words in
+    let s : random.Answered = random.answered words own.life own in
+    subst (λ (life : ℕ). let x = random.answered words life own in ServesFirst b h id is_there (draws b) (record { own = x.own; device = x.words; completed = x.completed })) is_there.1
+    (record {
       left = left_by Randoms s.completed;
-      follows = subst (FollowsAnswer (left_by Randoms s.completed) own) (sym own_is) (lines.randoms b.drivers.words own.life own);
-      writes = refl;
-      reads = refl;
-      randoms = ids_is;
-      stores = refl;
+      follows = lines.randoms words own.life own;
+      lines = elim [ Writes ↦ refl | Reads ↦ refl | Randoms ↦ refl | Stores ↦ refl ];
       leds = refl;
-      size = refl;
-      ticks = refl;
-      free = h.driven.free;
-      counts = omega arith;
+      uart = uart_stays b h id is_there;
       bytes = bytes_of b.drivers.stores.slots id.slot;
-      storage = sym (set-get_or b.drivers.stores.slots id.slot []);
-      event = drawn b.drivers.words s.words;
-      may = some_wait b.drivers.random id answers.0;
-      deed = first_deed drawing (world_of b) b.drivers.random id r answers.0 (its_record_was b h id is_there)
-          ∙ ap Some (ap₂ (λ (xs ws : List ℕ). deed_with s (record (devices_of b.drivers) { randoms = xs; words = ws })) (sym (ap slots_of ids_is ∙ slots_left s.completed id.slot b.drivers.random)) (sym words_is));
-      tells = drawn_applied b.moment.settings b.drivers.words s.words r s.own (events.randoms b.drivers.words own) ∙ ap (λ (o : Own). with_own r o) (sym own_is);
-    }
-  where
-    deed_with : random.Answered → Devices → Deed
-    deed_with s devices = record { told = Some (record { slot = id.slot; event = drawn b.drivers.words s.words }); printed = []; devices = devices }
+      stores = stores_stay b h id is_there;
+      event = drawn words s.words;
+      deed = first_deed drawing (world_of b) b.drivers.random.waiting id r s.completed
+          (λ (slots : List ℕ). telling id.slot (drawn words s.words) [] (record (devices_of b.drivers) { randoms = slots; words = s.words }))
+          first (its_record_was b h id is_there) refl;
+      tells = drawn_applied b.moment.settings words s.words r s.own (events.randoms words own);
+    })
 
 -- the answer to a request, if there is one
 abbrev answer_to : Bool → List ℕ → List ℕ → Own → Option StorageRequest → storage.Answered
@@ -369,15 +389,20 @@ unfolding apply
 stored_applied settings true r = refl
 stored_applied settings false r = refl
 
--- a request to the storage was served, or failed
-pub told_stored : (b : Inside) (h : IsBoard b) (id : ProcessId) (is_there : IsThere b.home.owns id) (home : Homes) (ids : List ProcessId) (s' : Storage)
-    → LinesFollowAnswers → ReadsOwnFlash → HoldsInPlace (own_of b.home id.slot)
-    → Answers (storage_to b.drivers.stores b.home) b.drivers.storage b.drivers.stores b.home (Some id) ids s' home
-    → Told b Store id.slot [] home (record b.drivers { storage = ids; stores = s' })
-told_stored b h id is_there home ids s' lines flash_law holds answers =
+-- the storage, as it serves a request
+abbrev stores : Inside → Answering Storage
+stores b = record {
+  device = Store;
+  here = Stores;
+  answer_to = storage_to b.drivers.stores b.home;
+  after = λ ids s. record b.drivers { storage = record { waiting = ids }; stores = s };
+  prints = λ s. [];
+}
+
+serves_stored : (b : Inside) (h : IsBoard b) → LinesFollowAnswers → ReadsOwnFlash → Lent b.home → ServesWhoeverIsFirst b h (stores b)
+serves_stored b h lines law lent id is_there first =
     let own : Own = own_of b.home id.slot in
     let r : Record = its_record b h id is_there in
-    let seat = its_seat b h id is_there in
     let s : Storage = b.drivers.stores in
     let few : s.served < 2 ^ 32 = omega (arith, h.served, h.steps) in
     let fails : Bool = is_fault s.faults (s.served + 1) in
@@ -386,44 +411,27 @@ told_stored b h id is_there home ids s' lines flash_law holds answers =
     let same : storage.answered (fails_next s) b.home.flash bytes id.life own ≡ a =
     ap (λ (n : ℕ). storage.answered (is_fault s.faults n) b.home.flash bytes id.life own) (counted_next s.served few)
     ∙ ap (λ (life : ℕ). storage.answered fails b.home.flash bytes life own) (sym is_there.1)
-    ∙ answered_of_own fails b.home.flash bytes own.life own flash_law (its_object b h id is_there) holds
-    ∙ ap (λ (o : _). storage.answered fails (only_object o b.home.flash) bytes own.life own) seat.own.object_is in
-    let own_is : own_of home id.slot ≡ a.own = answers.1 ∙ ap (λ (x : storage.Answered). x.own) same in
-    let after : s' ≡ (if a.completed then stored id.slot a.written (after_count s) else s) =
-    answers.2 ∙ ap (λ (x : storage.Answered). if x.completed then stored id.slot x.written (after_count s) else s) same in
+    ∙ answered_of_own fails b.home.flash bytes own.life own law (its_object b h id is_there) (lent id.slot is_there.0)
+    ∙ ap (λ (o : _). storage.answered fails (only_object o b.home.flash) bytes own.life own) (its_seat b h id is_there).own.object_is in
+    let s' : Storage = if a.completed then stored id.slot a.written (after_count s) else s in
     let kept = kept_beside s id.slot a.completed a.written few in
-    let counts : s'.served ≡ (if a.completed then s.served + 1 else s.served) = ap (λ (x : Storage). x.served) after ∙ kept.2 in
-    let ids_is : ids ≡ (if a.completed then without id.slot b.drivers.storage else b.drivers.storage) =
-    answers.3 ∙ ap (λ (x : storage.Answered). if x.completed then without id.slot b.drivers.storage else b.drivers.storage) same in
-    record {
-      process = its_process b h id is_there;
-      was = its_process_was b h id is_there;
-      there = is_there.0;
-      only = answers.4;
+    subst (λ (x : storage.Answered). ServesFirst b h id is_there (stores b) (record { own = x.own; device = if x.completed then stored id.slot x.written (after_count s) else s; completed = x.completed })) (sym same)
+    (record {
       left = left_by Stores a.completed;
-      follows = subst (FollowsAnswer (left_by Stores a.completed) own) (sym own_is) (lines.stores fails (flash_of r) bytes own.life own);
-      writes = refl;
-      reads = refl;
-      randoms = refl;
-      stores = ids_is;
+      follows = lines.stores fails (flash_of r) bytes own.life own;
+      lines = elim [ Writes ↦ refl | Reads ↦ refl | Randoms ↦ refl | Stores ↦ refl ];
       leds = refl;
-      size = ap (λ (x : Storage). x.size) after ∙ kept.0;
-      ticks = refl;
-      free = h.driven.free;
-      counts = at_most_one a.completed s.served s'.served counts;
+      uart = uart_stays b h id is_there;
       bytes = written_over bytes a.written;
-      storage = ap (λ (x : Storage). x.slots) after ∙ slots_after s id.slot a.completed a.written (not_written fails (flash_of r) bytes own.life own);
+      stores = record { size = kept.0; counts = at_most_one a.completed s.served s'.served kept.2; slots = slots_after s id.slot a.completed a.written (not_written fails (flash_of r) bytes own.life own) };
       event = Stored (not fails);
-      may = some_wait b.drivers.storage id answers.0;
-      deed = first_deed storing (world_of b) b.drivers.storage id r answers.0 (its_record_was b h id is_there)
-          ∙ ap Some (ap₂ (λ (xs : List ℕ) (n : ℕ). deed_with fails (record (devices_of b.drivers) { stores = xs; served = n })) (sym (ap slots_of ids_is ∙ slots_left a.completed id.slot b.drivers.storage)) (sym counts)
-          ∙ ap (λ (fs : List ℕ). deed_with fails (record (devices_of b.drivers) { stores = slots_of ids; served = s'.served; faults = fs })) (sym (ap (λ (x : Storage). x.faults) after ∙ kept.1)));
-      tells = stored_applied b.moment.settings fails r ∙ ap (λ (o : Own). record r { own = o; storage = written_over bytes a.written }) (sym own_is);
-    }
+      deed = first_deed storing (world_of b) b.drivers.storage.waiting id r a.completed
+          (λ (slots : List ℕ). telling id.slot (Stored (not fails)) [] (record (devices_of b.drivers) { stores = slots; served = if a.completed then s.served + 1 else s.served }))
+          first (its_record_was b h id is_there) refl
+          ∙ ap Some (ap₂ (λ (n : ℕ) (faults : List ℕ). telling id.slot (Stored (not fails)) [] (record (devices_of b.drivers) { stores = slots_of (waiting_still a.completed id.slot b.drivers.storage.waiting); served = n; faults = faults })) (sym kept.2) (sym kept.1));
+      tells = stored_applied b.moment.settings fails r;
+    })
   where
-    deed_with : Bool → Devices → Deed
-    deed_with fails devices = record { told = Some (record { slot = id.slot; event = Stored (not fails) }); printed = []; devices = devices }
-
     at_most_one : (c : Bool) (n m : ℕ) → m ≡ (if c then n + 1 else n) → m ≤ n + 1
     at_most_one true n m e = omega (arith, e)
     at_most_one false n m e = omega (arith, e)
@@ -433,43 +441,31 @@ unfolding apply
 alarm_applied settings now r = refl
 
 -- the alarm of the lowest slot whose alarm is due fired
-pub told_alarmed : (b : Inside) (h : IsBoard b) (id : ProcessId) (home : Homes) → let now = clock_at b.moment.settings.start b.moment.time in
-    LinesFollowAnswers → DueSlotIsThere → owns_in (world_of b) ≡ b.home.owns
-    → alarm_capsule.Answers now b.home (Some id) home
-    → Told b Alarm id.slot [] home b.drivers
-told_alarmed b h id home lines law owns answers =
+serves_alarmed : (b : Inside) (h : IsBoard b) (id : ProcessId) (is_there : IsThere b.home.owns id) → let now = clock_at b.moment.settings.start b.moment.time in
+    LinesFollowAnswers → due_slot now (owns_in (world_of b)) ≡ Some id.slot
+    → Serves b (its_process b h id is_there) Alarm id.slot [] (answered now (own_of b.home id.slot)) b.drivers
+serves_alarmed b h id is_there lines due =
     let now : ℕ = clock_at b.moment.settings.start b.moment.time in
-    let there : IsThere b.home.owns id = (law now id.slot b.home.owns answers.0, sym answers.1) in
-    let own : Own = own_of b.home id.slot in
-    let r : Record = its_record b h id there in
-    let due : due_slot now (owns_in (world_of b)) ≡ Some id.slot = ap (due_slot now) owns ∙ answers.0 in
     record {
-      process = its_process b h id there;
-      was = its_process_was b h id there;
-      there = there.0;
-      only = answers.3;
       left = λ line. false;
-      follows = subst (FollowsAnswer (λ line. false) own) (sym answers.2) (lines.alarms now own);
-      writes = refl;
-      reads = refl;
-      randoms = refl;
-      stores = refl;
+      follows = lines.alarms now (own_of b.home id.slot);
+      lines = λ line. refl;
       leds = refl;
-      size = refl;
-      ticks = refl;
-      free = h.driven.free;
-      counts = omega arith;
+      uart = uart_stays b h id is_there;
       bytes = bytes_of b.drivers.stores.slots id.slot;
-      storage = sym (set-get_or b.drivers.stores.slots id.slot []);
+      stores = stores_stay b h id is_there;
       event = Alarmed now;
-      may = ap is_some due;
       deed = ap (option_map (alarmed (world_of b))) due;
-      tells = alarm_applied b.moment.settings now r ∙ ap (λ (o : Own). with_own r o) (sym answers.2);
+      tells = alarm_applied b.moment.settings now (its_record b h id is_there);
     }
 
 -- what a device did, by which device it is
 pub acted_by : (b : Inside) (device is : Dev) (o : Option ProcessId) (printed : List ℕ) (home : Homes) (d : Drivers) → device ≡ is → Acted b is o printed home d → Acted b device o printed home d
 acted_by b device is o printed home d e acted = subst (λ (x : Dev). Acted b x o printed home d) (sym e) acted
+
+-- nothing was printed
+acted_silent : (b : Inside) (device : Dev) (o : Option ProcessId) (home : Homes) (d : Drivers) (printed : List ℕ) → printed ≡ [] → Acted b device o [] home d → Acted b device o printed home d
+acted_silent b device o home d printed empty acted = subst (λ (xs : List ℕ). Acted b device o xs home d) (sym empty) acted
 
 -- What each device does where it is to act: it serves the first of those that wait, or may not act, and then nothing
 -- changes.
@@ -483,69 +479,53 @@ acts_alarmed b h None home lines law answers printed empty = (
   refl,
 )
 acts_alarmed b h (Some id) home lines law answers printed empty =
-    subst (λ (xs : List ℕ). Told b Alarm id.slot xs home b.drivers) (sym empty) (told_alarmed b h id home lines law (owns_in_world b h) answers)
+    let now : ℕ = clock_at b.moment.settings.start b.moment.time in
+    let there : IsThere b.home.owns id = (law now id.slot b.home.owns answers.0, sym answers.1) in
+    let due : due_slot now (owns_in (world_of b)) ≡ Some id.slot = ap (due_slot now) (owns_in_world b h) ∙ answers.0 in
+    acted_silent b Alarm (Some id) home b.drivers printed empty
+    (told_by b h id there Alarm [] (answered now (own_of b.home id.slot)) home b.drivers answers.3 answers.2 (ap is_some due) (serves_alarmed b h id there lines due))
 
--- each buffer that a process holds may be lent
-abbrev Lent : Homes → Type 0
-Lent home = (slot : ℕ) → slot < length home.owns → HoldsInPlace (own_of home slot)
-
-pub acts_sent : (b : Inside) (h : IsBoard b) (o : Option ProcessId) (home : Homes) (capsule : Waiting) (line : SerialLine) (printed : List ℕ)
-    → LinesFollowAnswers → EventsTellSteps → ReadsOwnFlash → Lent b.home
+pub acts_sent : (b : Inside) (h : IsBoard b) (o : Option ProcessId) (home : Homes) (capsule : ConsoleCapsule) (line : SerialLine) (printed : ArrayVec ℕ)
+    → LinesFollowAnswers → EventsTellSteps → ReadsOwnFlash → Lent b.home → (before : ArrayVec ℕ) → before.items ≡ []
     → is_none o ≡ cannot_send b.drivers.console.writes b.drivers.uart b.moment.time
+    → Answers (sent_by b.home) b.drivers.console.writes before b.home o capsule.writes printed home
+    → line ≡ sending_at b.moment.time printed.items b.drivers.uart
     → capsule.reads ≡ b.drivers.console.reads
-    → Answers (sent_by b.drivers.uart b.moment.time b.home) b.drivers.console.writes (record { line = b.drivers.uart; printed = [] }) b.home o capsule.writes (record { line = line; printed = printed }) home
-    → Acted b Uart o printed home (record b.drivers { console = capsule; uart = line })
-acts_sent b h None home capsule line printed lines events law lent can reads answers = (
-  can_send b.drivers.console.writes b.drivers.uart b.moment.time ∙ ap not (sym can),
-  answers.2,
-  ap₂ (λ (ws rs : List ProcessId). record b.drivers { console = record { writes = ws; reads = rs }; uart = line }) answers.0 reads
-      ∙ ap (λ (p : Printing). record b.drivers { uart = p.line }) answers.1,
-)
-acts_sent b h (Some id) home capsule line printed lines events law lent can reads answers =
-    let there : IsThere b.home.owns id = first_is (IsThere b.home.owns) b.drivers.console.writes id answers.0 h.driven.writes.there in
-    told_sent b h id there home capsule line printed lines events law (lent id.slot there.0) can reads answers
+    → Acted b Uart o printed.items home (record b.drivers { console = capsule; uart = line })
+acts_sent b h o home capsule line printed lines events law lent before empty can answers uart reads =
+    subst (λ (xs : List ProcessId). Acted b Uart o printed.items home (record b.drivers { console = record { writes = capsule.writes; reads = xs }; uart = line })) (sym reads)
+    (subst (λ (l : SerialLine). Acted b Uart o printed.items home (record b.drivers { console = record { writes = capsule.writes; reads = b.drivers.console.reads }; uart = l })) (sym uart)
+    (acts_on b h (sends b) before (ap (λ (xs : List ℕ). record b.drivers { uart = sending_at b.moment.time xs b.drivers.uart }) empty) (serves_sent b h lines events law lent)
+    o home capsule.writes printed (can_send b.drivers.console.writes b.drivers.uart b.moment.time ∙ ap not (sym can)) answers))
 
-pub acts_received : (b : Inside) (h : IsBoard b) (o : Option ProcessId) (home : Homes) (capsule : Waiting) (line : SerialLine)
+pub acts_received : (b : Inside) (h : IsBoard b) (o : Option ProcessId) (home : Homes) (capsule : ConsoleCapsule) (line : SerialLine)
     → LinesFollowAnswers → EventsTellSteps
     → is_none o ≡ cannot_give b.drivers.console.reads b.drivers.uart
-    → capsule.writes ≡ b.drivers.console.writes
     → Answers (received_by b.drivers.uart b.home) b.drivers.console.reads b.drivers.uart b.home o capsule.reads line home
+    → capsule.writes ≡ b.drivers.console.writes
     → (printed : List ℕ) → printed ≡ [] → Acted b Receive o printed home (record b.drivers { console = capsule; uart = line })
-acts_received b h None home capsule line lines events can writes answers printed empty = (
-  can_give b.drivers.console.reads b.drivers.uart ∙ ap not (sym can),
-  answers.2,
-  ap₂ (λ (ws rs : List ProcessId). record b.drivers { console = record { writes = ws; reads = rs }; uart = line }) writes answers.0
-      ∙ ap (λ (l : SerialLine). record b.drivers { uart = l }) answers.1,
-)
-acts_received b h (Some id) home capsule line lines events can writes answers printed empty =
-    let there : IsThere b.home.owns id = first_is (IsThere b.home.owns) b.drivers.console.reads id answers.0 h.driven.reads.there in
-    subst (λ (xs : List ℕ). Told b Receive id.slot xs home (record b.drivers { console = capsule; uart = line })) (sym empty)
-    (told_received b h id there home capsule line lines events can writes answers)
+acts_received b h o home capsule line lines events can answers writes printed empty =
+    acted_silent b Receive o home _ printed empty
+    (subst (λ (xs : List ProcessId). Acted b Receive o [] home (record b.drivers { console = record { writes = xs; reads = capsule.reads }; uart = line })) (sym writes)
+    (acts_on b h (receives b) b.drivers.uart refl (serves_received b h lines events)
+    o home capsule.reads line (can_give b.drivers.console.reads b.drivers.uart ∙ ap not (sym can)) answers))
 
-pub acts_drawn : (b : Inside) (h : IsBoard b) (o : Option ProcessId) (home : Homes) (ids : List ProcessId) (words : List ℕ)
+pub acts_drawn : (b : Inside) (h : IsBoard b) (o : Option ProcessId) (home : Homes) (capsule : RandomCapsule) (words : List ℕ)
     → LinesFollowAnswers → EventsTellSteps
-    → random_capsule.Answers b.drivers.random b.drivers.words b.home o ids words home
-    → (printed : List ℕ) → printed ≡ [] → Acted b Random o printed home (record b.drivers { random = ids; words = words })
-acts_drawn b h None home ids words lines events answers printed empty = (
-  none_waits b.drivers.random answers.0,
-  answers.1.2,
-  ap₂ (λ (xs : List ProcessId) (ws : List ℕ). record b.drivers { random = xs; words = ws }) answers.1.0 answers.1.1,
-)
-acts_drawn b h (Some id) home ids words lines events answers printed empty =
-    let there : IsThere b.home.owns id = first_is (IsThere b.home.owns) b.drivers.random id answers.1.0 h.driven.randoms.there in
-    subst (λ (xs : List ℕ). Told b Random id.slot xs home (record b.drivers { random = ids; words = words })) (sym empty)
-    (told_drawn b h id there home ids words lines events answers.1)
+    → IfNone o (b.drivers.random.waiting ≡ [])
+    → Answers (random_to b.drivers.words b.home) b.drivers.random.waiting b.drivers.words b.home o capsule.waiting words home
+    → (printed : List ℕ) → printed ≡ [] → Acted b Random o printed home (record b.drivers { random = capsule; words = words })
+acts_drawn b h o home capsule words lines events none answers printed empty =
+    acted_silent b Random o home _ printed empty
+    (acts_on b h (draws b) b.drivers.words refl (serves_drawn b h lines events)
+    o home capsule.waiting words (waited_for (random_to b.drivers.words b.home) b.drivers.random.waiting b.drivers.words b.home o capsule.waiting words home none answers) answers)
 
-pub acts_stored : (b : Inside) (h : IsBoard b) (o : Option ProcessId) (home : Homes) (ids : List ProcessId) (stores : Storage)
+pub acts_stored : (b : Inside) (h : IsBoard b) (o : Option ProcessId) (home : Homes) (capsule : StorageCapsule) (bytes : Storage)
     → LinesFollowAnswers → ReadsOwnFlash → Lent b.home
-    → storage_capsule.Answers b.drivers.storage b.drivers.stores b.home o ids stores home
-    → (printed : List ℕ) → printed ≡ [] → Acted b Store o printed home (record b.drivers { storage = ids; stores = stores })
-acts_stored b h None home ids stores lines law lent answers printed empty = (
-  none_waits b.drivers.storage answers.0,
-  answers.1.2,
-  ap₂ (λ (xs : List ProcessId) (s : Storage). record b.drivers { storage = xs; stores = s }) answers.1.0 answers.1.1,
-)
-acts_stored b h (Some id) home ids stores lines law lent answers printed empty =
-    let there : IsThere b.home.owns id = first_is (IsThere b.home.owns) b.drivers.storage id answers.1.0 h.driven.stores.there in
-    subst (λ (xs : List ℕ). Told b Store id.slot xs home (record b.drivers { storage = ids; stores = stores })) (sym empty)
-    (told_stored b h id there home ids stores lines law (lent id.slot there.0) answers.1)
+    → IfNone o (b.drivers.storage.waiting ≡ [])
+    → Answers (storage_to b.drivers.stores b.home) b.drivers.storage.waiting b.drivers.stores b.home o capsule.waiting bytes home
+    → (printed : List ℕ) → printed ≡ [] → Acted b Store o printed home (record b.drivers { storage = capsule; stores = bytes })
+acts_stored b h o home capsule bytes lines law lent none answers printed empty =
+    acted_silent b Store o home _ printed empty
+    (acts_on b h (stores b) b.drivers.stores refl (serves_stored b h lines law lent)
+    o home capsule.waiting bytes (waited_for (storage_to b.drivers.stores b.home) b.drivers.storage.waiting b.drivers.stores b.home o capsule.waiting bytes home none answers) answers)

@@ -1,6 +1,6 @@
 -- Quiet turns of a process, and what they leave of a board.
-use Rattle.std.proofs.Common.{◌≡◌, ℕ, zero, suc, ◌+◌, ◌<◌, ◌≤◌, Bool, true, false, List, [], ◌∷◌, length, map, slice_get, slice_set, All, Option, None, Some, refl, sym, ap, ap₂, subst, ◌∙◌, arith}
-use Rattle.tk_base.specs.declared.regs.Regs.{Regs}
+use Rattle.std.proofs.Common.{◌≡◌, ℕ, zero, suc, ◌+◌, ◌-◌, ◌<◌, ◌≤◌, Bool, true, false, List, [], ◌∷◌, length, map, slice_get, slice_set, All, Option, None, Some, refl, sym, ap, ap₂, subst, ◌∙◌, arith}
+use Rattle.tk_base.specs.Regs.{Registers}
 use Rattle.rv32_model.specs.declared.turn_end.TurnEnd.TheVariants.{Went}
 use Rattle.process_own.specs.Own.{Own}
 use Rattle.process_own.specs.Instruction.{with_write}
@@ -12,13 +12,16 @@ use Rattle.kernel_model.specs.Record.{Record, byte_at, instruction}
 use Rattle.kernel_model.specs.Stretch.{AllGo, after_instructions, executed}
 use Rattle.std.specs.Prelude.{IfSome}
 use Rattle.std.specs.List.{zip}
-use Rattle.std.specs.Option.{option_map}
-use Rattle.std.proofs.lemmas.List.{get_or-set_same, length-set, map-set}
+use Rattle.std.specs.Option.{option_map, option_or}
+use Rattle.std.proofs.lemmas.List.{get_or-set_same, length-set, map-set, set-get_or}
 use Rattle.std.proofs.lemmas.List.Elements.{All-set}
 use Rattle.std.proofs.lemmas.Option.{get_or_from_slice_get, slice_get-get_or, slice_get-map, slice_get_within}
 use Rattle.tk_base.specs.declared.limits.TheConstants.{STEP_LIMIT}
 use Rattle.tk_base.specs.declared.process.ProcessId.{ProcessId}
-use Rattle.turn_scheduler.specs.RoundRobin.{ready_device}
+use Rattle.tk_base.specs.declared.process.Choice.{Choice}
+use Rattle.tk_base.specs.declared.process.Choice.TheVariants.{Run, Device, Pass}
+use Rattle.tk_base.specs.declared.process.Dev.{Dev}
+use Rattle.turn_scheduler.specs.RoundRobin.{choice, next_slot, ready_device, used_after}
 use Rattle.process_record.specs.declared.process.State.{State}
 use Rattle.process_record.specs.declared.process.State.TheVariants.{Running, Yielded, Faulted, Terminated}
 use Rattle.driver_model.specs.Console.{console_reads, console_writes}
@@ -29,8 +32,8 @@ use Rattle.driver_model.specs.Storage.{storages}
 use Rattle.grant_enter.specs.Homes.{Homes, nobody}
 use Rattle.kernel_model.specs.declared.settings.Settings.{Settings}
 use Rattle.kernel_model.specs.Laws.{NextLiesAhead}
-use Rattle.kernel_model.specs.Run.{next_time as world_next_time, ready_devices}
-use Rattle.kernel_model.specs.Stretch.{GoesOn, IsStretch, NoneActs, RoundIsStretch, after_stretch}
+use Rattle.kernel_model.specs.Run.{next, next_time as world_next_time, ready_devices, ready_slots}
+use Rattle.kernel_model.specs.Stretch.{GoesOn, IsStretch, NoneActs, NoneIsStretch, PresentStaysOn, RoundIsStretch, after_stretch, at_turn}
 use Rattle.kernel_model.specs.World.{World, owns_in}
 use Rattle.board_core.specs.Calm.{HasCome, IsCalm, ServesNobody, coming}
 use Rattle.board_core.specs.declared.board.Board.TheInside.{Inside}
@@ -57,7 +60,7 @@ own_after zero r = refl
 own_after (suc j) r = own_after j (executed r)
 
 -- a process after so many instructions, which left it these registers
-abbrev pub later_process : Process → ℕ → Regs → Process
+abbrev pub later_process : Process → ℕ → Registers → Process
 later_process p k regs = record p { regs = regs; turns = p.turns + k }
 
 none_more : (n : ℕ) → n + 0 ≡ n
@@ -67,7 +70,7 @@ one_then : (n k : ℕ) → n + 1 + k ≡ n + suc k
 one_then n k = omega arith
 
 -- instructions that each went are those of the record, and lead it to what they left
-pub record Follows (k : ℕ) (flash : List ℕ) (p : Process) (own own' : Own) (later : Regs) (storage : List ℕ) : Type 0 where
+pub record Follows (k : ℕ) (flash : List ℕ) (p : Process) (own own' : Own) (later : Registers) (storage : List ℕ) : Type 0 where
   pub go : AllGo k (record_in flash p own storage)
   pub leads : record_in flash (later_process p k later) own' storage ≡ after_instructions k (record_in flash p own storage)
 
@@ -76,12 +79,12 @@ unfolding after_instructions
 first_and_rest k r first rest zero h = first
 first_and_rest k r first rest (suc j) h = rest j (omega (arith, h))
 
-pub follows : (k : ℕ) (flash : List ℕ) (p : Process) (own own' : Own) (later : Regs) (storage : List ℕ) → IsOwnObject flash p.object own.layout → MakesAll k flash own p.regs own' later → Follows k flash p own own' later storage
+pub follows : (k : ℕ) (flash : List ℕ) (p : Process) (own own' : Own) (later : Registers) (storage : List ℕ) → IsOwnObject flash p.object own.layout → MakesAll k flash own p.regs own' later → Follows k flash p own own' later storage
 unfolding MakesAll after_instructions
 follows zero flash p own own' later storage object m = record {
   go = λ j h. absurd (omega (arith, h));
   leads =
-      ap₂ (λ (o : Own) (regs : Regs). record_in flash (later_process p 0 regs) o storage) m.0 m.1
+      ap₂ (λ (o : Own) (regs : Registers). record_in flash (later_process p 0 regs) o storage) m.0 m.1
       ∙ ap (λ (n : ℕ). record_in flash (record p { turns = n }) own storage) (none_more p.turns);
 }
 follows (suc k) flash p own own' later storage object m =
@@ -95,14 +98,14 @@ follows (suc k) flash p own own' later storage object m =
     }
 
 -- what is then its own is what it was but for its RAM
-pub left_own : (k : ℕ) (flash : List ℕ) (p : Process) (own own' : Own) (later : Regs) → IsOwnObject flash p.object own.layout → MakesAll k flash own p.regs own' later → own' ≡ record own { ram = own'.ram }
+pub left_own : (k : ℕ) (flash : List ℕ) (p : Process) (own own' : Own) (later : Registers) → IsOwnObject flash p.object own.layout → MakesAll k flash own p.regs own' later → own' ≡ record own { ram = own'.ram }
 left_own k flash p own own' later object m =
     let led = (follows k flash p own own' later [] object m).leads in
     let after : own' ≡ (after_instructions k (record_in flash p own [])).own = ap (λ (r : Record). r.own) led in
     after ∙ own_after k (record_in flash p own []) ∙ ap (λ (o : Own). record own { ram = o.ram }) (sym after)
 
 -- so a process is as it is to be, so many steps later
-pub later_seated : (flash : List ℕ) (steps k : ℕ) (p : Process) (own own' : Own) (later : Regs) → own' ≡ record own { ram = own'.ram } → IsSeated flash steps (p, own) → IsSeated flash (steps + k) (later_process p k later, own')
+pub later_seated : (flash : List ℕ) (steps k : ℕ) (p : Process) (own own' : Own) (later : Registers) → own' ≡ record own { ram = own'.ram } → IsSeated flash steps (p, own) → IsSeated flash (steps + k) (later_process p k later, own')
 later_seated flash steps k p own own' later same s =
     subst (λ (o : Own). IsSeated flash (steps + k) (later_process p k later, o)) (sym same) (record {
       own = record { object = s.own.object; object_is = s.own.object_is; lives = s.own.lives; life = s.own.life };
@@ -111,7 +114,7 @@ later_seated flash steps k p own own' later same s =
     })
 
 -- and its turns are quiet ones
-pub quietly : (k most : ℕ) (flash : List ℕ) (p : Process) (own own' : Own) (later : Regs) → IsOwnObject flash p.object own.layout → MakesAll k flash own p.regs own' later → (k < most → IsStopped flash own' later) → Quietly k most flash (p, own) (later_process p k later, own')
+pub quietly : (k most : ℕ) (flash : List ℕ) (p : Process) (own own' : Own) (later : Registers) → IsOwnObject flash p.object own.layout → MakesAll k flash own p.regs own' later → (k < most → IsStopped flash own' later) → Quietly k most flash (p, own) (later_process p k later, own')
 quietly k most flash p own own' later object m stops = record {
   go = λ storage. (follows k flash p own own' later storage object m).go;
   leads = λ storage. (follows k flash p own own' later storage object m).leads;
@@ -132,8 +135,8 @@ pub ram_driven : (settings : Settings) (time later slot : ℕ) (owns : List Own)
 ram_driven settings time later slot owns d own ram was passes h = record {
   writes = line_is console_writes d.console.writes h.writes;
   reads = line_is console_reads d.console.reads h.reads;
-  randoms = line_is randoms d.random h.randoms;
-  stores = line_is storages d.storage h.stores;
+  randoms = line_is randoms d.random.waiting h.randoms;
+  stores = line_is storages d.storage.waiting h.stores;
   within = All-set (IsWithin settings.storage) owns slot (record own { ram = ram }) (subst (IsWithin settings.storage) (get_or_from_slice_get owns slot own nobody was) (h.within slot nobody (slice_get_within owns slot own was))) h.within;
   leds = h.leds;
   size = h.size;
@@ -169,6 +172,44 @@ pub record StillHolds (b : Inside) (k : ℕ) (home : Homes) (processes : List Pr
   pub driven : AreDriven b.moment.settings (b.moment.time + k) home.owns b.drivers
   pub calm : IsCalm b.moment.settings.start (b.moment.time + k) b.calm home.owns b.drivers
 
+set-same : {X : Type 0} (xs : List X) (i : ℕ) (x : X) → slice_get xs i ≡ Some x → slice_set xs i x ≡ xs
+set-same xs i x e = ap (slice_set xs i) (sym (get_or_from_slice_get xs i x x e)) ∙ set-get_or xs i x
+
+-- one slot has the next turn
+same_slot : (slot other : ℕ) → ◌≡◌ {A = Option Choice} (Some (Run slot)) (Some (Run other)) → slot ≡ other
+same_slot slot other e = cc
+
+-- where a process has the next turn, no device step is ready
+pub chosen_in_calm : (w : World) (slot : ℕ) → next w ≡ Some (Run slot) → ready_device (ready_devices w) ≡ None
+unfolding next choice
+chosen_in_calm w slot f = by_device (ready_device (ready_devices w)) refl f
+  where
+    others : Option Choice
+    others = option_or (option_map Run (next_slot (ready_slots w) w.present.slot w.present.used w.pace.slice)) (option_map (λ at. Pass (at - w.clock.time)) (world_next_time w))
+
+    by_device : (o : Option Dev) → ready_device (ready_devices w) ≡ o → option_or (option_map Device o) others ≡ Some (Run slot) → ready_device (ready_devices w) ≡ None
+    by_device None e h = e
+    by_device (Some device) e h = cc
+
+-- and it is the one that the scheduler says
+chosen_slot : (w : World) (slot : ℕ) → next w ≡ Some (Run slot) → next_slot (ready_slots w) w.present.slot w.present.used w.pace.slice ≡ Some slot
+unfolding next choice
+chosen_slot w slot f = by_both (ready_device (ready_devices w)) (next_slot (ready_slots w) w.present.slot w.present.used w.pace.slice) (world_next_time w) refl f
+  where
+    by_both : (o : Option Dev) (q at : Option ℕ) → next_slot (ready_slots w) w.present.slot w.present.used w.pace.slice ≡ q
+        → option_or (option_map Device o) (option_or (option_map Run q) (option_map (λ n. Pass (n - w.clock.time)) at)) ≡ Some (Run slot)
+        → next_slot (ready_slots w) w.present.slot w.present.used w.pace.slice ≡ Some slot
+    by_both (Some device) q at e h = cc
+    by_both None (Some other) at e h = let same : other ≡ slot = cc in e ∙ ap Some same
+    by_both None None (Some n) e h = cc
+    by_both None None None e h = cc
+
+-- instructions leave a process that runs running
+still_runs : (j : ℕ) (r : Record) → (after_instructions j r).process.state ≡ r.process.state
+unfolding after_instructions
+still_runs zero r = refl
+still_runs (suc j) r = still_runs j (executed r)
+
 module _ (b : Inside) (board : IsBoard b) where
   -- a board of which nobody is served at once, and no device step is to come by now, does not have one that is ready
   pub nothing_comes : ready_device (ready_devices (world_of b)) ≡ None → NextLiesAhead
@@ -189,19 +230,19 @@ module _ (b : Inside) (board : IsBoard b) where
       ∙ slice_get-map (λ (r : Resident). r.0) (residents b) slot
       ∙ sym (get-firsts b.processes.items b.home.owns slot board.owns)
 
-  -- where the present slot's process does not run, no stretch goes on
-  pub rests_there : (slot : ℕ) → b.present ≡ Some slot → slot_runs (slice_get b.processes.items slot) ≡ false → GoesOn (world_of b) → ⊥
-  rests_there slot p rests g =
-      let at : slot ≡ g.slot = cc in
+  -- where the process that has the next turn does not run, no stretch goes on
+  pub rests_there : (slot : ℕ) → next (world_of b) ≡ Some (Run slot) → slot_runs (slice_get b.processes.items slot) ≡ false → GoesOn (world_of b) → ⊥
+  rests_there slot f rests g =
+      let at : slot ≡ g.slot = same_slot slot g.slot (sym f ∙ g.chosen) in
       let there : slice_get b.processes.items slot ≡ Some g.before.process = sym (process_there slot) ∙ ap (λ (n : ℕ). option_map (λ (r : Record). r.process) (slice_get (world_of b).records n)) at ∙ ap (option_map (λ (r : Record). r.process)) g.is_there in
       let runs : slot_runs (slice_get b.processes.items slot) ≡ true = ap slot_runs there ∙ ap is_running g.runs in
       cc
 
-  module _ (slot k most : ℕ) (home : Homes) (processes : List Process) (q : QuietAt k most b.moment slot b.home home b.processes.items processes) where
+  module _ (slot k most used : ℕ) (present : Option ℕ) (home : Homes) (processes : List Process) (q : QuietAt k most b.moment slot b.home home b.processes.items processes) where
     few : length (residents b) ≤ length b.drivers.stores.slots
     few = beside b.processes.items b.home.owns b.drivers.stores.slots board.owns board.few board.driven.slots
 
-    storage : List ℕ
+    abbrev storage : List ℕ
     storage = bytes_of b.drivers.stores.slots slot
 
     -- the record before the turns, and after them
@@ -229,7 +270,7 @@ module _ (b : Inside) (board : IsBoard b) where
 
     -- the world after the turns, which took so many ticks
     abbrev world_after_ticks : ℕ → World
-    world_after_ticks ticks = with_step b (map (record_of home.flash) (zip (zip processes home.owns) b.drivers.stores.slots)) (devices_of b.drivers) (turns_later ticks b.moment) b.present (b.used + k)
+    world_after_ticks ticks = with_step b (map (record_of home.flash) (zip (zip processes home.owns) b.drivers.stores.slots)) (devices_of b.drivers) (turns_later ticks b.moment) present used
 
     abbrev world_then : World
     world_then = world_after_ticks k
@@ -237,48 +278,81 @@ module _ (b : Inside) (board : IsBoard b) where
     records_then : world_then.records ≡ slice_set (world_of b).records slot after
     records_then = kept_records slot b.home home b.processes.items processes q.at b.drivers.stores.slots
 
-    stretched : RoundIsStretch → b.present ≡ Some slot → is_running q.at.before.0.state ≡ true → b.used + k ≤ b.slice → b.moment.time + k ≤ b.calm → IsStretch k (world_of b) world_then
-    stretched law p runs u until =
-        subst (IsStretch k (world_of b)) (sym same) (law k slot (world_of b) before p was_there (state_is q.at.before.0.state runs) u (q.quiet.go (bytes_of b.drivers.stores.slots slot)) (none_acts until))
-      where
-        state_is : (s : State) → is_running s ≡ true → s ≡ Running
-        state_is Running e = refl
-        state_is Yielded e = cc
-        state_is Faulted e = cc
-        state_is (Terminated code) e = cc
+    state_is : (s : State) → is_running s ≡ true → s ≡ Running
+    state_is Running e = refl
+    state_is Yielded e = cc
+    state_is Faulted e = cc
+    state_is (Terminated code) e = cc
 
-        same : world_then ≡ after_stretch k (world_of b) slot (after_instructions k before)
-        same =
-            ap (λ (rs : List Record). with_step b rs (devices_of b.drivers) (turns_later k b.moment) b.present (b.used + k)) (records_then ∙ ap (slice_set (world_of b).records slot) (q.quiet.leads (bytes_of b.drivers.stores.slots slot)))
-            ∙ ap (λ (o : Option ℕ). with_step b (slice_set (world_of b).records slot (after_instructions k before)) (devices_of b.drivers) (turns_later k b.moment) o (b.used + k)) p
+    -- no turns leave the world as it was
+    none_left : k ≡ 0 → present ≡ b.present → used ≡ b.used → world_then ≡ world_of b
+    unfolding after_instructions
+    none_left none p u =
+        ap (λ (rs : List Record). with_step b rs (devices_of b.drivers) (turns_later k b.moment) present used)
+        (records_then ∙ ap (slice_set (world_of b).records slot) (q.quiet.leads storage ∙ ap (λ (n : ℕ). after_instructions n before) none) ∙ set-same (world_of b).records slot before was_there)
+        ∙ ap₂ (λ (o : Option ℕ) (n : ℕ). with_step b (world_of b).records (devices_of b.drivers) (turns_later k b.moment) o n) p u
+        ∙ ap (λ (n : ℕ). with_step b (world_of b).records (devices_of b.drivers) (turns_later n b.moment) b.present b.used) none
+        ∙ ap₂ (λ (time steps : ℕ). with_step b (world_of b).records (devices_of b.drivers) (record b.moment { time = time; steps = steps }) b.present b.used) (none_more b.moment.time) (none_more b.moment.steps)
 
-    -- so the round robin's next steps are these turns
-    pub stretch_shown : (ticks : ℕ) (w : World) → RoundIsStretch → ticks ≡ k → world_of b ≡ w → b.present ≡ Some slot → is_running q.at.before.0.state ≡ true → b.used + k ≤ b.slice → b.moment.time + k ≤ b.calm → IsStretch k w (world_after_ticks ticks)
-    stretch_shown ticks w law is shown p runs u until =
-        subst (λ (n : ℕ). IsStretch k w (world_after_ticks n)) (sym is) (subst (λ (v : World). IsStretch k v world_then) shown (stretched law p runs u until))
+    -- some are a stretch
+    module _ (f : next (world_of b) ≡ Some (Run slot)) (runs : is_running q.at.before.0.state ≡ true) (first : ℕ) (begins : first ≡ used_after b.present b.used b.slice slot - 1) (lasts : first + k ≤ b.slice) (until : b.moment.time + k ≤ b.calm)
+        (none : k ≡ 0 → (present ≡ b.present) × (used ≡ b.used)) (some : 0 < k → (present ≡ Some slot) × (used ≡ first + k)) where
+      stretched : RoundIsStretch → 0 < k → IsStretch k (world_of b) world_then
+      stretched law more = subst (IsStretch k (world_of b)) (sym same) (law k slot (world_of b) before more f was_there (state_is q.at.before.0.state runs) (subst (λ (n : ℕ). n + k ≤ b.slice) begins lasts) (q.quiet.go storage) (none_acts until))
+        where
+          same : world_then ≡ after_stretch k (at_turn (world_of b) slot) slot (after_instructions k before)
+          same =
+              ap (λ (rs : List Record). with_step b rs (devices_of b.drivers) (turns_later k b.moment) present used) (records_then ∙ ap (slice_set (world_of b).records slot) (q.quiet.leads storage))
+              ∙ ap₂ (λ (o : Option ℕ) (n : ℕ). with_step b (slice_set (world_of b).records slot (after_instructions k before)) (devices_of b.drivers) (turns_later k b.moment) o n) (some more).0 ((some more).1 ∙ ap (λ (n : ℕ). n + k) begins)
 
-    -- where they are fewer than were left, the stretch does not go on
-    stops_there : b.present ≡ Some slot → k < most → GoesOn world_then → ⊥
-    stops_there p fewer g =
-        let at : slot ≡ g.slot = cc in
-        let there : slice_get world_then.records slot ≡ Some after = ap (λ (rs : List Record). slice_get rs slot) records_then ∙ set_there (world_of b).records (slice_get_within (world_of b).records slot before was_there) in
-        let same : Some after ≡ Some g.before = sym there ∙ ap (slice_get world_then.records) at ∙ g.is_there in
-        let is : after ≡ g.before = cc in
-        q.quiet.stops fewer (bytes_of b.drivers.stores.slots slot) (ap (λ (r : Record). (instruction r).end) is ∙ g.goes)
-      where
-        set_there : (rs : List Record) → slot < length rs → slice_get (slice_set rs slot after) slot ≡ Some after
-        set_there rs h = slice_get-get_or (slice_set rs slot after) slot after (rw length-set h) ∙ ap Some (get_or-set_same rs slot after after h)
+      by_count : RoundIsStretch → NoneIsStretch → (n : ℕ) → n ≡ k → IsStretch k (world_of b) world_then
+      by_count law law_none zero e = subst (λ (n : ℕ). IsStretch n (world_of b) world_then) e (law_none (world_of b) world_then (none_left (sym e) (none (sym e)).0 (none (sym e)).1))
+      by_count law law_none (suc n) e = stretched law (omega (arith, e))
 
-    -- nor where they are all that were left, and the time up to which no device step is ready lies ahead
-    pub ends_shown : (ticks asked until : ℕ) → ticks ≡ k → b.present ≡ Some slot → k ≤ most → (most ≤ k → b.moment.time + ticks < until)
-        → (most < asked → b.used + most < b.slice → b.moment.steps + most < STEP_LIMIT → b.moment.time + most < until → ⊥)
-        → k < asked → GoesOn (world_after_ticks ticks) → ⊥
-    ends_shown ticks asked until is p made ahead all fewer g =
-        let goes : GoesOn world_then = subst (λ (n : ℕ). GoesOn (world_after_ticks n)) is g in
-        let not_fewer : k < most → ⊥ = λ h. stops_there p h goes in
-        let full : most ≤ k = omega (arith, not_fewer) in
-        let later = ahead full in
-        all (omega (arith, full, fewer)) (omega (arith, made, goes.left)) (omega (arith, made, goes.limit)) (omega (arith, made, is, later))
+      -- so the round robin's next steps are these turns
+      pub stretch_shown : (ticks : ℕ) (w : World) → RoundIsStretch → NoneIsStretch → ticks ≡ k → world_of b ≡ w → IsStretch k w (world_after_ticks ticks)
+      stretch_shown ticks w law law_none is shown =
+          subst (λ (n : ℕ). IsStretch k w (world_after_ticks n)) (sym is) (subst (λ (v : World). IsStretch k v world_then) shown (by_count law law_none k refl))
+
+      -- the record there after the turns
+      after_there : slice_get world_then.records slot ≡ Some after
+      after_there = ap (λ (rs : List Record). slice_get rs slot) records_then ∙ set_there (world_of b).records (slice_get_within (world_of b).records slot before was_there)
+        where
+          set_there : (rs : List Record) → slot < length rs → slice_get (slice_set rs slot after) slot ≡ Some after
+          set_there rs h = slice_get-get_or (slice_set rs slot after) slot after (rw length-set h) ∙ ap Some (get_or-set_same rs slot after after h)
+
+      after_runs : after.process.state ≡ Running
+      after_runs = ap (λ (r : Record). r.process.state) (q.quiet.leads storage) ∙ still_runs k before ∙ state_is q.at.before.0.state runs
+
+      -- who has the next turn then, where turns are left in the slice
+      turn_stays : PresentStaysOn → (n : ℕ) → n ≡ k → first + k < b.slice → (other : ℕ) → next world_then ≡ Some (Run other) → slot ≡ other
+      turn_stays law zero e u other g =
+          let there = none (sym e) in
+          same_slot slot other (sym f ∙ ap next (sym (none_left (sym e) there.0 there.1)) ∙ g)
+      turn_stays law (suc n) e u other g =
+          let there = some (omega (arith, e)) in
+          let stays : next_slot (ready_slots world_then) present used b.slice ≡ Some slot = law world_then slot after there.0 after_there after_runs (omega (arith, there.1, u)) in
+          let is : ◌≡◌ {A = Option ℕ} (Some slot) (Some other) = sym stays ∙ chosen_slot world_then other g in
+          cc
+
+      -- where the turns are fewer than were left, the stretch does not go on
+      stops_there : PresentStaysOn → first + most ≤ b.slice → k < most → GoesOn world_then → ⊥
+      stops_there law last fewer g =
+          let at : slot ≡ g.slot = turn_stays law k refl (omega (arith, last, fewer)) g.slot g.chosen in
+          let same : Some after ≡ Some g.before = sym after_there ∙ ap (slice_get world_then.records) at ∙ g.is_there in
+          let is : after ≡ g.before = cc in
+          q.quiet.stops fewer storage (ap (λ (r : Record). (instruction r).end) is ∙ g.goes)
+
+      -- nor where none were left
+      pub ends_shown : PresentStaysOn → (ticks asked until : ℕ) → ticks ≡ k → k ≤ most → (most ≤ k → most ≡ 0) → first + most ≤ b.slice → first < b.slice → b.moment.time < until → 0 < asked
+          → (most < asked → first + most < b.slice → b.moment.steps + most < STEP_LIMIT → b.moment.time + most < until → ⊥)
+          → GoesOn (world_after_ticks ticks) → ⊥
+      ends_shown law ticks asked until is made ends last below ahead asks all g =
+          let goes : GoesOn world_then = subst (λ (n : ℕ). GoesOn (world_after_ticks n)) is g in
+          let not_fewer : k < most → ⊥ = λ h. stops_there law last h goes in
+          let zero_left : most ≡ 0 = ends (omega (arith, not_fewer)) in
+          let limit : b.moment.steps + k < STEP_LIMIT = goes.limit in
+          all (omega (arith, zero_left, asks)) (omega (arith, zero_left, below)) (omega (arith, zero_left, made, limit)) (omega (arith, zero_left, ahead))
 
     kept : q.at.after.1 ≡ record q.at.before.1 { ram = q.at.after.1.ram }
     kept = kept_own k most b.home.flash q.at.before q.at.after q.quiet
@@ -300,6 +374,11 @@ module _ (b : Inside) (board : IsBoard b) where
           (kept_calm b.moment.settings.start (b.moment.time + k) b.calm slot b.home.owns b.drivers q.at.before.1 q.at.after.1 q.at.own_was (ap (λ (o : Own). o.grants) kept) (ap (λ (o : Own). o.lives) kept)
           (later_calm b.moment.settings.start b.moment.time (b.moment.time + k) b.calm b.home.owns b.drivers (omega arith) board.calm));
     }
+
+-- what is used of a slice, after so many turns
+pub used_within : (before slice first k used : ℕ) → before ≤ slice → first + k ≤ slice → (k ≡ 0 → used ≡ before) → (0 < k → used ≡ first + k) → used ≤ slice
+used_within before slice first zero used h lasts none some = omega (arith, h, none refl)
+used_within before slice first (suc k) used h lasts none some = omega (arith, lasts, some (omega arith))
 
 -- a slot whose process runs is one of the table's
 pub runs_within : (processes : List Process) (slot : ℕ) → slot_runs (slice_get processes slot) ≡ true → slot < length processes

@@ -1,5 +1,5 @@
 -- Who waits, once a process had its turn.
-use Rattle.std.proofs.Common.{◌≡◌, ℕ, ◌+◌, ◌<◌, Bool, true, false, if◌then◌else◌, List, [], length, slice_get, slice_set, is_some, Option, None, Some, Result, Ok, Err, refl, sym, ap, subst, ◌∙◌, arith}
+use Rattle.std.proofs.Common.{◌≡◌, ℕ, ◌+◌, ◌<◌, ◌≤◌, Bool, true, false, if◌then◌else◌, List, [], length, slice_get, slice_set, is_some, Option, None, Some, Result, Ok, Err, refl, sym, ap, subst, ◌∙◌, arith}
 use Rattle.std.proofs.lemmas.List.Elements.{All-set}
 use Rattle.std.proofs.lemmas.Option.{slice_get_within, get_or_from_slice_get}
 use Rattle.tbf_headers.specs.declared.fault.HeaderFault.{HeaderFault}
@@ -18,8 +18,10 @@ use Rattle.driver_model.specs.Storage.{storages}
 use Rattle.driver_requests.specs.Waiting.{waiting_after}
 use Rattle.grant_enter.specs.Homes.{Homes, nobody, own_of}
 use Rattle.kernel_calls.specs.Own.{HasStart, IsApplication, is_alive}
-use Rattle.kernel_model.specs.Laws.{KeepsLines, TurnsActAtCalls, TurnsKeepLines, main_by}
+use Rattle.kernel_model.specs.Laws.{DropsAtMostOne, KeepsLines, TurnsActAtCalls, TurnsKeepLines, main_by}
 use Rattle.kernel_model.specs.Record.{Record}
+use Rattle.tk_base.specs.declared.process.Choice.TheVariants.{Run}
+use Rattle.kernel_model.specs.World.{is_ready}
 use Rattle.kernel_model.specs.Turn.{Turned, has_turn, is_pending, turned}
 use Rattle.process_record.specs.declared.process.State.{State}
 use Rattle.process_record.specs.declared.process.State.TheVariants.{Running, Yielded, Faulted, Terminated}
@@ -29,10 +31,15 @@ use Rattle.board_core.specs.declared.drivers.Drivers.{Drivers}
 use Rattle.board_core.specs.declared.turn.Shown.{Shown}
 use Rattle.board_core.specs.Driven.{AreDriven, Drives, IsLine, MayServe}
 use Rattle.board_core.specs.Residents.{IsSeated, TurnsAt, id_of, nothing_shown, record_of, resident_turns, slot_turns}
-use Rattle.board_core.specs.Shows.{IsBoard, residents}
-use Rattle.board_core.proofs.Devices.{lost_there, seated_there}
+use Rattle.board_core.specs.Calm.{IsCalm}
+use Rattle.board_core.specs.Guards.{GuardsOnly}
+use Rattle.board_core.specs.Shows.{IsBoard, residents, world_of}
+use Rattle.board_core.proofs.Boards.{below_limit, ready_within}
+use Rattle.board_core.proofs.Changes.{as_many, as_many_owns, still_seated, turn_later}
+use Rattle.board_core.proofs.Devices.{lost_there, lost_where, seated_there, still_lost}
 use Rattle.board_core.proofs.Lines.{line_after}
 use Rattle.board_core.proofs.Pairs.{zip-get}
+use Rattle.board_core.proofs.Turns.{loses_one}
 
 -- an application that started can start again
 can_start_again : (address : ℕ) (e : Extents) (read : Result Meaning HeaderFault) → IsApplication address e read → is_some (main_by read) ≡ true
@@ -103,12 +110,12 @@ module _ (b : Inside) (slot : ℕ) (home : Homes) (processes : List Process) (sh
         (line_after desk ids b.home.owns slot t.at.before.1 t.at.after.1 turn.acts line t.at.own_was follows life)
 
     -- who waits has a request then, and no other
-    pub turn_driven : AreDriven b.moment.settings (b.moment.time + 1) home.owns d
+    turn_driven : AreDriven b.moment.settings (b.moment.time + 1) home.owns d
     turn_driven = subst (λ (x : Homes). AreDriven b.moment.settings (b.moment.time + 1) x.owns d) (sym t.at.own_is) (record {
       writes = line_is console_writes b.drivers.console.writes d.console.writes h.driven.writes keeps.lines.writes keeps.life.writes drives.writes;
       reads = line_is console_reads b.drivers.console.reads d.console.reads h.driven.reads keeps.lines.reads keeps.life.reads drives.reads;
-      randoms = line_is randoms b.drivers.random d.random h.driven.randoms keeps.lines.randoms keeps.life.randoms drives.randoms;
-      stores = line_is storages b.drivers.storage d.storage h.driven.stores keeps.lines.stores keeps.life.stores drives.stores;
+      randoms = line_is randoms b.drivers.random.waiting d.random.waiting h.driven.randoms keeps.lines.randoms keeps.life.randoms drives.randoms;
+      stores = line_is storages b.drivers.storage.waiting d.storage.waiting h.driven.stores keeps.lines.stores keeps.life.stores drives.stores;
       within = All-set (IsWithin b.moment.settings.storage) b.home.owns slot t.at.after.1 (keeps.within before_within) h.driven.within;
       leds = drives.lit ∙ h.driven.leds;
       size = ap (λ (s : _). s.size) drives.bytes ∙ h.driven.size;
@@ -121,11 +128,11 @@ module _ (b : Inside) (slot : ℕ) (home : Homes) (processes : List Process) (sh
         before_within = subst (IsWithin b.moment.settings.storage) (get_or_from_slice_get b.home.owns slot t.at.before.1 nobody t.at.own_was) (h.driven.within slot nobody (slice_get_within b.home.owns slot t.at.before.1 t.at.own_was))
 
   -- it served as many requests as before
-  pub served_stays : d.stores.served ≡ b.drivers.stores.served
+  served_stays : d.stores.served ≡ b.drivers.stores.served
   served_stays = ap (λ (s : _). s.served) drives.bytes
 
   -- a process that can have a turn lives
-  pub turn_lives : slot_turns (slice_get (residents b) slot) ≡ true → t.at.before.1.lives ≡ true
+  turn_lives : slot_turns (slice_get (residents b) slot) ≡ true → t.at.before.1.lives ≡ true
   turn_lives can =
       let may : resident_turns t.at.before ≡ true = sym (ap slot_turns (zip-get b.processes.items b.home.owns slot t.at.before.0 t.at.before.1 t.at.was t.at.own_was)) ∙ can in
       seat.own.lives ∙ by_state t.at.before.0.state may
@@ -135,3 +142,25 @@ module _ (b : Inside) (slot : ℕ) (home : Homes) (processes : List Process) (sh
       by_state Yielded e = refl
       by_state Faulted e = absurd (false≢true e)
       by_state (Terminated code) e = absurd (false≢true e)
+
+-- A board whose tables, registers and drivers are then these: after the turn it is one again, and the slot is present.
+module _ (b a : Inside) (slot : ℕ) (shown : Shown) (h : IsBoard b) (t : TurnsAt b.moment slot b.home a.home b.processes.items a.processes.items shown b.drivers a.drivers) where
+  pub turned_board : (calm used : ℕ) → DropsAtMostOne → TurnsKeepLines → is_ready (world_of b) (Run slot) ≡ true → GuardsOnly a.guard a.home → IsCalm b.moment.settings.start (b.moment.time + 1) calm a.home.owns a.drivers → used ≤ b.slice
+      → IsBoard (record b { home = a.home; processes = a.processes; guard = a.guard; drivers = a.drivers; moment = turn_later b.moment; calm = calm; present = Some slot; used = used })
+  turned_board calm used drops keeps ready guards quiet within = record {
+    seated = still_seated slot b.home a.home b.processes.items a.processes.items t.at b.moment.steps t.seated h.seated;
+    lost = still_lost b.moment.steps slot b.home a.home t.at.after.1 t.at.own_is (omega (arith, loses_one b.moment slot b.home.flash t.at.before t.at.after shown b.drivers a.drivers drops t.turns, lost_where b.moment.steps b.home.owns slot t.at.before.1 t.at.own_was h.lost)) h.lost;
+    owns = as_many_owns slot b.home a.home b.processes.items a.processes.items t.at ∙ h.owns ∙ as_many slot b.home a.home b.processes.items a.processes.items t.at;
+    few = omega (arith, as_many slot b.home a.home b.processes.items a.processes.items t.at, h.few);
+    guard = guards;
+    driven = turn_driven b slot a.home a.processes.items shown a.drivers h t keeps lives;
+    served = omega (arith, served_stays b slot a.home a.processes.items shown a.drivers h t, h.served);
+    steps = omega (arith, (ready_within b slot h ready).0);
+    time = omega (arith, h.time);
+    calm = quiet;
+    slice = h.slice;
+    used = within;
+  }
+    where
+      lives : t.at.before.1.lives ≡ true
+      lives = turn_lives b slot a.home a.processes.items shown a.drivers h t (below_limit b slot h (ready_within b slot h ready).0 ∙ ready)

@@ -1,7 +1,7 @@
 -- The turn of a process.
 use Rattle.std.proofs.Common.{◌≡◌, ◌≤◌, ℕ, ◌+◌, ◌==◌, ◌⊎◌, inl, inr, Bool, true, false, not, List, [], ◌∷◌, length, Option, None, Some, Result, Ok, Err, refl, sym, ap, subst, ◌∙◌, arith}
 use Rattle.std.proofs.lemmas.Bool.{eqb-true}
-use Rattle.std.proofs.lemmas.List.{set-set}
+use Rattle.std.proofs.lemmas.List.{length-set, set-set}
 use Rattle.tk_base.specs.declared.access.Denial.{Denial}
 use Rattle.tk_base.specs.declared.upcall.Upcall.{Upcall}
 use Rattle.tbf_headers.specs.declared.fault.HeaderFault.{HeaderFault}
@@ -14,21 +14,21 @@ use Rattle.process_record.specs.declared.process.State.TheVariants.{Running, Yie
 use Rattle.rv32_model.specs.declared.turn_end.TurnEnd.{TurnEnd}
 use Rattle.rv32_model.specs.declared.turn_end.TurnEnd.TheVariants.{Went, Call, Trap}
 use Rattle.rv32_model.specs.UserTurn.{UserTurn}
-use Rattle.process_own.specs.Instruction.{with_write}
 use Rattle.process_own.specs.Own.{Own}
 use Rattle.process_record.specs.Process.{after_fault, after_turn}
 use Rattle.grant_enter.specs.Homes.{Homes, ChangesOnly, own_of, with_own}
-use Rattle.kernel_calls.specs.Own.{IsOwn, IsApplication, HasStart, object_in, record_in}
-use Rattle.kernel_model.specs.Record.{Record, instruction, with_process}
+use Rattle.kernel_calls.specs.Own.{is_alive, IsOwn, IsApplication, HasStart, object_in, record_in}
+use Rattle.kernel_model.specs.Record.{Record, with_process}
 use Rattle.kernel_model.specs.Calls.{deliver, deliver_by, restart, restarted_by, restarted_main}
 use Rattle.kernel_model.specs.Turn.{Turned, counted, delivery, ended, idle, is_pending, turn_in, turned}
 use Rattle.driver_model.specs.Commands.{gone}
 use Rattle.board_core.specs.declared.drivers.Drivers.{Drivers}
+use Rattle.board_core.specs.declared.guard.Guard.{Guard}
 use Rattle.board_core.specs.declared.moment.Moment.{Moment}
 use Rattle.board_core.specs.declared.turn.Shown.{Shown}
 use Rattle.kernel_model.specs.Laws.{DropsAtMostOne, GrantsChangeAtCalls}
 use Rattle.board_core.specs.Driven.{Drives, MayServe}
-use Rattle.board_core.specs.Residents.{Resident, IsSeated, Serves, Settles, Shows, Turns, after_instruction, id_of, nothing_shown}
+use Rattle.board_core.specs.Residents.{Resident, InTurn, IsMade, IsSeated, Leaves, MayTurn, Serves, Settles, Shows, Turns, after_instruction, id_of, next, nothing_shown, resident}
 use Rattle.board_core.proofs.Orders.{drives_nothing}
 
 -- a change of one slot after another is one
@@ -42,16 +42,12 @@ pub only_flash : (slot : ℕ) (a b : Homes) → ChangesOnly slot a b → b.flash
 only_flash slot a b only = ap (λ (h : Homes). h.flash) only
 
 -- what a turn leaves of the process in a slot, shows, and has the drivers do
-abbrev Leaves : ℕ → List ℕ → Resident → Resident → Shown → Drivers → Drivers → List ℕ → Turned → Type 0
-Leaves slot flash old new shown d d' storage t = (t.after ≡ record_in flash new.0 new.1 storage) × Shows t shown × Drives (id_of slot old.1) t.acts d d'
+abbrev DoesWith : ℕ → List ℕ → Resident → Resident → Shown → Drivers → Drivers → List ℕ → Turned → Type 0
+DoesWith slot flash old new shown d d' storage t = (t.after ≡ record_in flash new.0 new.1 storage) × Shows t shown × Drives (id_of slot old.1) t.acts d d'
 
 -- it is that of the turn that it is
-as_known : (slot : ℕ) (flash : List ℕ) (old new : Resident) (shown : Shown) (d d' : Drivers) (storage : List ℕ) (t u : Turned) → t ≡ u → Leaves slot flash old new shown d d' storage u → Leaves slot flash old new shown d d' storage t
-as_known slot flash old new shown d d' storage t u e h = subst (λ (x : Turned). Leaves slot flash old new shown d d' storage x) (sym e) h
-
--- the instruction of a process, which its storage is not part of
-abbrev pub next : List ℕ → Resident → UserTurn
-next flash r = instruction (record_in flash r.0 r.1 [])
+as_known : (slot : ℕ) (flash : List ℕ) (old new : Resident) (shown : Shown) (d d' : Drivers) (storage : List ℕ) (t u : Turned) → t ≡ u → DoesWith slot flash old new shown d d' storage u → DoesWith slot flash old new shown d d' storage t
+as_known slot flash old new shown d d' storage t u e h = subst (λ (x : Turned). DoesWith slot flash old new shown d d' storage x) (sym e) h
 
 -- the turn of a record that runs, by the end of its instruction
 by_end : (m : Moment) (flash : List ℕ) (r : Resident) (storage : List ℕ) (end : TurnEnd) → r.0.state ≡ Running → (next flash r).end ≡ end
@@ -62,23 +58,78 @@ by_end m flash r storage end runs e =
     ap (λ (s : State). turn_in m.settings m.time s (record_in flash r.0 r.1 storage)) runs
     ∙ ap (ended m.settings m.time (record_in flash a.0 a.1 storage) (next flash r).accesses) e
 
-module _ (m : Moment) (slot : ℕ) (flash : List ℕ) where
+-- an instruction leaves a process as it is to be, a step later
+pub instruction_seated : (flash : List ℕ) (steps : ℕ) (r : Resident) (t : UserTurn) → IsSeated flash steps r → IsSeated flash (steps + 1) (after_instruction r t)
+instruction_seated flash steps r t s = record {
+  own = record { object = s.own.object; object_is = s.own.object_is; lives = s.own.lives; life = s.own.life };
+  turns = omega (arith, s.turns);
+  restarts = omega (arith, s.restarts);
+}
+
+-- a change of one slot leaves as many
+only_as_many : (slot : ℕ) (a b : Homes) → ChangesOnly slot a b → length b.owns ≡ length a.owns
+only_as_many slot a b only = ap (λ (h : Homes). length h.owns) only ∙ length-set a.owns slot (own_of b slot)
+
+-- what a later part of turns leaves, all of them leave
+pub leaves_then : (steps slot : ℕ) (a b c : Homes) (p : Process) → ChangesOnly slot a b → Leaves steps slot b c p → Leaves steps slot a c p
+leaves_then steps slot a b c p first h = record {
+  seated = subst (λ (f : List ℕ). IsSeated f steps (resident c slot p)) (only_flash slot a b first) h.seated;
+  rest = only_twice slot a b c first h.rest;
+}
+
+-- the instruction of the process in a slot, which left the home and the process so
+module _ (m : Moment) (slot : ℕ) (home made : Homes) (p q : Process) (is : IsMade slot home made p q) (only : ChangesOnly slot home made) where
+  -- the process before it
+  abbrev before : Resident
+  before = resident home slot p
+
+  -- its turn was counted, and is not over
+  pub in_turn : (registers : Guard) → MayTurn 1 m slot home p registers → p.state ≡ Running → InTurn m slot made q
+  in_turn registers may runs = record {
+    slot = omega (arith, may.slot, only_as_many slot home made only);
+    seated = subst (λ (f : List ℕ). IsSeated f (m.steps + 1) (resident made slot q)) (sym (only_flash slot home made only))
+        (subst (λ (r : Resident). IsSeated home.flash (m.steps + 1) r) (sym is) (instruction_seated home.flash m.steps before (next home.flash before) may.seated));
+    lives = ap (λ (r : Resident). r.1.lives) is ∙ may.seated.own.lives ∙ ap is_alive runs;
+    restarts = subst (λ (r : Resident). r.0.restarts ≤ m.steps) (sym is) may.seated.restarts;
+    limit = omega (arith, may.limit);
+  }
+
+  -- and it may be all of the turn
+  pub all_left : InTurn m slot made q → Leaves (m.steps + 1) slot home made q
+  all_left t = record {
+    seated = subst (λ (f : List ℕ). IsSeated f (m.steps + 1) (resident made slot q)) (only_flash slot home made only) t.seated;
+    rest = only;
+  }
+
+  -- it leaves what the process asks of drivers
+  pub may_serve_still : (d : Drivers) → MayServe m d slot (own_of home slot) → MayServe m d slot (own_of made slot)
+  may_serve_still d may = subst (λ (r : Resident). MayServe m d slot r.1) (sym is) (record {
+    asks = record { writes = may.asks.writes; reads = may.asks.reads; randoms = may.asks.randoms; stores = may.asks.stores };
+    lost = may.lost;
+    leds = may.leds;
+    size = may.size;
+  })
+
   -- an instruction with nothing more to do
-  pub went : (r : Resident) (d : Drivers) → r.0.state ≡ Running → (next flash r).end ≡ Went → Turns m slot flash r (after_instruction r (next flash r)) nothing_shown d d
-  went r d runs e = λ storage.
-      as_known slot flash r _ nothing_shown d d storage _ _ (by_end m flash r storage Went runs e) (refl, record { call = refl; denial = refl }, drives_nothing (id_of slot r.1) d)
+  pub went : (d : Drivers) → p.state ≡ Running → (next home.flash before).end ≡ Went → Turns m slot home.flash before (resident made slot q) nothing_shown d d
+  went d runs end =
+      subst (λ (r : Resident). Turns m slot home.flash before r nothing_shown d d) (sym is) (λ storage.
+      as_known slot home.flash before _ nothing_shown d d storage _ _ (by_end m home.flash before storage Went runs end) (refl, record { call = refl; denial = refl }, drives_nothing (id_of slot before.1) d))
 
   -- one that is denied
-  pub trapped : (r new : Resident) (denial : Denial) (d d' : Drivers) → r.0.state ≡ Running → (next flash r).end ≡ Trap denial
-      → (let a = after_instruction r (next flash r) in Settles m.settings.policy flash a.0 a.1 denial new → Drives (id_of slot a.1) gone d d' → Turns m slot flash r new (record { call = None; denial = Some denial }) d d')
-  trapped r new denial d d' runs e settles drives = λ storage.
-      as_known slot flash r new _ d d' storage _ _ (by_end m flash r storage (Trap denial) runs e) (settles storage, record { call = refl; denial = refl }, drives)
+  pub trapped : (new : Resident) (denial : Denial) (shown : Shown) (d d' : Drivers) → p.state ≡ Running → (next home.flash before).end ≡ Trap denial → shown ≡ record { call = None; denial = Some denial }
+      → Settles m.settings.policy made.flash q (own_of made slot) denial new → Drives (id_of slot (own_of made slot)) gone d d' → Turns m slot home.flash before new shown d d'
+  trapped new denial shown d d' runs end e settles drives = λ storage.
+      let settled = subst (λ (r : Resident). Settles m.settings.policy home.flash r.0 r.1 denial new) is (subst (λ (f : List ℕ). Settles m.settings.policy f q (own_of made slot) denial new) (only_flash slot home made only) settles) in
+      as_known slot home.flash before new _ d d' storage _ _ (by_end m home.flash before storage (Trap denial) runs end)
+      (settled storage, record { call = ap (λ (s : Shown). s.call) (sym e); denial = ap (λ (s : Shown). s.denial) (sym e) }, subst (λ (r : Resident). Drives (id_of slot r.1) gone d d') is drives)
 
   -- one that makes a system call
-  pub makes_call : (r new : Resident) (shown : Shown) (d d' : Drivers) → r.0.state ≡ Running → (next flash r).end ≡ Call
-      → Serves m slot flash (after_instruction r (next flash r)) new shown d d' → Turns m slot flash r new shown d d'
-  makes_call r new shown d d' runs e serves = λ storage.
-      as_known slot flash r new shown d d' storage _ _ (by_end m flash r storage Call runs e) (serves (next flash r).accesses storage)
+  pub makes_call : (new : Resident) (shown : Shown) (d d' : Drivers) → p.state ≡ Running → (next home.flash before).end ≡ Call
+      → Serves m slot made.flash (resident made slot q) new shown d d' → Turns m slot home.flash before new shown d d'
+  makes_call new shown d d' runs end serves = λ storage.
+      let served = subst (λ (r : Resident). Serves m slot home.flash r new shown d d') is (subst (λ (f : List ℕ). Serves m slot f (resident made slot q) new shown d d') (only_flash slot home made only) serves) in
+      as_known slot home.flash before new shown d d' storage _ _ (by_end m home.flash before storage Call runs end) (served (next home.flash before).accesses storage)
 
 -- the start again of a process that faulted is that of one whose denial was recorded
 restarted_same : (r : Record) (denial : Denial) (e : Extents) (address : ℕ) (read : Result Meaning HeaderFault) → reading r.object ≡ read → IsApplication address e read → restarted_by (with_process r (record r.process { denial = Some denial })) read ≡ restarted_by (with_process r (after_fault r.process denial)) read
@@ -139,23 +190,6 @@ rests_seated_on flash steps more r s = record { own = s.own; turns = omega (arit
 
 pub rests_seated : (flash : List ℕ) (steps : ℕ) (r : Resident) → IsSeated flash steps r → IsSeated flash (steps + 1) r
 rests_seated flash steps r s = rests_seated_on flash steps 1 r s
-
--- an instruction leaves what a process asks of drivers
-pub may_serve_still : (m : Moment) (d : Drivers) (slot : ℕ) (own : Own) (t : UserTurn) → MayServe m d slot own → MayServe m d slot (with_write own t)
-may_serve_still m d slot own t may = record {
-  asks = record { writes = may.asks.writes; reads = may.asks.reads; randoms = may.asks.randoms; stores = may.asks.stores };
-  lost = may.lost;
-  leds = may.leds;
-  size = may.size;
-}
-
--- an instruction leaves a process as it is to be, a step later
-pub instruction_seated : (flash : List ℕ) (steps : ℕ) (r : Resident) (t : UserTurn) → IsSeated flash steps r → IsSeated flash (steps + 1) (after_instruction r t)
-instruction_seated flash steps r t s = record {
-  own = record { object = s.own.object; object_is = s.own.object_is; lives = s.own.lives; life = s.own.life };
-  turns = omega (arith, s.turns);
-  restarts = omega (arith, s.restarts);
-}
 
 module _ (m : Moment) (slot : ℕ) (flash : List ℕ) (old new : Resident) (shown : Shown) (d d' : Drivers) where
   -- a turn that shows nothing leaves what drivers keep of its process, and that it lives

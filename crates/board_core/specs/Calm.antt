@@ -19,8 +19,8 @@ pub record SendsNothing (time : ℕ) (d : Drivers) : Type 0 where
 -- nobody waits for bytes that came in, for random bytes or for the storage
 pub record ServesNobody (d : Drivers) : Type 0 where
   pub receive : (is_waited_for (slots_of d.console.reads) && not (length d.uart.ring == 0)) ≡ false
-  pub random : is_waited_for (slots_of d.random) ≡ false
-  pub store : is_waited_for (slots_of d.storage) ≡ false
+  pub random : is_waited_for (slots_of d.random.waiting) ≡ false
+  pub store : is_waited_for (slots_of d.storage.waiting) ≡ false
 
 -- no device step is ready at a time
 pub record IsCalmAt (start time : ℕ) (owns : List Own) (d : Drivers) : Type 0 where

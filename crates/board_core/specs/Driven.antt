@@ -7,7 +7,7 @@ use Rattle.syscall_abi.specs.declared.reply.Reply.{Reply}
 use Rattle.board_devices.specs.Storage.{fresh_storage}
 use Rattle.script_text.specs.Settings.{Settings as Script}
 use Rattle.process_own.specs.Own.{Own}
-use Rattle.driver_model.specs.Commands.{Act, Writes, Reads, Randoms, Stores}
+use Rattle.driver_model.specs.Commands.{Act, Line, Writes, Reads, Randoms, Stores}
 use Rattle.driver_model.specs.Drivers.{Taker, taker_of}
 use Rattle.driver_model.specs.Requests.{Desk, request_in}
 use Rattle.driver_model.specs.Lines.{IsWithin, has_waiting}
@@ -28,13 +28,20 @@ use Rattle.board_core.specs.declared.drivers.Order.{Order}
 abbrev pub slots_of : List ProcessId → List ℕ
 slots_of ids = map (λ id. id.slot) ids
 
+-- those that wait in a list
+abbrev pub line_of : Drivers → Line → List ProcessId
+line_of d Writes = d.console.writes
+line_of d Reads = d.console.reads
+line_of d Randoms = d.random.waiting
+line_of d Stores = d.storage.waiting
+
 -- the devices that the drivers show
 abbrev pub devices_of : Drivers → Devices
 devices_of d = record {
   writes = slots_of d.console.writes;
   reads = slots_of d.console.reads;
-  randoms = slots_of d.random;
-  stores = slots_of d.storage;
+  randoms = slots_of d.random.waiting;
+  stores = slots_of d.storage.waiting;
   leds = bits_of d.leds;
   line = d.uart;
   arrivals = d.arrivals;
@@ -50,8 +57,8 @@ storage_of d = d.stores.slots
 -- the drivers under a script before the first step: nobody waits, all LEDs are off, nothing was drawn or served
 pub record AreFresh (script : Script) (d : Drivers) : Type 0 where
   pub console : d.console ≡ record { writes = []; reads = [] }
-  pub random : d.random ≡ []
-  pub storage : d.storage ≡ []
+  pub random : d.random.waiting ≡ []
+  pub storage : d.storage.waiting ≡ []
   pub line : d.uart ≡ record { ring = []; ticks = script.uart; free = 0 }
   pub leds : d.leds ≡ replicate script.leds false
   pub arrivals : d.arrivals ≡ script.events
@@ -72,8 +79,8 @@ pub record IsLine {R : Type 0} (desk : Desk R) (ids : List ProcessId) (owns : Li
 pub record AreDriven (settings : Settings) (time : ℕ) (owns : List Own) (d : Drivers) : Type 0 where
   pub writes : IsLine console_writes d.console.writes owns
   pub reads : IsLine console_reads d.console.reads owns
-  pub randoms : IsLine randoms d.random owns
-  pub stores : IsLine storages d.storage owns
+  pub randoms : IsLine randoms d.random.waiting owns
+  pub stores : IsLine storages d.storage.waiting owns
   pub within : All (IsWithin settings.storage) owns
   pub leds : length d.leds ≡ settings.leds
   pub size : d.stores.size ≡ settings.storage
@@ -85,8 +92,8 @@ pub record AreDriven (settings : Settings) (time : ℕ) (owns : List Own) (d : D
 pub record Drives (id : ProcessId) (acts : List Act) (old new : Drivers) : Type 0 where
   pub writes : new.console.writes ≡ waiting_after Writes id old.console.writes acts
   pub reads : new.console.reads ≡ waiting_after Reads id old.console.reads acts
-  pub randoms : new.random ≡ waiting_after Randoms id old.random acts
-  pub stores : new.storage ≡ waiting_after Stores id old.storage acts
+  pub randoms : new.random.waiting ≡ waiting_after Randoms id old.random.waiting acts
+  pub stores : new.storage.waiting ≡ waiting_after Stores id old.storage.waiting acts
   pub leds : bits_of new.leds ≡ lit_after acts (bits_of old.leds)
   pub lit : length new.leds ≡ length old.leds
   pub line : new.uart ≡ old.uart
@@ -102,8 +109,8 @@ IsTaken order = is_some (taker_of order.driver) ≡ true
 pub record MayAsk (d : Drivers) (slot : ℕ) (own : Own) : Type 0 where
   pub writes : request_in console_writes own ≡ None → waits slot d.console.writes ≡ false
   pub reads : request_in console_reads own ≡ None → waits slot d.console.reads ≡ false
-  pub randoms : request_in randoms own ≡ None → waits slot d.random ≡ false
-  pub stores : request_in storages own ≡ None → waits slot d.storage ≡ false
+  pub randoms : request_in randoms own ≡ None → waits slot d.random.waiting ≡ false
+  pub stores : request_in storages own ≡ None → waits slot d.storage.waiting ≡ false
 
 -- what the drivers ask of a moment at which they serve a call of the process in a slot
 pub record MayServe (m : Moment) (d : Drivers) (slot : ℕ) (own : Own) : Type 0 where

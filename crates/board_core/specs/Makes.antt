@@ -37,6 +37,6 @@ ready_in m owns d =
     ∷ is_some (due_slot (clock_at m.settings.start m.time) owns)
     ∷ (is_waited_for (slots_of d.console.writes) && nat_le d.uart.free m.time)
     ∷ (is_waited_for (slots_of d.console.reads) && not (length d.uart.ring == 0))
-    ∷ is_waited_for (slots_of d.random)
-    ∷ is_waited_for (slots_of d.storage)
+    ∷ is_waited_for (slots_of d.random.waiting)
+    ∷ is_waited_for (slots_of d.storage.waiting)
     ∷ []

@@ -1,6 +1,8 @@
 -- A process with what is its own: the record that it shows, and its turns. Only proofs use this.
-use Rattle.std.specs.Prelude.{◌≡◌, ℕ, ◌+◌, ◌≤◌, Bool, false, List, length, slice_get, slice_set, Option, None, Some}
+use Rattle.std.specs.Prelude.{◌≡◌, ℕ, ◌+◌, ◌≤◌, ◌<◌, Bool, true, false, List, [], length, slice_get, slice_set, All, Option, None, Some}
+use Rattle.std.specs.List.{zip}
 use Rattle.tk_base.specs.declared.access.TheConstants.{FLASH_START}
+use Rattle.tk_base.specs.declared.limits.TheConstants.{STEP_LIMIT}
 use Rattle.rv32_model.specs.UserTurn.{Touch, UserTurn}
 use Rattle.syscall_abi.specs.Call.{call_of}
 use Rattle.process_own.specs.Own.{Own}
@@ -10,11 +12,11 @@ use Rattle.process_record.specs.Name.{name_of}
 use Rattle.process_record.specs.declared.emit.Emit.{Emit}
 use Rattle.process_record.specs.declared.process.Process.{Process}
 use Rattle.process_record.specs.declared.summary.SlotLine.{SlotLine}
-use Rattle.grant_enter.specs.Homes.{Homes, own_of}
+use Rattle.grant_enter.specs.Homes.{ChangesOnly, Homes, own_of}
 use Rattle.tk_base.specs.declared.access.Denial.{Denial}
 use Rattle.fault_policy.specs.Policy.{decision}
 use Rattle.fault_policy.specs.declared.Policy.{Policy}
-use Rattle.kernel_model.specs.Record.{Record}
+use Rattle.kernel_model.specs.Record.{Record, instruction}
 use Rattle.kernel_model.specs.Turn.{Turned, calls, settled, surroundings, turned, has_turn, is_pending}
 use Rattle.kernel_calls.specs.Own.{IsOwn, object_in, record_in}
 use Rattle.kernel_calls.specs.Outcomes.{record_at}
@@ -24,6 +26,8 @@ use Rattle.process_record.specs.declared.outcome.Outcome.{Outcome}
 use Rattle.board_core.specs.declared.moment.Moment.{Moment}
 use Rattle.board_core.specs.declared.turn.Shown.{Shown}
 use Rattle.board_core.specs.declared.drivers.Drivers.{Drivers}
+use Rattle.board_core.specs.declared.guard.Guard.{Guard}
+use Rattle.board_core.specs.Guards.{GuardsOnly}
 use Rattle.board_core.specs.Driven.{Drives}
 use Rattle.driver_model.specs.Commands.{Act}
 use Rattle.tk_base.specs.declared.process.ProcessId.{ProcessId}
@@ -40,9 +44,19 @@ record_of flash r = record_in flash r.0.0 r.0.1 r.1
 abbrev pub resident : Homes → ℕ → Process → Resident
 resident home slot process = (process, own_of home slot)
 
+-- its next instruction, which its storage is not part of
+abbrev pub next : List ℕ → Resident → UserTurn
+next flash r = instruction (record_in flash r.0 r.1 [])
+
 -- what an instruction leaves of both, and that it counts as a turn
 abbrev pub after_instruction : Resident → UserTurn → Resident
 after_instruction r t = (record (after_turn r.0) { regs = t.regs }, with_write r.1 t)
+
+-- the next instruction of the process in a slot was made, and left the home and the process so
+abbrev pub IsMade : ℕ → Homes → Homes → Process → Process → Type 0
+IsMade slot home home_after process process_after =
+    let r = resident home slot process in
+    resident home_after slot process_after ≡ after_instruction r (next home.flash r)
 
 -- what a turn told in what a step shows, if it told anything
 abbrev pub shown_in : Emit → Shown
@@ -107,6 +121,36 @@ pub record IsSeated (flash : List ℕ) (steps : ℕ) (r : Resident) : Type 0 whe
   pub own : IsOwn flash r.0 r.1
   pub turns : r.0.turns ≤ steps
   pub restarts : r.0.restarts ≤ steps
+
+-- So many turns of the process in a slot may be made at a moment: it is as it is to be, so many steps are left, and the
+-- registers protect whomever they are set for.
+pub record MayTurn (turns : ℕ) (m : Moment) (place : ℕ) (home : Homes) (process : Process) (registers : Guard) : Type 0 where
+  pub slot : place < length home.owns
+  pub seated : IsSeated home.flash m.steps (resident home place process)
+  pub limit : m.steps + turns ≤ STEP_LIMIT
+  pub guard : GuardsOnly registers home
+
+-- the same of a slot of the tables of a board
+pub record MayTurnAt (turns : ℕ) (m : Moment) (place : ℕ) (home : Homes) (processes : List Process) (registers : Guard) : Type 0 where
+  pub within : place < length processes
+  pub owns : length home.owns ≡ length processes
+  pub seated : All (IsSeated home.flash m.steps) (zip processes home.owns)
+  pub limit : m.steps + turns ≤ STEP_LIMIT
+  pub guard : GuardsOnly registers home
+
+-- A turn of the process in a slot was counted and is not over: the process lives, and is as it is to be a step later.
+pub record InTurn (m : Moment) (place : ℕ) (home : Homes) (process : Process) : Type 0 where
+  pub slot : place < length home.owns
+  pub seated : IsSeated home.flash (m.steps + 1) (resident home place process)
+  pub lives : (own_of home place).lives ≡ true
+  pub restarts : process.restarts ≤ m.steps
+  pub limit : m.steps < STEP_LIMIT
+
+-- what turns of the process in a slot leave, or a part of one: it is as it is to be after so many steps, and nothing
+-- of any other slot has changed
+pub record Leaves (steps : ℕ) (place : ℕ) (home home_after : Homes) (process : Process) : Type 0 where
+  pub seated : IsSeated home.flash steps (resident home_after place process)
+  pub rest : ChangesOnly place home home_after
 
 -- it lost at most as many upcalls as there were steps
 abbrev pub HasLost : ℕ → Own → Type 0

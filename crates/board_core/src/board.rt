@@ -1,5 +1,5 @@
 //! The board.
-ghost use Rattle.std.specs.Prelude.{◌≡◌, ◌+◌, ◌-◌, ◌^◌, [], ◌∷◌, true, false, ◌≤◌, ◌<◌, ◌↔◌, All, map, length, slice_get, IsOk, IsTrue, IfOk, IfSome, Some, OnOk, OnErr, vec_len};
+ghost use Rattle.std.specs.Prelude.{◌≡◌, ◌+◌, ◌-◌, ◌^◌, [], true, false, ◌≤◌, ◌<◌, ◌↔◌, All, map, length, slice_get, IsOk, IsTrue, IfOk, IfSome, Some, OnOk, OnErr, vec_len};
 ghost use Rattle.std.specs.List.{zip};
 ghost use Rattle.tk_base.specs.declared.process.Choice.TheVariants.{Run, Device, Pass};
 ghost use Rattle.tk_base.specs.declared.process.Dev.TheVariants.{Event, Alarm, Uart, Receive, Random, Store};
@@ -21,7 +21,7 @@ ghost use Rattle.grant_enter.specs.Homes.{own_of};
 ghost use Rattle.board_core.specs.Makes.{Makes, ready_in, shown_printed};
 ghost use Rattle.board_core.specs.Guards.{GuardsOnly};
 ghost use Rattle.board_core.specs.Tells.{tells_somebody};
-ghost use Rattle.board_core.specs.Residents.{IsSeated, InFlash, TurnsAt, nothing_shown, resident_turns, shown_in, slot_turns, line_in, with_shown};
+ghost use Rattle.board_core.specs.Residents.{InFlash, MayTurnAt, TurnsAt, line_in, nothing_shown, resident_turns, shown_in, slot_turns, with_shown};
 
 use crate::boot::{Crew, first_crew, placed_in, unplaced};
 use crate::drivers::Drivers;
@@ -42,7 +42,7 @@ use std::marker::Model;
 use tbf_headers::object_at;
 use tk_base::{Choice, Dev, FLASH_LIMIT, FLASH_START, STEP_LIMIT, Slot};
 use tk_outside::NoMemory;
-use turn_scheduler::{Status, next_choice, used_after};
+use turn_scheduler::{Status, next_choice, next_slot, used_after};
 
 /// The choice was not ready, and nothing changed.
 #[derive(Clone, Copy, Debug, PartialEq, Eq)]
@@ -144,15 +144,15 @@ fn devices_ready(home: &Home, drivers: &Drivers, moment: &Moment) -> ArrayVec<bo
     ensures { (law : IsDueWhereNoneAreLeft) → result.items ≡ ready_in moment.now home.now.owns drivers.now }
 {
     let alarm = is_now(next_due(home, moment.tick()));
-    let sends = drivers.console.has_writes() && drivers.uart.free() <= moment.time;
-    let receives = drivers.console.has_reads() && drivers.uart.held() > 0;
+    let sends = !drivers.console.writes.is_empty() && drivers.uart.free() <= moment.time;
+    let receives = !drivers.console.reads.is_empty() && drivers.uart.held() > 0;
     ArrayVec::from([
         drivers.arrivals.is_time(moment.time),
         alarm,
         sends,
         receives,
-        drivers.random.is_waited_for(),
-        drivers.storage.is_waited_for(),
+        !drivers.random.waiting.is_empty(),
+        !drivers.storage.waiting.is_empty(),
     ])
 }
 
@@ -201,11 +201,7 @@ fn turn_at(
     moment: &Moment,
     emit: &mut Emit,
 )
-    requires within { slot < length processes.old.items }
-    requires owns { length home.old.owns ≡ length processes.old.items }
-    requires seated { All (IsSeated home.old.flash moment.now.steps) (zip processes.old.items home.old.owns) }
-    requires limit { moment.now.steps < STEP_LIMIT }
-    requires guard { GuardsOnly guard.old home.old }
+    requires turn { MayTurnAt 1 moment.now slot home.old processes.old.items guard.old }
     requires may { MayServe moment.now drivers.old slot (own_of home.old slot) }
     requires quiet { shown_in emit.old ≡ nothing_shown }
     ensures turn { TurnsAt moment.now slot home.old home.new
@@ -463,19 +459,17 @@ impl Board {
         status
     }
 
-    /// The present slot, where it keeps its turn: no device is ready, the slot can have a turn, and has turns
-    /// left in its slice.
+    /// The slot that has the next turn of a process, where no device step is ready for a while. None says nothing.
     #[inline(always)]
-    fn keeps_turn(&self) -> Option<Slot>
+    fn next_in_calm(&self) -> Option<Slot>
         ensures { IfSome result (λ slot. Some (Run slot) ≡ next self.now) }
     {
-        match self.present {
-            Some(present)
-                if self.moment.time < self.calm
-                    && self.used < self.slice
-                    && can_run(&self.home, &self.processes, present) => Some(present),
-            _ => None,
+        if self.moment.time >= self.calm {
+            return None;
         }
+        let mut ready = ArrayVec::new();
+        add_ready(&self.home, &self.processes, &mut ready);
+        next_slot(&ready, self.present, self.used, self.slice)
     }
 
     /// The next choice of the round robin; None exactly where no process can have a turn and no alarm is armed. It
@@ -488,8 +482,8 @@ impl Board {
             (λ choice. self.now.clock.steps < STEP_LIMIT → IsTrue (is_ready self.now choice)) }
     {
         next_is_ready();
-        // What comes most often needs no table of the slots.
-        if let Some(slot) = self.keeps_turn() {
+        // What comes most often needs no look at the devices.
+        if let Some(slot) = self.next_in_calm() {
             return Some(Choice::Run(slot));
         }
         next_choice(&self.status())

@@ -61,9 +61,9 @@ impl Drivers {
         let uart = Uart::new(alloc, script.uart)?;
         let stores = Stores::new(alloc, script.storage, script.faults)?;
         Ok(Drivers {
-            console: ConsoleCapsule::new(),
-            random: RandomCapsule::new(),
-            storage: StorageCapsule::new(),
+            console: ConsoleCapsule::default(),
+            random: RandomCapsule::default(),
+            storage: StorageCapsule::default(),
             uart,
             leds: Leds::new(script.leds),
             arrivals: Arrivals::new(script.events),
@@ -76,9 +76,10 @@ impl Drivers {
     pub fn gone(&mut self, slot: Slot)
         ensures { (life : ℕ) → Drives (record { slot = slot; life = life }) gone self.old self.new }
     {
-        self.console.gone(slot);
-        self.random.gone(slot);
-        self.storage.gone(slot);
+        self.console.writes.leave(slot);
+        self.console.reads.leave(slot);
+        self.random.waiting.leave(slot);
+        self.storage.waiting.leave(slot);
     }
 
     /// Whether a process waits for bytes that came in, for random bytes or for the storage: its device acts at
@@ -86,8 +87,8 @@ impl Drivers {
     pub fn is_busy(&self) -> bool
         ensures { (result ≡ false) ↔ ServesNobody self.now }
     {
-        let reads = self.console.has_reads() && self.uart.held() > 0;
-        reads || self.random.is_waited_for() || self.storage.is_waited_for()
+        let receives = !self.console.reads.is_empty() && self.uart.held() > 0;
+        receives || !self.random.waiting.is_empty() || !self.storage.waiting.is_empty()
     }
 
     /// The time at which the next bytes come in, if any are to.
@@ -103,10 +104,10 @@ impl Drivers {
     pub fn sending_time(&self) -> Option<u64>
         ensures { result ≡ sending_time (devices_of self.now) }
     {
-        if self.console.has_writes() {
-            Some(self.uart.free())
-        } else {
+        if self.console.writes.is_empty() {
             None
+        } else {
+            Some(self.uart.free())
         }
     }
 

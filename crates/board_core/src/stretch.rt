@@ -1,12 +1,13 @@
-//! A quiet stretch: turns of the present slot's process, one after another, that only execute an instruction.
-ghost use Rattle.std.specs.Prelude.{◌≡◌, ◌≢◌, ◌+◌, ◌≤◌, ◌<◌, ◌^◌, All, true, false, length, slice_get};
-ghost use Rattle.std.specs.List.{zip};
+//! A quiet stretch: turns of processes, one after another, that only execute an instruction.
+ghost use Rattle.std.specs.Prelude.{◌≡◌, ◌+◌, ◌-◌, ◌≤◌, ◌<◌, ◌^◌, true, false, ℕ, Some, IfSome, IfNone, slice_get};
 ghost use Rattle.tk_base.specs.declared.limits.TheConstants.{STEP_LIMIT};
-ghost use Rattle.grant_enter.specs.Homes.{own_of, ChangesOnly};
+ghost use Rattle.turn_scheduler.specs.RoundRobin.{used_after};
+ghost use Rattle.tk_base.specs.declared.process.Choice.TheVariants.{Run};
+ghost use Rattle.kernel_model.specs.Run.{next};
 ghost use Rattle.kernel_model.specs.Stretch.{GoesOn, IsStretch};
 ghost use Rattle.board_core.specs.Calm.{HasCome, IsCalm, ServesNobody, coming};
 ghost use Rattle.board_core.specs.Guards.{GuardsOnly, IsSetFor};
-ghost use Rattle.board_core.specs.Residents.{IsSeated, resident};
+ghost use Rattle.board_core.specs.Residents.{Leaves, MayTurn, MayTurnAt, resident};
 ghost use Rattle.board_core.specs.Stretches.{EndsStretch, QuietAt, Quietly, slot_runs};
 
 use crate::board::Board;
@@ -16,7 +17,7 @@ use crate::moment::Moment;
 use grant_enter::Home;
 use kernel_model::{next_is_ready, round_is_stretch};
 use process_record::{Process, State};
-use tk_base::{STEP_LIMIT, Slot};
+use tk_base::{Choice, STEP_LIMIT, Slot};
 
 /// A part of a stretch: how many turns were made, and whether the stretch ends with them.
 #[derive(Clone, Copy)]
@@ -73,13 +74,43 @@ fn calm_ahead(calm: u64, moment: &Moment, home: &Home, drivers: &Drivers) -> u64
     moment.look_ahead(home, drivers)
 }
 
-/// Whether a stretch ends after these turns, of so many that were left: the next one is none of it, or the slice or
-/// the limit was reached before that time.
-fn is_over(made: u32, left: u32, time: u64, until: u64) -> bool
-    ensures over { result ≡ true → left ≤ made → time < until }
-    ensures on { result ≡ false → (left ≤ made) × (until ≤ time) }
+/// Whether a stretch ends after these turns, of so many that were left: the next one is none of it, or none was left.
+fn is_over(made: u32, left: u32) -> bool
+    ensures over { result ≡ true → left ≤ made → left ≡ 0 }
+    ensures on { result ≡ false → 0 < made }
 {
-    made < left || time < until
+    made < left || left == 0
+}
+
+/// How many turns of its slice a slot has used before its next turn: none, where a slice begins with it.
+fn used_before(present: Option<Slot>, used: u32, slice: u32, slot: Slot) -> u32
+    requires { 1 ≤ slice }
+    ensures value { result ≡ used_after present used slice slot - 1 }
+    ensures within { result < slice }
+{
+    match present {
+        Some(present) if present == slot && used < slice => used,
+        _ => 0,
+    }
+}
+
+/// The present slot and how many turns of its slice it has used, after so many turns of a slot that had used `before`.
+/// No turn changes nothing.
+fn present_after(
+    present: Option<Slot>,
+    used: u32,
+    slot: Slot,
+    before: u32,
+    made: u32,
+) -> (Option<Slot>, u32)
+    requires { before + made < 2 ^ 32 }
+    ensures none { made ≡ 0 → (result.0 ≡ present) × (result.1 ≡ used) }
+    ensures some { 0 < made → (result.0 ≡ Some slot) × (result.1 ≡ before + made) }
+{
+    if made == 0 {
+        return (present, used);
+    }
+    (Some(slot), before + made)
 }
 
 /// As many turns of the process in a slot as only execute an instruction, at most `most`. The registers are set, and
@@ -92,15 +123,11 @@ fn take_turns(
     moment: &Moment,
     most: u32,
 ) -> u32
-    requires slot { slot < length home.old.owns }
-    requires seated { IsSeated home.old.flash moment.now.steps (resident home.old slot process.old) }
-    requires limit { moment.now.steps + most ≤ STEP_LIMIT }
-    requires guard { GuardsOnly guard.old home.old }
+    requires { MayTurn most moment.now slot home.old process.old guard.old }
     ensures most { result ≤ most }
     ensures quiet { Quietly result most home.old.flash (resident home.old slot process.old)
         (resident home.new slot process.new) }
-    ensures seated { IsSeated home.old.flash (moment.now.steps + result) (resident home.new slot process.new) }
-    ensures rest { ChangesOnly slot home.old home.new }
+    ensures leaves { Leaves (moment.now.steps + result) slot home.old home.new process.new }
     ensures guard { IsSetFor slot guard.new home.new }
 {
     guard.turn_to(home, slot);
@@ -118,11 +145,7 @@ fn turns_at(
     moment: &Moment,
     most: u32,
 ) -> u32
-    requires within { slot < length processes.old.items }
-    requires owns { length home.old.owns ≡ length processes.old.items }
-    requires seated { All (IsSeated home.old.flash moment.now.steps) (zip processes.old.items home.old.owns) }
-    requires limit { moment.now.steps + most ≤ STEP_LIMIT }
-    requires guard { GuardsOnly guard.old home.old }
+    requires { MayTurnAt most moment.now slot home.old processes.old.items guard.old }
     ensures most { result ≤ most }
     ensures quiet { QuietAt result most moment.now slot home.old home.new processes.old.items processes.new.items }
     ensures guard { GuardsOnly guard.new home.new }
@@ -132,7 +155,18 @@ fn turns_at(
 }
 
 impl Board {
-    /// A part of a stretch, at most so many turns, up to when a device step may be ready.
+    /// The slot that has the next turn of a process. None exactly where the next choice is no turn.
+    fn next_turn(&self) -> Option<Slot>
+        ensures some { IfSome result (λ slot. next self.now ≡ Some (Run slot)) }
+        ensures none { IfNone result ((slot : ℕ) → next self.now ≡ Some (Run slot) → ⊥) }
+    {
+        match self.next_choice()? {
+            Choice::Run(slot) => Some(slot),
+            Choice::Device(_) | Choice::Pass(_) => None,
+        }
+    }
+
+    /// A part of a stretch: turns of one process in its slice, at most so many, up to when a device step may be ready.
     fn run_part(&mut self, most: u32) -> Part
         requires { 0 < most }
         ensures most { result.made ≤ most }
@@ -146,7 +180,7 @@ impl Board {
             made: 0,
             is_over: true,
         };
-        let Some(slot) = self.present else {
+        let Some(slot) = self.next_turn() else {
             return ends;
         };
         if !runs(&self.processes, slot) {
@@ -156,7 +190,8 @@ impl Board {
         if self.calm <= self.moment.time {
             return ends;
         }
-        let left = turns_left(self.used, self.slice, &self.moment, self.calm, most);
+        let before = used_before(self.present, self.used, self.slice, slot);
+        let left = turns_left(before, self.slice, &self.moment, self.calm, most);
         let made = turns_at(
             &mut self.home,
             &mut self.processes,
@@ -165,20 +200,21 @@ impl Board {
             &self.moment,
             left,
         );
+        let (present, used) = present_after(self.present, self.used, slot, before, made);
+        self.present = present;
+        self.used = used;
         let ticks = u64::from(made);
-        self.used += made;
         self.moment.time += ticks;
         self.moment.steps += ticks;
         Part {
             made,
-            is_over: is_over(made, left, self.moment.time, self.calm),
+            is_over: is_over(made, left),
         }
     }
 
-    /// Makes as many of the round robin's next steps as are turns of the present slot's process that only execute
-    /// an instruction, one after another, at most `most`, and answers how many. It ends with the slice. None of
-    /// these steps makes a system call, is denied or prints. Where it answers less than `most`, the next step is not
-    /// such a turn.
+    /// Makes as many of the round robin's next steps as are turns that only execute an instruction, one after another,
+    /// at most `most`, and answers how many. None of these steps makes a system call, is denied or prints. Where it
+    /// answers less than `most`, the next step is not such a turn.
     pub fn run_quietly(&mut self, most: u32) -> u32
         ensures most { result ≤ most }
         ensures stretch { IsStretch result self.old self.new }

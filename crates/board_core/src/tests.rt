@@ -85,19 +85,17 @@ fn the_first_choice_that_is_not_ready_is_named(rt: HostRuntime) -> Result<(), Fa
 }
 
 #[test]
-fn a_quiet_stretch_ends_with_the_slice(rt: HostRuntime) -> Result<(), Fail> {
+fn a_quiet_stretch_goes_on_to_the_next_slice_and_stops_before_a_denial(
+    rt: HostRuntime,
+) -> Result<(), Fail> {
     let Some(mut board) = board_of(rt.alloc()) else {
         assert!(rt; false, "no memory");
         return Ok(());
     };
-    let mut emit = Emit::new();
-    assert_eq!(rt; board.run_quietly(10), 0);
-    assert!(rt; go_on(&mut board, &mut emit, 1));
     assert_eq!(rt; board.run_quietly(10), 10);
-    assert_eq!(rt; board.run_quietly(1000), 89);
+    // The 90 others of the slice, and the first instruction of the next slot's process; its second one is denied.
+    assert_eq!(rt; board.run_quietly(1000), 91);
     assert!(rt; board.next_choice() == Some(Choice::Run(Slot::new(1))));
-    // Its first instruction goes, and the second one is denied.
-    assert!(rt; go_on(&mut board, &mut emit, 1));
     assert_eq!(rt; board.run_quietly(10), 0);
     let summary = board.summary();
     assert_eq!(rt; summary.steps, 101);

@@ -1,10 +1,8 @@
 //! One turn of the process in a slot.
-ghost use Rattle.std.specs.Prelude.{◌≡◌, ◌+◌, ◌<◌, ◌≤◌, ℕ, List, [], length, true, false, None, Some};
+ghost use Rattle.std.specs.Prelude.{◌≡◌, ◌+◌, ◌<◌, ℕ, List, [], length, true, false, None, Some};
 ghost use Rattle.process_record.specs.declared.process.State.TheVariants.{Running, Yielded};
-ghost use Rattle.tk_base.specs.declared.limits.TheConstants.{STEP_LIMIT};
 ghost use Rattle.process_own.specs.Own.{ended};
-ghost use Rattle.process_own.specs.Instruction.{with_write};
-ghost use Rattle.process_record.specs.Process.{after_fault, after_turn};
+ghost use Rattle.process_record.specs.Process.{after_fault};
 ghost use Rattle.grant_enter.specs.Homes.{own_of, ChangesOnly};
 ghost use Rattle.driver_model.specs.Commands.{gone};
 ghost use Rattle.kernel_calls.specs.Outcomes.{acts_for, is_for_driver};
@@ -15,7 +13,7 @@ ghost use Rattle.kernel_model.specs.Calls.{restart};
 ghost use Rattle.kernel_model.specs.Record.{instruction};
 ghost use Rattle.kernel_model.specs.Turn.{arguments, made, unknown_call};
 ghost use Rattle.board_core.specs.Guards.{GuardsOnly, IsSetFor};
-ghost use Rattle.board_core.specs.Residents.{Finishes, IsSeated, Serves, Settles, Turns, id_of, nothing_shown, resident, resident_turns, shown_in, with_shown};
+ghost use Rattle.board_core.specs.Residents.{Finishes, InTurn, IsMade, Leaves, MayTurn, Serves, Settles, Turns, id_of, next, nothing_shown, resident, resident_turns, shown_in, with_shown};
 
 use crate::drivers::{Drivers, Order};
 use crate::guard::Guard;
@@ -90,19 +88,14 @@ pub fn can_turn(home: &Home, process: &Process, slot: Slot) -> bool
 }
 
 /// A denial stops the process in a slot, which lives no more.
-fn stop_at(home: &mut Home, process: &mut Process, slot: Slot, denial: Denial) -> Shown
+fn stop_at(home: &mut Home, process: &mut Process, slot: Slot, denial: Denial)
     requires { slot < length home.old.owns }
     ensures process { process.new ≡ after_fault process.old denial }
     ensures own { own_of home.new slot ≡ ended (own_of home.old slot) }
     ensures rest { ChangesOnly slot home.old home.new }
-    ensures shown { result ≡ record { call = None; denial = Some denial } }
 {
     process.fault(denial);
     home.end(slot);
-    Shown {
-        call: None,
-        denial: Some(denial),
-    }
 }
 
 /// A denial starts the process in a slot again, and it is protected as its layout is then.
@@ -113,28 +106,19 @@ fn restart_at(
     slot: Slot,
     denial: Denial,
     moment: &Moment,
-) -> Shown
-    requires slot { slot < length home.old.owns }
-    requires seated { IsSeated home.old.flash (moment.now.steps + 1) (resident home.old slot process.old) }
-    requires restarts { process.old.restarts ≤ moment.now.steps }
-    requires limit { moment.now.steps < STEP_LIMIT }
+)
+    requires turn { InTurn moment.now slot home.old process.old }
     requires guard { IsSetFor slot guard.old home.old }
     ensures restarted { (storage : List ℕ) →
         restart (record_in home.old.flash (after_fault process.old denial) (own_of home.old slot) storage)
         ≡ record_in home.old.flash process.new (own_of home.new slot) storage }
-    ensures seated { IsSeated home.old.flash (moment.now.steps + 1) (resident home.new slot process.new) }
-    ensures rest { ChangesOnly slot home.old home.new }
+    ensures leaves { Leaves (moment.now.steps + 1) slot home.old home.new process.new }
     ensures guard { IsSetFor slot guard.new home.new }
-    ensures shown { result ≡ record { call = None; denial = Some denial } }
 {
     process.denial = Some(denial);
     let layout = home.layout(slot);
     restart_process(home, process, slot);
     guard.follow(home, slot, &layout);
-    Shown {
-        call: None,
-        denial: Some(denial),
-    }
 }
 
 /// A denial: the process in a slot faults, and has ended or starts again, as the policy decides.
@@ -147,16 +131,12 @@ fn fault_at(
     denial: Denial,
     moment: &Moment,
 ) -> Shown
-    requires slot { slot < length home.old.owns }
-    requires seated { IsSeated home.old.flash (moment.now.steps + 1) (resident home.old slot process.old) }
-    requires restarts { process.old.restarts ≤ moment.now.steps }
-    requires limit { moment.now.steps < STEP_LIMIT }
+    requires turn { InTurn moment.now slot home.old process.old }
     requires guard { IsSetFor slot guard.old home.old }
     ensures settles { Settles moment.now.settings.policy home.old.flash process.old (own_of home.old slot) denial
         (resident home.new slot process.new) }
     ensures gone { Drives (id_of slot (own_of home.old slot)) gone drivers.old drivers.new }
-    ensures seated { IsSeated home.old.flash (moment.now.steps + 1) (resident home.new slot process.new) }
-    ensures rest { ChangesOnly slot home.old home.new }
+    ensures leaves { Leaves (moment.now.steps + 1) slot home.old home.new process.new }
     ensures guard { IsSetFor slot guard.new home.new }
     ensures shown { result ≡ record { call = None; denial = Some denial } }
 {
@@ -164,6 +144,10 @@ fn fault_at(
     match decide(moment.settings.policy, process.restarts) {
         Action::Stop => stop_at(home, process, slot, denial),
         Action::Restart => restart_at(home, process, guard, slot, denial, moment),
+    }
+    Shown {
+        call: None,
+        denial: Some(denial),
     }
 }
 
@@ -173,7 +157,7 @@ fn unknown_class(process: &Process) -> Denial
 {
     Denial {
         access: Access::Fetch,
-        address: process.regs.pc,
+        address: process.regs.pc(),
         rule: Rule::UnknownClass,
     }
 }
@@ -188,16 +172,12 @@ fn command_driver(
     call: &Call,
     moment: &Moment,
 ) -> Outcome
-    requires slot { slot < length home.old.owns }
-    requires seated { IsSeated home.old.flash (moment.now.steps + 1) (resident home.old slot process.old) }
-    requires lives { (own_of home.old slot).lives ≡ true }
+    requires turn { InTurn moment.now slot home.old process.old }
     requires may { MayServe moment.now drivers.old slot (own_of home.old slot) }
-    requires limit { moment.now.steps < STEP_LIMIT }
     requires left { is_for_driver (object_in home.old.flash process.old.object) call.now ≡ true }
     ensures serves { Finishes moment.now slot home.old process.old call.now home.new process.new result
         drivers.old drivers.new }
-    ensures seated { IsSeated home.new.flash (moment.now.steps + 1) (resident home.new slot process.new) }
-    ensures rest { ChangesOnly slot home.old home.new }
+    ensures leaves { Leaves (moment.now.steps + 1) slot home.old home.new process.new }
 {
     commands_stay_in_place();
     let Call::Command {
@@ -240,17 +220,12 @@ fn serve(
     call: &Call,
     moment: &Moment,
 ) -> Outcome
-    requires slot { slot < length home.old.owns }
-    requires seated { IsSeated home.old.flash (moment.now.steps + 1) (resident home.old slot process.old) }
-    requires lives { (own_of home.old slot).lives ≡ true }
+    requires turn { InTurn moment.now slot home.old process.old }
     requires may { MayServe moment.now drivers.old slot (own_of home.old slot) }
-    requires restarts { process.old.restarts ≤ moment.now.steps }
-    requires limit { moment.now.steps < STEP_LIMIT }
     requires guard { IsSetFor slot guard.old home.old }
     ensures serves { Finishes moment.now slot home.old process.old call.now home.new process.new result
         drivers.old drivers.new }
-    ensures seated { IsSeated home.new.flash (moment.now.steps + 1) (resident home.new slot process.new) }
-    ensures rest { ChangesOnly slot home.old home.new }
+    ensures leaves { Leaves (moment.now.steps + 1) slot home.old home.new process.new }
     ensures guard { IsSetFor slot guard.new home.new }
 {
     let layout = home.layout(slot);
@@ -276,17 +251,12 @@ fn serve_call(
     slot: Slot,
     moment: &Moment,
 ) -> Shown
-    requires slot { slot < length home.old.owns }
-    requires seated { IsSeated home.old.flash (moment.now.steps + 1) (resident home.old slot process.old) }
-    requires lives { (own_of home.old slot).lives ≡ true }
+    requires turn { InTurn moment.now slot home.old process.old }
     requires may { MayServe moment.now drivers.old slot (own_of home.old slot) }
-    requires restarts { process.old.restarts ≤ moment.now.steps }
-    requires limit { moment.now.steps < STEP_LIMIT }
     requires guard { IsSetFor slot guard.old home.old }
     ensures serves { Serves moment.now slot home.old.flash (resident home.old slot process.old)
         (resident home.new slot process.new) result drivers.old drivers.new }
-    ensures seated { IsSeated home.new.flash (moment.now.steps + 1) (resident home.new slot process.new) }
-    ensures rest { ChangesOnly slot home.old home.new }
+    ensures leaves { Leaves (moment.now.steps + 1) slot home.old home.new process.new }
     ensures guard { IsSetFor slot guard.new home.new }
 {
     let before = process.regs;
@@ -309,16 +279,11 @@ fn make_instruction(
     slot: Slot,
     moment: &Moment,
 ) -> TurnEnd
-    requires slot { slot < length home.old.owns }
-    requires seated { IsSeated home.old.flash moment.now.steps (resident home.old slot process.old) }
-    requires limit { moment.now.steps < STEP_LIMIT }
-    requires guard { GuardsOnly guard.old home.old }
-    ensures end { let r = record_in home.old.flash process.old (own_of home.old slot) [] in
-        result ≡ (instruction r).end }
-    ensures process { let r = record_in home.old.flash process.old (own_of home.old slot) [] in
-        process.new ≡ record (after_turn process.old) { regs = (instruction r).regs } }
-    ensures own { let r = record_in home.old.flash process.old (own_of home.old slot) [] in
-        own_of home.new slot ≡ with_write (own_of home.old slot) (instruction r) }
+    requires turn { MayTurn 1 moment.now slot home.old process.old guard.old }
+    requires runs { process.old.state ≡ Running }
+    ensures end { result ≡ (next home.old.flash (resident home.old slot process.old)).end }
+    ensures made { IsMade slot home.old home.new process.old process.new }
+    ensures turn { InTurn moment.now slot home.new process.new }
     ensures rest { ChangesOnly slot home.old home.new }
     ensures guard { IsSetFor slot guard.new home.new }
 {
@@ -338,17 +303,13 @@ fn run_on(
     moment: &Moment,
     emit: &mut Emit,
 )
-    requires slot { slot < length home.old.owns }
+    requires turn { MayTurn 1 moment.now slot home.old process.old guard.old }
     requires runs { process.old.state ≡ Running }
     requires may { MayServe moment.now drivers.old slot (own_of home.old slot) }
-    requires seated { IsSeated home.old.flash moment.now.steps (resident home.old slot process.old) }
-    requires limit { moment.now.steps < STEP_LIMIT }
-    requires guard { GuardsOnly guard.old home.old }
     requires quiet { shown_in emit.old ≡ nothing_shown }
     ensures turns { Turns moment.now slot home.old.flash (resident home.old slot process.old)
         (resident home.new slot process.new) (shown_in emit.new) drivers.old drivers.new }
-    ensures seated { IsSeated home.old.flash (moment.now.steps + 1) (resident home.new slot process.new) }
-    ensures rest { ChangesOnly slot home.old home.new }
+    ensures leaves { Leaves (moment.now.steps + 1) slot home.old home.new process.new }
     ensures guard { IsSetFor slot guard.new home.new }
     ensures emit { emit.new ≡ with_shown emit.old (shown_in emit.new) }
 {
@@ -368,15 +329,11 @@ fn run_on(
 /// The turn of a process that waits: the first of its pending upcalls is delivered, if there is one. The
 /// registers are set for it, since it is the next to run. It shows nothing.
 fn wake(home: &mut Home, process: &mut Process, guard: &mut Guard, slot: Slot, moment: &Moment)
-    requires slot { slot < length home.old.owns }
+    requires turn { MayTurn 1 moment.now slot home.old process.old guard.old }
     requires waits { process.old.state ≡ Yielded }
-    requires seated { IsSeated home.old.flash moment.now.steps (resident home.old slot process.old) }
-    requires limit { moment.now.steps < STEP_LIMIT }
-    requires guard { GuardsOnly guard.old home.old }
     ensures turns { (drivers : Drivers) → Turns moment.now slot home.old.flash
         (resident home.old slot process.old) (resident home.new slot process.new) nothing_shown drivers drivers }
-    ensures seated { IsSeated home.old.flash (moment.now.steps + 1) (resident home.new slot process.new) }
-    ensures rest { ChangesOnly slot home.old home.new }
+    ensures leaves { Leaves (moment.now.steps + 1) slot home.old home.new process.new }
     ensures guard { IsSetFor slot guard.new home.new }
 {
     guard.turn_to(home, slot);
@@ -397,16 +354,12 @@ pub fn take_turn(
     moment: &Moment,
     emit: &mut Emit,
 )
-    requires slot { slot < length home.old.owns }
-    requires seated { IsSeated home.old.flash moment.now.steps (resident home.old slot process.old) }
+    requires turn { MayTurn 1 moment.now slot home.old process.old guard.old }
     requires may { MayServe moment.now drivers.old slot (own_of home.old slot) }
-    requires limit { moment.now.steps < STEP_LIMIT }
-    requires guard { GuardsOnly guard.old home.old }
     requires quiet { shown_in emit.old ≡ nothing_shown }
     ensures turns { Turns moment.now slot home.old.flash (resident home.old slot process.old)
         (resident home.new slot process.new) (shown_in emit.new) drivers.old drivers.new }
-    ensures seated { IsSeated home.old.flash (moment.now.steps + 1) (resident home.new slot process.new) }
-    ensures rest { ChangesOnly slot home.old home.new }
+    ensures leaves { Leaves (moment.now.steps + 1) slot home.old home.new process.new }
     ensures guard { GuardsOnly guard.new home.new }
     ensures emit { emit.new ≡ with_shown emit.old (shown_in emit.new) }
 {

@@ -1,15 +1,11 @@
 -- What the console answers (Tock's driver 0x1).
 use Rattle.std.specs.Prelude.{ℕ, ◌==◌, ◌||◌, nat_lt, Bool, List, drop, length, slice_get, is_none}
+use Rattle.arrayvec.specs.ArrayVec.{ArrayVec}
 use Rattle.tk_base.specs.declared.process.ProcessId.{ProcessId}
 use Rattle.board_devices.specs.SerialLine.{SerialLine}
 use Rattle.grant_enter.specs.Homes.{Homes, own_of}
 use Rattle.driver_model.specs.Console.{free_after, received, sent}
 use Rattle.driver_requests.specs.Answers.{Answered}
-
--- the UART, and the bytes that were printed
-pub record Printing : Type 0 where
-  pub line : SerialLine
-  pub printed : List ℕ
 
 -- whether the UART can take nothing at a time: no write waits, or it is not free yet
 abbrev pub cannot_send : List ProcessId → SerialLine → ℕ → Bool
@@ -19,18 +15,15 @@ cannot_send ids line time = is_none (slice_get ids 0) || nat_lt time line.free
 abbrev pub cannot_give : List ProcessId → SerialLine → Bool
 cannot_give ids line = is_none (slice_get ids 0) || length line.ring == 0
 
--- the step of the write of the process of an id, at a time
-abbrev pub sent_by : SerialLine → ℕ → Homes → ProcessId → Answered Printing
-sent_by line time home id =
+-- the step of the write of the process of an id, with the bytes that are printed
+abbrev pub sent_by : Homes → ProcessId → Answered (ArrayVec ℕ)
+sent_by home id =
     let s = sent home.flash id.life (own_of home id.slot) in
-    record {
-      own = s.own;
-      device = record {
-        line = record line { free = free_after time line.ticks s.printed line.free };
-        printed = s.printed;
-      };
-      completed = s.completed;
-    }
+    record { own = s.own; device = record { items = s.printed }; completed = s.completed }
+
+-- the UART after bytes were printed at a time: it is free again once they are sent
+abbrev pub sending_at : ℕ → List ℕ → SerialLine → SerialLine
+sending_at time printed line = record line { free = free_after time line.ticks printed line.free }
 
 -- the step of the read of the process of an id
 abbrev pub received_by : SerialLine → Homes → ProcessId → Answered SerialLine

@@ -1,4 +1,3 @@
-pub mod Waiting
 pub mod Sending
 pub mod Receiving
 pub mod Answers

@@ -1,56 +1,32 @@
-//! Who waits for the console.
-ghost use Rattle.std.specs.Prelude.{◌≡◌, ◌+◌, ◌*◌, ◌<◌, ◌^◌, false, [], is_none, length, slice_get, IfSome, None, ◌==◌, not};
-ghost use Rattle.grant_enter.specs.Homes.{own_of, ChangesOnly};
-ghost use Rattle.grant_enter.specs.Visits.{is_stale};
+//! The console, and who waits for it.
+ghost use Rattle.std.specs.Prelude.{◌≡◌, ◌+◌, ◌*◌, ◌<◌, ◌^◌, [], is_none, slice_get, IfSome};
 ghost use Rattle.driver_model.specs.Commands.{Reads, Writes};
-ghost use Rattle.driver_model.specs.Requests.{request_in};
 ghost use Rattle.driver_model.specs.Console.{command, console_reads, console_writes};
 ghost use Rattle.driver_requests.specs.Answers.{Answers};
-ghost use Rattle.driver_requests.specs.Waiting.{waiting_after};
-ghost use Rattle.console_capsule.specs.Answers.{cannot_give, cannot_send, received_by, sent_by};
-ghost use Rattle.waiting_list.specs.Waiting.{waits, without};
+ghost use Rattle.driver_requests.specs.Asking.{MayAskAt, MayBeTold, Obeys};
+ghost use Rattle.console_capsule.specs.Answers.{cannot_give, cannot_send, received_by, sending_at, sent_by};
 
 use crate::commands::{cancel, read};
 use crate::grants::consoles;
-use crate::reads::take_input;
-use crate::writes::send;
+use crate::writes::keep_busy;
 use arrayvec::ArrayVec;
 use board_devices::Uart;
-use driver_requests::ask;
+use driver_requests::Line;
 use grant_enter::Home;
-use grant_values::WaitingWrite;
-use std::marker::Model;
+use grant_values::{WaitingRead, WaitingWrite};
 use syscall_abi::Reply;
-use tk_base::{CallRule, ProcessId, Slot};
-use waiting_list::WaitingList;
+use tk_base::{CallRule, ProcessId};
 
-/// The console. Contracts see the ids of the processes whose write waits, and of those whose read waits, the first
-/// one first.
-#[derive(Drop)]
+/// The console.
+#[derive(Default, Drop)]
 pub struct ConsoleCapsule {
-    writes: WaitingList,
-    reads: WaitingList,
-}
-
-impl Model for ConsoleCapsule {
-    ghost use Rattle.console_capsule.specs.Waiting.{Waiting};
-
-    ghost Value = { Waiting };
-
-    ghost view = { λ c. record { writes = c.writes; reads = c.reads } };
+    /// The processes whose write waits.
+    pub writes: Line<WaitingWrite>,
+    /// The processes whose read waits.
+    pub reads: Line<WaitingRead>,
 }
 
 impl ConsoleCapsule {
-    /// The console before the first request: none waits.
-    pub fn new() -> ConsoleCapsule
-        ensures { result ≡ record { writes = []; reads = [] } }
-    {
-        ConsoleCapsule {
-            writes: WaitingList::new(),
-            reads: WaitingList::new(),
-        }
-    }
-
     /// Serves a command of the process of an id to the console (TRD 104, "Command"): the reply, or the rule that
     /// refuses it. 0 asks whether the driver is there. 1 asks to write `count` bytes, 2 to read as many; the
     /// process then waits, after all others that do. 2 is refused with [`CallRule::Empty`] where `count` is 0;
@@ -70,20 +46,13 @@ impl ConsoleCapsule {
         number: u32,
         count: u32,
     ) -> Result<Reply, CallRule>
-        requires slot { id.slot < length home.old.owns }
-        requires present { is_stale id.life (own_of home.old id.slot) ≡ false }
-        requires dropped { (own_of home.old id.slot).dropped + 1 < 2 ^ 32 }
-        requires writes { request_in console_writes (own_of home.old id.slot) ≡ None
-            → waits id.slot self.old.writes ≡ false }
-        requires reads { request_in console_reads (own_of home.old id.slot) ≡ None
-            → waits id.slot self.old.reads ≡ false }
-        ensures answer { result ≡ (command number count (own_of home.old id.slot)).answer }
-        ensures own { own_of home.new id.slot ≡ (command number count (own_of home.old id.slot)).own }
-        ensures writes { self.new.writes ≡ waiting_after Writes id self.old.writes
-            (command number count (own_of home.old id.slot)).acts }
-        ensures reads { self.new.reads ≡ waiting_after Reads id self.old.reads
-            (command number count (own_of home.old id.slot)).acts }
-        ensures rest { ChangesOnly id.slot home.old home.new }
+        requires writes { MayAskAt console_writes self.old.writes home.old id }
+        requires reads { MayAskAt console_reads self.old.reads home.old id }
+        requires told { MayBeTold home.old id }
+        ensures writes { Obeys Writes id (command number count) self.old.writes home.old
+            result self.new.writes home.new }
+        ensures reads { Obeys Reads id (command number count) self.old.reads home.old
+            result self.new.reads home.new }
     {
         match number {
             0 => Ok(Reply::Success),
@@ -92,7 +61,7 @@ impl ConsoleCapsule {
                     length: count,
                     taken: 0,
                 };
-                ask(&consoles(), &mut self.writes, home, id, write)
+                self.writes.ask(&consoles(), home, id, write)
             }
             2 => read(&mut self.reads, home, id, count),
             3 => cancel(&mut self.reads, home, id),
@@ -116,26 +85,20 @@ impl ConsoleCapsule {
         time: u64,
         printed: &mut ArrayVec<u8, 64>,
     ) -> Option<ProcessId>
-        requires slot { IfSome (slice_get self.old.writes 0) (λ id. id.slot < length home.old.owns) }
-        requires dropped { IfSome (slice_get self.old.writes 0)
-            (λ id. (own_of home.old id.slot).dropped + 1 < 2 ^ 32) }
+        requires told { IfSome (slice_get self.old.writes 0) (MayBeTold home.old) }
         requires empty { printed.old.items ≡ [] }
         requires time { time + 64 * uart.old.ticks < 2 ^ 64 }
         ensures none { is_none result ≡ cannot_send self.old.writes uart.old time }
-        ensures answers { Answers (sent_by uart.old time home.old)
-            self.old.writes (record { line = uart.old; printed = [] }) home.old result
-            self.new.writes (record { line = uart.new; printed = printed.new.items }) home.new }
+        ensures answers { Answers (sent_by home.old) self.old.writes printed.old home.old result
+            self.new.writes printed.new home.new }
+        ensures uart { uart.new ≡ sending_at time printed.new.items uart.old }
         ensures reads { self.new.reads ≡ self.old.reads }
     {
-        let Some(id) = self.writes.first() else {
-            return None;
-        };
         if time < uart.free() {
             return None;
         }
-        if send(home, &id, uart, time, printed) {
-            self.writes.remove(id.slot);
-        }
+        let id = self.writes.answer::<ConsoleCapsule>(home, printed)?;
+        keep_busy(uart, time, printed);
         Some(id)
     }
 
@@ -149,58 +112,15 @@ impl ConsoleCapsule {
     /// It asks that the slot of the first is one of the home's, and that its count of dropped upcalls has room
     /// for one more.
     pub fn receive(&mut self, home: &mut Home, uart: &mut Uart) -> Option<ProcessId>
-        requires slot { IfSome (slice_get self.old.reads 0) (λ id. id.slot < length home.old.owns) }
-        requires dropped { IfSome (slice_get self.old.reads 0)
-            (λ id. (own_of home.old id.slot).dropped + 1 < 2 ^ 32) }
+        requires told { IfSome (slice_get self.old.reads 0) (MayBeTold home.old) }
         ensures none { is_none result ≡ cannot_give self.old.reads uart.old }
         ensures answers { Answers (received_by uart.old home.old) self.old.reads uart.old home.old result
             self.new.reads uart.new home.new }
         ensures writes { self.new.writes ≡ self.old.writes }
     {
-        let Some(id) = self.reads.first() else {
-            return None;
-        };
         if uart.held() == 0 {
             return None;
         }
-        if take_input(home, &id, uart) {
-            self.reads.remove(id.slot);
-        }
-        Some(id)
-    }
-
-    /// Whether a write waits.
-    pub fn has_writes(&self) -> bool
-        ensures { result ≡ not (length self.now.writes == 0) }
-    {
-        !self.writes.is_empty()
-    }
-
-    /// Whether a read waits.
-    pub fn has_reads(&self) -> bool
-        ensures { result ≡ not (length self.now.reads == 0) }
-    {
-        !self.reads.is_empty()
-    }
-
-    /// The process of a slot is gone: neither a write nor a read of it waits any more. The others keep their
-    /// order.
-    pub fn gone(&mut self, slot: Slot)
-        ensures writes { self.new.writes ≡ without slot self.old.writes }
-        ensures reads { self.new.reads ≡ without slot self.old.reads }
-    {
-        self.writes.remove(slot);
-        self.reads.remove(slot);
-    }
-}
-
-impl Default for ConsoleCapsule {
-    ghost use Rattle.std.specs.Prelude.{◌≡◌, []};
-
-    ghost is_default = { λ c. c ≡ record { writes = []; reads = [] } };
-
-    /// The console before the first request: none waits.
-    fn default() -> ConsoleCapsule {
-        ConsoleCapsule::new()
+        self.reads.answer::<ConsoleCapsule>(home, uart)
     }
 }

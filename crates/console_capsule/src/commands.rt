@@ -1,48 +1,32 @@
 //! Commands to read, and to read no more.
-ghost use Rattle.std.specs.Prelude.{◌≡◌, ◌+◌, ◌<◌, ◌^◌, false, is_some, length, None, true};
+ghost use Rattle.std.specs.Prelude.{◌≡◌, is_some, true};
 ghost use Rattle.grant_enter.specs.Homes.{own_of, ChangesOnly};
-ghost use Rattle.grant_enter.specs.Visits.{is_stale};
 ghost use Rattle.driver_model.specs.Commands.{Reads};
 ghost use Rattle.driver_model.specs.Requests.{request_in, waiting_of};
 ghost use Rattle.driver_model.specs.Console.{cancelling, console_reads, reading, without_read};
-ghost use Rattle.driver_requests.specs.Waiting.{waiting_after};
-ghost use Rattle.waiting_list.specs.Waiting.{waits};
+ghost use Rattle.driver_requests.specs.Asking.{IsPresent, MayAskAt, MayBeTold, Obeys};
 
 use crate::grants::consoles;
-use driver_requests::{ask, has_request};
+use driver_requests::{Line, has_request};
 use grant_enter::{Entered, Home, Visit, frames_join};
 use grant_values::{Console, WaitingRead};
 use syscall_abi::Reply;
 use tk_base::{CallRule, ErrorCode, ProcessId};
-use waiting_list::WaitingList;
 
 /// A process asks to read so many bytes: where its request begins to wait it is put last.
 pub(crate) fn read(
-    waiting: &mut WaitingList,
+    waiting: &mut Line<WaitingRead>,
     home: &mut Home,
     id: ProcessId,
     count: u32,
 ) -> Result<Reply, CallRule>
-    requires slot { id.slot < length home.old.owns }
-    requires present { is_stale id.life (own_of home.old id.slot) ≡ false }
-    requires waits { request_in console_reads (own_of home.old id.slot) ≡ None
-        → waits id.slot waiting.old ≡ false }
-    ensures answer { result ≡ (reading count (own_of home.old id.slot)).answer }
-    ensures own { own_of home.new id.slot ≡ (reading count (own_of home.old id.slot)).own }
-    ensures waiting { waiting.new ≡ waiting_after Reads id waiting.old
-        (reading count (own_of home.old id.slot)).acts }
-    ensures rest { ChangesOnly id.slot home.old home.new }
+    requires { MayAskAt console_reads waiting.old home.old id }
+    ensures { Obeys Reads id (reading count) waiting.old home.old result waiting.new home.new }
 {
     if count == 0 {
         return Err(CallRule::Empty);
     }
-    ask(
-        &consoles(),
-        waiting,
-        home,
-        id,
-        WaitingRead { length: count },
-    )
+    waiting.ask(&consoles(), home, id, WaitingRead { length: count })
 }
 
 /// Drops the read that waits, and tells it.
@@ -72,9 +56,8 @@ impl Visit<Console> for DropRead {
 
 /// The read of a process that waits is dropped, and an upcall tells it.
 fn drop_read(home: &mut Home, id: ProcessId)
-    requires slot { id.slot < length home.old.owns }
+    requires told { MayBeTold home.old id }
     requires request { is_some (waiting_of console_reads id.life (own_of home.old id.slot)) ≡ true }
-    requires dropped { (own_of home.old id.slot).dropped + 1 < 2 ^ 32 }
     ensures own { own_of home.new id.slot ≡ without_read (own_of home.old id.slot) }
     ensures rest { ChangesOnly id.slot home.old home.new }
 {
@@ -86,26 +69,20 @@ fn drop_read(home: &mut Home, id: ProcessId)
 
 /// A process drops its read: where one waits it waits no more.
 pub(crate) fn cancel(
-    waiting: &mut WaitingList,
+    waiting: &mut Line<WaitingRead>,
     home: &mut Home,
     id: ProcessId,
 ) -> Result<Reply, CallRule>
-    requires slot { id.slot < length home.old.owns }
-    requires present { is_stale id.life (own_of home.old id.slot) ≡ false }
-    requires dropped { (own_of home.old id.slot).dropped + 1 < 2 ^ 32 }
-    ensures answer { let own = own_of home.old id.slot in
-        result ≡ (cancelling (request_in console_reads own) own).answer }
-    ensures own { let own = own_of home.old id.slot in
-        own_of home.new id.slot ≡ (cancelling (request_in console_reads own) own).own }
-    ensures waiting { let own = own_of home.old id.slot in waiting.new
-        ≡ waiting_after Reads id waiting.old (cancelling (request_in console_reads own) own).acts }
-    ensures rest { ChangesOnly id.slot home.old home.new }
+    requires there { IsPresent home.old id }
+    requires told { MayBeTold home.old id }
+    ensures { Obeys Reads id (λ own. cancelling (request_in console_reads own) own) waiting.old home.old
+        result waiting.new home.new }
 {
     if !has_request::<WaitingRead, 3, 2, 2>(&consoles(), home, &id) {
         return Err(CallRule::Nothing);
     }
     let slot = id.slot;
     drop_read(home, id);
-    waiting.remove(slot);
+    waiting.leave(slot);
     Ok(Reply::Success)
 }

@@ -5,12 +5,14 @@ ghost use Rattle.grant_enter.specs.Homes.{own_of, ChangesOnly};
 ghost use Rattle.grant_enter.specs.Seen.{Framed, IsLent, own_entered};
 ghost use Rattle.process_own.specs.Served.{over};
 ghost use Rattle.driver_model.specs.Requests.{waiting_of};
-ghost use Rattle.driver_model.specs.Console.{console_reads, moving, read_status, received, receiving};
+ghost use Rattle.driver_model.specs.Console.{console_reads, moving, read_status, receiving};
+ghost use Rattle.driver_requests.specs.Asking.{MayBeTold};
 ghost use Rattle.console_capsule.specs.Receiving.{told_input, written_input};
 
+use crate::capsule::ConsoleCapsule;
 use crate::grants::consoles;
 use board_devices::Uart;
-use driver_requests::has_request;
+use driver_requests::{Serve, has_request};
 use grant_enter::{Entered, Home, Visit, a_buffer_is_written, buffers_are_whole, frames_join};
 use grant_values::{Console, WaitingRead};
 use tk_base::{ErrorCode, ProcessId};
@@ -117,9 +119,8 @@ fn take_in(entered: &mut Entered<'_>, uart: &mut Uart, read: &WaitingRead)
 
 /// Bytes that came in for the read of a process.
 fn step_of(home: &mut Home, id: ProcessId, uart: &mut Uart)
-    requires slot { id.slot < length home.old.owns }
+    requires told { MayBeTold home.old id }
     requires request { is_some (waiting_of console_reads id.life (own_of home.old id.slot)) ≡ true }
-    requires dropped { (own_of home.old id.slot).dropped + 1 < 2 ^ 32 }
     ensures step { let own = own_of home.old id.slot in
         IfSome (waiting_of console_reads id.life own) (λ read. let r = receiving uart.old.ring own read in
         (own_of home.new id.slot ≡ r.own)
@@ -132,19 +133,22 @@ fn step_of(home: &mut Home, id: ProcessId, uart: &mut Uart)
     }
 }
 
-/// Moves bytes that came in to the read of a process, if it is there and has one. The answer is whether it has.
-#[tactic(auto, unfolding(driver_model::specs::Console::received))]
-pub(crate) fn take_input(home: &mut Home, id: &ProcessId, uart: &mut Uart) -> bool
-    requires slot { id.now.slot < length home.old.owns }
-    requires dropped { (own_of home.old id.now.slot).dropped + 1 < 2 ^ 32 }
-    ensures received { let r = received uart.old.ring id.now.life (own_of home.old id.now.slot) in
-        (result ≡ r.completed) × (own_of home.new id.now.slot ≡ r.own)
-        × (uart.new ≡ record uart.old { ring = drop (length r.moved) uart.old.ring }) }
-    ensures rest { ChangesOnly id.now.slot home.old home.new }
-{
-    if !has_request::<WaitingRead, 3, 2, 2>(&consoles(), home, id) {
-        return false;
+impl Serve<WaitingRead> for ConsoleCapsule {
+    ghost use Rattle.console_capsule.specs.Answers.{received_by};
+
+    type Device = Uart;
+
+    ghost asks = { λ line own. Unit {0} };
+
+    ghost answer_to = { received_by };
+
+    /// Moves bytes that came in to the read of a process, if it is there and has one. The answer is whether it has.
+    #[tactic(auto, unfolding(driver_model::specs::Console::received))]
+    fn serve(home: &mut Home, id: &ProcessId, uart: &mut Uart) -> bool {
+        if !has_request::<WaitingRead, 3, 2, 2>(&consoles(), home, id) {
+            return false;
+        }
+        step_of(home, *id, uart);
+        true
     }
-    step_of(home, *id, uart);
-    true
 }

@@ -3,13 +3,16 @@ ghost use Rattle.std.specs.Prelude.{◌≡◌, ◌==◌, ◌+◌, ◌-◌, ◌*�
 ghost use Rattle.grant_enter.specs.Homes.{own_of, ChangesOnly};
 ghost use Rattle.grant_enter.specs.Seen.{Framed, IsLent, own_entered};
 ghost use Rattle.driver_model.specs.Requests.{waiting_of};
-ghost use Rattle.driver_model.specs.Console.{console_writes, free_after, next_bytes, portion, sending, sent};
+ghost use Rattle.driver_model.specs.Console.{console_writes, next_bytes, portion, sending};
+ghost use Rattle.driver_requests.specs.Asking.{MayBeTold};
+ghost use Rattle.console_capsule.specs.Answers.{sending_at};
 ghost use Rattle.console_capsule.specs.Sending.{rest_of, told_of};
 
+use crate::capsule::ConsoleCapsule;
 use crate::grants::consoles;
 use arrayvec::ArrayVec;
 use board_devices::Uart;
-use driver_requests::has_request;
+use driver_requests::{Serve, has_request};
 use grant_enter::{Entered, Home, Visit, buffers_are_whole, frames_join};
 use grant_values::{Console, WaitingWrite};
 use tk_base::ProcessId;
@@ -100,9 +103,8 @@ fn take_step(
 
 /// One step of the write of a process.
 fn step_of(home: &mut Home, id: ProcessId, printed: &mut ArrayVec<u8, 64>)
-    requires slot { id.slot < length home.old.owns }
+    requires told { MayBeTold home.old id }
     requires request { is_some (waiting_of console_writes id.life (own_of home.old id.slot)) ≡ true }
-    requires dropped { (own_of home.old id.slot).dropped + 1 < 2 ^ 32 }
     requires empty { printed.old.items ≡ [] }
     ensures step { let own = own_of home.old id.slot in
         IfSome (waiting_of console_writes id.life own) (λ write. let s = sending home.old.flash own write in
@@ -116,33 +118,36 @@ fn step_of(home: &mut Home, id: ProcessId, printed: &mut ArrayVec<u8, 64>)
     }
 }
 
-/// One step of the write of a process, if it is there and has one, and whether the write completed. The UART is
-/// free again once the bytes that were taken at this time are sent.
-#[tactic(auto, unfolding(driver_model::specs::Console::sent))]
-pub(crate) fn send(
-    home: &mut Home,
-    id: &ProcessId,
-    uart: &mut Uart,
-    time: u64,
-    printed: &mut ArrayVec<u8, 64>,
-) -> bool
-    requires slot { id.now.slot < length home.old.owns }
-    requires dropped { (own_of home.old id.now.slot).dropped + 1 < 2 ^ 32 }
-    requires empty { printed.old.items ≡ [] }
-    requires time { time + 64 * uart.old.ticks < 2 ^ 64 }
-    ensures sent { let s = sent home.old.flash id.now.life (own_of home.old id.now.slot) in
-        (result ≡ s.completed) × (own_of home.new id.now.slot ≡ s.own) × (printed.new.items ≡ s.printed)
-        × (uart.new ≡ record uart.old { free = free_after time uart.old.ticks s.printed uart.old.free }) }
-    ensures rest { ChangesOnly id.now.slot home.old home.new }
-{
-    if !has_request::<WaitingWrite, 3, 2, 2>(&consoles(), home, id) {
-        return false;
+impl Serve<WaitingWrite> for ConsoleCapsule {
+    ghost use Rattle.std.specs.Prelude.{◌≡◌, []};
+    ghost use Rattle.console_capsule.specs.Answers.{sent_by};
+
+    /// The bytes that are printed.
+    type Device = ArrayVec<u8, 64>;
+
+    ghost asks = { λ printed own. printed.items ≡ [] };
+
+    ghost answer_to = { λ printed. sent_by };
+
+    /// One step of the write of a process, if it is there and has one, and whether the write completed.
+    #[tactic(auto, unfolding(driver_model::specs::Console::sent))]
+    fn serve(home: &mut Home, id: &ProcessId, printed: &mut ArrayVec<u8, 64>) -> bool {
+        if !has_request::<WaitingWrite, 3, 2, 2>(&consoles(), home, id) {
+            return false;
+        }
+        step_of(home, *id, printed);
+        printed.is_empty()
     }
-    step_of(home, *id, printed);
+}
+
+/// The UART sends bytes from a time on, and is free again once they are sent.
+pub(crate) fn keep_busy(uart: &mut Uart, time: u64, printed: &ArrayVec<u8, 64>)
+    requires { time + 64 * uart.old.ticks < 2 ^ 64 }
+    ensures { uart.new ≡ sending_at time printed.now.items uart.old }
+{
     let count = printed.len();
     if count == 0 {
-        return true;
+        return;
     }
     uart.set_free(time + count as u64 * u64::from(uart.ticks()));
-    false
 }

@@ -10,7 +10,7 @@ use Rattle.process_own.specs.Own.{Own}
 use Rattle.process_own.specs.Handed.{held}
 use Rattle.process_own.specs.Served.{ram_at, scheduled, with_written}
 use Rattle.driver_model.specs.Commands.{Commanded, Randoms, accepted, by_number}
-use Rattle.driver_model.specs.Requests.{Desk, asking, waiting_of, request_in as request_at, with_request as with_request_at}
+use Rattle.driver_model.specs.Requests.{Desk, asking, waiting_of, with_request}
 
 -- the number of the driver
 abbrev pub random : ℕ
@@ -24,13 +24,6 @@ randoms = record {
   words_with = λ request words. random_words (record { request = request });
   line = Randoms;
 }
-
--- the request of a process that waits, if one does; a process with that request, or with none
-abbrev pub request_in : Own → Option RandomRequest
-request_in own = request_at randoms own
-
-abbrev pub with_request : Option RandomRequest → Own → Own
-with_request request own = with_request_at randoms request own
 
 -- its commands: the driver is there; a request for so many bytes
 unfoldable pub commands : ℕ → Own → List (ℕ × Commanded)
@@ -90,7 +83,7 @@ unanswered words own = record { own = own; words = words; completed = false }
 
 abbrev pub advanced : List ℕ → Progress → Answered
 advanced words p = record {
-  own = with_request p.rest p.own;
+  own = with_request randoms p.rest p.own;
   words = if p.took then drop 1 words else words;
   completed = is_none p.rest;
 }

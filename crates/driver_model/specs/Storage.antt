@@ -13,7 +13,7 @@ use Rattle.process_own.specs.Own.{Own}
 use Rattle.process_own.specs.Handed.{held}
 use Rattle.process_own.specs.Served.{bytes_at, ram_at, scheduled, with_written}
 use Rattle.driver_model.specs.Commands.{Commanded, Stores, accepted, refused, by_number}
-use Rattle.driver_model.specs.Requests.{Desk, asking, waiting_of, request_in as request_at, with_request as with_request_at}
+use Rattle.driver_model.specs.Requests.{Desk, asking, waiting_of, with_request}
 
 -- the number of the driver
 abbrev pub storage : ℕ
@@ -27,13 +27,6 @@ storages = record {
   words_with = λ request words. storage_words (record { request = request });
   line = Stores;
 }
-
--- the request of a process that waits, if one does; a process with that request, or with none
-abbrev pub request_in : Own → Option StorageRequest
-request_in own = request_at storages own
-
-abbrev pub with_request : Option StorageRequest → Own → Own
-with_request request own = with_request_at storages request own
 
 -- a request for bytes of a slot's storage, which has so many; those that are asked for must lie in it
 abbrev pub requesting : ℕ → StorageRequest → Own → Commanded
@@ -105,7 +98,7 @@ unanswered own = record { own = own; written = None; completed = false }
 
 -- a request that was served waits no more
 abbrev pub answer_of : Served → Answered
-answer_of s = record { own = with_request None s.own; written = s.written; completed = true }
+answer_of s = record { own = with_request storages None s.own; written = s.written; completed = true }
 
 -- the answer to a process of a life; nothing changes where it is not there, or has no request
 unfoldable pub answered : Bool → List ℕ → List ℕ → ℕ → Own → Answered

@@ -1,10 +1,7 @@
--- Who waits in a list after a command.
-use Rattle.std.specs.Prelude.{if◌then◌else◌, List, [], ◌∷◌, ◌++◌, Result, Ok, Err}
-use Rattle.tk_base.specs.declared.call.CallRule.{CallRule}
+-- Who waits in a list after a command, and after an answer.
+use Rattle.std.specs.Prelude.{ℕ, Bool, if◌then◌else◌, List, [], ◌∷◌, ◌++◌}
 use Rattle.tk_base.specs.declared.process.ProcessId.{ProcessId}
-use Rattle.syscall_abi.specs.declared.reply.Reply.{Reply}
-use Rattle.process_own.specs.Own.{Own}
-use Rattle.driver_model.specs.Commands.{Act, Waits, Leaves, Lights, Line, Commanded, is_same, refused}
+use Rattle.driver_model.specs.Commands.{Act, Waits, Leaves, Lights, Line, is_same}
 use Rattle.waiting_list.specs.Waiting.{without}
 
 -- those that wait in a list after one thing that a process asks of the board: one that begins to wait there is the last
@@ -18,8 +15,6 @@ abbrev pub waiting_after : Line → ProcessId → List ProcessId → List Act �
 waiting_after here id ids [] = ids
 waiting_after here id ids (act ∷ acts) = waiting_after here id (after_act here id ids act) acts
 
--- the answer to a request and what is then the process's own, as what comes of a command: where it is accepted the
--- process waits
-abbrev pub begun : Line → Result Reply CallRule → Own → Commanded
-begun line (Ok reply) own = record { answer = Ok reply; own = own; acts = Waits line ∷ [] }
-begun line (Err rule) own = refused rule own
+-- those that wait there after an answer to the process of a slot, whose request completed or did not
+abbrev pub waiting_still : Bool → ℕ → List ProcessId → List ProcessId
+waiting_still completed slot ids = if completed then without slot ids else ids

@@ -1,12 +1,15 @@
 //! Requests that processes make of a driver, and that its device serves one after another: what a driver keeps of a
-//! request, how one begins to wait, and whose it is that waits (TRD 104, "Command"; Levy et al., SOSP 2017,
-//! section 4). A driver says what its request is, and where it keeps it; the rest is the same for all.
+//! request, how one begins to wait, whose it is that waits, and how the device answers whoever waits longest (TRD 104,
+//! "Command"; Levy et al., SOSP 2017, section 4). A driver says what its request is, where it keeps it, and what its
+//! device does for one; the rest is the same for all.
 #![tactic(auto)]
 
-mod asking;
 mod begin;
 mod kinds;
+mod line;
 mod request;
+mod serve;
 
-pub use asking::{ask, has_request};
-pub use request::Request;
+pub use line::Line;
+pub use request::{Request, has_request};
+pub use serve::Serve;

@@ -1,7 +1,11 @@
 //! What a driver keeps of a request.
-ghost use Rattle.std.specs.Prelude.{◌≡◌, ℕ, List, Some};
+ghost use Rattle.std.specs.Prelude.{◌≡◌, ◌<◌, ℕ, List, Some, is_some, length};
+ghost use Rattle.grant_enter.specs.Homes.{own_of};
+ghost use Rattle.driver_model.specs.Requests.{waiting_of};
 
+use grant_enter::{Grant, Home};
 use grant_values::GrantValue;
+use tk_base::ProcessId;
 
 /// A request of a process that waits for a driver's device. It waits in the grant that the process keeps for the
 /// driver (Levy et al., SOSP 2017, section 4), beside whatever else stands there.
@@ -22,4 +26,20 @@ pub trait Request: Copy {
     fn wait_in(self, value: &mut Self::Value)
         ensures { (kept : List ℕ) → value.old ≡ Self.Value.value kept
             → Self.Value.words value.new ≡ desk.words_with (Some self) kept };
+}
+
+/// Whether the process of an id is there, and a request of it waits.
+pub fn has_request<R: Request, const UP: usize, const RO: usize, const RW: usize>(
+    grants: &Grant<R::Value, UP, RO, RW>,
+    home: &Home,
+    id: &ProcessId,
+) -> bool
+    requires driver { grants.now.driver ≡ R.desk.driver }
+    requires slot { id.now.slot < length home.now.owns }
+    ensures { result ≡ is_some (waiting_of R.desk id.now.life (own_of home.now id.now.slot)) }
+{
+    match grants.peek(home, *id) {
+        Ok(Some(value)) => R::waiting_in(&value).is_some(),
+        _ => false,
+    }
 }

@@ -6,7 +6,7 @@ use Rattle.std.proofs.lemmas.Grind.{same_number_lists}
 use Rattle.tk_base.specs.declared.access.TheConstants.{RAM_START}
 use Rattle.process_layout.specs.Extents.{Extents}
 use Rattle.board_memory.specs.Memory.{MemoryBytes, ram_between, over, with_run}
-use Rattle.grant_areas.specs.declared.kinds.PairKind.{PairKind}
+use Rattle.grant_enter.specs.declared.handing.Handover.{Handover}
 use Rattle.grant_areas.specs.Grants.{Grant, grant_of}
 use Rattle.grant_areas.specs.Laid.{IsLaid, Tells, read_back}
 use Rattle.process_layout.specs.Ordered.{IsOrdered}
@@ -28,6 +28,16 @@ front_all xs b = ap (λ (n : ℕ). take n xs) (omega arith)
 
 back_all : (xs : List ℕ) (a c : ℕ) → a ≤ c → c ≡ length xs → slice_range xs a c ≡ drop a xs
 back_all xs a c h is = take_all (c - a) (drop a xs) (omega (arith, length-drop a xs))
+
+-- a layout with room for one more grant, or as it was
+pub record SameEnds (e f : Extents) : Type 0 where
+  pub start : f.start ≡ e.start
+  pub end : f.end ≡ e.end
+  pub lower : f.kernel_break ≤ e.kernel_break
+
+pub roomed_ends : (driver : ℕ) (e : Extents) (g : Option Grant) → SameEnds e (roomed driver e g)
+roomed_ends driver e None = record { start = refl; end = refl; lower = omega arith }
+roomed_ends driver e (Some g) = record { start = refl; end = refl; lower = omega arith }
 
 module _ (m : MemoryBytes) (e : Extents) (s : IsSettled (length m.flash) (length m.ram) e) where
   differ : e.kernel_break - RAM_START - (e.start - RAM_START) ≡ e.kernel_break - e.start
@@ -102,40 +112,39 @@ module _ (m : MemoryBytes) (e : Extents) (s : IsSettled (length m.flash) (length
         ∙ back_all bytes (f.kernel_break - f.start) (f.end - e.start) (omega arith) (omega (arith, size))
 
   -- two parts that were left as a block of another layout
-  pub leaves_block : (f : Extents) (app app' kernel kernel' : List ℕ) (gs : List Grant) → app ≡ take (e.kernel_break - e.start) (ram_between m.ram e.start e.end) → kernel ≡ drop (e.kernel_break - e.start) (ram_between m.ram e.start e.end) → length kernel' ≡ length kernel → f.start ≡ e.start → f.end ≡ e.end → e.start ≤ f.kernel_break → f.kernel_break ≤ e.end → Leaves f app app' kernel' gs → Regrants m e (with_run m e.start (app' ++ kernel')) f gs
-  leaves_block f app app' kernel kernel' gs a k long start end low order left =
+  leaves_block : (f : Extents) (app app' kernel kernel' : List ℕ) (gs : List Grant) → app ≡ take (e.kernel_break - e.start) (ram_between m.ram e.start e.end) → kernel ≡ drop (e.kernel_break - e.start) (ram_between m.ram e.start e.end) → length kernel' ≡ length kernel → SameEnds e f → IsOrdered f → Leaves f app app' kernel' gs → Regrants m e (with_run m e.start (app' ++ kernel')) f gs
+  leaves_block f app app' kernel kernel' gs a k long ends o left =
       let app_long : length app ≡ e.kernel_break - e.start = ap length (a ∙ lent_app) ∙ length_app in
       let kernel_long : length kernel ≡ e.end - e.kernel_break = ap length (k ∙ lent_kernel) ∙ length_kernel in
       let size : length (app' ++ kernel') ≡ e.end - e.start = length-append app' kernel' ∙ omega (arith, left.size, s.ordered.block, s.ordered.grants, s.ordered.end) in
+      let low : e.start ≤ f.kernel_break = omega (arith, ends.start, o.block, o.grants) in
+      let high : f.kernel_break ≤ e.end = omega (arith, ends.lower, s.ordered.end) in
       record {
+        ordered = o;
         flash = refl;
         elsewhere = run_elsewhere (app' ++ kernel') size;
-        app = run_app (app' ++ kernel') size f start order ∙ left.own ∙ ap (below f) (a ∙ lent_app);
-        tells = subst (λ (xs : List ℕ). Tells xs gs) (sym (run_kernel (app' ++ kernel') size f start end low order)) left.tells;
+        app = run_app (app' ++ kernel') size f ends.start high ∙ left.own ∙ ap (below f) (a ∙ lent_app);
+        tells = subst (λ (xs : List ℕ). Tells xs gs) (sym (run_kernel (app' ++ kernel') size f ends.start ends.end low high)) left.tells;
       }
 
--- a layout with room for one more grant, or as it was
-pub record SameEnds (e f : Extents) : Type 0 where
-  pub start : f.start ≡ e.start
-  pub end : f.end ≡ e.end
-  pub lower : f.kernel_break ≤ e.kernel_break
+  -- two parts that were left as a block with room for a driver's grant
+  module _ (driver : ℕ) (f : Extents) (app app' kernel kernel' : List ℕ) (a : app ≡ take (e.kernel_break - e.start) (ram_between m.ram e.start e.end)) (k : kernel ≡ drop (e.kernel_break - e.start) (ram_between m.ram e.start e.end)) (layout : f ≡ roomed driver e (grant_of driver (read_back kernel))) where
+    pub room_in : f ≡ roomed driver e (grant_of driver (read_back (kernel_in m.ram e)))
+    room_in = layout ∙ ap (λ (xs : List ℕ). roomed driver e (grant_of driver (read_back xs))) (k ∙ lent_kernel)
 
-pub roomed_ends : (driver : ℕ) (e : Extents) (g : Option Grant) → SameEnds e (roomed driver e g)
-roomed_ends driver e None = record { start = refl; end = refl; lower = omega arith }
-roomed_ends driver e (Some g) = record { start = refl; end = refl; lower = omega arith }
+    pub regrants_in : (grants : List ℕ → List Grant) → length kernel' ≡ length kernel → IsOrdered f → Leaves f app app' kernel' (grants kernel) → Regrants m e (with_run m e.start (app' ++ kernel')) f (grants (kernel_in m.ram e))
+    regrants_in grants long o left =
+        subst (λ (xs : List ℕ). Regrants m e (with_run m e.start (app' ++ kernel')) f (grants xs)) (k ∙ lent_kernel)
+        (leaves_block f app app' kernel kernel' (grants kernel) a k long (subst (SameEnds e) (sym layout) (roomed_ends driver e (grant_of driver (read_back kernel)))) o left)
 
 pub if_ok : {A E : Type 0} {P Q : A → Type 0} (r : Result A E) → ((a : A) → P a → Q a) → IfOk r P → IfOk r Q
 if_ok (Ok a) f p = f a p
 if_ok (Err e) f p = tt
 
 -- a swap in the two parts of a block is one in memory
-pub swaps_in : (m : MemoryBytes) (e : Extents) → IsSettled (length m.flash) (length m.ram) e → (kind : PairKind) (driver number : ℕ) (pair : ℕ × ℕ) (f : Extents) (app app' kernel kernel' : List ℕ) → app ≡ take (e.kernel_break - e.start) (ram_between m.ram e.start e.end) → kernel ≡ drop (e.kernel_break - e.start) (ram_between m.ram e.start e.end) → length kernel' ≡ length kernel → IsOrdered f → (answer : ℕ × ℕ) → Swaps kind driver number pair e f app app' kernel kernel' answer → SwapsIn kind driver number pair m e (with_run m e.start (app' ++ kernel')) f answer
-swaps_in m e s kind driver number pair f app app' kernel kernel' a k long o answer sw =
-    let same : kernel ≡ kernel_in m.ram e = k ∙ lent_kernel m e s in
-    let ends : SameEnds e f = subst (SameEnds e) (sym sw.layout) (roomed_ends driver e (grant_of driver (read_back kernel))) in
-    record {
-      former = sw.former ∙ ap (λ (xs : List ℕ). held_pair kind driver number xs) same;
-      layout = sw.layout ∙ ap (λ (xs : List ℕ). roomed driver e (grant_of driver (read_back xs))) same;
-      grants = subst (λ (xs : List ℕ). Regrants m e (with_run m e.start (app' ++ kernel')) f (swapped kind driver number pair xs)) same
-          (leaves_block m e s f app app' kernel kernel' (swapped kind driver number pair kernel) a k long ends.start ends.end (omega (arith, ends.start, o.block, o.grants)) (omega (arith, ends.lower, s.ordered.end)) sw.grants);
-    }
+pub swaps_in : (m : MemoryBytes) (e : Extents) → IsSettled (length m.flash) (length m.ram) e → (h : Handover) (f : Extents) (app app' kernel kernel' : List ℕ) → app ≡ take (e.kernel_break - e.start) (ram_between m.ram e.start e.end) → kernel ≡ drop (e.kernel_break - e.start) (ram_between m.ram e.start e.end) → length kernel' ≡ length kernel → IsOrdered f → (answer : ℕ × ℕ) → Swaps h.kind h.driver h.number h.pair e f app app' kernel kernel' answer → SwapsIn h m e (with_run m e.start (app' ++ kernel')) f answer
+swaps_in m e s h f app app' kernel kernel' a k long o answer sw = record {
+  former = sw.former ∙ ap (λ (xs : List ℕ). held_pair h.kind h.driver h.number xs) (k ∙ lent_kernel m e s);
+  layout = room_in m e s h.driver f app app' kernel kernel' a k sw.layout;
+  grants = regrants_in m e s h.driver f app app' kernel kernel' a k sw.layout (swapped h.kind h.driver h.number h.pair) long o sw.grants;
+}

@@ -18,7 +18,7 @@ use Rattle.grant_enter.specs.declared.seat.Seat.{Seat}
 use Rattle.grant_enter.specs.Buffers.{first_of, last_of}
 use Rattle.grant_enter.specs.Homes.{IsSettled}
 use Rattle.grant_enter.proofs.Holding.{wider}
-use Rattle.grant_enter.specs.Seats.{Holds, IsSeated, LiesBelowMark, MayBeRead, app_in, own_in, readable}
+use Rattle.grant_enter.specs.Seats.{Holds, SitsIn, LiesBelowMark, MayBeRead, app_in, own_in, readable}
 
 all_by : (P : Grant → Type 0) (driver : ℕ) (g x : Grant) (gs : List Grant) (b : Bool) → P x → cond b (Some x) (grant_of driver gs) ≡ Some g → (grant_of driver gs ≡ Some g → P g) → P g
 all_by P driver g x gs true p is on = let same : x ≡ g = cc in subst P same p
@@ -42,12 +42,12 @@ ro_by : (e : Extents) (n : ℕ) (o : Option Grant) → ((g : Grant) → o ≡ So
 ro_by e n None holds = λ some. absurd (omega arith)
 ro_by e n (Some g) holds = pair_at (MayBeRead e) g.ro n (λ some. absurd (omega arith)) (holds g refl).ro
 
-module _ (m : MemoryBytes) (seat : Seat) (s : IsSettled (length m.flash) (length m.ram) seat.layout) (t : IsSeated (length m.flash) m.ram seat) (driver n : ℕ) where
+module _ (m : MemoryBytes) (seat : Seat) (t : SitsIn m seat) (driver n : ℕ) where
   pub rw_lies : LiesBelowMark seat.layout (held ReadWrite driver n (own_in m.ram seat))
-  rw_lies = let gs = (own_in m.ram seat).grants in rw_by seat.layout n (grant_of driver gs) (λ g is. all_of (Holds seat.layout) driver g gs t.kept.held is)
+  rw_lies = let gs = (own_in m.ram seat).grants in rw_by seat.layout n (grant_of driver gs) (λ g is. all_of (Holds seat.layout) driver g gs t.seated.kept.held is)
 
   pub ro_may : MayBeRead seat.layout (held ReadOnly driver n (own_in m.ram seat))
-  ro_may = let gs = (own_in m.ram seat).grants in ro_by seat.layout n (grant_of driver gs) (λ g is. all_of (Holds seat.layout) driver g gs t.kept.held is)
+  ro_may = let gs = (own_in m.ram seat).grants in ro_by seat.layout n (grant_of driver gs) (λ g is. all_of (Holds seat.layout) driver g gs t.seated.kept.held is)
 
 -- where a buffer lies, it may be allowed
 rw_allowed : (e : Extents) (pair : ℕ × ℕ) → e.mark ≤ e.brk → LiesBelowMark e pair → IsTrue (may_hand ReadWrite e pair)
@@ -64,10 +64,10 @@ ro_allowed e pair below may = by_size (pair.1 == 0) refl
     by_size true none = refl
     by_size false none = let some : 0 < pair.1 = grind (arith, nat_tests) in wider e.start e.mark e.brk pair.0 pair.1 (lies_in_flash e pair.0 pair.1) below (may some)
 
-pub in_place : (m : MemoryBytes) (seat : Seat) → IsSettled (length m.flash) (length m.ram) seat.layout → IsSeated (length m.flash) m.ram seat → HoldsInPlace (own_in m.ram seat)
-in_place m seat s t = record {
-  read_only = λ driver number. ro_allowed seat.layout (held ReadOnly driver number (own_in m.ram seat)) s.ordered.buffers (ro_may m seat s t driver number);
-  read_write = λ driver number. rw_allowed seat.layout (held ReadWrite driver number (own_in m.ram seat)) s.ordered.buffers (rw_lies m seat s t driver number);
+pub in_place : (m : MemoryBytes) (seat : Seat) → SitsIn m seat → HoldsInPlace (own_in m.ram seat)
+in_place m seat t = record {
+  read_only = λ driver number. ro_allowed seat.layout (held ReadOnly driver number (own_in m.ram seat)) t.settled.ordered.buffers (ro_may m seat t driver number);
+  read_write = λ driver number. rw_allowed seat.layout (held ReadWrite driver number (own_in m.ram seat)) t.settled.ordered.buffers (rw_lies m seat t driver number);
 }
 
 -- an interval that has no places has no bytes

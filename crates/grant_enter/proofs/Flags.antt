@@ -7,9 +7,9 @@ use Rattle.board_memory.specs.Memory.{MemoryBytes, ram_between, with_run}
 use Rattle.process_own.specs.Handed.{lies_in_ram}
 use Rattle.process_own.specs.Flag.{with_flag}
 use Rattle.grant_enter.specs.declared.seat.Seat.{Seat}
-use Rattle.grant_enter.specs.Homes.{IsSettled}
-use Rattle.grant_enter.specs.Seats.{IsKept, IsSeated, Reseats, app_in, kernel_in, own_in, owned}
+use Rattle.grant_enter.specs.Seats.{IsKept, Reseats, SitsIn, app_in, kernel_in, own_in, owned}
 use Rattle.grant_enter.proofs.Blocks.{lent_app, lent_kernel, length_block, run_app, run_elsewhere, run_kernel}
+use Rattle.grant_enter.proofs.Moves.{ram_reseats}
 
 take-set-lt : (n : ℕ) (xs : List ℕ) (i a : ℕ) → i < n → take n (slice_set xs i a) ≡ slice_set (take n xs) i a
 take-set-lt zero xs i a h = absurd (omega arith)
@@ -17,19 +17,20 @@ take-set-lt (suc n) [] i a h = refl
 take-set-lt (suc n) (x ∷ xs) zero a h = refl
 take-set-lt (suc n) (x ∷ xs) (suc i) a h = ap (λ (ys : List ℕ). x ∷ ys) (take-set-lt n xs i a (omega arith))
 
-module _ (m : MemoryBytes) (seat : Seat) (s : IsSettled (length m.flash) (length m.ram) seat.layout) (t : IsSeated (length m.flash) m.ram seat) (at byte : ℕ) (low : seat.layout.start ≤ at) (high : at + 1 ≤ seat.layout.brk) where
+module _ (m : MemoryBytes) (seat : Seat) (t : SitsIn m seat) (at byte : ℕ) (low : seat.layout.start ≤ at) (high : at + 1 ≤ seat.layout.brk) where
   abbrev written : List ℕ
   written = slice_set (ram_between m.ram seat.layout.start seat.layout.end) (at - seat.layout.start) byte
 
   size : length (slice_set (ram_between m.ram seat.layout.start seat.layout.end) (at - seat.layout.start) byte) ≡ seat.layout.end - seat.layout.start
-  size = length-set (ram_between m.ram seat.layout.start seat.layout.end) (at - seat.layout.start) byte ∙ length_block m seat.layout s
+  size = length-set (ram_between m.ram seat.layout.start seat.layout.end) (at - seat.layout.start) byte ∙ length_block m seat.layout t.settled
 
   inside : at - seat.layout.start < seat.layout.kernel_break - seat.layout.start
-  inside = omega (arith, s.ordered.grants)
+  inside = omega (arith, t.settled.ordered.grants)
 
   app : app_in (with_run m seat.layout.start written).ram seat.layout ≡ slice_set (app_in m.ram seat.layout) (at - seat.layout.start) byte
   app =
       let e = seat.layout in
+      let s = t.settled in
       run_app m e s written size e refl s.ordered.end
       ∙ take-set-lt (e.kernel_break - e.start) (ram_between m.ram e.start e.end) (at - e.start) byte inside
       ∙ ap (λ (xs : List ℕ). slice_set xs (at - e.start) byte) (lent_app m e s)
@@ -37,19 +38,15 @@ module _ (m : MemoryBytes) (seat : Seat) (s : IsSettled (length m.flash) (length
   kernel : kernel_in (with_run m seat.layout.start written).ram seat.layout ≡ kernel_in m.ram seat.layout
   kernel =
       let e = seat.layout in
+      let s = t.settled in
       run_kernel m e s written size e refl refl (omega (arith, s.ordered.block, s.ordered.grants)) s.ordered.end
       ∙ drop-set-lt (e.kernel_break - e.start) (ram_between m.ram e.start e.end) (at - e.start) byte inside
       ∙ lent_kernel m e s
 
   pub flag_reseats : Reseats m seat (with_run m seat.layout.start written) seat
-  flag_reseats = record {
-    flash = refl;
-    elsewhere = run_elsewhere m seat.layout s written size;
-    start = refl;
-    end = refl;
-    settled = s;
-    seated = record { object = t.object; kept = subst (IsKept seat.layout) (sym kernel) t.kept };
-  }
+  flag_reseats =
+      ram_reseats m seat seat (with_run m seat.layout.start written).ram (run_elsewhere m seat.layout t.settled written size) refl refl t.settled
+      (record { object = t.seated.object; kept = subst (IsKept seat.layout) (sym kernel) t.seated.kept })
 
   pub flag_own : own_in (with_run m seat.layout.start written).ram seat ≡ with_flag at byte (own_in m.ram seat)
   flag_own =

@@ -4,7 +4,6 @@ use Rattle.std.specs.Prelude.{option_map}
 use Rattle.std.specs.List.{AllByRecursion}
 use Rattle.tk_base.specs.declared.access.TheConstants.{RAM_START}
 use Rattle.tk_base.specs.declared.upcall.Counts.{Counts}
-use Rattle.grant_values.specs.Drivers.{counts_of}
 use Rattle.grant_values.specs.Words.{IsWord, words_of}
 use Rattle.grant_areas.specs.Grants.{Grant, grant_of, shape_of, with_grant, with_value}
 use Rattle.grant_areas.specs.Laid.{Tells, read_back}
@@ -13,50 +12,37 @@ use Rattle.board_memory.specs.Memory.{MemoryBytes, over}
 use Rattle.process_own.specs.Own.{Own}
 use Rattle.process_own.specs.Served.{kept, with_kept}
 use Rattle.grant_enter.specs.declared.seat.Seat.{Seat}
-use Rattle.grant_enter.specs.Homes.{IsSettled}
 use Rattle.grant_enter.specs.Windows.{SameOutside}
-use Rattle.grant_enter.specs.Seats.{Holds, IsKept, IsSeated, Reseats, app_in, kernel_in, own_in, owned, value_put, with_value_in}
+use Rattle.grant_enter.specs.Seats.{Holds, IsKept, Reseats, app_in, kernel_in, own_in, owned, value_put, with_value_in}
 use Rattle.grant_enter.specs.Seen.{IsLentTo, Seen, ServesIn, seen_of}
-use Rattle.grant_enter.specs.Visits.{Asks, Visited}
+use Rattle.grant_enter.specs.Visits.{Asks, IsCounted, Visited}
 use Rattle.grant_enter.proofs.Blocks.{length_kernel}
 use Rattle.grant_enter.proofs.Holding.{all_with}
+use Rattle.grant_enter.proofs.Moves.{ram_reseats, reseats_on}
 use Rattle.grant_enter.proofs.Values.{shape_is}
 use Rattle.grant_enter.proofs.Windows.{over_outside, over_window, widened, windows_same}
 use Rattle.grant_enter.proofs.Serving.{kernel_same, serving_own, serving_reseats, still_lent}
 use Rattle.grant_enter.proofs.Writing.{run_is}
 
 -- how many bytes the value of a driver has
-pub size_of : (driver size count : ℕ) (counts : Counts) → counts_of driver ≡ Some counts → size ≡ counts.value → size ≡ 4 * count → value_bytes driver ≡ size
-size_of driver size count counts is value whole = ap (λ (k : Counts). 4 * (k.value / 4)) (shape_is driver counts is) ∙ omega arith
+pub size_of : (driver size count : ℕ) (counts : Counts) → IsCounted driver counts size → size ≡ 4 * count → value_bytes driver ≡ size
+size_of driver size count counts c whole = ap (λ (k : Counts). 4 * (k.value / 4)) (shape_is driver counts c.counts_are) ∙ omega (arith, c.value)
 
 -- and how many words
-pub count_of : (driver size count : ℕ) (counts : Counts) → counts_of driver ≡ Some counts → size ≡ counts.value → size ≡ 4 * count → count ≡ (shape_of driver).value / 4
-count_of driver size count counts is value whole = let k : (shape_of driver).value ≡ counts.value = ap (λ (k : Counts). k.value) (shape_is driver counts is) in omega arith
+pub count_of : (driver size count : ℕ) (counts : Counts) → IsCounted driver counts size → size ≡ 4 * count → count ≡ (shape_of driver).value / 4
+count_of driver size count counts c whole = let k : (shape_of driver).value ≡ counts.value = ap (λ (k : Counts). k.value) (shape_is driver counts c.counts_are) in omega (arith, c.value)
 
 -- the words that are kept
 pub kept_is : (driver : ℕ) (own : Own) (g : Grant) → grant_of driver own.grants ≡ Some g → kept driver own ≡ Some g.value
 kept_is driver own g is = ap (option_map (λ (g : Grant). g.value)) is
 
--- a seat changes once more
-pub reseats_on : (m : MemoryBytes) (seat : Seat) (m1 : MemoryBytes) (seat1 : Seat) (m2 : MemoryBytes) (seat2 : Seat) → Reseats m seat m1 seat1 → Reseats m1 seat1 m2 seat2 → Reseats m seat m2 seat2
-reseats_on m seat m1 seat1 m2 seat2 a b =
-    let same : SameOutside (seat.layout.start - RAM_START) (seat.layout.end - RAM_START) m1.ram m2.ram = subst (λ (n : ℕ). SameOutside (n - RAM_START) (seat.layout.end - RAM_START) m1.ram m2.ram) a.start (subst (λ (n : ℕ). SameOutside (seat1.layout.start - RAM_START) (n - RAM_START) m1.ram m2.ram) a.end b.elsewhere) in
-    record {
-      flash = b.flash ∙ a.flash;
-      elsewhere = record { long = same.long ∙ a.elsewhere.long; each = λ k side. same.each k side ∙ a.elsewhere.each k side };
-      start = b.start ∙ a.start;
-      end = b.end ∙ a.end;
-      settled = subst (λ (n : ℕ). IsSettled (length m.flash) n seat2.layout) a.elsewhere.long (subst (λ (n : ℕ). IsSettled n (length m1.ram) seat2.layout) (ap length a.flash) b.settled);
-      seated = subst (λ (n : ℕ). IsSeated n m2.ram seat2) (ap length a.flash) b.seated;
-    }
-
 -- other words of a value were put at its place
 module _ (driver : ℕ) (counts : Counts) (m : MemoryBytes) (seat : Seat) (l : IsLentTo driver counts m seat) (at size : ℕ) (words : List ℕ) (v : IsValue (kernel_in m.ram seat.layout) at size driver) (many : length words ≡ (shape_of driver).value / 4) (fit : AllByRecursion IsWord words) (long : length (value_put (kernel_in m.ram seat.layout) at size words) ≡ length (kernel_in m.ram seat.layout)) where
   from : seat.layout.kernel_break - RAM_START + length (value_put (kernel_in m.ram seat.layout) at size words) ≡ seat.layout.end - RAM_START
-  from = let s = l.settled in omega (arith, long, length_kernel m seat.layout s, s.from, s.ordered.block, s.ordered.grants, s.ordered.end)
+  from = let s = l.sits.settled in omega (arith, long, length_kernel m seat.layout s, s.from, s.ordered.block, s.ordered.grants, s.ordered.end)
 
   fits : seat.layout.kernel_break - RAM_START + length (value_put (kernel_in m.ram seat.layout) at size words) ≤ length m.ram
-  fits = let s = l.settled in omega (arith, from, s.to, s.from)
+  fits = let s = l.sits.settled in omega (arith, from, s.to, s.from)
 
   left : with_value_in m seat.layout at size words ≡ record m { ram = over m.ram (seat.layout.kernel_break - RAM_START) (value_put (kernel_in m.ram seat.layout) at size words) }
   left = run_is m seat.layout.kernel_break (value_put (kernel_in m.ram seat.layout) at size words) fits
@@ -83,22 +69,15 @@ module _ (driver : ℕ) (counts : Counts) (m : MemoryBytes) (seat : Seat) (l : I
   -- it is a seat as before
   pub kept_reseats : Reseats m seat (with_value_in m seat.layout at size words) seat
   kept_reseats =
-      let s = l.settled in
+      let s = l.sits.settled in
       let ys = over m.ram (seat.layout.kernel_break - RAM_START) (value_put (kernel_in m.ram seat.layout) at size words) in
-      subst (λ (x : MemoryBytes). Reseats m seat x seat) (sym left) (record {
-        flash = refl;
-        elsewhere = widened m.ram ys (seat.layout.kernel_break - RAM_START) (seat.layout.end - RAM_START) (seat.layout.start - RAM_START) (seat.layout.end - RAM_START) same (omega (arith, s.ordered.block, s.ordered.grants)) (omega arith);
-        start = refl;
-        end = refl;
-        settled = s;
-        seated = record {
-          object = l.seated.object;
-          kept = subst (IsKept seat.layout) (sym kernel_is) (record {
-            laid = tells.laid;
-            held = subst (AllByRecursion (Holds seat.layout)) (sym tells.grants) (all_with (Holds seat.layout) (Holds seat.layout) driver (with_value words) (read_back (kernel_in m.ram seat.layout)) (λ g h. h) (λ g h. record { rw = h.rw; ro = h.ro }) l.seated.kept.held);
-          });
-        };
-      })
+      let elsewhere = widened m.ram ys (seat.layout.kernel_break - RAM_START) (seat.layout.end - RAM_START) (seat.layout.start - RAM_START) (seat.layout.end - RAM_START) same (omega (arith, s.ordered.block, s.ordered.grants)) (omega arith) in
+      let held = all_with (Holds seat.layout) (Holds seat.layout) driver (with_value words) (read_back (kernel_in m.ram seat.layout)) (λ g h. h) (λ g h. record { rw = h.rw; ro = h.ro }) l.sits.seated.kept.held in
+      subst (λ (x : MemoryBytes). Reseats m seat x seat) (sym left)
+      (ram_reseats m seat seat ys elsewhere refl refl s (record {
+        object = l.sits.seated.object;
+        kept = subst (IsKept seat.layout) (sym kernel_is) (record { laid = tells.laid; held = subst (AllByRecursion (Holds seat.layout)) (sym tells.grants) held });
+      }))
 
 -- a value stands where it stood once its driver has served the process
 pub value_again : (driver : ℕ) (counts : Counts) (m : MemoryBytes) (seat : Seat) → IsLentTo driver counts m seat → (at size : ℕ) → IsValue (kernel_in m.ram seat.layout) at size driver → (m1 : MemoryBytes) (seat1 : Seat) → ServesIn driver m seat m1 seat1 → IsValue (kernel_in m1.ram seat1.layout) at size driver

@@ -8,6 +8,7 @@ mod Instructions
 mod Stretch
 mod Blocks
 mod Holding
+mod Regranted
 mod Handed
 mod Flags
 mod Values

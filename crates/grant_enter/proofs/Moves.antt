@@ -20,45 +20,72 @@ use Rattle.grant_enter.specs.declared.seat.Seat.{Seat}
 use Rattle.grant_enter.specs.declared.home.Home.TheInside.{Inside}
 use Rattle.grant_enter.specs.Homes.{Homes, IsSettled, ChangesOnly, nobody, own_of, with_own}
 use Rattle.grant_enter.specs.Windows.{SameOutside}
-use Rattle.grant_enter.specs.Seats.{AreSettled, IsHome, IsSeated, IsKept, Holds, Reseats, layouts_of, owned, app_in, kernel_in, own_in, owns_in, homes_of}
+use Rattle.grant_enter.specs.Seats.{AreSettled, IsHome, IsSeated, IsKept, Holds, Reseats, SitsIn, first_seat, layouts_of, owned, app_in, kernel_in, own_in, owns_in, homes_of}
 use Rattle.std.proofs.lemmas.Grind.{same_number_lists}
 use Rattle.grant_enter.proofs.Windows.{windows_same, over_outside, over_window, short, zeros, length_zeros}
-use Rattle.grant_enter.proofs.Tables.{one_changed, read_at, own_at, settled_at, apart_at, layouts_set, all_changed}
+use Rattle.grant_enter.proofs.Tables.{any_default, one_changed, read_at, own_at, settled_at, apart_at, layouts_set, all_changed}
 
 -- a seat's layout lies in memory
 pub placed_of : (m : MemoryBytes) (e : Extents) → IsSettled (length m.flash) (length m.ram) e → IsPlaced e m
 placed_of m e s = record { flash_from = s.flash_from; flash_to = s.flash_to; from = s.from; to = s.to }
 
--- what is put into a slot stands there, and nothing else has changed
-pub put_found : (old new : Homes) (slot : ℕ) (own : Own) → slot < length old.owns → new ≡ with_own old slot own → own_of new slot ≡ own
-put_found old new slot own low is = ap (λ (x : Homes). own_of x slot) is ∙ get_or-set_same old.owns slot own nobody low
-
-pub put_only : (old new : Homes) (slot : ℕ) (own : Own) → slot < length old.owns → new ≡ with_own old slot own → ChangesOnly slot old new
-put_only old new slot own low is = is ∙ ap (with_own old slot) (sym (put_found old new slot own low is))
+-- in memory as long as before a layout is settled as before
+pub settled_in : (m m' : MemoryBytes) (e : Extents) → m'.flash ≡ m.flash → length m'.ram ≡ length m.ram → IsSettled (length m.flash) (length m.ram) e → IsSettled (length m'.flash) (length m'.ram) e
+settled_in m m' e flash long s =
+    subst (λ (n : ℕ). IsSettled (length m'.flash) n e) (sym long)
+    (subst (λ (n : ℕ). IsSettled n (length m.ram) e) (sym (ap length flash)) s)
 
 -- RAM that was not changed is the same everywhere
 pub nowhere : (xs : List ℕ) (from to : ℕ) → SameOutside from to xs xs
 nowhere xs from to = record { long = refl; each = λ k side. refl }
 
--- what a slot is read as
-module _ (h : Inside) (slot index : ℕ) (seat : Seat) (is : index ≡ slot) (read : seat ≡ slice_index_or h.seats.items index seat) (low : slot < length (homes_of h).owns) where
-  pub within : slot < length h.seats.items
+-- the seat of a slot was read in a home, of which contracts see this
+pub record Reads (h : Inside) (old : Homes) (slot index : ℕ) (seat : Seat) : Type 0 where
+  pub home : IsHome h
+  pub shown : homes_of h ≡ old
+  pub there : slot < length old.owns
+  pub is : index ≡ slot
+  pub read : seat ≡ slice_index_or h.seats.items index seat
+
+-- the seat of a slot, and that it is read
+abbrev pub seat_of : Inside → ℕ → Seat
+seat_of h slot = slice_index_or h.seats.items slot (first_seat (record { object = nobody.object; layout = nobody.layout }))
+
+pub reads_seat : (h : Inside) (old : Homes) (slot : ℕ) → IsHome h → homes_of h ≡ old → slot < length old.owns → Reads h old slot slot (seat_of h slot)
+reads_seat h old slot home shown there =
+    let low : slot < length (homes_of h).owns = subst (λ (x : Homes). slot < length x.owns) (sym shown) there in
+    record {
+      home = home;
+      shown = shown;
+      there = there;
+      is = refl;
+      read = any_default h.seats.items slot _ _ (omega (arith, length-map h.seats.items (own_in h.memory.ram), low));
+    }
+
+-- a home in which memory, and the seat at a place, are others
+abbrev pub with_seat : Inside → MemoryBytes → ℕ → Seat → Inside
+with_seat h m index new = record { memory = m; seats = with_item h.seats index new }
+
+module _ {h : Inside} {old : Homes} {slot index : ℕ} {seat : Seat} (r : Reads h old slot index seat) where
+  low : slot < length (homes_of h).owns
+  low = subst (λ (x : Homes). slot < length x.owns) (sym r.shown) r.there
+
+  within : slot < length h.seats.items
   within = omega (arith, length-map h.seats.items (own_in h.memory.ram), low)
 
-  pub own_is : own_of (homes_of h) slot ≡ own_in h.memory.ram seat
-  own_is = own_at h.memory.ram h.seats.items slot index seat is read low
+  pub own_before : own_of old slot ≡ own_in h.memory.ram seat
+  own_before = sym (ap (λ (x : Homes). own_of x slot) r.shown) ∙ own_at h.memory.ram h.seats.items slot index seat r.is r.read low
 
-  pub own_of_old : (old : Homes) → homes_of h ≡ old → own_of old slot ≡ own_in h.memory.ram seat
-  own_of_old old shown = sym (ap (λ (x : Homes). own_of x slot) shown) ∙ own_is
+  pub layout_before : (own_of old slot).layout ≡ seat.layout
+  layout_before = ap (λ (o : Own). o.layout) own_before
 
-  pub layout_is : (old : Homes) → homes_of h ≡ old → (own_of old slot).layout ≡ seat.layout
-  layout_is old shown = sym (ap (λ (x : Homes). (own_of x slot).layout) shown) ∙ ap (λ (o : Own). o.layout) own_is
-
-  pub settled_is : IsHome h → IsSettled (length h.memory.flash) (length h.memory.ram) seat.layout
-  settled_is home = subst (λ (s : Seat). IsSettled (length h.memory.flash) (length h.memory.ram) s.layout) (read_at h.seats.items slot index seat seat is read within) (settled_at (length h.memory.flash) (length h.memory.ram) h.seats.items slot seat home.settled within)
-
-  pub seated_is : IsHome h → IsSeated (length h.memory.flash) h.memory.ram seat
-  seated_is home = subst (IsSeated (length h.memory.flash) h.memory.ram) (read_at h.seats.items slot index seat seat is read within) (home.seated slot seat within)
+  pub sits_before : SitsIn h.memory seat
+  sits_before =
+      let here : get_or h.seats.items slot seat ≡ seat = read_at h.seats.items slot index seat seat r.is r.read within in
+      record {
+        settled = subst (λ (s : Seat). IsSettled (length h.memory.flash) (length h.memory.ram) s.layout) here (settled_at (length h.memory.flash) (length h.memory.ram) h.seats.items slot seat r.home.settled within);
+        seated = subst (IsSeated (length h.memory.flash) h.memory.ram) here (r.home.seated slot seat within);
+      }
 
   first_side : (e : Extents) → (e.end ≤ seat.layout.start) ⊎ (seat.layout.end ≤ e.start) → IsOrdered e → (e.kernel_break - RAM_START ≤ seat.layout.start - RAM_START) ⊎ (seat.layout.end - RAM_START ≤ e.start - RAM_START)
   first_side e (inl l) o = inl (omega (arith, o.end, l))
@@ -68,90 +95,122 @@ module _ (h : Inside) (slot index : ℕ) (seat : Seat) (is : index ≡ slot) (re
   second_side e (inl l) o = inl (omega (arith, l))
   second_side e (inr l) o = inr (omega (arith, l, o.block, o.grants))
 
-  module _ (home : IsHome h) (ram : List ℕ) (same : SameOutside (seat.layout.start - RAM_START) (seat.layout.end - RAM_START) h.memory.ram ram) where
+  -- a seat and the RAM in its block change: all else has its place, and is what it was
+  module _ (m : MemoryBytes) (new : Seat) (changed : Reseats h.memory seat m new) where
     sides : (k : ℕ) (d : Seat) → k < length h.seats.items → k ≢ slot → ((get_or h.seats.items k d).layout.end ≤ seat.layout.start) ⊎ (seat.layout.end ≤ (get_or h.seats.items k d).layout.start)
     sides k d there ne =
-        let here : get_or h.seats.items slot d ≡ seat = read_at h.seats.items slot index seat d is read within in
-        subst (λ (x : Seat). ((get_or h.seats.items k d).layout.end ≤ x.layout.start) ⊎ (x.layout.end ≤ (get_or h.seats.items k d).layout.start)) here (apart_at (length h.memory.flash) (length h.memory.ram) h.seats.items slot k d home.settled within there ne)
+        let here : get_or h.seats.items slot d ≡ seat = read_at h.seats.items slot index seat d r.is r.read within in
+        subst (λ (x : Seat). ((get_or h.seats.items k d).layout.end ≤ x.layout.start) ⊎ (x.layout.end ≤ (get_or h.seats.items k d).layout.start)) here (apart_at (length h.memory.flash) (length h.memory.ram) h.seats.items slot k d r.home.settled within there ne)
 
-    app_same : (k : ℕ) (d : Seat) → k < length h.seats.items → k ≢ slot → app_in ram (get_or h.seats.items k d).layout ≡ app_in h.memory.ram (get_or h.seats.items k d).layout
+    app_same : (k : ℕ) (d : Seat) → k < length h.seats.items → k ≢ slot → app_in m.ram (get_or h.seats.items k d).layout ≡ app_in h.memory.ram (get_or h.seats.items k d).layout
     app_same k d there ne =
         let e = (get_or h.seats.items k d).layout in
-        let s = settled_at (length h.memory.flash) (length h.memory.ram) h.seats.items k d home.settled there in
-        windows_same h.memory.ram ram (seat.layout.start - RAM_START) (seat.layout.end - RAM_START) (e.start - RAM_START) (e.kernel_break - RAM_START) same (first_side e (sides k d there ne) s.ordered)
+        let s = settled_at (length h.memory.flash) (length h.memory.ram) h.seats.items k d r.home.settled there in
+        windows_same h.memory.ram m.ram (seat.layout.start - RAM_START) (seat.layout.end - RAM_START) (e.start - RAM_START) (e.kernel_break - RAM_START) changed.elsewhere (first_side e (sides k d there ne) s.ordered)
 
-    kernel_same : (k : ℕ) (d : Seat) → k < length h.seats.items → k ≢ slot → kernel_in ram (get_or h.seats.items k d).layout ≡ kernel_in h.memory.ram (get_or h.seats.items k d).layout
+    kernel_same : (k : ℕ) (d : Seat) → k < length h.seats.items → k ≢ slot → kernel_in m.ram (get_or h.seats.items k d).layout ≡ kernel_in h.memory.ram (get_or h.seats.items k d).layout
     kernel_same k d there ne =
         let e = (get_or h.seats.items k d).layout in
-        let s = settled_at (length h.memory.flash) (length h.memory.ram) h.seats.items k d home.settled there in
-        windows_same h.memory.ram ram (seat.layout.start - RAM_START) (seat.layout.end - RAM_START) (e.kernel_break - RAM_START) (e.end - RAM_START) same (second_side e (sides k d there ne) s.ordered)
+        let s = settled_at (length h.memory.flash) (length h.memory.ram) h.seats.items k d r.home.settled there in
+        windows_same h.memory.ram m.ram (seat.layout.start - RAM_START) (seat.layout.end - RAM_START) (e.kernel_break - RAM_START) (e.end - RAM_START) changed.elsewhere (second_side e (sides k d there ne) s.ordered)
 
     -- RAM as it was outside of the slot's block leaves each other slot as it was
-    pub others : (k : ℕ) (d : Seat) → k < length h.seats.items → k ≢ slot → own_in ram (get_or h.seats.items k d) ≡ own_in h.memory.ram (get_or h.seats.items k d)
+    others : (k : ℕ) (d : Seat) → k < length h.seats.items → k ≢ slot → own_in m.ram (get_or h.seats.items k d) ≡ own_in h.memory.ram (get_or h.seats.items k d)
     others k d there ne = ap₂ (owned (get_or h.seats.items k d)) (app_same k d there ne) (kernel_same k d there ne)
 
-    pub others_seated : (k : ℕ) (d : Seat) → k < length h.seats.items → k ≢ slot → IsSeated (length h.memory.flash) h.memory.ram (get_or h.seats.items k d) → IsSeated (length h.memory.flash) ram (get_or h.seats.items k d)
+    others_seated : (k : ℕ) (d : Seat) → k < length h.seats.items → k ≢ slot → IsSeated (length h.memory.flash) h.memory.ram (get_or h.seats.items k d) → IsSeated (length h.memory.flash) m.ram (get_or h.seats.items k d)
     others_seated k d there ne s = record {
       object = s.object;
       kept = subst (IsKept (get_or h.seats.items k d).layout) (sym (kernel_same k d there ne)) s.kept;
     }
 
-  -- a seat and the RAM in its block change: all else has its place, and is what it was
-  module _ (home : IsHome h) (m : MemoryBytes) (new : Seat) (r : Reseats h.memory seat m new) where
-    pub reseated : IsHome (record { memory = m; seats = with_item h.seats index new })
+    still_settled : AreSettled (length m.flash) (length m.ram) (layouts_of h.seats.items)
+    still_settled =
+        subst (λ (n : ℕ). AreSettled n (length m.ram) (layouts_of h.seats.items)) (sym (ap length changed.flash))
+        (subst (λ (n : ℕ). AreSettled (length h.memory.flash) n (layouts_of h.seats.items)) (sym changed.elsewhere.long) r.home.settled)
+
+    pub reseated : IsHome (with_seat h m index new)
     reseated = record {
-      settled = subst (λ (n : ℕ). AreSettled n (length m.ram) (layouts_of (slice_set h.seats.items index new))) (sym (ap length r.flash))
-          (subst (λ (n : ℕ). AreSettled (length h.memory.flash) n (layouts_of (slice_set h.seats.items index new))) (sym r.elsewhere.long)
-          (layouts_set (length h.memory.flash) (length h.memory.ram) h.seats.items slot index seat new home.settled is read within r.settled r.start r.end));
-      seated = subst (λ (n : ℕ). All (IsSeated n m.ram) (slice_set h.seats.items index new)) (sym (ap length r.flash))
-          (all_changed (IsSeated (length h.memory.flash) h.memory.ram) (IsSeated (length h.memory.flash) m.ram) h.seats.items index new (λ k d there ne s. others_seated home m.ram r.elsewhere k d there (λ e. ne (e ∙ sym is)) s) r.seated home.seated);
+      settled = layouts_set (length m.flash) (length m.ram) h.seats.items slot index seat new still_settled r.is r.read within changed.sits.settled changed.start changed.end;
+      seated = all_changed (IsSeated (length h.memory.flash) h.memory.ram) (IsSeated (length m.flash) m.ram) h.seats.items index new (λ k d there ne s. subst (λ (n : ℕ). IsSeated n m.ram (get_or h.seats.items k d)) (sym (ap length changed.flash)) (others_seated k d there (λ e. ne (e ∙ sym r.is)) s)) changed.sits.seated r.home.seated;
     }
 
-    pub reshown : (old : Homes) (own : Own) → homes_of h ≡ old → own_in m.ram new ≡ own → homes_of (record { memory = m; seats = with_item h.seats index new }) ≡ with_own old slot own
-    reshown old own shown made =
-        ap₂ (λ (f : List ℕ) (owns : List Own). record { flash = f; owns = owns }) r.flash
-        (ap (λ (i : ℕ). owns_in m.ram (slice_set h.seats.items i new)) is
-        ∙ one_changed (own_in m.ram) (own_in h.memory.ram) h.seats.items slot new own made (others home m.ram r.elsewhere))
-        ∙ ap (λ (x : Homes). with_own x slot own) shown
+    reshown : (own : Own) → own_in m.ram new ≡ own → homes_of (with_seat h m index new) ≡ with_own old slot own
+    reshown own made =
+        ap₂ (λ (f : List ℕ) (owns : List Own). record { flash = f; owns = owns }) changed.flash
+        (ap (λ (i : ℕ). owns_in m.ram (slice_set h.seats.items i new)) r.is
+        ∙ one_changed (own_in m.ram) (own_in h.memory.ram) h.seats.items slot new own made others)
+        ∙ ap (λ (x : Homes). with_own x slot own) r.shown
 
-    -- what is the slot's own afterwards, and that nothing else changed
-    module _ (old : Homes) (shown : homes_of h ≡ old) (there : slot < length old.owns) where
-      pub reseated_own : own_of (homes_of (record { memory = m; seats = with_item h.seats index new })) slot ≡ own_in m.ram new
-      reseated_own = put_found old _ slot (own_in m.ram new) there (reshown old (own_in m.ram new) shown refl)
+    own_after : own_of (homes_of (with_seat h m index new)) slot ≡ own_in m.ram new
+    own_after =
+        ap (λ (x : Homes). own_of x slot) (reshown (own_in m.ram new) refl)
+        ∙ get_or-set_same old.owns slot (own_in m.ram new) nobody r.there
 
-      pub reseated_only : ChangesOnly slot old (homes_of (record { memory = m; seats = with_item h.seats index new }))
-      reseated_only = put_only old _ slot (own_in m.ram new) there (reshown old (own_in m.ram new) shown refl)
+    -- no other slot has changed
+    pub reseated_only : ChangesOnly slot old (homes_of (with_seat h m index new))
+    reseated_only = reshown (own_of (homes_of (with_seat h m index new)) slot) (sym own_after)
 
-      -- where it is what it was, nothing at all has
-      pub reseated_same : own_in m.ram new ≡ own_in h.memory.ram seat → homes_of (record { memory = m; seats = with_item h.seats index new }) ≡ old
-      reseated_same same =
-          reshown old (own_of old slot) shown (same ∙ sym (own_of_old old shown))
-          ∙ ap (λ (owns : List Own). record old { owns = owns }) (set-get_or old.owns slot nobody)
+    -- what holds of flash, and of what was and is the own of the process in memory, holds of them in what contracts see
+    pub reseated_shows : (P : List ℕ → Own → Own → Type 0) → P h.memory.flash (own_in h.memory.ram seat) (own_in m.ram new) → P old.flash (own_of old slot) (own_of (homes_of (with_seat h m index new)) slot)
+    reseated_shows P made =
+        subst (λ (o : Own). P old.flash (own_of old slot) o) (sym own_after)
+        (subst (λ (o : Own). P old.flash o (own_in m.ram new)) (sym own_before)
+        (subst (λ (f : List ℕ). P f (own_in h.memory.ram seat) (own_in m.ram new)) (ap (λ (x : Homes). x.flash) r.shown) made))
+
+    -- where it is what it was, nothing at all has changed
+    pub reseated_same : own_in m.ram new ≡ own_in h.memory.ram seat → homes_of (with_seat h m index new) ≡ old
+    reseated_same same =
+        reshown (own_of old slot) (same ∙ sym own_before)
+        ∙ ap (λ (owns : List Own). record old { owns = owns }) (set-get_or old.owns slot nobody)
 
   -- a seat stays, and the RAM in its block changes
-  module _ (home : IsHome h) (m : MemoryBytes) (r : Reseats h.memory seat m seat) where
+  module _ (m : MemoryBytes) (changed : Reseats h.memory seat m seat) where
     same_items : slice_set h.seats.items index seat ≡ h.seats.items
-    same_items = ap (slice_set h.seats.items index) read ∙ set-get_or h.seats.items index seat
+    same_items = ap (slice_set h.seats.items index) r.read ∙ set-get_or h.seats.items index seat
 
     pub still_home : IsHome (record { memory = m; seats = h.seats })
     still_home =
-        let i = reseated home m seat r in
+        let i = reseated m seat changed in
         record {
           settled = subst (λ (xs : List Seat). AreSettled (length m.flash) (length m.ram) (layouts_of xs)) same_items i.settled;
           seated = subst (λ (xs : List Seat). All (IsSeated (length m.flash) m.ram) xs) same_items i.seated;
         }
 
-    pub still_shown : (old : Homes) (own : Own) → homes_of h ≡ old → own_in m.ram seat ≡ own → homes_of (record { memory = m; seats = h.seats }) ≡ with_own old slot own
-    still_shown old own shown made =
-        ap (λ (xs : List Seat). record { flash = m.flash; owns = owns_in m.ram xs }) (sym same_items)
-        ∙ reshown home m seat r old own shown made
+    pub still_only : ChangesOnly slot old (homes_of (record { memory = m; seats = h.seats }))
+    still_only = subst (λ (xs : List Seat). ChangesOnly slot old (record { flash = m.flash; owns = owns_in m.ram xs })) same_items (reseated_only m seat changed)
+
+    pub still_shows : (P : List ℕ → Own → Own → Type 0) → P h.memory.flash (own_in h.memory.ram seat) (own_in m.ram seat) → P old.flash (own_of old slot) (own_of (homes_of (record { memory = m; seats = h.seats })) slot)
+    still_shows P made = subst (λ (xs : List Seat). P old.flash (own_of old slot) (slice_index_or (owns_in m.ram xs) slot nobody)) same_items (reseated_shows m seat changed P made)
+
+-- a seat changes once more
+pub reseats_on : (m : MemoryBytes) (seat : Seat) (m1 : MemoryBytes) (seat1 : Seat) (m2 : MemoryBytes) (seat2 : Seat) → Reseats m seat m1 seat1 → Reseats m1 seat1 m2 seat2 → Reseats m seat m2 seat2
+reseats_on m seat m1 seat1 m2 seat2 a b =
+    let same : SameOutside (seat.layout.start - RAM_START) (seat.layout.end - RAM_START) m1.ram m2.ram = subst (λ (n : ℕ). SameOutside (n - RAM_START) (seat.layout.end - RAM_START) m1.ram m2.ram) a.start (subst (λ (n : ℕ). SameOutside (seat1.layout.start - RAM_START) (n - RAM_START) m1.ram m2.ram) a.end b.elsewhere) in
+    record {
+      flash = b.flash ∙ a.flash;
+      elsewhere = record { long = same.long ∙ a.elsewhere.long; each = λ k side. same.each k side ∙ a.elsewhere.each k side };
+      start = b.start ∙ a.start;
+      end = b.end ∙ a.end;
+      sits = b.sits;
+    }
+
+-- a seat changes, and RAM in its block
+pub ram_reseats : (m : MemoryBytes) (seat new : Seat) (ram : List ℕ) → SameOutside (seat.layout.start - RAM_START) (seat.layout.end - RAM_START) m.ram ram → new.layout.start ≡ seat.layout.start → new.layout.end ≡ seat.layout.end → IsSettled (length m.flash) (length m.ram) new.layout → IsSeated (length m.flash) ram new → Reseats m seat (record m { ram = ram }) new
+ram_reseats m seat new ram elsewhere start end settled seated = record {
+  flash = refl;
+  elsewhere = elsewhere;
+  start = start;
+  end = end;
+  sits = record { settled = settled_in m (record m { ram = ram }) new.layout refl elsewhere.long settled; seated = seated };
+}
 
 -- a seat changes, and RAM does not
-pub same_memory : (m : MemoryBytes) (seat new : Seat) → IsSettled (length m.flash) (length m.ram) new.layout → new.layout.start ≡ seat.layout.start → new.layout.end ≡ seat.layout.end → IsSeated (length m.flash) m.ram new → Reseats m seat m new
-same_memory m seat new settled start end seated = record { flash = refl; elsewhere = nowhere m.ram _ _; start = start; end = end; settled = settled; seated = seated }
+pub same_memory : (m : MemoryBytes) (seat new : Seat) → new.layout.start ≡ seat.layout.start → new.layout.end ≡ seat.layout.end → SitsIn m new → Reseats m seat m new
+same_memory m seat new start end sits = record { flash = refl; elsewhere = nowhere m.ram _ _; start = start; end = end; sits = sits }
 
 -- a layout in order whose breaks are others, in order too
-others_settled : (flash ram : ℕ) (e : Extents) (brk kernel_break mark : ℕ) → IsSettled flash ram e → let f = record e { brk = brk; kernel_break = kernel_break; mark = mark } in IsOrdered f → IsSettled flash ram f
+pub others_settled : (flash ram : ℕ) (e : Extents) (brk kernel_break mark : ℕ) → IsSettled flash ram e → let f = record e { brk = brk; kernel_break = kernel_break; mark = mark } in IsOrdered f → IsSettled flash ram f
 others_settled flash ram e brk kernel_break mark s ordered = record {
   ordered = ordered;
   flash_from = s.flash_from;
@@ -206,24 +265,23 @@ kept_with_break e brk kernel k = record { laid = k.laid; held = all_held (read_b
     all_held (g ∷ gs) all = (record { rw = all.0.rw; ro = all.0.ro }, all_held gs all.1)
 
 -- a break that was moved, or refused, leaves a seat
-pub break_reseats : (m : MemoryBytes) (seat : Seat) (new : ℕ) (e : Extents) (moved : Bool) → IsSettled (length m.flash) (length m.ram) seat.layout → IsSeated (length m.flash) m.ram seat → moved ≡ permits_break seat.layout new → OnTrue moved (e ≡ record seat.layout { brk = rounded_up new }) → OnFalse moved (e ≡ seat.layout) → Reseats m seat m (record seat { layout = e })
-break_reseats m seat new e true s t permits was kept =
+pub break_reseats : (m : MemoryBytes) (seat : Seat) (new : ℕ) (e : Extents) (moved : Bool) → SitsIn m seat → moved ≡ permits_break seat.layout new → OnTrue moved (e ≡ record seat.layout { brk = rounded_up new }) → OnFalse moved (e ≡ seat.layout) → Reseats m seat m (record seat { layout = e })
+break_reseats m seat new e true t permits was kept =
     let f : Extents = record seat.layout { brk = rounded_up new } in
     subst (λ (x : Extents). Reseats m seat m (record seat { layout = x })) (sym was)
-    (same_memory m seat (record seat { layout = f }) (break_settled (length m.flash) (length m.ram) seat.layout f new s (sym permits) refl) refl refl (record {
-      object = record { from = t.object.from; to = t.object.to; accessible_from = t.object.accessible_from; accessible_to = t.object.accessible_to };
-      kept = kept_with_break seat.layout (rounded_up new) (kernel_in m.ram seat.layout) t.kept;
+    (same_memory m seat (record seat { layout = f }) refl refl (record {
+      settled = break_settled (length m.flash) (length m.ram) seat.layout f new t.settled (sym permits) refl;
+      seated = record {
+        object = record { from = t.seated.object.from; to = t.seated.object.to; accessible_from = t.seated.object.accessible_from; accessible_to = t.seated.object.accessible_to };
+        kept = kept_with_break seat.layout (rounded_up new) (kernel_in m.ram seat.layout) t.seated.kept;
+      };
     }))
-break_reseats m seat new e false s t permits was kept =
-    subst (λ (x : Extents). Reseats m seat m (record seat { layout = x })) (sym kept) (same_memory m seat seat s refl refl t)
+break_reseats m seat new e false t permits was kept =
+    subst (λ (x : Extents). Reseats m seat m (record seat { layout = x })) (sym kept) (same_memory m seat seat refl refl t)
 
--- so do other pending upcalls
-pub requeued : (m : MemoryBytes) (seat : Seat) (queue : List Upcall) → IsSettled (length m.flash) (length m.ram) seat.layout → IsSeated (length m.flash) m.ram seat → Reseats m seat m (record seat { pending = record seat.pending { queue = queue } })
-requeued m seat queue s t = same_memory m seat (record seat { pending = record seat.pending { queue = queue } }) s refl refl (record { object = t.object; kept = t.kept })
-
--- and the end of a process
-pub end_reseats : (m : MemoryBytes) (seat : Seat) (queue : List Upcall) → IsSettled (length m.flash) (length m.ram) seat.layout → IsSeated (length m.flash) m.ram seat → Reseats m seat m (record seat { pending = record seat.pending { queue = queue }; lives = false })
-end_reseats m seat queue s t = same_memory m seat (record seat { pending = record seat.pending { queue = queue }; lives = false }) s refl refl (record { object = t.object; kept = t.kept })
+-- so do other pending upcalls, and whether the process lives
+pub requeued : (m : MemoryBytes) (seat : Seat) (queue : List Upcall) (lives : Bool) → SitsIn m seat → Reseats m seat m (record seat { pending = record seat.pending { queue = queue }; lives = lives })
+requeued m seat queue lives t = same_memory m seat (record seat { pending = record seat.pending { queue = queue }; lives = lives }) refl refl (record { settled = t.settled; seated = record { object = t.seated.object; kept = t.seated.kept } })
 
 pub ended_own : (ram : List ℕ) (seat : Seat) (queue : List Upcall) → queue ≡ [] → own_in ram (record seat { pending = record seat.pending { queue = queue }; lives = false }) ≡ ended (own_in ram seat)
 ended_own ram seat queue none = ap (λ (q : List Upcall). own_in ram (record seat { pending = record seat.pending { queue = q }; lives = false })) none
@@ -243,42 +301,54 @@ pub record Restarts (m : MemoryBytes) (seat : Seat) (brk : ℕ) (m' : MemoryByte
   pub reseats : Reseats m seat m' new
   pub own : own_in m'.ram new ≡ restarted brk (own_in m.ram seat)
 
--- a process that starts again
-module _ (law : IsReadBack) (m : MemoryBytes) (seat : Seat) (s : IsSettled (length m.flash) (length m.ram) seat.layout) (t : IsSeated (length m.flash) m.ram seat) (brk : ℕ) where
-  fits : seat.layout.start - RAM_START + length (zeros (seat.layout.end - seat.layout.start)) ≤ length m.ram
-  fits = omega (arith, length_zeros (seat.layout.end - seat.layout.start), s.to, s.from, s.ordered.block, s.ordered.grants, s.ordered.end)
+-- a process that starts again, at a break that may be its first
+module _ {h : Inside} {old : Homes} {slot index : ℕ} {seat : Seat} (r : Reads h old slot index seat) (brk : ℕ) (from : (own_of old slot).layout.start ≤ brk) (to : brk ≤ (own_of old slot).layout.end) (aligned : brk % 4 ≡ 0) where
+  settled : IsSettled (length h.memory.flash) (length h.memory.ram) seat.layout
+  settled = (sits_before r).settled
+
+  layout_again : IsSettled (length h.memory.flash) (length h.memory.ram) (with_break brk seat.layout)
+  layout_again =
+      let low : seat.layout.start ≤ brk = subst (λ (e : Extents). e.start ≤ brk) (layout_before r) from in
+      let high : brk ≤ seat.layout.end = subst (λ (e : Extents). brk ≤ e.end) (layout_before r) to in
+      start_settled (length h.memory.flash) (length h.memory.ram) seat.layout (with_break brk seat.layout) brk settled low high aligned refl
+
+  -- its block is cleared where it lies
+  pub clears : (f : Extents) → f ≡ with_break brk seat.layout → IsPlaced f h.memory
+  clears f at = placed_of h.memory f (subst (IsSettled (length h.memory.flash) (length h.memory.ram)) (sym at) layout_again)
+
+  abbrev cleared_ram : List ℕ
+  cleared_ram = over h.memory.ram (seat.layout.start - RAM_START) (zeros (seat.layout.end - seat.layout.start))
+
+  fits : seat.layout.start - RAM_START + length (zeros (seat.layout.end - seat.layout.start)) ≤ length h.memory.ram
+  fits = let s = settled in omega (arith, length_zeros (seat.layout.end - seat.layout.start), s.to, s.from, s.ordered.block, s.ordered.grants, s.ordered.end)
 
   ends : seat.layout.end - RAM_START ≡ seat.layout.start - RAM_START + length (zeros (seat.layout.end - seat.layout.start))
-  ends = omega (arith, length_zeros (seat.layout.end - seat.layout.start), s.from, s.ordered.block, s.ordered.grants, s.ordered.end)
+  ends = let s = settled in omega (arith, length_zeros (seat.layout.end - seat.layout.start), s.from, s.ordered.block, s.ordered.grants, s.ordered.end)
 
   -- the seat of the new life
-  again_reseats : seat.layout.start ≤ brk → brk ≤ seat.layout.end → brk % 4 ≡ 0 → Reseats m seat (record m { ram = over m.ram (seat.layout.start - RAM_START) (zeros (seat.layout.end - seat.layout.start)) }) (record seat { layout = with_break brk seat.layout; pending = record seat.pending { queue = [] }; life = seat.life + 1; lives = true })
-  again_reseats from to aligned =
-      let w = over m.ram (seat.layout.start - RAM_START) (zeros (seat.layout.end - seat.layout.start)) in
-      record {
-        flash = refl;
-        elsewhere = subst (λ (n : ℕ). SameOutside (seat.layout.start - RAM_START) n m.ram w) (sym ends) (over_outside m.ram (zeros (seat.layout.end - seat.layout.start)) (seat.layout.start - RAM_START) fits);
-        start = refl;
-        end = refl;
-        settled = start_settled (length m.flash) (length m.ram) seat.layout (with_break brk seat.layout) brk s from to aligned refl;
-        seated = record {
-          object = record { from = t.object.from; to = t.object.to; accessible_from = t.object.accessible_from; accessible_to = t.object.accessible_to };
-          kept = subst (IsKept (with_break brk seat.layout)) (sym (no_bytes w (seat.layout.end - RAM_START))) (none_kept law (with_break brk seat.layout));
-        };
-      }
+  abbrev seat_again : Seat
+  seat_again = record seat { layout = with_break brk seat.layout; pending = record seat.pending { queue = [] }; life = seat.life + 1; lives = true }
 
-  again_own : own_in (over m.ram (seat.layout.start - RAM_START) (zeros (seat.layout.end - seat.layout.start))) (record seat { layout = with_break brk seat.layout; pending = record seat.pending { queue = [] }; life = seat.life + 1; lives = true }) ≡ restarted brk (own_in m.ram seat)
-  again_own =
-      let w = over m.ram (seat.layout.start - RAM_START) (zeros (seat.layout.end - seat.layout.start)) in
-      let whole : slice_range w (seat.layout.start - RAM_START) (seat.layout.end - RAM_START) ≡ zeros (seat.layout.end - seat.layout.start) = over_window m.ram (zeros (seat.layout.end - seat.layout.start)) (seat.layout.start - RAM_START) (seat.layout.end - RAM_START) fits ends in
-      let none : read_back (slice_range w (seat.layout.end - RAM_START) (seat.layout.end - RAM_START)) ≡ [] = ap read_back (no_bytes w (seat.layout.end - RAM_START)) ∙ none_back law in
+  again_reseats : IsReadBack → Reseats h.memory seat (record h.memory { ram = cleared_ram }) seat_again
+  again_reseats law =
+      let elsewhere : SameOutside (seat.layout.start - RAM_START) (seat.layout.end - RAM_START) h.memory.ram cleared_ram = subst (λ (n : ℕ). SameOutside (seat.layout.start - RAM_START) n h.memory.ram cleared_ram) (sym ends) (over_outside h.memory.ram (zeros (seat.layout.end - seat.layout.start)) (seat.layout.start - RAM_START) fits) in
+      let object = (sits_before r).seated.object in
+      ram_reseats h.memory seat seat_again cleared_ram elsewhere refl refl layout_again (record {
+        object = record { from = object.from; to = object.to; accessible_from = object.accessible_from; accessible_to = object.accessible_to };
+        kept = subst (IsKept (with_break brk seat.layout)) (sym (no_bytes cleared_ram (seat.layout.end - RAM_START))) (none_kept law (with_break brk seat.layout));
+      })
+
+  again_own : IsReadBack → own_in cleared_ram seat_again ≡ restarted brk (own_in h.memory.ram seat)
+  again_own law =
+      let whole : slice_range cleared_ram (seat.layout.start - RAM_START) (seat.layout.end - RAM_START) ≡ zeros (seat.layout.end - seat.layout.start) = over_window h.memory.ram (zeros (seat.layout.end - seat.layout.start)) (seat.layout.start - RAM_START) (seat.layout.end - RAM_START) fits ends in
+      let none : read_back (slice_range cleared_ram (seat.layout.end - RAM_START) (seat.layout.end - RAM_START)) ≡ [] = ap read_back (no_bytes cleared_ram (seat.layout.end - RAM_START)) ∙ none_back law in
       ap₂ (λ (a : List ℕ) (gs : List Grant). record { object = seat.object; layout = with_break brk seat.layout; ram = a; grants = gs; pending = []; life = seat.life + 1; lives = true; dropped = seat.pending.dropped }) whole none
 
   -- as the code leaves memory and the seat
-  pub restarts : (m' : MemoryBytes) (f : Extents) (queue : List Upcall) → f ≡ with_break brk seat.layout → queue ≡ [] → m' ≡ cleared f m → seat.layout.start ≤ brk → brk ≤ seat.layout.end → brk % 4 ≡ 0 → Restarts m seat brk m' (record seat { layout = f; pending = record seat.pending { queue = queue }; life = seat.life + 1; lives = true })
-  restarts m' f queue at none left from to aligned =
-      let same : m' ≡ cleared (with_break brk seat.layout) m = left ∙ ap (λ (x : Extents). cleared x m) at in
-      subst (λ (x : MemoryBytes). Restarts m seat brk x (record seat { layout = f; pending = record seat.pending { queue = queue }; life = seat.life + 1; lives = true })) (sym same)
-      (subst (λ (x : Extents). Restarts m seat brk (cleared (with_break brk seat.layout) m) (record seat { layout = x; pending = record seat.pending { queue = queue }; life = seat.life + 1; lives = true })) (sym at)
-      (subst (λ (q : List Upcall). Restarts m seat brk (cleared (with_break brk seat.layout) m) (record seat { layout = with_break brk seat.layout; pending = record seat.pending { queue = q }; life = seat.life + 1; lives = true })) (sym none)
-      (record { reseats = again_reseats from to aligned; own = again_own })))
+  pub restarts : IsReadBack → (m : MemoryBytes) (f : Extents) (queue : List Upcall) → f ≡ with_break brk seat.layout → queue ≡ [] → m ≡ cleared f h.memory → Restarts h.memory seat brk m (record seat { layout = f; pending = record seat.pending { queue = queue }; life = seat.life + 1; lives = true })
+  restarts law m f queue at none left =
+      let same : m ≡ cleared (with_break brk seat.layout) h.memory = left ∙ ap (λ (x : Extents). cleared x h.memory) at in
+      subst (λ (x : MemoryBytes). Restarts h.memory seat brk x (record seat_again { layout = f; pending = record seat.pending { queue = queue } })) (sym same)
+      (subst (λ (x : Extents). Restarts h.memory seat brk (cleared (with_break brk seat.layout) h.memory) (record seat_again { layout = x; pending = record seat.pending { queue = queue } })) (sym at)
+      (subst (λ (q : List Upcall). Restarts h.memory seat brk (cleared (with_break brk seat.layout) h.memory) (record seat_again { pending = record seat.pending { queue = q } })) (sym none)
+      (record { reseats = again_reseats law; own = again_own law })))

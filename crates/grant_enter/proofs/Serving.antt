@@ -10,6 +10,7 @@ use Rattle.tk_base.specs.declared.upcall.Counts.{Counts}
 use Rattle.process_layout.specs.Extents.{Extents}
 use Rattle.grant_areas.specs.Grants.{Grant, grant_of}
 use Rattle.board_memory.specs.Memory.{MemoryBytes}
+use Rattle.process_own.specs.Flash.{HasObject}
 use Rattle.process_own.specs.Own.{Own}
 use Rattle.grant_enter.specs.declared.seat.Pending.{Pending}
 use Rattle.grant_enter.specs.declared.seat.Seat.{Seat}
@@ -18,6 +19,7 @@ use Rattle.grant_enter.specs.Windows.{SameOutside}
 use Rattle.grant_enter.specs.Seats.{Holds, IsKept, IsSeated, LiesBelowMark, Reseats, app_in, kernel_in, own_in, owned}
 use Rattle.grant_enter.specs.Seen.{IsLentTo, LiesOutside, SameButIn, Serves, ServesIn, rw_buffers, rw_of}
 use Rattle.grant_enter.proofs.Buffers.{all_of}
+use Rattle.grant_enter.proofs.Moves.{settled_in}
 use Rattle.grant_enter.proofs.Windows.{length_window, short, window_at, windows_same, widened}
 
 -- of two numbers one is less, or it is not
@@ -72,9 +74,9 @@ window_but buffers xs ys from a b low at to same = record {
 module _ (driver : ℕ) (counts : Counts) (m : MemoryBytes) (seat : Seat) (l : IsLentTo driver counts m seat) (m' : MemoryBytes) (seat' : Seat) (v : ServesIn driver m seat m' seat') where
   own_part : SameOutside (seat.layout.start - RAM_START) (seat.layout.kernel_break - RAM_START) m.ram m'.ram
   own_part =
-      let s = l.settled in
+      let s = l.sits.settled in
       let gs = (own_in m.ram seat).grants in
-      let all : AllByRecursion (LiesBelowMark seat.layout) (rw_buffers driver (own_in m.ram seat)) = all_below seat.layout (grant_of driver gs) (λ g is. all_of (Holds seat.layout) driver g gs l.seated.kept.held is) in
+      let all : AllByRecursion (LiesBelowMark seat.layout) (rw_buffers driver (own_in m.ram seat)) = all_below seat.layout (grant_of driver gs) (λ g is. all_of (Holds seat.layout) driver g gs l.sits.seated.kept.held is) in
       record {
         long = v.bytes.long;
         each = λ k side. v.bytes.each k (outside seat.layout (RAM_START + k) (rw_buffers driver (own_in m.ram seat)) (omega (arith, s.ordered.buffers, s.ordered.grants)) (at_side k side) all);
@@ -92,18 +94,20 @@ module _ (driver : ℕ) (counts : Counts) (m : MemoryBytes) (seat : Seat) (l : I
 
   seated_with : (pending : Pending) → IsSeated (length m'.flash) m'.ram (record seat { pending = pending })
   seated_with pending = record {
-    object = subst (λ (n : ℕ). Rattle.process_own.specs.Flash.HasObject n seat.object seat.layout) (sym (ap length v.flash)) l.seated.object;
-    kept = subst (IsKept seat.layout) (sym kernel_same) l.seated.kept;
+    object = subst (λ (n : ℕ). HasObject n seat.object seat.layout) (sym (ap length v.flash)) l.sits.seated.object;
+    kept = subst (IsKept seat.layout) (sym kernel_same) l.sits.seated.kept;
   }
 
   settled_same : IsSettled (length m'.flash) (length m'.ram) seat.layout
-  settled_same = subst (λ (n : ℕ). IsSettled (length m'.flash) n seat.layout) (sym v.bytes.long) (subst (λ (n : ℕ). IsSettled n (length m.ram) seat.layout) (sym (ap length v.flash)) l.settled)
+  settled_same = settled_in m m' seat.layout v.flash v.bytes.long l.sits.settled
 
   -- it is lent as before
   pub still_lent : IsLentTo driver counts m' seat'
   still_lent = record {
-    settled = subst (IsSettled (length m'.flash) (length m'.ram)) (sym layout_same) settled_same;
-    seated = subst (IsSeated (length m'.flash) m'.ram) (sym v.seat_is) (seated_with seat'.pending);
+    sits = record {
+      settled = subst (IsSettled (length m'.flash) (length m'.ram)) (sym layout_same) settled_same;
+      seated = subst (IsSeated (length m'.flash) m'.ram) (sym v.seat_is) (seated_with seat'.pending);
+    };
     counts_are = l.counts_are;
   }
 
@@ -111,11 +115,10 @@ module _ (driver : ℕ) (counts : Counts) (m : MemoryBytes) (seat : Seat) (l : I
   pub serving_reseats : Reseats m seat m' seat'
   serving_reseats = record {
     flash = v.flash;
-    elsewhere = widened m.ram m'.ram (seat.layout.start - RAM_START) (seat.layout.kernel_break - RAM_START) (seat.layout.start - RAM_START) (seat.layout.end - RAM_START) own_part (omega arith) (omega (arith, l.settled.ordered.end));
+    elsewhere = widened m.ram m'.ram (seat.layout.start - RAM_START) (seat.layout.kernel_break - RAM_START) (seat.layout.start - RAM_START) (seat.layout.end - RAM_START) own_part (omega arith) (omega (arith, l.sits.settled.ordered.end));
     start = ap (λ (x : Extents). x.start) layout_same;
     end = ap (λ (x : Extents). x.end) layout_same;
-    settled = subst (IsSettled (length m.flash) (length m.ram)) (sym layout_same) l.settled;
-    seated = subst (λ (n : ℕ). IsSeated n m'.ram seat') (ap length v.flash) still_lent.seated;
+    sits = still_lent.sits;
   }
 
   -- what is the process's own
@@ -126,7 +129,7 @@ module _ (driver : ℕ) (counts : Counts) (m : MemoryBytes) (seat : Seat) (l : I
   own_same = ap (own_in m'.ram) v.seat_is ∙ own_with seat'.pending
 
   app_bytes : SameButIn (rw_buffers driver (own_in m.ram seat)) seat.layout.start (app_in m.ram seat.layout) (app_in m'.ram seat.layout)
-  app_bytes = window_but (rw_buffers driver (own_in m.ram seat)) m.ram m'.ram seat.layout.start (seat.layout.start - RAM_START) (seat.layout.kernel_break - RAM_START) l.settled.from refl (omega (arith, l.settled.to, l.settled.from, l.settled.ordered.end)) v.bytes
+  app_bytes = window_but (rw_buffers driver (own_in m.ram seat)) m.ram m'.ram seat.layout.start (seat.layout.start - RAM_START) (seat.layout.kernel_break - RAM_START) l.sits.settled.from refl (omega (arith, l.sits.settled.to, l.sits.settled.from, l.sits.settled.ordered.end)) v.bytes
 
   pub serving_own : Serves driver (own_in m.ram seat) (own_in m'.ram seat')
   serving_own = record {

@@ -8,7 +8,7 @@ use Rattle.tk_base.specs.declared.access.Rule.TheVariants.{NoRegion, Misaligned,
 use Rattle.tk_base.specs.declared.access.Width.{Width}
 use Rattle.tk_base.specs.declared.access.Width.TheVariants.{Byte, Half, Word}
 use Rattle.tk_base.specs.declared.access.TheConstants.{FLASH_START, RAM_START}
-use Rattle.tk_base.specs.declared.regs.Regs.{Regs}
+use Rattle.tk_base.specs.Regs.{Registers}
 use Rattle.tk_base.specs.Access.{width_bytes, is_misaligned}
 use Rattle.tk_base.specs.Bus.{number_at}
 use Rattle.rv32_model.specs.Laws.{LookAlike, SeesOnlyPermitted}
@@ -125,5 +125,5 @@ module _ (flash ram : List ℕ) (pmp : List Entry) (seat : Seat) (seen : ℕ →
   }
 
   -- so its instruction is the one that its own bytes give
-  pub same_turn : SeesOnlyPermitted → (regs : Regs) → turn_under pmp flash ram regs ≡ instruction_of (own_in ram seat) seen regs
+  pub same_turn : SeesOnlyPermitted → (regs : Registers) → turn_under pmp flash ram regs ≡ instruction_of (own_in ram seat) seen regs
   same_turn law regs = law (denied_by pmp) (denied seat.layout) (byte_at flash ram) seen regs look_alike

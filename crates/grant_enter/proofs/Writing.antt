@@ -69,7 +69,7 @@ module _ (driver n : ℕ) (counts : Counts) (m : MemoryBytes) (seat : Seat) (l :
   -- bytes in RAM were written
   some_in : (buffer : ℕ × ℕ) → buffer ≡ held ReadWrite driver n (own_in m.ram seat) → seat.layout.start ≤ buffer.0 → buffer.0 + buffer.1 ≤ seat.layout.mark → offset ≤ buffer.1 → (m' : MemoryBytes) → m' ≡ record m { ram = over m.ram (buffer.0 - RAM_START + offset) (fitting buffer offset bs) } → Wrote driver n offset bs m seat m'
   some_in buffer is low high order m' made =
-      let s = l.settled in
+      let s = l.sits.settled in
       let own = own_in m.ram seat in
       let fit = fitting buffer offset bs in
       let at = buffer.0 - RAM_START + offset in
@@ -94,12 +94,12 @@ module _ (driver n : ℕ) (counts : Counts) (m : MemoryBytes) (seat : Seat) (l :
     where
       places_of : (k at size : ℕ) → (RAM_START + k < buffer.0) ⊎ (buffer.0 + buffer.1 ≤ RAM_START + k) → at ≡ buffer.0 - RAM_START + offset → size ≤ buffer.1 - offset → (k < at) ⊎ (at + size ≤ k)
       places_of k at size (inl h) e g = inl (omega arith)
-      places_of k at size (inr h) e g = inr (omega (arith, l.settled.from))
+      places_of k at size (inr h) e g = inr (omega (arith, l.sits.settled.from))
 
   -- as the code leaves memory
   wrote_by : (buffer : ℕ × ℕ) (a : Bool) → buffer.1 == 0 ≡ a → buffer ≡ held ReadWrite driver n (own_in m.ram seat) → (lent left : List ℕ) → lent ≡ ram_at (own_in m.ram seat) buffer → left ≡ over lent offset (take (length lent - offset) bs) → LiesBelowMark seat.layout buffer → Wrote driver n offset bs m seat (with_run m (cond a seat.layout.start buffer.0) left)
   wrote_by buffer true none is lent left was made lies =
-      let s = l.settled in
+      let s = l.sits.settled in
       let z : buffer.1 ≡ 0 = eqb-true buffer.1 0 none in
       let empty : lent ≡ [] = was ∙ no_range (own_in m.ram seat).ram (buffer.0 - seat.layout.start) (buffer.0 - seat.layout.start + buffer.1) (omega arith) in
       let gone : left ≡ [] = made ∙ ap (λ (xs : List ℕ). over xs offset (take (length xs - offset) bs)) empty ∙ ap (over [] offset) (none_fit 0 (omega arith)) ∙ over_nothing [] offset in
@@ -107,7 +107,7 @@ module _ (driver n : ℕ) (counts : Counts) (m : MemoryBytes) (seat : Seat) (l :
       (ap (with_run m seat.layout.start) gone ∙ run_is m seat.layout.start [] (omega (arith, s.to, s.from, s.ordered.block, s.ordered.grants, s.ordered.end)) ∙ ap (λ (xs : List ℕ). record m { ram = xs }) (over_nothing m.ram (seat.layout.start - RAM_START)))
       (ap (λ (b : ℕ × ℕ). fitting b offset bs) (sym is) ∙ none_fit buffer.1 (omega arith))
   wrote_by buffer false none is lent left was made lies =
-      let s = l.settled in
+      let s = l.sits.settled in
       let some : 0 < buffer.1 = grind (arith, nat_tests) in
       let at = lies some in
       let end : buffer.0 + buffer.1 ≤ seat.layout.brk = omega (arith, at.1, s.ordered.buffers) in
@@ -142,18 +142,18 @@ module _ (driver n : ℕ) (counts : Counts) (m : MemoryBytes) (seat : Seat) (l :
   pub wrote : (lent left : List ℕ) → lent ≡ ram_at (own_in m.ram seat) (held ReadWrite driver n (own_in m.ram seat)) → left ≡ over lent offset (take (length lent - offset) bs) → Wrote driver n offset bs m seat (with_run m (first_of seat.layout (held ReadWrite driver n (own_in m.ram seat))) left)
   wrote lent left was made =
       let buffer = held ReadWrite driver n (own_in m.ram seat) in
-      wrote_by buffer (buffer.1 == 0) refl refl lent left was made (rw_lies m seat l.settled l.seated driver n)
+      wrote_by buffer (buffer.1 == 0) refl refl lent left was made (rw_lies m seat l.sits driver n)
 
   -- how many bytes the buffer has
   pub size_is : (lent : List ℕ) → lent ≡ ram_at (own_in m.ram seat) (held ReadWrite driver n (own_in m.ram seat)) → length lent ≡ (held ReadWrite driver n (own_in m.ram seat)).1
-  size_is lent was = let buffer = held ReadWrite driver n (own_in m.ram seat) in by_size buffer (buffer.1 == 0) refl (rw_lies m seat l.settled l.seated driver n) was
+  size_is lent was = let buffer = held ReadWrite driver n (own_in m.ram seat) in by_size buffer (buffer.1 == 0) refl (rw_lies m seat l.sits driver n) was
     where
       by_size : (buffer : ℕ × ℕ) (a : Bool) → buffer.1 == 0 ≡ a → LiesBelowMark seat.layout buffer → lent ≡ ram_at (own_in m.ram seat) buffer → length lent ≡ buffer.1
       by_size buffer true none lies was =
           let z : buffer.1 ≡ 0 = eqb-true buffer.1 0 none in
           ap length (was ∙ no_range (own_in m.ram seat).ram (buffer.0 - seat.layout.start) (buffer.0 - seat.layout.start + buffer.1) (omega arith)) ∙ sym z
       by_size buffer false none lies was =
-          let s = l.settled in
+          let s = l.sits.settled in
           let some : 0 < buffer.1 = grind (arith, nat_tests) in
           let at = lies some in
           let end : buffer.0 + buffer.1 ≤ seat.layout.brk = omega (arith, at.1, s.ordered.buffers) in

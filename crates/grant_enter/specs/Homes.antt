@@ -3,7 +3,7 @@ use Rattle.std.specs.Prelude.{◌≡◌, ◌≢◌, ◌≤◌, ◌<◌, ℕ, zer
 use Rattle.std.specs.List.{AllByRecursion}
 use Rattle.tk_base.specs.declared.access.TheConstants.{FLASH_START, RAM_START}
 use Rattle.tk_base.specs.declared.process.ProcessId.{ProcessId}
-use Rattle.tk_base.specs.declared.regs.Regs.{Regs}
+use Rattle.tk_base.specs.Regs.{Registers}
 use Rattle.rv32_model.specs.declared.turn_end.TurnEnd.{TurnEnd}
 use Rattle.rv32_model.specs.declared.turn_end.TurnEnd.TheVariants.{Went}
 use Rattle.process_layout.specs.Extents.{Extents}
@@ -85,7 +85,7 @@ LiesBefore a b = EndsBefore a.layout b.layout
 
 -- An instruction of a process: whatever bytes stand where it may not look, it is the one that its own bytes give, and
 -- of memory it leaves what it writes to its own RAM.
-abbrev pub Makes : List ℕ → Own → Regs → Own → Regs → TurnEnd → Type 0
+abbrev pub Makes : List ℕ → Own → Registers → Own → Registers → TurnEnd → Type 0
 Makes flash own regs own_after regs_after end =
     (seen : ℕ → ℕ) → Sees flash own seen →
     let t = instruction_of own seen regs in
@@ -93,7 +93,7 @@ Makes flash own regs own_after regs_after end =
 
 -- So many instructions of a process, each of which goes, lead from its own and its registers to others. As always its
 -- own lies in its place; and each instruction is the one that its own bytes give.
-unfoldable pub MakesAll : ℕ → List ℕ → Own → Regs → Own → Regs → Type 0
+unfoldable pub MakesAll : ℕ → List ℕ → Own → Registers → Own → Registers → Type 0
 MakesAll zero flash own regs own_after regs_after = (own_after ≡ own) × (regs_after ≡ regs)
 MakesAll (suc k) flash own regs own_after regs_after =
     IsInPlace own
@@ -102,6 +102,6 @@ MakesAll (suc k) flash own regs own_after regs_after =
     (t.end ≡ Went) × MakesAll k flash (with_write own t) t.regs own_after regs_after)
 
 -- the next instruction of a process does not go: it makes a system call or is denied
-abbrev pub IsStopped : List ℕ → Own → Regs → Type 0
+abbrev pub IsStopped : List ℕ → Own → Registers → Type 0
 IsStopped flash own regs =
     IsInPlace own × ((seen : ℕ → ℕ) → Sees flash own seen → (instruction_of own seen regs).end ≢ Went)

@@ -1,6 +1,6 @@
 -- One instruction as the processor makes it, under protection registers. Only proofs use this.
 use Rattle.std.specs.Prelude.{ℕ, List}
-use Rattle.tk_base.specs.declared.regs.Regs.{Regs}
+use Rattle.tk_base.specs.Regs.{Registers}
 use Rattle.rv32_model.specs.declared.turn_end.TurnEnd.{TurnEnd}
 use Rattle.tk_base.specs.Laws.{AStoreIsPut}
 use Rattle.rv32_model.specs.Laws.{SeesOnlyPermitted, WritesArePermitted}
@@ -12,14 +12,14 @@ use Rattle.board_memory.specs.Bytes.{byte_at}
 use Rattle.board_memory.specs.Laws.{AStoreInRamIsPut, BytesTellTheRam}
 
 -- a user turn over flash and RAM, where the registers deny
-abbrev pub turn_under : List Entry → List ℕ → List ℕ → Regs → UserTurn
+abbrev pub turn_under : List Entry → List ℕ → List ℕ → Registers → UserTurn
 turn_under pmp flash ram regs = user_turn (denied_by pmp) (byte_at flash ram) regs
 
 -- turns over them that went, one after another; and how they stopped, of which at most so many were asked for
-abbrev pub GoesUnder : List Entry → List ℕ → ℕ → Regs → List ℕ → Regs → List ℕ → Type 0
+abbrev pub GoesUnder : List Entry → List ℕ → ℕ → Registers → List ℕ → Registers → List ℕ → Type 0
 GoesUnder pmp flash k regs ram later left = Goes (denied_by pmp) k regs (byte_at flash ram) later (byte_at flash left)
 
-abbrev pub StopsUnder : List Entry → List ℕ → ℕ → ℕ → TurnEnd → Regs → List ℕ → Type 0
+abbrev pub StopsUnder : List Entry → List ℕ → ℕ → ℕ → TurnEnd → Registers → List ℕ → Type 0
 StopsUnder pmp flash most went end regs ram = Stops (denied_by pmp) most went end regs (byte_at flash ram)
 
 -- the laws that instructions over RAM rest on

@@ -6,11 +6,11 @@ use Rattle.tk_base.specs.declared.upcall.Upcall.{Upcall}
 use Rattle.upcall_queue.specs.Pending.{has_room}
 use Rattle.process_layout.specs.Extents.{Extents}
 use Rattle.process_layout.specs.Interval.{lies_within}
+use Rattle.process_layout.specs.Ordered.{IsOrdered}
 use Rattle.grant_values.specs.Words.{bytes_of}
 use Rattle.grant_areas.specs.Grants.{Grant, grant_of, entered}
 use Rattle.grant_areas.specs.Laid.{IsLaid, Tells, read_back}
 use Rattle.grant_region.specs.Region.{below, fits, roomed}
-use Rattle.grant_areas.specs.declared.kinds.PairKind.{PairKind}
 use Rattle.swap_tables.specs.Swaps.{held_pair, swapped}
 use Rattle.process_own.specs.declared.place.Footprint.{Footprint}
 use Rattle.process_own.specs.Own.{Own}
@@ -19,6 +19,7 @@ use Rattle.process_own.specs.Flash.{HasObject}
 use Rattle.board_memory.specs.Memory.{MemoryBytes, ram_between, with_run}
 use Rattle.grant_enter.specs.Homes.{Homes, IsSettled, EndsBefore}
 use Rattle.grant_enter.specs.Windows.{SameOutside}
+use Rattle.grant_enter.specs.declared.handing.Handover.{Handover}
 use Rattle.grant_enter.specs.declared.seat.Pending.{Pending}
 use Rattle.grant_enter.specs.declared.seat.Seat.{Seat}
 use Rattle.grant_enter.specs.declared.home.Home.TheInside.{Inside}
@@ -95,34 +96,44 @@ pub record IsSeated (flash : ℕ) (ram : List ℕ) (seat : Seat) : Type 0 where
   pub object : HasObject flash seat.object seat.layout
   pub kept : IsKept seat.layout (kernel_in ram seat.layout)
 
+-- memory has a process's block where a layout says: the layout is settled, and from its kernel break on grants are kept
+pub record HasBlock (m : MemoryBytes) (e : Extents) : Type 0 where
+  pub settled : IsSettled (length m.flash) (length m.ram) e
+  pub kept : IsKept e (kernel_in m.ram e)
+
+-- a process sits in memory: the layout of its seat is settled, and it is seated
+pub record SitsIn (m : MemoryBytes) (seat : Seat) : Type 0 where
+  pub settled : IsSettled (length m.flash) (length m.ram) seat.layout
+  pub seated : IsSeated (length m.flash) m.ram seat
+
 pub record IsHome (h : Inside) : Type 0 where
   pub settled : AreSettled (length h.memory.flash) (length h.memory.ram) (layouts_of h.seats.items)
   pub seated : All (IsSeated (length h.memory.flash) h.memory.ram) h.seats.items
 
--- A seat with the block of its process changes, in memory that is the same elsewhere: it lies where it lay, and is a
--- seat as before.
+-- A seat with the block of its process changes, in memory that is the same elsewhere: it lies where it lay, and the
+-- process sits in memory as before.
 pub record Reseats (m : MemoryBytes) (seat : Seat) (m' : MemoryBytes) (seat' : Seat) : Type 0 where
   pub flash : m'.flash ≡ m.flash
   pub elsewhere : SameOutside (seat.layout.start - RAM_START) (seat.layout.end - RAM_START) m.ram m'.ram
   pub start : seat'.layout.start ≡ seat.layout.start
   pub end : seat'.layout.end ≡ seat.layout.end
-  pub settled : IsSettled (length m.flash) (length m.ram) seat'.layout
-  pub seated : IsSeated (length m.flash) m'.ram seat'
+  pub sits : SitsIn m' seat'
 
 -- A block that lay as a layout says lies as another one says, in memory that is the same elsewhere: the process's own
 -- bytes are as they were, as far as they are still its own, and these are its grants.
 pub record Regrants (m : MemoryBytes) (e : Extents) (m' : MemoryBytes) (e' : Extents) (gs : List Grant) : Type 0 where
+  pub ordered : IsOrdered e'
   pub flash : m'.flash ≡ m.flash
   pub elsewhere : SameOutside (e.start - RAM_START) (e.end - RAM_START) m.ram m'.ram
   pub app : app_in m'.ram e' ≡ below e' (app_in m.ram e)
   pub tells : Tells (kernel_in m'.ram e') gs
 
 -- a swap in a block of memory gives the former pair, and leaves the new one among the grants
-pub record SwapsIn (kind : PairKind) (driver number : ℕ) (pair : ℕ × ℕ) (m : MemoryBytes) (e : Extents)
-    (m' : MemoryBytes) (e' : Extents) (answer : ℕ × ℕ) : Type 0 where
-  pub former : answer ≡ held_pair kind driver number (kernel_in m.ram e)
-  pub layout : e' ≡ roomed driver e (grant_of driver (read_back (kernel_in m.ram e)))
-  pub grants : Regrants m e m' e' (swapped kind driver number pair (kernel_in m.ram e))
+pub record SwapsIn (h : Handover) (m : MemoryBytes) (e : Extents) (m' : MemoryBytes) (e' : Extents)
+    (answer : ℕ × ℕ) : Type 0 where
+  pub former : answer ≡ held_pair h.kind h.driver h.number (kernel_in m.ram e)
+  pub layout : e' ≡ roomed h.driver e (grant_of h.driver (read_back (kernel_in m.ram e)))
+  pub grants : Regrants m e m' e' (swapped h.kind h.driver h.number h.pair (kernel_in m.ram e))
 
 -- whether a driver is entered by the process of a block in RAM, or its grant fits
 abbrev pub fits_in : ℕ → List ℕ → Extents → Bool

@@ -8,8 +8,7 @@ use Rattle.grant_values.specs.Drivers.{counts_of}
 use Rattle.grant_areas.specs.Grants.{Grant, grant_of}
 use Rattle.board_memory.specs.Memory.{MemoryBytes}
 use Rattle.process_own.specs.Own.{Own}
-use Rattle.grant_enter.specs.Homes.{IsSettled}
-use Rattle.grant_enter.specs.Seats.{IsSeated, own_in}
+use Rattle.grant_enter.specs.Seats.{SitsIn, own_in}
 use Rattle.grant_enter.specs.declared.seat.Seat.{Seat}
 use Rattle.grant_enter.specs.declared.entered.Entered.{Entered}
 
@@ -32,8 +31,7 @@ seen e = seen_of e.driver e.counts e.memory.now.flash (own_entered e)
 
 -- a process in its seat, lent to its driver
 pub record IsLentTo (driver : ℕ) (counts : Counts) (m : MemoryBytes) (seat : Seat) : Type 0 where
-  pub settled : IsSettled (length m.flash) (length m.ram) seat.layout
-  pub seated : IsSeated (length m.flash) m.ram seat
+  pub sits : SitsIn m seat
   pub counts_are : counts_of driver ≡ Some counts
 
 abbrev pub IsLent : Entered → Type 0

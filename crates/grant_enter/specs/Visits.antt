@@ -1,6 +1,7 @@
 -- What it comes to that a driver visits the grant that a process keeps for it (Levy et al., SOSP 2017, section 4).
 use Rattle.std.specs.Prelude.{ℕ, ◌≡◌, ◌==◌, Bool, true, false, not, ◌&&◌, List, Option, None, Some, Result, Ok, Err}
 use Rattle.tk_base.specs.declared.upcall.Counts.{Counts}
+use Rattle.grant_values.specs.Drivers.{counts_of}
 use Rattle.process_own.specs.Own.{Own}
 use Rattle.process_own.specs.Handed.{entering, has_place}
 use Rattle.process_own.specs.Served.{kept, with_kept}
@@ -12,6 +13,11 @@ use Rattle.grant_enter.specs.Seen.{Seen, Serves, seen_of}
 -- the process of a life is not there: it has ended, or is in another life
 abbrev pub is_stale : ℕ → Own → Bool
 is_stale life own = not (own.lives && own.life == life)
+
+-- these are the counts of a driver, and among them is the size of the value that it keeps
+pub record IsCounted (driver : ℕ) (counts : Counts) (size : ℕ) : Type 0 where
+  pub counts_are : counts_of driver ≡ Some counts
+  pub value : size ≡ counts.value
 
 -- what a visitor asks of a process that keeps a value for its driver
 abbrev pub Asks : {T : Type 0} → (T → Seen → Type 0) → (List ℕ → T) → ℕ → Counts → List ℕ → Own → Type 0

@@ -1,8 +1,7 @@
 //! The byte by which a yield tells whether an upcall was delivered.
-ghost use Rattle.std.specs.Prelude.{◌≡◌, length};
+ghost use Rattle.std.specs.Prelude.{◌≡◌};
 ghost use Rattle.process_own.specs.Flag.{with_flag};
-ghost use Rattle.grant_enter.specs.Homes.{IsSettled};
-ghost use Rattle.grant_enter.specs.Seats.{IsSeated, Reseats, own_in};
+ghost use Rattle.grant_enter.specs.Seats.{Reseats, SitsIn, own_in};
 
 use crate::seat::Seat;
 use board_memory::{Block, Memory};
@@ -10,8 +9,7 @@ use tk_base::Addr;
 
 /// Writes a byte of a process, where it lies in accessible RAM.
 pub(crate) fn put_flag_at(memory: &mut Memory, seat: &Seat, at: Addr, flag: u8)
-    requires settled { IsSettled (length memory.old.flash) (length memory.old.ram) seat.now.layout }
-    requires seated { IsSeated (length memory.old.flash) memory.old.ram seat.now }
+    requires { SitsIn memory.old seat.now }
     ensures own { own_in memory.new.ram seat.now ≡ with_flag at flag (own_in memory.old.ram seat.now) }
     ensures reseats { Reseats memory.old seat.now memory.new seat.now }
 {
@@ -19,10 +17,6 @@ pub(crate) fn put_flag_at(memory: &mut Memory, seat: &Seat, at: Addr, flag: u8)
     if !layout.in_ram(at, 1) {
         return;
     }
-    let Block {
-        flash: _,
-        bytes,
-        cut: _,
-    } = memory.lend_block(&layout);
+    let Block { bytes, .. } = memory.lend_block(&layout);
     bytes[(at - layout.start) as usize] = flag;
 }

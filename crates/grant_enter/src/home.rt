@@ -1,20 +1,18 @@
 //! The memory of all processes.
-ghost use Rattle.std.specs.Prelude.{◌≡◌, ◌==◌, ◌≤◌, ◌<◌, ◌+◌, ◌%◌, ◌^◌, ℕ, not, slice_get, All, AllPairs, IsTrue, length, map, option_map, is_ok, Some, IfOk, OnOk, OnErr, vec_len};
+ghost use Rattle.std.specs.Prelude.{◌≡◌, ◌==◌, ◌≤◌, ◌<◌, ◌+◌, ◌%◌, ◌^◌, ℕ, not, slice_get, All, AllPairs, IsTrue, length, map, option_map, is_ok, IfOk, OnOk, OnErr, vec_len};
 ghost use Rattle.std.specs.Bool.{OnTrue, OnFalse};
 ghost use Rattle.process_layout.specs.Extents.{permits_break};
-ghost use Rattle.process_layout.specs.Ordered.{IsOrdered};
 ghost use Rattle.board_memory.specs.Registers.{Protect};
 ghost use Rattle.process_own.specs.Own.{block_of, opened, with_moved_break, restarted, ended, without_first};
 ghost use Rattle.process_own.specs.Flag.{with_flag};
 ghost use Rattle.process_own.specs.Handed.{HoldsInPlace, entering, handing, has_place, held, may_hand};
 ghost use Rattle.process_own.specs.Served.{kept};
-ghost use Rattle.grant_values.specs.Drivers.{counts_of};
 ghost use Rattle.swap_tables.specs.Swaps.{IsPair};
 ghost use Rattle.grant_enter.specs.Homes.{own_of, living, ChangesOnly, IsInPlace, IsStopped, CanMoveIn, LiesBefore, Makes, MakesAll};
-ghost use Rattle.grant_enter.specs.Visits.{Asks, Enters, Visits, is_stale};
+ghost use Rattle.grant_enter.specs.Visits.{Asks, Enters, IsCounted, Visits, is_stale};
 
 use crate::flag::put_flag_at;
-use crate::handing::hand_at;
+use crate::handing::{Handover, hand_at};
 use crate::instruction::{instruction_laws, turn_in, turns_in};
 use crate::seat::Seat;
 use crate::visit::{EnterError, Stale, Visit, block_at, enter_seat, peek_seat, visit_seat};
@@ -186,7 +184,14 @@ impl Home {
         ensures rest { ChangesOnly slot self.old self.new }
     {
         let seat = &mut self.seats[slot.index()];
-        hand_at(&mut self.memory, seat, kind, driver, counts, number, pair)
+        let handover = Handover {
+            kind,
+            driver,
+            counts: *counts,
+            number,
+            pair,
+        };
+        hand_at(&mut self.memory, seat, handover)
     }
 
     /// The process that lives in a slot, in its present life. None exactly where none lives there.
@@ -238,8 +243,7 @@ impl Home {
         visitor: V,
     ) -> Result<V::Answer, EnterError>
         requires slot { id.slot < length self.old.owns }
-        requires counts { counts_of driver ≡ Some counts }
-        requires value { T.SIZE ≡ counts.value }
+        requires counted { IsCounted driver counts T.SIZE }
         requires asks { Asks (V.asks visitor) T.value driver counts self.old.flash
             (entering driver (own_of self.old id.slot)) }
         ensures enters { Enters (V.leaves visitor) T.value T.words driver counts id.life self.old.flash
@@ -259,8 +263,7 @@ impl Home {
         visitor: V,
     ) -> Result<Option<V::Answer>, Stale>
         requires slot { id.slot < length self.old.owns }
-        requires counts { counts_of driver ≡ Some counts }
-        requires value { T.SIZE ≡ counts.value }
+        requires counted { IsCounted driver counts T.SIZE }
         requires asks { Asks (V.asks visitor) T.value driver counts self.old.flash
             (own_of self.old id.slot) }
         ensures visits { Visits (V.leaves visitor) T.value T.words driver counts id.life self.old.flash
@@ -279,8 +282,7 @@ impl Home {
         counts: Counts,
     ) -> Result<Option<T>, Stale>
         requires slot { id.slot < length self.now.owns }
-        requires counts { counts_of driver ≡ Some counts }
-        requires value { T.SIZE ≡ counts.value }
+        requires counted { IsCounted driver counts T.SIZE }
         ensures stale { is_ok result ≡ not (is_stale id.life (own_of self.now id.slot)) }
         ensures kept { IfOk result
             (λ value. value ≡ option_map T.value (kept driver (own_of self.now id.slot))) }

@@ -30,7 +30,7 @@ fn turns_over(regs: &mut Regs, flash: &[u8], ram: &mut [u8], pmp: &Pmp, most: u3
     ensures stops { StopsUnder pmp.now flash.now most result.went result.end regs.new ram.new }
     ensures long { length ram.new ≡ length ram.old }
 {
-    let mut view = View { flash, ram, pmp };
+    let mut view = View::new(flash, ram, pmp);
     turns(regs, &mut view, most)
 }
 
@@ -44,7 +44,12 @@ pub(crate) fn turns_in(regs: &mut Regs, memory: &mut Memory, pmp: &Pmp, most: u3
     ensures long { length memory.new.ram ≡ length memory.old.ram }
     ensures rest { memory.new ≡ record memory.old { ram = memory.new.ram } }
 {
-    let View { flash, ram, pmp } = memory.view(pmp);
+    let View {
+        flash,
+        ram,
+        pmp,
+        ..
+    } = memory.view(pmp);
     turns_over(regs, flash, ram, pmp, most)
 }
 

@@ -1,5 +1,5 @@
 //! Where a driver's value stands in the areas of a process's grants.
-ghost use Rattle.std.specs.Prelude.{◌≡◌, ◌+◌, ◌<◌, ◌≤◌, ◌^◌, ◌++◌, List, length, take, drop, Some, None, IfSome, IfNone};
+ghost use Rattle.std.specs.Prelude.{◌≡◌, ◌+◌, ◌<◌, ◌≤◌, ◌^◌, ◌++◌, length, take, drop, Some, None, IfSome, IfNone};
 ghost use Rattle.std.specs.List.{AllByRecursion};
 ghost use Rattle.grant_values.specs.Drivers.{counts_of};
 ghost use Rattle.grant_values.specs.Words.{IsWord, bytes_of, words_of};
@@ -8,7 +8,7 @@ ghost use Rattle.grant_areas.specs.Laid.{IsLaid, read_back};
 ghost use Rattle.grant_areas.specs.Laws.{IsValue, value_bytes};
 ghost use Rattle.process_layout.specs.Ordered.{IsOrdered};
 ghost use Rattle.grant_enter.specs.Homes.{IsSettled};
-ghost use Rattle.grant_enter.specs.Seats.{IsKept, kernel_in, value_put, with_value_in};
+ghost use Rattle.grant_enter.specs.Seats.{HasBlock, kernel_in, value_put, with_value_in};
 
 use crate::handing::in_order;
 use board_memory::Memory;
@@ -80,8 +80,7 @@ fn kernel_ends(layout: &Layout) -> (Addr, Addr)
 
 /// The areas of a process's grants.
 pub(crate) fn kernel_of<'a>(memory: &'a Memory, layout: &Layout) -> &'a [u8]
-    requires settled { IsSettled (length memory.now.flash) (length memory.now.ram) layout.now }
-    requires kept { IsKept layout.now (kernel_in memory.now.ram layout.now) }
+    requires { HasBlock memory.now layout.now }
     ensures bytes { result.now ≡ kernel_in memory.now.ram layout.now }
     ensures laid { IsLaid result.now }
     ensures small { length result.now < 2 ^ 32 }

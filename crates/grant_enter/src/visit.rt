@@ -6,12 +6,11 @@ ghost use Rattle.grant_areas.specs.Grants.{grant_of};
 ghost use Rattle.grant_areas.specs.Laid.{IsLaid, read_back};
 ghost use Rattle.grant_region.specs.Region.{Costs};
 ghost use Rattle.process_own.specs.Own.{Own, block_of};
-ghost use Rattle.process_own.specs.Handed.{entering, has_place};
+ghost use Rattle.process_own.specs.Handed.{entering};
 ghost use Rattle.process_own.specs.Served.{kept};
-ghost use Rattle.grant_enter.specs.Homes.{IsSettled};
-ghost use Rattle.grant_enter.specs.Seats.{IsKept, IsSeated, Reseats, MakesRoom, kernel_in, own_in, fits_in};
+ghost use Rattle.grant_enter.specs.Seats.{HasBlock, MakesRoom, Reseats, SitsIn, fits_in, own_in};
 ghost use Rattle.grant_enter.specs.Seen.{Seen, Framed, IsLent, IsLentTo, ServesIn, seen, own_entered, seen_of};
-ghost use Rattle.grant_enter.specs.Visits.{Asks, Enters, Visited, Visits, is_stale};
+ghost use Rattle.grant_enter.specs.Visits.{Asks, Enters, IsCounted, Visited, Visits, is_stale};
 
 use crate::entered::Entered;
 use crate::handing::in_order;
@@ -91,10 +90,8 @@ pub(crate) fn visit_at<T: GrantValue, V: Visit<T> + Drop>(
     counts: Counts,
     visitor: V,
 ) -> Option<V::Answer>
-    requires settled { IsSettled (length memory.old.flash) (length memory.old.ram) seat.old.layout }
-    requires seated { IsSeated (length memory.old.flash) memory.old.ram seat.old }
-    requires counts { counts_of driver ≡ Some counts }
-    requires value { T.SIZE ≡ counts.value }
+    requires sits { SitsIn memory.old seat.old }
+    requires counted { IsCounted driver counts T.SIZE }
     requires asks { Asks (V.asks visitor) T.value driver counts memory.old.flash
         (own_in memory.old.ram seat.old) }
     ensures visited { IfSome result (λ answer. Visited (V.leaves visitor) T.value T.words driver counts
@@ -128,52 +125,17 @@ fn make_room_in(
     driver: u32,
     counts: &Counts,
 ) -> Result<Area, NoRoom>
-    requires settled { IsSettled (length memory.old.flash) (length memory.old.ram) layout.old }
-    requires kept { IsKept layout.old (kernel_in memory.old.ram layout.old) }
+    requires block { HasBlock memory.old layout.old }
     requires counts { counts_of driver ≡ Some counts.now }
     ensures room { is_ok result ≡ fits_in driver memory.old.ram layout.old }
     ensures made { OnOk result (MakesRoom driver memory.old layout.old memory.new layout.new) }
     ensures refused { OnErr result ((memory.new ≡ memory.old) × (layout.new ≡ layout.old)) }
-    // as always
-    ensures ordered { IsOrdered layout.new }
 {
-    let Block {
-        flash: _,
-        bytes,
-        cut,
-    } = memory.lend_block(layout);
+    let Block { bytes, cut, .. } = memory.lend_block(layout);
     let Halves { app, kernel } = Halves::of(bytes, cut);
     let made = make_room(layout, app, kernel, driver, driver_cost(driver, counts));
     in_order(layout);
     made
-}
-
-/// Visits the value that the process in a seat keeps for a driver, or a fresh one, for which room is made.
-pub(crate) fn enter_at<T: GrantValue, V: Visit<T> + Drop>(
-    memory: &mut Memory,
-    seat: &mut Seat,
-    driver: u32,
-    counts: Counts,
-    visitor: V,
-) -> Result<V::Answer, NoRoom>
-    requires settled { IsSettled (length memory.old.flash) (length memory.old.ram) seat.old.layout }
-    requires seated { IsSeated (length memory.old.flash) memory.old.ram seat.old }
-    requires counts { counts_of driver ≡ Some counts }
-    requires value { T.SIZE ≡ counts.value }
-    requires asks { Asks (V.asks visitor) T.value driver counts memory.old.flash
-        (entering driver (own_in memory.old.ram seat.old)) }
-    ensures room { is_ok result ≡ has_place driver (own_in memory.old.ram seat.old) }
-    ensures visited { IfOk result (λ answer. Visited (V.leaves visitor) T.value T.words driver counts
-        memory.old.flash (entering driver (own_in memory.old.ram seat.old)) answer
-        (own_in memory.new.ram seat.new)) }
-    ensures same { OnErr result ((memory.new ≡ memory.old) × (seat.new ≡ seat.old)) }
-    ensures reseats { Reseats memory.old seat.old memory.new seat.new }
-{
-    make_room_in(memory, &mut seat.layout, driver, &counts)?;
-    match visit_at::<T, V>(memory, seat, driver, counts, visitor) {
-        Some(answer) => Ok(answer),
-        None => unreachable!(),
-    }
 }
 
 /// Whether the process of a seat has ended, or is in another life.
@@ -192,10 +154,8 @@ pub(crate) fn enter_seat<T: GrantValue, V: Visit<T> + Drop>(
     counts: Counts,
     visitor: V,
 ) -> Result<V::Answer, EnterError>
-    requires settled { IsSettled (length memory.old.flash) (length memory.old.ram) seat.old.layout }
-    requires seated { IsSeated (length memory.old.flash) memory.old.ram seat.old }
-    requires counts { counts_of driver ≡ Some counts }
-    requires value { T.SIZE ≡ counts.value }
+    requires sits { SitsIn memory.old seat.old }
+    requires counted { IsCounted driver counts T.SIZE }
     requires asks { Asks (V.asks visitor) T.value driver counts memory.old.flash
         (entering driver (own_in memory.old.ram seat.old)) }
     ensures enters { Enters (V.leaves visitor) T.value T.words driver counts life
@@ -205,9 +165,12 @@ pub(crate) fn enter_seat<T: GrantValue, V: Visit<T> + Drop>(
     if is_gone(seat, life) {
         return Err(EnterError::Stale);
     }
-    match enter_at::<T, V>(memory, seat, driver, counts, visitor) {
-        Ok(answer) => Ok(answer),
-        Err(_) => Err(EnterError::NoRoom),
+    let Ok(_) = make_room_in(memory, &mut seat.layout, driver, &counts) else {
+        return Err(EnterError::NoRoom);
+    };
+    match visit_at::<T, V>(memory, seat, driver, counts, visitor) {
+        Some(answer) => Ok(answer),
+        None => unreachable!(),
     }
 }
 
@@ -220,10 +183,8 @@ pub(crate) fn visit_seat<T: GrantValue, V: Visit<T> + Drop>(
     counts: Counts,
     visitor: V,
 ) -> Result<Option<V::Answer>, Stale>
-    requires settled { IsSettled (length memory.old.flash) (length memory.old.ram) seat.old.layout }
-    requires seated { IsSeated (length memory.old.flash) memory.old.ram seat.old }
-    requires counts { counts_of driver ≡ Some counts }
-    requires value { T.SIZE ≡ counts.value }
+    requires sits { SitsIn memory.old seat.old }
+    requires counted { IsCounted driver counts T.SIZE }
     requires asks { Asks (V.asks visitor) T.value driver counts memory.old.flash
         (own_in memory.old.ram seat.old) }
     ensures visits { Visits (V.leaves visitor) T.value T.words driver counts life
@@ -233,10 +194,7 @@ pub(crate) fn visit_seat<T: GrantValue, V: Visit<T> + Drop>(
     if is_gone(seat, life) {
         return Err(Stale);
     }
-    match visit_at::<T, V>(memory, seat, driver, counts, visitor) {
-        Some(answer) => Ok(Some(answer)),
-        None => Ok(None),
-    }
+    Ok(visit_at::<T, V>(memory, seat, driver, counts, visitor))
 }
 
 /// The value that the process of a life in a seat keeps for a driver.
@@ -247,10 +205,8 @@ pub(crate) fn peek_seat<T: GrantValue>(
     driver: u32,
     counts: Counts,
 ) -> Result<Option<T>, Stale>
-    requires settled { IsSettled (length memory.now.flash) (length memory.now.ram) seat.now.layout }
-    requires seated { IsSeated (length memory.now.flash) memory.now.ram seat.now }
-    requires counts { counts_of driver ≡ Some counts }
-    requires value { T.SIZE ≡ counts.value }
+    requires sits { SitsIn memory.now seat.now }
+    requires counted { IsCounted driver counts T.SIZE }
     ensures stale { is_ok result ≡ not (is_stale life (own_in memory.now.ram seat.now)) }
     ensures kept { IfOk result
         (λ value. value ≡ option_map T.value (kept driver (own_in memory.now.ram seat.now))) }
@@ -265,8 +221,7 @@ pub(crate) fn peek_seat<T: GrantValue>(
 fn kept_in<T: GrantValue>(kernel: &[u8], driver: u32, counts: &Counts) -> Option<T>
     requires laid { IsLaid kernel.now }
     requires small { length kernel.now < 2 ^ 32 }
-    requires counts { counts_of driver ≡ Some counts.now }
-    requires value { T.SIZE ≡ counts.now.value }
+    requires counted { IsCounted driver counts.now T.SIZE }
     ensures { result ≡ option_map (λ g. T.value g.value) (grant_of driver (read_back kernel.now)) }
 {
     let at = value_place(kernel, driver, counts)?;
@@ -275,8 +230,7 @@ fn kept_in<T: GrantValue>(kernel: &[u8], driver: u32, counts: &Counts) -> Option
 
 /// The block of the process in a seat.
 pub(crate) fn block_at<'a>(memory: &'a Memory, seat: &Seat) -> &'a [u8]
-    requires settled { IsSettled (length memory.now.flash) (length memory.now.ram) seat.now.layout }
-    requires seated { IsSeated (length memory.now.flash) memory.now.ram seat.now }
+    requires { SitsIn memory.now seat.now }
     ensures { result.now ≡ block_of (own_in memory.now.ram seat.now) }
 {
     let (from, to) = block_ends(&seat.layout);

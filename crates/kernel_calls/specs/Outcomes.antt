@@ -1,5 +1,5 @@
 -- What serving a system call leaves, and what comes of it: TRD 104, "System Call API".
-use Rattle.std.specs.Prelude.{◌≡◌, ℕ, ◌+◌, ◌≤◌, ◌^◌, nat_lt, Bool, true, false, ◌&&◌, if◌then◌else◌, List, [], Option, None, Some, Result, Ok, Err}
+use Rattle.std.specs.Prelude.{◌≡◌, ℕ, ◌+◌, ◌<◌, ◌≤◌, ◌^◌, nat_lt, Bool, true, false, ◌&&◌, if◌then◌else◌, List, [], length, Option, None, Some, Result, Ok, Err}
 use Rattle.tk_base.specs.declared.call.CallRule.{CallRule}
 use Rattle.syscall_abi.specs.declared.call.Call.{Call}
 use Rattle.syscall_abi.specs.declared.call.Call.TheVariants.{Yield, Subscribe, Command, AllowRw, AllowRo, Memop, Exit}
@@ -9,10 +9,10 @@ use Rattle.process_record.specs.declared.outcome.Outcome.TheVariants.{Replied, T
 use Rattle.process_record.specs.declared.process.Process.{Process}
 use Rattle.driver_model.specs.Commands.{Act, gone}
 use Rattle.driver_model.specs.Drivers.{Surroundings, takes_commands}
-use Rattle.grant_enter.specs.Homes.{Homes, own_of}
+use Rattle.grant_enter.specs.Homes.{ChangesOnly, Homes, own_of}
 use Rattle.kernel_model.specs.Record.{Record}
 use Rattle.kernel_model.specs.Calls.{Served, deliver, permits, served}
-use Rattle.kernel_calls.specs.Own.{object_in, record_in}
+use Rattle.kernel_calls.specs.Own.{IsOwn, object_in, record_in}
 
 -- what the board is to do for a call that the kernel serves itself, by what comes of it: one whose process ends or
 -- starts again waits in no list any more
@@ -97,6 +97,24 @@ MovesBreak old new = new ≡ record old { layout = record old.layout { brk = new
 abbrev pub broken_by : {A : Type 0} → Result A CallRule → Option CallRule
 broken_by (Ok answer) = None
 broken_by (Err rule) = Some rule
+
+-- the process is that of the slot, with what is its own
+pub record IsAt (at : ℕ) (home : Homes) (process : Process) : Type 0 where
+  pub slot : at < length home.owns
+  pub own : IsOwn home.flash process (own_of home at)
+
+-- what serving a call leaves: the process is still that of the slot, and no other slot's own has changed
+pub record Keeps (slot : ℕ) (home : Homes) (process : Process) (home_after : Homes)
+    (process_after : Process) : Type 0 where
+  pub own : IsOwn home_after.flash process_after (own_of home_after slot)
+  pub stays : Stays process process_after
+  pub rest : ChangesOnly slot home home_after
+
+-- what a definition of a call says of the process in a slot, whatever its storage is, is what serving it comes to
+abbrev pub ComesAt : ℕ → Homes → Process → (Record → Served) → Homes → Process → Outcome → Type 0
+ComesAt slot home process served home_after process_after outcome =
+    (storage : List ℕ) →
+    ComesTo (served (record_at home slot process storage)) (record_at home_after slot process_after storage) outcome
 
 -- what a delivery leaves of the process in a slot, whatever its storage is
 abbrev pub DeliversAt : ℕ → Homes → Process → Homes → Process → Type 0

@@ -3,7 +3,7 @@ ghost use Rattle.std.specs.Prelude.{◌≡◌, ◌+◌, ◌<◌, ◌^◌, ℕ, L
 ghost use Rattle.grant_enter.specs.Homes.{own_of, ChangesOnly};
 ghost use Rattle.kernel_model.specs.Calls.{exit, restart};
 ghost use Rattle.kernel_calls.specs.Own.{IsOwn};
-ghost use Rattle.kernel_calls.specs.Outcomes.{record_at, ComesTo, Stays};
+ghost use Rattle.kernel_calls.specs.Outcomes.{record_at, ComesAt, IsAt, Keeps, Stays};
 
 use crate::headers::header_of;
 use crate::replies::give;
@@ -35,14 +35,10 @@ pub fn restart_process(home: &mut Home, process: &mut Process, slot: Slot)
 /// Ends the process in a slot with a completion code, starts it again, or refuses another kind of exit.
 #[tactic(auto, unfolding(kernel_model::specs::Calls::exit))]
 pub fn leave(home: &mut Home, process: &mut Process, slot: Slot, kind: u32, code: u32) -> Outcome
-    requires slot { slot < length home.old.owns }
-    requires own { IsOwn home.old.flash process.old (own_of home.old slot) }
+    requires at { IsAt slot home.old process.old }
     requires count { process.old.restarts + 1 < 2 ^ 32 }
-    ensures serves { (storage : List ℕ) → ComesTo (exit (record_at home.old slot process.old storage) kind code)
-        (record_at home.new slot process.new storage) result }
-    ensures own { IsOwn home.new.flash process.new (own_of home.new slot) }
-    ensures stays { Stays process.old process.new }
-    ensures rest { ChangesOnly slot home.old home.new }
+    ensures serves { ComesAt slot home.old process.old (λ r. exit r kind code) home.new process.new result }
+    ensures keeps { Keeps slot home.old process.old home.new process.new }
 {
     match kind {
         0 => {

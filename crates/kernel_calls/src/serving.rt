@@ -1,10 +1,10 @@
 //! The system calls that the kernel serves itself.
-ghost use Rattle.std.specs.Prelude.{◌≡◌, ◌+◌, ◌<◌, ◌^◌, ℕ, List, length, false, true};
+ghost use Rattle.std.specs.Prelude.{◌≡◌, ◌+◌, ◌<◌, ◌^◌, length, false, true};
 ghost use Rattle.driver_model.specs.Drivers.{Surroundings};
 ghost use Rattle.grant_enter.specs.Homes.{own_of, ChangesOnly};
 ghost use Rattle.kernel_model.specs.Calls.{by_class, memop};
 ghost use Rattle.kernel_calls.specs.Own.{IsOwn};
-ghost use Rattle.kernel_calls.specs.Outcomes.{is_taken, record_at, ComesTo, ServesAt, Stays};
+ghost use Rattle.kernel_calls.specs.Outcomes.{is_taken, ComesAt, IsAt, Keeps, ServesAt, Stays};
 
 use crate::exits::leave;
 use crate::memops::operate;
@@ -38,14 +38,10 @@ fn serve_memop(
     operation: u32,
     argument: u32,
 ) -> Outcome
-    requires slot { slot < length home.old.owns }
-    requires own { IsOwn home.old.flash process.old (own_of home.old slot) }
-    ensures serves { (storage : List ℕ) →
-        ComesTo (memop (record_at home.old slot process.old storage) operation argument)
-        (record_at home.new slot process.new storage) result }
-    ensures own { IsOwn home.new.flash process.new (own_of home.new slot) }
-    ensures stays { Stays process.old process.new }
-    ensures rest { ChangesOnly slot home.old home.new }
+    requires { IsAt slot home.old process.old }
+    ensures serves { ComesAt slot home.old process.old (λ r. memop r operation argument)
+        home.new process.new result }
+    ensures keeps { Keeps slot home.old process.old home.new process.new }
 {
     let answer = operate(home, process, slot, operation, argument);
     give(process, answer)
@@ -54,17 +50,13 @@ fn serve_memop(
 /// Serves a call that is permitted and that no driver is to answer; a command that no driver takes is refused.
 #[tactic(auto, unfolding(kernel_model::specs::Calls::by_class))]
 fn serve(home: &mut Home, process: &mut Process, slot: Slot, call: &Call) -> Outcome
-    requires slot { slot < length home.old.owns }
-    requires own { IsOwn home.old.flash process.old (own_of home.old slot) }
+    requires at { IsAt slot home.old process.old }
     requires lives { (own_of home.old slot).lives ≡ true }
     requires count { process.old.restarts + 1 < 2 ^ 32 }
     requires call { is_taken call.now ≡ false }
-    ensures serves { (around : Surroundings) (storage : List ℕ) →
-        ComesTo (by_class around (record_at home.old slot process.old storage) call.now)
-        (record_at home.new slot process.new storage) result }
-    ensures own { IsOwn home.new.flash process.new (own_of home.new slot) }
-    ensures stays { Stays process.old process.new }
-    ensures rest { ChangesOnly slot home.old home.new }
+    ensures serves { (around : Surroundings) → ComesAt slot home.old process.old
+        (λ r. by_class around r call.now) home.new process.new result }
+    ensures keeps { Keeps slot home.old process.old home.new process.new }
 {
     match *call {
         Call::Yield { number, a1, .. } => give_way(home, process, slot, number, a1),
@@ -74,8 +66,8 @@ fn serve(home: &mut Home, process: &mut Process, slot: Slot, call: &Call) -> Out
             function,
             app,
         } => {
-            let pair = (function, app);
-            swap(home, process, slot, PairKind::Upcall, driver, number, pair)
+            let (kind, pair) = (PairKind::Upcall, (function, app));
+            swap(home, process, slot, kind, driver, number, pair)
         }
         Call::Command { .. } => give(process, Err(CallRule::NoDriver)),
         Call::AllowRw {
@@ -84,16 +76,8 @@ fn serve(home: &mut Home, process: &mut Process, slot: Slot, call: &Call) -> Out
             address,
             size,
         } => {
-            let pair = (address, size);
-            swap(
-                home,
-                process,
-                slot,
-                PairKind::ReadWrite,
-                driver,
-                number,
-                pair,
-            )
+            let (kind, pair) = (PairKind::ReadWrite, (address, size));
+            swap(home, process, slot, kind, driver, number, pair)
         }
         Call::AllowRo {
             driver,
@@ -101,16 +85,8 @@ fn serve(home: &mut Home, process: &mut Process, slot: Slot, call: &Call) -> Out
             address,
             size,
         } => {
-            let pair = (address, size);
-            swap(
-                home,
-                process,
-                slot,
-                PairKind::ReadOnly,
-                driver,
-                number,
-                pair,
-            )
+            let (kind, pair) = (PairKind::ReadOnly, (address, size));
+            swap(home, process, slot, kind, driver, number, pair)
         }
         Call::Memop {
             operation,

@@ -1,11 +1,10 @@
 //! Subscribe and the allows: a process hands upcalls and buffers to drivers (TRD 104, "Subscribe", "Read-Only
 //! Allow", "Read-Write Allow").
-ghost use Rattle.std.specs.Prelude.{◌≡◌, ◌+◌, ◌≤◌, ◌<◌, ◌^◌, ℕ, List, length, true, IfOk, OnOk, OnErr};
+ghost use Rattle.std.specs.Prelude.{◌≡◌, ◌<◌, length, IfOk, OnOk, OnErr};
 ghost use Rattle.process_own.specs.Handed.{handing, held, may_hand};
 ghost use Rattle.grant_enter.specs.Homes.{own_of, ChangesOnly};
 ghost use Rattle.kernel_model.specs.Calls.{swap, swap_refusal};
-ghost use Rattle.kernel_calls.specs.Own.{IsOwn};
-ghost use Rattle.kernel_calls.specs.Outcomes.{broken_by, record_at, ComesTo, Stays};
+ghost use Rattle.kernel_calls.specs.Outcomes.{broken_by, ComesAt, IsAt, Keeps};
 
 use crate::replies::{give, refuse};
 use grant_areas::PairKind;
@@ -77,14 +76,10 @@ pub fn swap(
     number: u32,
     pair: (u32, u32),
 ) -> Outcome
-    requires slot { slot < length home.old.owns }
-    requires own { IsOwn home.old.flash process.old (own_of home.old slot) }
-    ensures serves { (storage : List ℕ) →
-        ComesTo (swap (record_at home.old slot process.old storage) kind driver number pair)
-        (record_at home.new slot process.new storage) result }
-    ensures own { IsOwn home.new.flash process.new (own_of home.new slot) }
-    ensures stays { Stays process.old process.new }
-    ensures rest { ChangesOnly slot home.old home.new }
+    requires { IsAt slot home.old process.old }
+    ensures serves { ComesAt slot home.old process.old (λ r. swap r kind driver number pair)
+        home.new process.new result }
+    ensures keeps { Keeps slot home.old process.old home.new process.new }
 {
     match hand(home, slot, kind, driver, number, pair) {
         Ok((first, second)) => give(process, Ok(Reply::SuccessU32U32(first, second))),

@@ -4,7 +4,7 @@ ghost use Rattle.process_record.specs.Process.{after_call};
 ghost use Rattle.grant_enter.specs.Homes.{own_of, ChangesOnly};
 ghost use Rattle.kernel_model.specs.Calls.{flagged, yield_now, yielding};
 ghost use Rattle.kernel_calls.specs.Own.{IsOwn};
-ghost use Rattle.kernel_calls.specs.Outcomes.{record_at, ComesTo, DeliversAt, Stays};
+ghost use Rattle.kernel_calls.specs.Outcomes.{record_at, ComesAt, DeliversAt, IsAt, Keeps, Stays};
 
 use grant_enter::Home;
 use process_record::{Outcome, Process};
@@ -29,8 +29,7 @@ pub fn deliver(home: &mut Home, process: &mut Process, slot: Slot)
 
 /// Writes the flag of a yield of the process in a slot, and moves its pc past the `ecall`.
 fn flag(home: &mut Home, process: &mut Process, slot: Slot, at: Addr, byte: u8)
-    requires slot { slot < length home.old.owns }
-    requires own { IsOwn home.old.flash process.old (own_of home.old slot) }
+    requires { IsAt slot home.old process.old }
     ensures flags { (storage : List ℕ) → record_at home.new slot process.new storage
         ≡ flagged (record_at home.old slot process.old storage) at byte }
     ensures own { IsOwn home.new.flash process.new (own_of home.new slot) }
@@ -45,14 +44,11 @@ fn flag(home: &mut Home, process: &mut Process, slot: Slot, at: Addr, byte: u8)
 
 /// A yield that does not wait.
 fn yield_at_once(home: &mut Home, process: &mut Process, slot: Slot, at: Addr) -> Outcome
-    requires slot { slot < length home.old.owns }
-    requires own { IsOwn home.old.flash process.old (own_of home.old slot) }
+    requires at { IsAt slot home.old process.old }
     requires lives { (own_of home.old slot).lives ≡ true }
-    ensures serves { (storage : List ℕ) → let r = record_at home.old slot process.old storage in
-        ComesTo (yield_now r at r.own.pending) (record_at home.new slot process.new storage) result }
-    ensures own { IsOwn home.new.flash process.new (own_of home.new slot) }
-    ensures stays { Stays process.old process.new }
-    ensures rest { ChangesOnly slot home.old home.new }
+    ensures serves { ComesAt slot home.old process.old (λ r. yield_now r at r.own.pending)
+        home.new process.new result }
+    ensures keeps { Keeps slot home.old process.old home.new process.new }
 {
     if !home.has_pending(slot) {
         flag(home, process, slot, at, 0);
@@ -73,14 +69,11 @@ pub fn give_way(
     number: u32,
     at: Addr,
 ) -> Outcome
-    requires slot { slot < length home.old.owns }
-    requires own { IsOwn home.old.flash process.old (own_of home.old slot) }
+    requires at { IsAt slot home.old process.old }
     requires lives { (own_of home.old slot).lives ≡ true }
-    ensures serves { (storage : List ℕ) → ComesTo (yielding (record_at home.old slot process.old storage) number at)
-        (record_at home.new slot process.new storage) result }
-    ensures own { IsOwn home.new.flash process.new (own_of home.new slot) }
-    ensures stays { Stays process.old process.new }
-    ensures rest { ChangesOnly slot home.old home.new }
+    ensures serves { ComesAt slot home.old process.old (λ r. yielding r number at)
+        home.new process.new result }
+    ensures keeps { Keeps slot home.old process.old home.new process.new }
 {
     match number {
         0 => yield_at_once(home, process, slot, at),

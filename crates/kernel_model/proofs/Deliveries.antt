@@ -8,7 +8,7 @@ use Rattle.std.proofs.lemmas.List.Elements.{All-nil, All-append, All-drop, All-f
 use Rattle.tk_base.specs.declared.access.Denial.{Denial}
 use Rattle.tk_base.specs.declared.call.CallRule.{CallRule}
 use Rattle.tk_base.specs.declared.call.CallRule.TheVariants.{NoDriver, NoOperation, Permission}
-use Rattle.tk_base.specs.declared.regs.Regs.{Regs}
+use Rattle.tk_base.specs.Regs.{Registers}
 use Rattle.tk_base.specs.declared.upcall.Upcall.{Upcall as Scheduled}
 use Rattle.fault_policy.specs.declared.Action.{Action}
 use Rattle.fault_policy.specs.declared.Action.TheVariants.{Stop, Restart}
@@ -168,11 +168,11 @@ is_subscribed driver number pair u =
     some_if false = refl
 
 -- what a turn tells that made a call, of which nothing counts here but the call
-abbrev tells : Regs → ℕ → Outcome → Told
+abbrev tells : Registers → ℕ → Outcome → Told
 tells regs class outcome = record { accesses = []; call = Some (record (made regs outcome) { class = class }); flag = None; denial = None }
 
 -- a refused call leaves all
-refused_leaves : (regs : Regs) (n : ℕ) (reply : Reply) (rule : CallRule) (waiting : List Scheduling) → left_by_turn false (tells regs n (Replied reply (Some rule))) waiting ≡ waiting
+refused_leaves : (regs : Registers) (n : ℕ) (reply : Reply) (rule : CallRule) (waiting : List Scheduling) → left_by_turn false (tells regs n (Replied reply (Some rule))) waiting ≡ waiting
 refused_leaves regs n reply rule waiting =
     let told = tells regs n (Replied reply (Some rule)) in
     let m : CallMade = record (made regs (Replied reply (Some rule))) { class = n } in
@@ -361,7 +361,7 @@ module _ (promise : Promise) (settings : Settings) (time : ℕ) where
       (λ is. on 4 (allow_ro_in regs) is (of_allow_ro promise around r _ _ _)) (λ is. on 5 (memop_in regs) is (of_memop promise around r _ _))
       (λ is. on 6 (exit_in regs) is (of_exit promise around r can _ _)) (of_fault r (unknown_call r.process) can)
     where
-      regs : Regs
+      regs : Registers
       regs = r.process.regs
 
       around : Surroundings

@@ -1,5 +1,5 @@
 -- The round robin in a quiet stretch.
-use Rattle.std.proofs.Common.{◌≡◌, ℕ, zero, suc, ◌+◌, ◌-◌, ◌<◌, Bool, true, false, ◌&&◌, nat_lt, if◌then◌else◌, List, [], ◌∷◌, length, find, ◌++◌, slice_get, slice_set, Option, None, Some, All, refl, sym, ap, ap₂, subst, ◌∙◌, arith, append_assoc, length-append}
+use Rattle.std.proofs.Common.{◌≡◌, ℕ, zero, suc, ◌+◌, ◌-◌, ◌<◌, ◌≤◌, Bool, true, false, ◌&&◌, ◌==◌, nat_lt, if◌then◌else◌, List, [], ◌∷◌, length, find, ◌++◌, slice_get, slice_set, Option, None, Some, All, refl, sym, ap, ap₂, subst, ◌∙◌, arith, append_assoc, length-append}
 use Rattle.std.specs.Option.{option_map, option_or}
 use Rattle.std.proofs.lemmas.Bool.Decides.{nat_tests}
 use Rattle.std.proofs.lemmas.Grind.{flat_map-append}
@@ -18,7 +18,7 @@ use Rattle.kernel_model.specs.Record.{Record, instruction}
 use Rattle.kernel_model.specs.Turn.{Told, Turned, ended, has_turn, is_pending, may_turn, turn_in, turned}
 use Rattle.kernel_model.specs.World.{World, Label, Stepped, TurnOf, after_turn_of, ran, stepped}
 use Rattle.kernel_model.specs.Run.{Ran, next, next_time, on_choice, printed, ready_devices, ready_slots, round, stays, goes_on, told_first}
-use Rattle.kernel_model.specs.Stretch.{IsQuietTurn, IsStretch, NoneIsStretch, RoundIsStretch, RoundsJoin, StretchesJoin, after_instructions, after_stretch, executed}
+use Rattle.kernel_model.specs.Stretch.{AllGo, IsQuietTurn, IsStretch, NoneActs, NoneIsStretch, PresentStaysOn, RoundIsStretch, RoundsJoin, StretchesJoin, after_instructions, after_stretch, at_turn, executed}
 use Rattle.kernel_model.proofs.Places.{slice_get-set_same}
 
 set-same : {X : Type 0} (xs : List X) (i : ℕ) (x : X) → slice_get xs i ≡ Some x → slice_set xs i x ≡ xs
@@ -40,6 +40,22 @@ went : (s : Settings) (time : ℕ) (r : Record) → r.process.state ≡ Running 
 unfolding turned
 went s time r runs e = ap (λ (state : State). turn_in s time state r) runs ∙ ap (ended s time (executed r) (instruction r).accesses) e
 
+-- a present slot whose process runs goes on with its slice
+pub stays_on : PresentStaysOn
+unfolding next_slot
+stays_on w slot r p at runs u =
+    subst (λ (o : Option ℕ). next_slot (ready_slots w) o w.present.used w.pace.slice ≡ Some slot) (sym p)
+    (ap (λ (g : Bool). if g then Some slot else find (is_ready_at (ready_slots w)) (slots_after (Some slot))) (ap (λ (b : Bool). b && nat_lt w.present.used w.pace.slice) ready ∙ left))
+  where
+    may : (state : State) → state ≡ Running → has_turn state (is_pending r.own.pending) ≡ true
+    may state e = ap (λ (s : State). has_turn s (is_pending r.own.pending)) e
+
+    ready : is_ready_at (ready_slots w) slot ≡ true
+    ready = get_or_from_slice_get (ready_slots w) slot true false (slice_get-map may_turn w.records slot ∙ ap (option_map may_turn) at ∙ ap Some (may r.process.state runs))
+
+    left : (true && nat_lt w.present.used w.pace.slice) ≡ true
+    left = grind (arith, nat_tests)
+
 module _ (w : World) (slot : ℕ) (r : Record) (p : w.present.slot ≡ Some slot) (at : slice_get w.records slot ≡ Some r) (runs : r.process.state ≡ Running) where
   -- no turn leads anywhere
   none_made : after_stretch 0 w slot r ≡ w
@@ -50,26 +66,11 @@ module _ (w : World) (slot : ℕ) (r : Record) (p : w.present.slot ≡ Some slot
 
   -- the present slot goes on
   goes_on_next : ready_device (ready_devices w) ≡ None → w.present.used < w.pace.slice → next w ≡ Some (Run slot)
-  unfolding next choice next_slot
+  unfolding next choice
   goes_on_next calm u =
       let passes : Option Choice = option_map (λ n. Pass (n - w.clock.time)) (next_time w) in
       ap (λ (o : Option Dev). option_or (option_map Device o) (option_or (option_map Run (next_slot (ready_slots w) w.present.slot w.present.used w.pace.slice)) passes)) calm
-      ∙ ap (λ (o : Option ℕ). option_or (option_map Run o) passes) (subst (λ (o : Option ℕ). next_slot (ready_slots w) o w.present.used w.pace.slice ≡ Some slot) (sym p) stays_on)
-    where
-      may : may_turn r ≡ true
-      may = runs_on r.process.state runs
-        where
-          runs_on : (state : State) → state ≡ Running → has_turn state (is_pending r.own.pending) ≡ true
-          runs_on state e = ap (λ (s : State). has_turn s (is_pending r.own.pending)) e
-
-      ready : is_ready_at (ready_slots w) slot ≡ true
-      ready = get_or_from_slice_get (ready_slots w) slot true false (slice_get-map may_turn w.records slot ∙ ap (option_map may_turn) at ∙ ap Some may)
-
-      left : (true && nat_lt w.present.used w.pace.slice) ≡ true
-      left = grind (arith, nat_tests)
-
-      stays_on : next_slot (ready_slots w) (Some slot) w.present.used w.pace.slice ≡ Some slot
-      stays_on = ap (λ (g : Bool). if g then Some slot else find (is_ready_at (ready_slots w)) (slots_after (Some slot))) (ap (λ (b : Bool). b && nat_lt w.present.used w.pace.slice) ready ∙ left)
+      ∙ ap (λ (o : Option ℕ). option_or (option_map Run o) passes) (stays_on w slot r p at runs u)
 
   used_more : w.present.used < w.pace.slice → used_after w.present.slot w.present.used w.pace.slice slot ≡ w.present.used + 1
   used_more u = ap (λ (o : Option ℕ). used_after o w.present.used w.pace.slice slot) p ∙ grind (arith, nat_tests)
@@ -103,31 +104,78 @@ module _ (w : World) (slot : ℕ) (r : Record) (p : w.present.slot ≡ Some slot
       record {
         reached = sym (together k later) ∙ rest.reached ∙ sym (ap (λ (q : Ran). q.world) first);
         turns = ap (λ (q : Ran). length q.labels) first ∙ ap suc rest.turns;
-        quiet = subst (λ (q : Ran). All (IsQuietTurn w.present.slot) q.labels) (sym first)
-            (All-cons (IsQuietTurn w.present.slot) label (round k there).labels (p, refl, refl, refl)
-            (subst (λ (o : Option ℕ). All (IsQuietTurn o) (round k there).labels) (sym p) rest.quiet));
+        quiet = subst (λ (q : Ran). All IsQuietTurn q.labels) (sym first) (All-cons IsQuietTurn label (round k there).labels (refl, refl, refl) rest.quiet);
         prints = ap (λ (q : Ran). printed q.labels) first ∙ rest.prints;
-        present = sym p;
         time = refl;
         steps = refl;
       }
 
 no_stretch : (w : World) → IsStretch 0 w w
 unfolding round
-no_stretch w = record { reached = refl; turns = refl; quiet = All-nil (IsQuietTurn w.present.slot); prints = refl; present = refl; time = sym (none_more w.clock.time); steps = sym (none_more w.clock.steps) }
+no_stretch w = record { reached = refl; turns = refl; quiet = All-nil IsQuietTurn; prints = refl; time = sym (none_more w.clock.time); steps = sym (none_more w.clock.steps) }
 
 pub none_is_stretch : NoneIsStretch
 none_is_stretch w v e = subst (λ (x : World). IsStretch 0 w x) (sym e) (no_stretch w)
 
-pub round_is_stretch : RoundIsStretch
+-- the present slot's turns
+present_stretch : (k slot : ℕ) (w : World) (r : Record) → w.present.slot ≡ Some slot → slice_get w.records slot ≡ Some r → r.process.state ≡ Running → w.present.used + k ≤ w.pace.slice → AllGo k r → NoneActs k w slot r → IsStretch k w (after_stretch k w slot (after_instructions k r))
 unfolding after_instructions
-round_is_stretch zero slot w r p at runs u go none = subst (IsStretch 0 w) (sym (none_made w slot r p at runs)) (no_stretch w)
-round_is_stretch (suc k) slot w r p at runs u go none =
+present_stretch zero slot w r p at runs u go none = subst (IsStretch 0 w) (sym (none_made w slot r p at runs)) (no_stretch w)
+present_stretch (suc k) slot w r p at runs u go none =
     let there = after_stretch 1 w slot (executed r) in
     one_first w slot r p at runs k (after_instructions k (executed r)) (ap (λ (v : World). ready_device (ready_devices v)) (sym (none_made w slot r p at runs)) ∙ none 0 (omega arith)) (omega (arith, u)) (go 0 (omega arith))
-    (round_is_stretch k slot there (executed r) refl (slice_get-set_same w.records slot (executed r) (slice_get_within w.records slot r at)) runs (omega (arith, u))
+    (present_stretch k slot there (executed r) refl (slice_get-set_same w.records slot (executed r) (slice_get_within w.records slot r at)) runs (omega (arith, u))
     (λ j h. go (suc j) (omega (arith, h)))
     (λ j h. ap (λ (v : World). ready_device (ready_devices v)) (together w slot r p at runs j (after_instructions j (executed r))) ∙ none (suc j) (omega (arith, h))))
+
+-- a slot that has the next turn uses one turn of its slice by it, whether it is the present one already or not
+uses_one : (o : Option ℕ) (used slice slot : ℕ) → used_after o used slice slot - 1 < slice → used_after (Some slot) (used_after o used slice slot - 1) slice slot ≡ used_after o used slice slot
+uses_one o used slice slot u = begins ∙ one_more o
+  where
+    begins : used_after (Some slot) (used_after o used slice slot - 1) slice slot ≡ used_after o used slice slot - 1 + 1
+    begins = grind (arith, nat_tests)
+
+    one_more : (o : Option ℕ) → used_after o used slice slot - 1 + 1 ≡ used_after o used slice slot
+    one_more None = refl
+    one_more (Some present) = by ((present == slot) && nat_lt used slice)
+      where
+        by : (b : Bool) → (if b then used + 1 else 1) - 1 + 1 ≡ (if b then used + 1 else 1)
+        by true = omega arith
+        by false = refl
+
+-- so both worlds go on in the same way
+same_round : (n slot : ℕ) (w : World) (r : Record) → next w ≡ Some (Run slot) → next (at_turn w slot) ≡ Some (Run slot) → slice_get w.records slot ≡ Some r → (at_turn w slot).present.used < w.pace.slice → round (suc n) (at_turn w slot) ≡ round (suc n) w
+unfolding round stepped
+same_round n slot w r f g at u =
+    ap (on_choice (stays (at_turn w slot)) (λ c. goes_on (round n) (stepped (at_turn w slot) c))) g
+    ∙ ap (goes_on (round n)) same_step
+    ∙ sym (ap (on_choice (stays w) (λ c. goes_on (round n) (stepped w c))) f)
+  where
+    step_with : Turned → ℕ → Stepped
+    step_with t used = record { after = record (after_turn_of w slot t) { present = record { slot = Some slot; used = used } }; labels = TurnOf slot w.clock.time t.told ∷ [] }
+
+    same_step : stepped (at_turn w slot) (Run slot) ≡ stepped w (Run slot)
+    same_step =
+        ap (ran (at_turn w slot) slot) at
+        ∙ ap (step_with (turned w.settings w.clock.time r)) (uses_one w.present.slot w.present.used w.pace.slice slot u)
+        ∙ sym (ap (ran w slot) at)
+
+pub round_is_stretch : RoundIsStretch
+unfolding after_instructions
+round_is_stretch zero slot w r some f at runs u go none = absurd (omega (arith, some))
+round_is_stretch (suc n) slot w r some f at runs u go none =
+    let first : ready_device (ready_devices w) ≡ None = ap (λ (v : World). ready_device (ready_devices v)) (sym (none_made (at_turn w slot) slot r refl at runs)) ∙ none 0 (omega arith) in
+    let left : (at_turn w slot).present.used < w.pace.slice = omega (arith, u) in
+    let s = present_stretch (suc n) slot (at_turn w slot) r refl at runs u go none in
+    let same = same_round n slot w r f (goes_on_next (at_turn w slot) slot r refl at runs first left) at left in
+    record {
+      reached = s.reached ∙ ap (λ (q : Ran). q.world) same;
+      turns = sym (ap (λ (q : Ran). length q.labels) same) ∙ s.turns;
+      quiet = subst (λ (q : Ran). All IsQuietTurn q.labels) same s.quiet;
+      prints = sym (ap (λ (q : Ran). printed q.labels) same) ∙ s.prints;
+      time = s.time;
+      steps = s.steps;
+    }
 
 -- a run that stops at once
 stops : (m : ℕ) (w : World) → next w ≡ None → round m w ≡ stays w
@@ -164,10 +212,8 @@ stretches_join k m n w v u e first second =
     record {
       reached = second.reached ∙ sym (ap (λ (q : Ran). q.world) whole);
       turns = ap length labels ∙ length-append (round k w).labels (round m v).labels ∙ ap₂ (λ (a b : ℕ). a + b) first.turns second.turns ∙ sym e;
-      quiet = subst (λ (ls : List Label). All (IsQuietTurn w.present.slot) ls) (sym labels)
-          (All-append (IsQuietTurn w.present.slot) (round k w).labels (round m v).labels first.quiet (subst (λ (o : Option ℕ). All (IsQuietTurn o) (round m v).labels) first.present second.quiet));
+      quiet = subst (λ (ls : List Label). All IsQuietTurn ls) (sym labels) (All-append IsQuietTurn (round k w).labels (round m v).labels first.quiet second.quiet);
       prints = ap printed labels ∙ flat_map-append _ (round k w).labels (round m v).labels ∙ ap₂ (λ (a b : List ℕ). a ++ b) first.prints second.prints;
-      present = second.present ∙ first.present;
       time = second.time ∙ ap (λ (t : ℕ). t + m) first.time ∙ together (w.clock.time);
       steps = second.steps ∙ ap (λ (t : ℕ). t + m) first.steps ∙ together (w.clock.steps);
     }

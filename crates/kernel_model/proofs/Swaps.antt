@@ -10,7 +10,7 @@ use Rattle.tk_base.specs.Call.{error_of}
 use Rattle.tk_base.specs.declared.access.Denial.{Denial}
 use Rattle.tk_base.specs.declared.call.CallRule.{CallRule}
 use Rattle.tk_base.specs.declared.call.CallRule.TheVariants.{NoDriver, NoNumber, NoOperation, Permission}
-use Rattle.tk_base.specs.declared.regs.Regs.{Regs}
+use Rattle.tk_base.specs.Regs.{Registers}
 use Rattle.tk_base.specs.declared.upcall.Upcall.{Upcall as Scheduled}
 use Rattle.tbf_headers.specs.Meaning.{reading}
 use Rattle.fault_policy.specs.declared.Action.{Action}
@@ -150,7 +150,7 @@ record IsOf (key : Key) (of : PairKind) (to at : ℕ) : Type 0 where
   number : key.number ≡ at
 
 -- a call whose class is not 0 stands in registers that there are
-class_within : (regs : Regs) (n : ℕ) → class regs ≡ n → (n == 0) ≡ false → 14 < length regs.x
+class_within : (regs : Registers) (n : ℕ) → class regs ≡ n → (n == 0) ≡ false → 14 < length regs.x
 class_within regs n is apart = by_length (nat_lt 14 (length regs.x)) refl
   where
     by_length : (b : Bool) → nat_lt 14 (length regs.x) ≡ b → 14 < length regs.x
@@ -179,7 +179,7 @@ module _ (xs : List ℕ) (a b c : ℕ) (within : 14 < length xs) where
   not_set = grind (arith, places)
 
 -- the reply of a swap, in the registers
-swap_shown : (regs : Regs) (first second : ℕ) → 14 < length regs.x → arguments (put_reply (SuccessU32U32 first second) regs) ≡ 130 ∷ first ∷ second ∷ a3 regs ∷ []
+swap_shown : (regs : Registers) (first second : ℕ) → 14 < length regs.x → arguments (put_reply (SuccessU32U32 first second) regs) ≡ 130 ∷ first ∷ second ∷ a3 regs ∷ []
 swap_shown regs first second within = λ i. first_set regs.x 130 first second within i ∷ second_set regs.x 130 first second within i ∷ third_set regs.x 130 first second within i ∷ not_set regs.x 130 first second within i ∷ []
 
 -- what is told of a turn without a call and a denial
@@ -402,7 +402,7 @@ module _ (law : OnlyHandingChangesPairs) (drivers : DriversLeavePairs) where
       (λ is. on (memop_in regs) (of_other past r k accesses (memop_in regs) 5 _ is refl refl refl refl (keeps_memop r (a0 regs) (a1 regs))))
       (λ is. on (exit_in regs) (of_exit past r k accesses (exit_in regs) is)) (denied past settings r (unknown_call r.process) k)
     where
-      regs : Regs
+      regs : Registers
       regs = r.process.regs
 
       around : Surroundings

@@ -1,41 +1,38 @@
--- Quiet stretches: turns of the present slot's process, one after another, that only execute an instruction.
-use Rattle.std.specs.Prelude.{◌≡◌, ◌≤◌, ◌<◌, ℕ, zero, suc, ◌+◌, [], length, slice_get, slice_set, Option, None, Some, All}
+-- Quiet stretches: turns of processes, one after another, that only execute an instruction.
+use Rattle.std.specs.Prelude.{◌≡◌, ◌≤◌, ◌<◌, ℕ, zero, suc, ◌+◌, ◌-◌, [], length, slice_get, slice_set, Some, None, All}
 use Rattle.tk_base.specs.declared.limits.TheConstants.{STEP_LIMIT}
+use Rattle.tk_base.specs.declared.process.Choice.TheVariants.{Run}
 use Rattle.rv32_model.specs.declared.turn_end.TurnEnd.TheVariants.{Went}
 use Rattle.process_record.specs.declared.process.State.TheVariants.{Running}
-use Rattle.turn_scheduler.specs.RoundRobin.{ready_device}
+use Rattle.turn_scheduler.specs.RoundRobin.{next_slot, ready_device, used_after}
 use Rattle.kernel_model.specs.Record.{Record, instruction, with_effect}
 use Rattle.kernel_model.specs.Turn.{counted}
 use Rattle.kernel_model.specs.World.{World, Label, TurnOf, Answered, Printed}
-use Rattle.kernel_model.specs.Run.{printed, ready_devices, round, told_first}
+use Rattle.kernel_model.specs.Run.{next, printed, ready_devices, ready_slots, round, told_first}
 
--- a turn of a slot that made no call, wrote no flag and was not denied
-abbrev pub IsQuietTurn : Option ℕ → Label → Type 0
-IsQuietTurn present (TurnOf slot time told) =
-    (present ≡ Some slot) × (told.call ≡ None) × (told.flag ≡ None) × (told.denial ≡ None)
-IsQuietTurn present (Answered slot event) = ⊥
-IsQuietTurn present (Printed slot bytes) = ⊥
+-- a turn that made no call, wrote no flag and was not denied
+abbrev pub IsQuietTurn : Label → Type 0
+IsQuietTurn (TurnOf slot time told) = (told.call ≡ None) × (told.flag ≡ None) × (told.denial ≡ None)
+IsQuietTurn (Answered slot event) = ⊥
+IsQuietTurn (Printed slot bytes) = ⊥
 
--- the round robin's next so many steps are quiet turns of the present slot, and lead to a world
+-- the round robin's next so many steps are quiet turns, and lead to a world
 pub record IsStretch (k : ℕ) (w after : World) : Type 0 where
   pub reached : after ≡ (round k w).world
   pub turns : length (round k w).labels ≡ k
-  pub quiet : All (IsQuietTurn w.present.slot) (round k w).labels
+  pub quiet : All IsQuietTurn (round k w).labels
   pub prints : printed (round k w).labels ≡ []
-  pub present : after.present.slot ≡ w.present.slot
   pub time : after.clock.time ≡ w.clock.time + k
   pub steps : after.clock.steps ≡ w.clock.steps + k
 
--- a stretch goes on: no device step is ready, the present slot's process runs, and has turns left in its slice, and its
--- instruction goes; and the limit of steps is not reached
+-- a stretch goes on: the round robin's next choice is a turn of a process that runs, and its instruction goes; and the
+-- limit of steps is not reached
 pub record GoesOn (w : World) : Type 0 where
   pub slot : ℕ
   pub before : Record
-  pub present : w.present.slot ≡ Some slot
+  pub chosen : next w ≡ Some (Run slot)
   pub is_there : slice_get w.records slot ≡ Some before
   pub runs : before.process.state ≡ Running
-  pub left : w.present.used < w.pace.slice
-  pub calm : ready_device (ready_devices w) ≡ None
   pub goes : (instruction before).end ≡ Went
   pub limit : w.clock.steps < STEP_LIMIT
 
@@ -51,7 +48,14 @@ after_instructions (suc k) r = after_instructions k (executed r)
 abbrev pub AllGo : ℕ → Record → Type 0
 AllGo k r = (j : ℕ) → j < k → (instruction (after_instructions j r)).end ≡ Went
 
--- the world after so many quiet turns of a slot, which left this record
+-- the same world, but a slot that is to have the next turn is the present one already: with its slice, while that lasts,
+-- or at the beginning of one
+abbrev pub at_turn : World → ℕ → World
+at_turn w slot = record w {
+  present = record { slot = Some slot; used = used_after w.present.slot w.present.used w.pace.slice slot - 1 };
+}
+
+-- the world after so many quiet turns of the present slot, which left this record
 abbrev pub after_stretch : ℕ → World → ℕ → Record → World
 after_stretch k w slot later = record w {
   records = slice_set w.records slot later;
@@ -64,18 +68,29 @@ abbrev pub NoneActs : ℕ → World → ℕ → Record → Type 0
 NoneActs k w slot r =
     (j : ℕ) → j < k → ready_device (ready_devices (after_stretch j w slot (after_instructions j r))) ≡ None
 
--- as long as no device step is ready, the round robin makes the instructions of the present slot's process that go, up
--- to the end of its slice
+-- as long as no device step is ready, the round robin makes the instructions of the process that has the next turn, those
+-- that go, up to the end of its slice
 abbrev pub RoundIsStretch : Type 0
 RoundIsStretch =
     (k slot : ℕ) (w : World) (r : Record)
+    → 0 < k
+    → next w ≡ Some (Run slot)
+    → slice_get w.records slot ≡ Some r
+    → r.process.state ≡ Running
+    → (at_turn w slot).present.used + k ≤ w.pace.slice
+    → AllGo k r
+    → NoneActs k w slot r
+    → IsStretch k w (after_stretch k (at_turn w slot) slot (after_instructions k r))
+
+-- the present slot has the next turn of a process, where its process runs and its slice lasts
+abbrev pub PresentStaysOn : Type 0
+PresentStaysOn =
+    (w : World) (slot : ℕ) (r : Record)
     → w.present.slot ≡ Some slot
     → slice_get w.records slot ≡ Some r
     → r.process.state ≡ Running
-    → w.present.used + k ≤ w.pace.slice
-    → AllGo k r
-    → NoneActs k w slot r
-    → IsStretch k w (after_stretch k w slot (after_instructions k r))
+    → w.present.used < w.pace.slice
+    → next_slot (ready_slots w) w.present.slot w.present.used w.pace.slice ≡ Some slot
 
 -- a run is one of its first steps, and then one of the others
 abbrev pub RoundsJoin : Type 0

@@ -4,7 +4,7 @@ use Rattle.tk_base.specs.declared.access.Access.TheVariants.{Fetch}
 use Rattle.tk_base.specs.declared.access.Rule.TheVariants.{UnknownClass}
 use Rattle.tk_base.specs.declared.access.Denial.{Denial}
 use Rattle.tk_base.specs.declared.call.CallRule.{CallRule}
-use Rattle.tk_base.specs.declared.regs.Regs.{Regs}
+use Rattle.tk_base.specs.Regs.{Registers}
 use Rattle.rv32_model.specs.declared.turn_end.TurnEnd.{TurnEnd}
 use Rattle.rv32_model.specs.declared.turn_end.TurnEnd.TheVariants.{Went, Call, Trap}
 use Rattle.rv32_model.specs.UserTurn.{Touch, denied_at}
@@ -52,11 +52,11 @@ pub record Turned : Type 0 where
   pub acts : List Act
 
 -- the arguments of a call, or its reply: a0 to a3
-abbrev pub arguments : Regs → List ℕ
+abbrev pub arguments : Registers → List ℕ
 arguments regs = a0 regs ∷ a1 regs ∷ a2 regs ∷ a3 regs ∷ []
 
 -- what an outcome shows: the reply as it stands in the registers, and the rule that the call broke
-abbrev pub reply_shown : Regs → Outcome → Option (List ℕ)
+abbrev pub reply_shown : Registers → Outcome → Option (List ℕ)
 reply_shown regs (outcomes.Replied reply rule) = Some (arguments (put_reply reply regs))
 reply_shown regs outcomes.ToDriver = None
 reply_shown regs outcomes.Waits = None
@@ -75,7 +75,7 @@ rule_shown outcomes.Ended = None
 rule_shown outcomes.Again = None
 
 -- the call as the step shows it, from the registers before it and what came of it
-abbrev pub made : Regs → Outcome → CallMade
+abbrev pub made : Registers → Outcome → CallMade
 made regs outcome = record {
   class = class regs;
   args = arguments regs;

@@ -2,7 +2,7 @@
 -- or subscribes an upcall (TRD 104, "Memop", "Subscribe").
 use Rattle.std.specs.Prelude.{ℕ, ◌+◌, List, [], ◌∷◌, length, None}
 use Rattle.tk_base.specs.declared.access.TheConstants.{FLASH_START, RAM_START}
-use Rattle.tk_base.specs.declared.regs.Regs.{Regs}
+use Rattle.tk_base.specs.Regs.{Registers}
 use Rattle.tk_base.specs.Regs.{with_register}
 use Rattle.fault_policy.specs.declared.Policy.TheVariants.{Stop}
 use Rattle.process_record.specs.declared.process.State.TheVariants.{Running}
@@ -17,7 +17,7 @@ use Rattle.kernel_model.specs.Histories.{Key}
 
 -- a process at the start of its object, which has these bytes, with registers and a block of so many bytes, of which it
 -- may access 8
-abbrev pub standing : List ℕ → ℕ → Regs → Record
+abbrev pub standing : List ℕ → ℕ → Registers → Record
 standing object block regs = record {
   process = record {
     regs = regs;

@@ -2,7 +2,7 @@
 ghost use Rattle.kernel_model.specs.Histories.{SwapsGiveBackTheLast};
 ghost use Rattle.kernel_model.specs.Laws.{DriversPromise, DropsAtMostOne, GrantsChangeAtCalls, NextIsReady, NextLiesAhead, NoneIsLeft};
 ghost use Rattle.kernel_model.specs.Laws.{OnlyItsOwnEvents, RefusedChangesNothingElse, TurnsActAtCalls, TurnsKeepLines};
-ghost use Rattle.kernel_model.specs.Stretch.{NoneIsStretch, RoundIsStretch, RoundsJoin, StretchesJoin};
+ghost use Rattle.kernel_model.specs.Stretch.{NoneIsStretch, PresentStaysOn, RoundIsStretch, RoundsJoin, StretchesJoin};
 ghost use Rattle.kernel_model.specs.Replay.{RecordIsReplay, RoundFollowsChoices, SameHistorySameRecord};
 
 use driver_model::{
@@ -96,11 +96,12 @@ pub fn swaps_give_back_the_last()
     only_handing_changes_pairs();
     drivers_leave_pairs();
 }
-/// As long as no device step is ready, the round robin makes the instructions of the present slot's process that go,
-/// one after another, up to the end of its slice. Such a stretch may be followed by another.
-#[tactic(auto, using(crate::proofs::Stretch::round_is_stretch, crate::proofs::Stretch::none_is_stretch))]
+/// As long as no device step is ready, the round robin makes the instructions of the process that has the next turn,
+/// those that go, one after another, up to the end of its slice. Such a stretch may be followed by another.
+#[tactic(auto, using(crate::proofs::Stretch::round_is_stretch, crate::proofs::Stretch::none_is_stretch, crate::proofs::Stretch::stays_on))]
 pub fn round_is_stretch()
     ensures round { RoundIsStretch }
+    ensures stays { PresentStaysOn }
     ensures none { NoneIsStretch }
     ensures join { StretchesJoin }
 {}

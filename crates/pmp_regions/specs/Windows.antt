@@ -17,6 +17,11 @@ holds w at width = nat_le w.from at && nat_le (at + width_bytes width) (w.from +
 abbrev pub Permits : List Entry → Access → Window → Type 0
 Permits pmp access w = (at : ℕ) (width : Width) → IsTrue (holds w at width) → denied_by pmp access at width ≡ None
 
+-- the entries permit every access of a kind whose bytes lie between two addresses
+pub record PermitsBetween (pmp : List Entry) (access : Access) (from to : ℕ) : Type 0 where
+  pub permits :
+      (at : ℕ) (width : Width) → from ≤ at → at + width_bytes width ≤ to → denied_by pmp access at width ≡ None
+
 -- what the two windows stand for
 pub record ArePermitted (pmp : List Entry) (executable writable : Window) : Type 0 where
   pub fetch : Permits pmp Fetch executable

@@ -7,6 +7,7 @@ ghost use Rattle.std.specs.Bool.{OnTrue};
 ghost use Rattle.tk_base.specs.Bus.{answered};
 
 use std::marker::Model;
+use std::ops::Range;
 use tk_base::{Access, Addr, Rule, Width};
 
 /// How an entry's address register is read: field A of its configuration.
@@ -59,9 +60,8 @@ impl Pmp {
     ghost use Rattle.pmp_regions.specs.Entries.{cleared, tor_entry, off_entry, bottom_word};
     ghost use Rattle.pmp_regions.specs.Spans.{IsSpan};
     ghost use Rattle.pmp_regions.specs.Check.{denied_by, deciding, matches_any, matches_all};
-    ghost use Rattle.pmp_regions.specs.Windows.{Permits, Decides, EndBy};
+    ghost use Rattle.pmp_regions.specs.Windows.{Permits, PermitsBetween, Decides, EndBy};
     ghost use Rattle.tk_base.specs.declared.access.Access.TheVariants.{Fetch, Load, Store};
-    ghost use Rattle.tk_base.specs.declared.access.Width.TheVariants.{Half};
 
     /// How many entries there are.
     pub const COUNT: usize = 8;
@@ -230,15 +230,13 @@ impl Pmp {
         self.search(access, at, width)
     }
 
-    /// Whether two parcels of 16 bits lie in the window where every fetch is permitted. Where they do not,
-    /// each may be permitted nevertheless.
-    #[inline(always)]
-    pub fn holds_parcels(&self, at: Addr) -> bool
-        ensures first { OnTrue result (denied_by self.now Fetch at Half ≡ None) }
-        ensures second { OnTrue result (denied_by self.now Fetch (at + 2) Half ≡ None) }
-        ensures below { OnTrue result (at + 4 ≤ 2 ^ 32) }
+    /// The addresses between which every fetch is permitted, the second one above the last of them. Elsewhere one may be
+    /// permitted nevertheless.
+    pub fn executable(&self) -> Range<u64>
+        ensures { PermitsBetween self.now Fetch result.start result.end }
     {
-        self.executable.holds(at, Width::Word)
+        let from = u64::from(self.executable.from);
+        from..from + self.executable.length
     }
 
     /// Whether an access lies in the window where every load and every store is permitted. Where it does

@@ -2,13 +2,13 @@
 use Rattle.std.specs.Prelude.{◌≡◌, ◌≤◌, ◌<◌, ℕ, ◌-◌, List, slice_index, Option, None, Some}
 use Rattle.tk_base.specs.Bus.{put}
 use Rattle.tk_base.specs.declared.access.TheConstants.{FLASH_START}
-use Rattle.tk_base.specs.declared.regs.Regs.{Regs}
+use Rattle.tk_base.specs.Regs.{Registers}
 use Rattle.rv32_model.specs.UserTurn.{Write, UserTurn, user_turn}
 use Rattle.process_own.specs.Own.{Own}
 use Rattle.process_own.specs.Permission.{denied}
 
 -- the instruction at pc, under what the process may access and over the bytes that it sees
-abbrev pub instruction_of : Own → (ℕ → ℕ) → Regs → UserTurn
+abbrev pub instruction_of : Own → (ℕ → ℕ) → Registers → UserTurn
 instruction_of own seen regs = user_turn (denied own.layout) seen regs
 
 -- bytes from an address on, after a turn's write

@@ -1,7 +1,7 @@
 -- One process: TRD 104, "Yield", "Exit" and "Return Values"; the start registers as Tock gives them to a process.
 use Rattle.std.specs.Prelude.{ℕ, ◌+◌, ◌*◌, ◌/◌, ◌%◌, ◌^◌, None, Some, replicate, slice_index}
 use Rattle.tk_base.specs.declared.access.Denial.{Denial}
-use Rattle.tk_base.specs.declared.regs.Regs.{Regs}
+use Rattle.tk_base.specs.Regs.{Registers}
 use Rattle.tk_base.specs.Regs.{with_register}
 use Rattle.tk_base.specs.declared.call.CallRule.{CallRule}
 use Rattle.tk_base.specs.declared.upcall.Upcall.{Upcall}
@@ -14,12 +14,12 @@ use Rattle.process_record.specs.declared.process.Process.{Process}
 use Rattle.process_record.specs.declared.process.State.TheVariants.{Running, Yielded, Faulted, Terminated}
 
 -- all registers 0, and pc
-abbrev pub cleared : ℕ → Regs
+abbrev pub cleared : ℕ → Registers
 cleared pc = record { x = replicate 32 0; pc = pc }
 
 -- the registers of a start, for an object at an address: pc is the entry, a0 the first address after the header
 -- and the protected bytes, a1 and sp the start of the RAM, a2 the block's length, a3 the break
-abbrev pub start_regs : ℕ → Meaning → Main → ℕ → ℕ → ℕ → Regs
+abbrev pub start_regs : ℕ → Meaning → Main → ℕ → ℕ → ℕ → Registers
 start_regs object h m ram length brk =
     with_register (with_register (with_register (with_register (with_register (cleared (entry_of object h m))
     2 ram) 10 (after_protected object h m)) 11 ram) 12 length) 13 brk
@@ -52,7 +52,7 @@ abbrev pub after_fault : Process → Denial → Process
 after_fault p denial = record p { state = Faulted; denial = Some denial }
 
 -- the registers with pc past an `ecall`
-abbrev pub past_call : Regs → Regs
+abbrev pub past_call : Registers → Registers
 past_call regs = record regs { pc = (regs.pc + 4) % 2 ^ 32 }
 
 -- the process ends with a completion code
@@ -79,7 +79,7 @@ waiting p = record (after_call p) { state = Yielded }
 
 -- the registers of an upcall: a0 to a2 are its arguments and a3 the application data, ra is pc, and pc the function
 -- with bit 0 cleared
-abbrev pub upcall_regs : Upcall → Regs → Regs
+abbrev pub upcall_regs : Upcall → Registers → Registers
 upcall_regs u regs =
     let called = with_register (with_register (with_register (with_register (with_register regs
     10 (slice_index u.args 0)) 11 (slice_index u.args 1)) 12 (slice_index u.args 2)) 13 u.app) 1 regs.pc in

@@ -127,7 +127,7 @@ impl Process {
         ensures { self.new ≡ after_refusal self.old rule reply.now }
     {
         self.refusal = Some(Refusal {
-            address: self.regs.pc,
+            address: self.regs.pc(),
             rule,
         });
         self.reply(reply);
@@ -154,14 +154,14 @@ impl Process {
     pub fn deliver(&mut self, upcall: &Upcall)
         ensures { self.new ≡ delivered upcall.now self.old }
     {
-        let back = self.regs.pc;
+        let back = self.regs.pc();
         let [first, second, third] = upcall.args;
         self.regs.set(10, first);
         self.regs.set(11, second);
         self.regs.set(12, third);
         self.regs.set(13, upcall.app);
         self.regs.set(1, back);
-        self.regs.pc = upcall.function / 2 * 2;
+        self.regs.set_pc(upcall.function / 2 * 2);
         self.state = State::Running;
     }
 
@@ -169,7 +169,7 @@ impl Process {
     fn pass_call(&mut self)
         ensures { self.new ≡ record self.old { regs = past_call self.old.regs } }
     {
-        self.regs.pc = self.regs.pc.wrapping_add(4);
+        self.regs.set_pc(self.regs.pc().wrapping_add(4));
     }
 }
 

@@ -3,7 +3,8 @@ use Rattle.std.specs.Prelude.{◌≡◌, ℕ, Option, None, Some}
 use Rattle.grant_values.specs.declared.random.Random.{Random}
 use Rattle.grant_values.specs.declared.random.RandomRequest.{RandomRequest}
 use Rattle.process_own.specs.Own.{Own}
-use Rattle.driver_model.specs.Random.{Progress, progress, with_request}
+use Rattle.driver_model.specs.Random.{Progress, progress, randoms}
+use Rattle.driver_model.specs.Requests.{with_request}
 use Rattle.random_capsule.specs.declared.visits.Step.{Step}
 
 -- what a step answers, and what is then the process's own, as what a request comes to
@@ -20,4 +21,4 @@ Steps word (Some request) old step value own =
 abbrev pub Advances : Option ℕ → Own → Step → Own → RandomRequest → Type 0
 Advances word old step new request =
     let p = progress word request old in
-    (step.rest ≡ p.rest) × (step.took ≡ p.took) × (new ≡ with_request p.rest p.own)
+    (step.rest ≡ p.rest) × (step.took ≡ p.took) × (new ≡ with_request randoms p.rest p.own)

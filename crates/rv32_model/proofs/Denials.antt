@@ -6,7 +6,7 @@ use Rattle.tk_base.specs.declared.access.Width.{Width}
 use Rattle.tk_base.specs.declared.access.Width.TheVariants.{Half}
 use Rattle.tk_base.specs.declared.access.Rule.{Rule}
 use Rattle.tk_base.specs.declared.access.Denial.{Denial}
-use Rattle.tk_base.specs.declared.regs.Regs.{Regs}
+use Rattle.tk_base.specs.Regs.{Registers}
 use Rattle.tk_base.specs.Access.{misaligned_first}
 use Rattle.tk_base.specs.Bus.{number_at}
 use Rattle.tk_base.specs.Regs.{register}
@@ -17,7 +17,7 @@ use Rattle.rv32_model.specs.declared.turn_end.TurnEnd.TheVariants.{Trap}
 use Rattle.rv32_model.specs.Laws.{Denies, DenialsAreDue, IsDue}
 use Rattle.rv32_model.specs.UserTurn.{UserTurn, user_turn, on_word, executed, fetched, after_load, after_store, denied_at, effect, load_width, w32_of, judged_parcel, with_first, with_second, parcel_at, length_of, instr_of, trapped}
 
-module _ (denies : Denies) (bytes : ℕ → ℕ) (regs : Regs) where
+module _ (denies : Denies) (bytes : ℕ → ℕ) (regs : Registers) where
   -- a turn that is denied only for what is due
   unfoldable IsDueIn : UserTurn → Type 0
   IsDueIn t = (d : Denial) → t.end ≡ Trap d → IsDue denies regs d

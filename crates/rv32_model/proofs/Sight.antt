@@ -4,7 +4,7 @@ use Rattle.tk_base.specs.declared.access.Access.TheVariants.{Fetch, Load, Store}
 use Rattle.tk_base.specs.declared.access.Width.TheVariants.{Half}
 use Rattle.tk_base.specs.declared.access.Rule.{Rule}
 use Rattle.tk_base.specs.declared.access.Denial.{Denial}
-use Rattle.tk_base.specs.declared.regs.Regs.{Regs}
+use Rattle.tk_base.specs.Regs.{Registers}
 use Rattle.tk_base.specs.Access.{misaligned_first}
 use Rattle.tk_base.specs.Bus.{number_at}
 use Rattle.tk_base.specs.Regs.{register}
@@ -18,7 +18,7 @@ judged_same : (at : ℕ) (o : Option Rule) (n m : ℕ) → (o ≡ None → n ≡
 judged_same at None n m e = ap (λ (x : ℕ). judged_parcel at None x) (e refl)
 judged_same at (Some rule) n m e = refl
 
-load_same : (length : ℕ) (regs : Regs) (kind : LoadKind) (rd at : ℕ) (o : Option Rule) (n m : ℕ) → (o ≡ None → n ≡ m) → after_load length regs kind rd at n o ≡ after_load length regs kind rd at m o
+load_same : (length : ℕ) (regs : Registers) (kind : LoadKind) (rd at : ℕ) (o : Option Rule) (n m : ℕ) → (o ≡ None → n ≡ m) → after_load length regs kind rd at n o ≡ after_load length regs kind rd at m o
 load_same length regs kind rd at None n m e = ap (λ (x : ℕ). after_load length regs kind rd at x None) (e refl)
 load_same length regs kind rd at (Some rule) n m e = refl
 
@@ -35,7 +35,7 @@ fetched_same : (d e : Denies) (b c : ℕ → ℕ) → LookAlike d e b c → (pc 
 unfolding fetched
 fetched_same d e b c l pc = ap (with_first d b pc) (parcel_same d e b c l pc) ∙ first_same d e b c l pc (parcel_at e c pc)
 
-effect_same : (d e : Denies) (b c : ℕ → ℕ) → LookAlike d e b c → (length : ℕ) (i : Instr) (regs : Regs) → effect d b length i regs ≡ effect e c length i regs
+effect_same : (d e : Denies) (b c : ℕ → ℕ) → LookAlike d e b c → (length : ℕ) (i : Instr) (regs : Registers) → effect d b length i regs ≡ effect e c length i regs
 effect_same d e b c l length (instrs.Lui rd imm) regs = refl
 effect_same d e b c l length (instrs.Auipc rd imm) regs = refl
 effect_same d e b c l length (instrs.Jal rd offset) regs = refl
@@ -54,12 +54,12 @@ effect_same d e b c l length instrs.Fence regs = refl
 effect_same d e b c l length instrs.Ecall regs = refl
 effect_same d e b c l length instrs.Ebreak regs = refl
 
-executed_same : (d e : Denies) (b c : ℕ → ℕ) → LookAlike d e b c → (length : ℕ) (o : Option Instr) (regs : Regs) → executed d b length o regs ≡ executed e c length o regs
+executed_same : (d e : Denies) (b c : ℕ → ℕ) → LookAlike d e b c → (length : ℕ) (o : Option Instr) (regs : Registers) → executed d b length o regs ≡ executed e c length o regs
 unfolding executed
 executed_same d e b c l length (Some i) regs = effect_same d e b c l length i regs
 executed_same d e b c l length None regs = refl
 
-word_same : (d e : Denies) (b c : ℕ → ℕ) → LookAlike d e b c → (r : Result ℕ Denial) (regs : Regs) → on_word d b r regs ≡ on_word e c r regs
+word_same : (d e : Denies) (b c : ℕ → ℕ) → LookAlike d e b c → (r : Result ℕ Denial) (regs : Registers) → on_word d b r regs ≡ on_word e c r regs
 unfolding on_word
 word_same d e b c l (Ok word) regs = executed_same d e b c l (length_of word) (instr_of word) regs
 word_same d e b c l (Err denial) regs = refl

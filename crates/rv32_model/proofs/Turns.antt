@@ -12,7 +12,7 @@ use Rattle.tk_base.specs.declared.access.Width.TheVariants.{Half}
 use Rattle.tk_base.specs.declared.access.Rule.{Rule}
 use Rattle.tk_base.specs.declared.access.Rule.TheVariants.{Breakpoint, Illegal, Misaligned}
 use Rattle.tk_base.specs.declared.access.Denial.{Denial}
-use Rattle.tk_base.specs.declared.regs.Regs.{Regs}
+use Rattle.tk_base.specs.Regs.{Registers}
 use Rattle.tk_base.specs.Access.{width_bytes, is_misaligned, misaligned_first}
 use Rattle.tk_base.specs.Bus.{number_at}
 use Rattle.tk_base.specs.Regs.{register}
@@ -25,32 +25,32 @@ use Rattle.rv32_model.specs.Stretch.{StoppedTurnsChangeNothing}
 use Rattle.rv32_model.specs.UserTurn.{Touch, UserTurn, denied_at, trapped, user_turn, on_word, executed, fetched, after_write, after_load, after_store, effect, fetches, load_width, touch_of, w32_of, judged_parcel, with_first, with_second, parcel_at, length_of, instr_of}
 
 -- a turn that does not go changes nothing, and a denied one lists no access
-Kept : (ℕ → ℕ) → Regs → UserTurn → Type 0
+Kept : (ℕ → ℕ) → Registers → UserTurn → Type 0
 Kept bytes regs t =
     (t.end ≢ Went → (t.regs ≡ regs) × (after_write t.write bytes ≡ bytes))
     × ((denial : Denial) → t.end ≡ Trap denial → t.accesses ≡ [])
 
-went : (bytes : ℕ → ℕ) (regs : Regs) (t : UserTurn) → t.end ≡ Went → Kept bytes regs t
+went : (bytes : ℕ → ℕ) (regs : Registers) (t : UserTurn) → t.end ≡ Went → Kept bytes regs t
 unfolding Kept
 went bytes regs t e = (λ n. absurd (n e), λ d f. cc)
 
-denied_kept : (bytes : ℕ → ℕ) (regs : Regs) (denial : Denial) → Kept bytes regs (trapped regs denial)
+denied_kept : (bytes : ℕ → ℕ) (regs : Registers) (denial : Denial) → Kept bytes regs (trapped regs denial)
 unfolding Kept
 denied_kept bytes regs denial = (λ n. (refl, refl), λ d f. refl)
 
-call_kept : (bytes : ℕ → ℕ) (length : ℕ) (regs : Regs) → Kept bytes regs (record { regs = regs; write = None; accesses = fetches length regs; end = Call })
+call_kept : (bytes : ℕ → ℕ) (length : ℕ) (regs : Registers) → Kept bytes regs (record { regs = regs; write = None; accesses = fetches length regs; end = Call })
 unfolding Kept
 call_kept bytes length regs = (λ n. (refl, refl), λ d f. cc)
 
-load_kept : (bytes : ℕ → ℕ) (length : ℕ) (regs : Regs) (kind : LoadKind) (rd at number : ℕ) (o : Option Rule) → Kept bytes regs (after_load length regs kind rd at number o)
+load_kept : (bytes : ℕ → ℕ) (length : ℕ) (regs : Registers) (kind : LoadKind) (rd at number : ℕ) (o : Option Rule) → Kept bytes regs (after_load length regs kind rd at number o)
 load_kept bytes length regs kind rd at number None = went bytes regs (after_load length regs kind rd at number None) refl
 load_kept bytes length regs kind rd at number (Some rule) = denied_kept bytes regs (denied_at Load at rule)
 
-store_kept : (bytes : ℕ → ℕ) (length : ℕ) (regs : Regs) (width : Width) (at value : ℕ) (o : Option Rule) → Kept bytes regs (after_store length regs width at value o)
+store_kept : (bytes : ℕ → ℕ) (length : ℕ) (regs : Registers) (width : Width) (at value : ℕ) (o : Option Rule) → Kept bytes regs (after_store length regs width at value o)
 store_kept bytes length regs width at value None = went bytes regs (after_store length regs width at value None) refl
 store_kept bytes length regs width at value (Some rule) = denied_kept bytes regs (denied_at Store at rule)
 
-effect_kept : (denies : Denies) (bytes : ℕ → ℕ) (length : ℕ) (i : Instr) (regs : Regs) → Kept bytes regs (effect denies bytes length i regs)
+effect_kept : (denies : Denies) (bytes : ℕ → ℕ) (length : ℕ) (i : Instr) (regs : Registers) → Kept bytes regs (effect denies bytes length i regs)
 effect_kept denies bytes length (instrs.Lui rd imm) regs = went bytes regs _ refl
 effect_kept denies bytes length (instrs.Auipc rd imm) regs = went bytes regs _ refl
 effect_kept denies bytes length (instrs.Jal rd offset) regs = went bytes regs _ refl
@@ -68,17 +68,17 @@ effect_kept denies bytes length instrs.Fence regs = went bytes regs _ refl
 effect_kept denies bytes length instrs.Ecall regs = call_kept bytes length regs
 effect_kept denies bytes length instrs.Ebreak regs = denied_kept bytes regs (denied_at Fetch regs.pc Breakpoint)
 
-executed_kept : (denies : Denies) (bytes : ℕ → ℕ) (length : ℕ) (o : Option Instr) (regs : Regs) → Kept bytes regs (executed denies bytes length o regs)
+executed_kept : (denies : Denies) (bytes : ℕ → ℕ) (length : ℕ) (o : Option Instr) (regs : Registers) → Kept bytes regs (executed denies bytes length o regs)
 unfolding executed
 executed_kept denies bytes length (Some i) regs = effect_kept denies bytes length i regs
 executed_kept denies bytes length None regs = denied_kept bytes regs (denied_at Fetch regs.pc Illegal)
 
-word_kept : (denies : Denies) (bytes : ℕ → ℕ) (r : Result ℕ Denial) (regs : Regs) → Kept bytes regs (on_word denies bytes r regs)
+word_kept : (denies : Denies) (bytes : ℕ → ℕ) (r : Result ℕ Denial) (regs : Registers) → Kept bytes regs (on_word denies bytes r regs)
 unfolding on_word
 word_kept denies bytes (Ok word) regs = executed_kept denies bytes (length_of word) (instr_of word) regs
 word_kept denies bytes (Err denial) regs = denied_kept bytes regs denial
 
-turn_kept : (denies : Denies) (bytes : ℕ → ℕ) (regs : Regs) → Kept bytes regs (user_turn denies bytes regs)
+turn_kept : (denies : Denies) (bytes : ℕ → ℕ) (regs : Registers) → Kept bytes regs (user_turn denies bytes regs)
 unfolding user_turn
 turn_kept denies bytes regs = word_kept denies bytes (fetched denies bytes regs.pc) regs
 
@@ -94,15 +94,15 @@ denied_turns_change_nothing denies bytes regs d e =
     (nothing.0, nothing.1, kept.1 d e)
 
 -- what holds of each fetch, and of each load and store that is not denied, holds of each access
-load_touches : (P : Touch → Type 0) (length : ℕ) (regs : Regs) (kind : LoadKind) (rd at number : ℕ) (o : Option Rule) → All P (fetches length regs) → (o ≡ None → P (touch_of Load at (load_width kind))) → All P (after_load length regs kind rd at number o).accesses
+load_touches : (P : Touch → Type 0) (length : ℕ) (regs : Registers) (kind : LoadKind) (rd at number : ℕ) (o : Option Rule) → All P (fetches length regs) → (o ≡ None → P (touch_of Load at (load_width kind))) → All P (after_load length regs kind rd at number o).accesses
 load_touches P length regs kind rd at number None f p = All-append P (fetches length regs) (touch_of Load at (load_width kind) ∷ []) f (All-cons P (touch_of Load at (load_width kind)) [] (p refl) (All-nil P))
 load_touches P length regs kind rd at number (Some rule) f p = All-nil P
 
-store_touches : (P : Touch → Type 0) (length : ℕ) (regs : Regs) (width : Width) (at value : ℕ) (o : Option Rule) → All P (fetches length regs) → (o ≡ None → P (touch_of Store at width)) → All P (after_store length regs width at value o).accesses
+store_touches : (P : Touch → Type 0) (length : ℕ) (regs : Registers) (width : Width) (at value : ℕ) (o : Option Rule) → All P (fetches length regs) → (o ≡ None → P (touch_of Store at width)) → All P (after_store length regs width at value o).accesses
 store_touches P length regs width at value None f p = All-append P (fetches length regs) (touch_of Store at width ∷ []) f (All-cons P (touch_of Store at width) [] (p refl) (All-nil P))
 store_touches P length regs width at value (Some rule) f p = All-nil P
 
-effect_touches : (P : Touch → Type 0) (denies : Denies) (bytes : ℕ → ℕ) (length : ℕ) (i : Instr) (regs : Regs) → All P (fetches length regs) → ((access : Access) (at : ℕ) (width : Width) → misaligned_first denies access at width ≡ None → P (touch_of access at width)) → All P (effect denies bytes length i regs).accesses
+effect_touches : (P : Touch → Type 0) (denies : Denies) (bytes : ℕ → ℕ) (length : ℕ) (i : Instr) (regs : Registers) → All P (fetches length regs) → ((access : Access) (at : ℕ) (width : Width) → misaligned_first denies access at width ≡ None → P (touch_of access at width)) → All P (effect denies bytes length i regs).accesses
 effect_touches P denies bytes length (instrs.Lui rd imm) regs f p = f
 effect_touches P denies bytes length (instrs.Auipc rd imm) regs f p = f
 effect_touches P denies bytes length (instrs.Jal rd offset) regs f p = f
@@ -120,7 +120,7 @@ effect_touches P denies bytes length instrs.Fence regs f p = f
 effect_touches P denies bytes length instrs.Ecall regs f p = f
 effect_touches P denies bytes length instrs.Ebreak regs f p = All-nil P
 
-executed_touches : (P : Touch → Type 0) (denies : Denies) (bytes : ℕ → ℕ) (length : ℕ) (o : Option Instr) (regs : Regs) → All P (fetches length regs) → ((access : Access) (at : ℕ) (width : Width) → misaligned_first denies access at width ≡ None → P (touch_of access at width)) → All P (executed denies bytes length o regs).accesses
+executed_touches : (P : Touch → Type 0) (denies : Denies) (bytes : ℕ → ℕ) (length : ℕ) (o : Option Instr) (regs : Registers) → All P (fetches length regs) → ((access : Access) (at : ℕ) (width : Width) → misaligned_first denies access at width ≡ None → P (touch_of access at width)) → All P (executed denies bytes length o regs).accesses
 unfolding executed
 executed_touches P denies bytes length (Some i) regs f p = effect_touches P denies bytes length i regs f p
 executed_touches P denies bytes length None regs f p = All-nil P
@@ -153,15 +153,15 @@ word_permitted : (denies : Denies) (bytes : ℕ → ℕ) (pc word : ℕ) → fet
 unfolding fetched
 word_permitted denies bytes pc word e = first_permitted denies bytes pc (number_at bytes pc Half) (denies Fetch pc Half) word e
 
-second_fetch : Regs → Bool → List Touch
+second_fetch : Registers → Bool → List Touch
 second_fetch regs b = if b then [] else touch_of Fetch (w32_of (regs.pc + 2)) Half ∷ []
 
-second_each : (P : Touch → Type 0) (regs : Regs) (b : Bool) → (b ≡ false → P (touch_of Fetch (w32_of (regs.pc + 2)) Half)) → All P (second_fetch regs b)
+second_each : (P : Touch → Type 0) (regs : Registers) (b : Bool) → (b ≡ false → P (touch_of Fetch (w32_of (regs.pc + 2)) Half)) → All P (second_fetch regs b)
 unfolding second_fetch
 second_each P regs true q = All-nil P
 second_each P regs false q = All-cons P (touch_of Fetch (w32_of (regs.pc + 2)) Half) [] (q refl) (All-nil P)
 
-fetches_each : (P : Touch → Type 0) (length : ℕ) (regs : Regs) → P (touch_of Fetch regs.pc Half) → ((length == 2) ≡ false → P (touch_of Fetch (w32_of (regs.pc + 2)) Half)) → All P (fetches length regs)
+fetches_each : (P : Touch → Type 0) (length : ℕ) (regs : Registers) → P (touch_of Fetch regs.pc Half) → ((length == 2) ≡ false → P (touch_of Fetch (w32_of (regs.pc + 2)) Half)) → All P (fetches length regs)
 unfolding second_fetch
 fetches_each P length regs p q =
     All-cons P (touch_of Fetch regs.pc Half) (second_fetch regs (length == 2)) p (second_each P regs (length == 2) q)
@@ -170,14 +170,14 @@ fetches_each P length regs p q =
 Holds : Denies → (Touch → Type 0) → Type 0
 Holds denies P = ((at : ℕ) → denies Fetch at Half ≡ None → P (touch_of Fetch at Half)) × ((access : Access) (at : ℕ) (width : Width) → misaligned_first denies access at width ≡ None → P (touch_of access at width))
 
-word_touches : (P : Touch → Type 0) (denies : Denies) (bytes : ℕ → ℕ) (regs : Regs) (r : Result ℕ Denial) → fetched denies bytes regs.pc ≡ r → Holds denies P → All P (on_word denies bytes r regs).accesses
+word_touches : (P : Touch → Type 0) (denies : Denies) (bytes : ℕ → ℕ) (regs : Registers) (r : Result ℕ Denial) → fetched denies bytes regs.pc ≡ r → Holds denies P → All P (on_word denies bytes r regs).accesses
 unfolding on_word Holds SecondPermitted
 word_touches P denies bytes regs (Ok word) e h =
     let both = word_permitted denies bytes regs.pc word e in
     executed_touches P denies bytes (length_of word) (instr_of word) regs (fetches_each P (length_of word) regs (h.0 regs.pc both.0) (λ n. h.0 (w32_of (regs.pc + 2)) (both.1 n))) h.1
 word_touches P denies bytes regs (Err denial) e h = All-nil P
 
-turn_touches : (P : Touch → Type 0) (denies : Denies) (bytes : ℕ → ℕ) (regs : Regs) → Holds denies P → All P (user_turn denies bytes regs).accesses
+turn_touches : (P : Touch → Type 0) (denies : Denies) (bytes : ℕ → ℕ) (regs : Registers) → Holds denies P → All P (user_turn denies bytes regs).accesses
 unfolding user_turn
 turn_touches P denies bytes regs h = word_touches P denies bytes regs (fetched denies bytes regs.pc) refl h
 
@@ -211,7 +211,7 @@ none_of true y e = cc
 none_of false true e = cc
 none_of false false e = refl
 
-store_stays : (a : ℕ) (bytes : ℕ → ℕ) (length : ℕ) (regs : Regs) (width : Width) (at value : ℕ) (o : Option Rule) → Stays a bytes (after_store length regs width at value o)
+store_stays : (a : ℕ) (bytes : ℕ → ℕ) (length : ℕ) (regs : Registers) (width : Width) (at value : ℕ) (o : Option Rule) → Stays a bytes (after_store length regs width at value o)
 unfolding Stays
 store_stays a bytes length regs width at value None e =
     let both : (list_any (stores_at a) (fetches length regs) || (stores_at a (touch_of Store at width) || false)) ≡ false = sym (list_any-append (stores_at a) (fetches length regs) (touch_of Store at width ∷ [])) ∙ e in
@@ -219,12 +219,12 @@ store_stays a bytes length regs width at value None e =
     simp last
 store_stays a bytes length regs width at value (Some rule) e = refl
 
-load_stays : (a : ℕ) (bytes : ℕ → ℕ) (length : ℕ) (regs : Regs) (kind : LoadKind) (rd at number : ℕ) (o : Option Rule) → Stays a bytes (after_load length regs kind rd at number o)
+load_stays : (a : ℕ) (bytes : ℕ → ℕ) (length : ℕ) (regs : Registers) (kind : LoadKind) (rd at number : ℕ) (o : Option Rule) → Stays a bytes (after_load length regs kind rd at number o)
 unfolding Stays
 load_stays a bytes length regs kind rd at number None e = refl
 load_stays a bytes length regs kind rd at number (Some rule) e = refl
 
-effect_stays : (a : ℕ) (denies : Denies) (bytes : ℕ → ℕ) (length : ℕ) (i : Instr) (regs : Regs) → Stays a bytes (effect denies bytes length i regs)
+effect_stays : (a : ℕ) (denies : Denies) (bytes : ℕ → ℕ) (length : ℕ) (i : Instr) (regs : Registers) → Stays a bytes (effect denies bytes length i regs)
 unfolding Stays
 effect_stays a denies bytes length (instrs.Lui rd imm) regs e = refl
 effect_stays a denies bytes length (instrs.Auipc rd imm) regs e = refl
@@ -243,12 +243,12 @@ effect_stays a denies bytes length instrs.Fence regs e = refl
 effect_stays a denies bytes length instrs.Ecall regs e = refl
 effect_stays a denies bytes length instrs.Ebreak regs e = refl
 
-executed_stays : (a : ℕ) (denies : Denies) (bytes : ℕ → ℕ) (length : ℕ) (o : Option Instr) (regs : Regs) → Stays a bytes (executed denies bytes length o regs)
+executed_stays : (a : ℕ) (denies : Denies) (bytes : ℕ → ℕ) (length : ℕ) (o : Option Instr) (regs : Registers) → Stays a bytes (executed denies bytes length o regs)
 unfolding Stays executed
 executed_stays a denies bytes length (Some i) regs e = effect_stays a denies bytes length i regs e
 executed_stays a denies bytes length None regs e = refl
 
-word_stays : (a : ℕ) (denies : Denies) (bytes : ℕ → ℕ) (r : Result ℕ Denial) (regs : Regs) → Stays a bytes (on_word denies bytes r regs)
+word_stays : (a : ℕ) (denies : Denies) (bytes : ℕ → ℕ) (r : Result ℕ Denial) (regs : Registers) → Stays a bytes (on_word denies bytes r regs)
 unfolding Stays on_word
 word_stays a denies bytes (Ok word) regs e = executed_stays a denies bytes (length_of word) (instr_of word) regs e
 word_stays a denies bytes (Err denial) regs e = refl
@@ -261,17 +261,17 @@ only_stores_write denies bytes regs a e = word_stays a denies bytes (fetched den
 Permitted : Denies → UserTurn → Type 0
 Permitted denies t = IfSome t.write (λ w. denies Store w.address w.width ≡ None)
 
-store_permitted : (denies : Denies) (length : ℕ) (regs : Regs) (width : Width) (at value : ℕ) (o : Option Rule) → o ≡ misaligned_first denies Store at width → Permitted denies (after_store length regs width at value o)
+store_permitted : (denies : Denies) (length : ℕ) (regs : Registers) (width : Width) (at value : ℕ) (o : Option Rule) → o ≡ misaligned_first denies Store at width → Permitted denies (after_store length regs width at value o)
 unfolding Permitted
 store_permitted denies length regs width at value None e = data_permitted denies Store at width (sym e)
 store_permitted denies length regs width at value (Some rule) e = tt
 
-load_permitted : (denies : Denies) (length : ℕ) (regs : Regs) (kind : LoadKind) (rd at number : ℕ) (o : Option Rule) → Permitted denies (after_load length regs kind rd at number o)
+load_permitted : (denies : Denies) (length : ℕ) (regs : Registers) (kind : LoadKind) (rd at number : ℕ) (o : Option Rule) → Permitted denies (after_load length regs kind rd at number o)
 unfolding Permitted
 load_permitted denies length regs kind rd at number None = tt
 load_permitted denies length regs kind rd at number (Some rule) = tt
 
-effect_permitted : (denies : Denies) (bytes : ℕ → ℕ) (length : ℕ) (i : Instr) (regs : Regs) → Permitted denies (effect denies bytes length i regs)
+effect_permitted : (denies : Denies) (bytes : ℕ → ℕ) (length : ℕ) (i : Instr) (regs : Registers) → Permitted denies (effect denies bytes length i regs)
 unfolding Permitted
 effect_permitted denies bytes length (instrs.Lui rd imm) regs = tt
 effect_permitted denies bytes length (instrs.Auipc rd imm) regs = tt
@@ -290,12 +290,12 @@ effect_permitted denies bytes length instrs.Fence regs = tt
 effect_permitted denies bytes length instrs.Ecall regs = tt
 effect_permitted denies bytes length instrs.Ebreak regs = tt
 
-executed_permitted : (denies : Denies) (bytes : ℕ → ℕ) (length : ℕ) (o : Option Instr) (regs : Regs) → Permitted denies (executed denies bytes length o regs)
+executed_permitted : (denies : Denies) (bytes : ℕ → ℕ) (length : ℕ) (o : Option Instr) (regs : Registers) → Permitted denies (executed denies bytes length o regs)
 unfolding Permitted executed
 executed_permitted denies bytes length (Some i) regs = effect_permitted denies bytes length i regs
 executed_permitted denies bytes length None regs = tt
 
-run_permitted : (denies : Denies) (bytes : ℕ → ℕ) (r : Result ℕ Denial) (regs : Regs) → Permitted denies (on_word denies bytes r regs)
+run_permitted : (denies : Denies) (bytes : ℕ → ℕ) (r : Result ℕ Denial) (regs : Registers) → Permitted denies (on_word denies bytes r regs)
 unfolding Permitted on_word
 run_permitted denies bytes (Ok word) regs = executed_permitted denies bytes (length_of word) (instr_of word) regs
 run_permitted denies bytes (Err denial) regs = tt

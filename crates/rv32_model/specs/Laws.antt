@@ -8,7 +8,7 @@ use Rattle.tk_base.specs.declared.access.Width.TheVariants.{Half}
 use Rattle.tk_base.specs.declared.access.Rule.{Rule}
 use Rattle.tk_base.specs.declared.access.Rule.TheVariants.{Breakpoint, Illegal}
 use Rattle.tk_base.specs.declared.access.Denial.{Denial}
-use Rattle.tk_base.specs.declared.regs.Regs.{Regs}
+use Rattle.tk_base.specs.Regs.{Registers}
 use Rattle.tk_base.specs.Access.{width_bytes, misaligned_first}
 use Rattle.tk_base.specs.Bus.{number_at}
 use Rattle.rv32_model.specs.declared.turn_end.TurnEnd.TheVariants.{Trap}
@@ -26,18 +26,18 @@ Denies = Access → ℕ → Width → Option Rule
 -- each access that a turn lists is permitted
 abbrev pub AccessesArePermitted : Type 0
 AccessesArePermitted =
-    (denies : Denies) (bytes : ℕ → ℕ) (regs : Regs)
+    (denies : Denies) (bytes : ℕ → ℕ) (regs : Registers)
     → All (λ t. denies t.access t.address t.width ≡ None) (user_turn denies bytes regs).accesses
 
 -- each load and store that a turn lists is at a multiple of its width
 abbrev pub DataIsAligned : Type 0
 DataIsAligned =
-    (denies : Denies) (bytes : ℕ → ℕ) (regs : Regs)
+    (denies : Denies) (bytes : ℕ → ℕ) (regs : Registers)
     → All (λ t. t.access ≢ Fetch → t.address % width_bytes t.width ≡ 0) (user_turn denies bytes regs).accesses
 
 -- A denial is due: it names an access that is denied, with the rule that denies it; or the instruction at pc, which is
 -- illegal, or a breakpoint.
-abbrev pub IsDue : Denies → Regs → Denial → Type 0
+abbrev pub IsDue : Denies → Registers → Denial → Type 0
 IsDue denies regs d =
     ((width : Width) × (misaligned_first denies d.access d.address width ≡ Some d.rule))
     ⊎ ((d ≡ denied_at Fetch regs.pc Illegal) ⊎ (d ≡ denied_at Fetch regs.pc Breakpoint))
@@ -45,13 +45,13 @@ IsDue denies regs d =
 -- so is the one of each denied turn
 abbrev pub DenialsAreDue : Type 0
 DenialsAreDue =
-    (denies : Denies) (bytes : ℕ → ℕ) (regs : Regs) (denial : Denial)
+    (denies : Denies) (bytes : ℕ → ℕ) (regs : Registers) (denial : Denial)
     → (user_turn denies bytes regs).end ≡ Trap denial → IsDue denies regs denial
 
 -- a denied turn changes neither registers nor bytes, and lists no access
 abbrev pub DeniedTurnsChangeNothing : Type 0
 DeniedTurnsChangeNothing =
-    (denies : Denies) (bytes : ℕ → ℕ) (regs : Regs) (denial : Denial)
+    (denies : Denies) (bytes : ℕ → ℕ) (regs : Registers) (denial : Denial)
     → (user_turn denies bytes regs).end ≡ Trap denial
     → ((user_turn denies bytes regs).regs ≡ regs)
     × (bytes_after denies bytes regs ≡ bytes)
@@ -69,17 +69,17 @@ stores_at at t = is_store t.access && (nat_le t.address at && nat_lt at (t.addre
 -- a byte that no store of the turn covers is as it was
 abbrev pub OnlyStoresWrite : Type 0
 OnlyStoresWrite =
-    (denies : Denies) (bytes : ℕ → ℕ) (regs : Regs) (at : ℕ)
+    (denies : Denies) (bytes : ℕ → ℕ) (regs : Registers) (at : ℕ)
     → list_any (stores_at at) (user_turn denies bytes regs).accesses ≡ false
     → bytes_after denies bytes regs at ≡ bytes at
 
 -- what a turn writes it may store
-abbrev pub MayWrite : Denies → (ℕ → ℕ) → Regs → Type 0
+abbrev pub MayWrite : Denies → (ℕ → ℕ) → Registers → Type 0
 MayWrite denies bytes regs = IfSome (user_turn denies bytes regs).write (λ w. denies Store w.address w.width ≡ None)
 
 -- this holds of every turn
 abbrev pub WritesArePermitted : Type 0
-WritesArePermitted = (denies : Denies) (bytes : ℕ → ℕ) (regs : Regs) → MayWrite denies bytes regs
+WritesArePermitted = (denies : Denies) (bytes : ℕ → ℕ) (regs : Registers) → MayWrite denies bytes regs
 
 -- Two boards that look alike to a process: they deny the same, and have the same numbers where it may fetch and load.
 pub record LookAlike (denies others : Denies) (bytes other_bytes : ℕ → ℕ) : Type 0 where
@@ -93,6 +93,6 @@ pub record LookAlike (denies others : Denies) (bytes other_bytes : ℕ → ℕ) 
 -- a turn sees nothing but what it may access: the same turn follows from what looks alike
 abbrev pub SeesOnlyPermitted : Type 0
 SeesOnlyPermitted =
-    (denies others : Denies) (bytes other_bytes : ℕ → ℕ) (regs : Regs)
+    (denies others : Denies) (bytes other_bytes : ℕ → ℕ) (regs : Registers)
     → LookAlike denies others bytes other_bytes
     → user_turn denies bytes regs ≡ user_turn others other_bytes regs

@@ -11,7 +11,7 @@ use Rattle.tk_base.specs.declared.access.Width.TheVariants.{Byte, Half, Word}
 use Rattle.tk_base.specs.declared.access.Rule.{Rule}
 use Rattle.tk_base.specs.declared.access.Rule.TheVariants.{Illegal, Breakpoint}
 use Rattle.tk_base.specs.declared.access.Denial.{Denial}
-use Rattle.tk_base.specs.declared.regs.Regs.{Regs}
+use Rattle.tk_base.specs.Regs.{Registers}
 use Rattle.tk_base.specs.Access.{misaligned_first}
 use Rattle.tk_base.specs.Bus.{number_at, written}
 use Rattle.tk_base.specs.Regs.{register, with_register}
@@ -42,7 +42,7 @@ pub record Write : Type 0 where
 
 -- what a turn leaves: the registers, at most one write, the accesses that it made, and how it ended
 pub record UserTurn : Type 0 where
-  pub regs : Regs
+  pub regs : Registers
   pub write : Option Write
   pub accesses : List Touch
   pub end : TurnEnd
@@ -63,7 +63,7 @@ abbrev pub denied_at : Access → ℕ → Rule → Denial
 denied_at access address rule = record { access = access; address = address; rule = rule }
 
 -- A denied turn has no effect on registers or bytes, and lists no access.
-abbrev pub trapped : Regs → Denial → UserTurn
+abbrev pub trapped : Registers → Denial → UserTurn
 trapped regs denial = record { regs = regs; write = None; accesses = []; end = Trap denial }
 
 -- what a parcel's fetch gives
@@ -98,19 +98,19 @@ unfoldable pub instr_of : ℕ → Option Instr
 instr_of word = if word % 4 == 3 then decoding word else decoding16 word
 
 -- the address of the instruction after one of a length
-abbrev pub link : ℕ → Regs → ℕ
+abbrev pub link : ℕ → Registers → ℕ
 link length regs = w32_of (regs.pc + length)
 
 abbrev pub touch_of : Access → ℕ → Width → Touch
 touch_of access address width = record { access = access; address = address; width = width }
 
 -- the accesses that fetch an instruction: each parcel is one of its own
-abbrev pub fetches : ℕ → Regs → List Touch
+abbrev pub fetches : ℕ → Registers → List Touch
 fetches length regs =
     touch_of Fetch regs.pc Half ∷ (if length == 2 then [] else touch_of Fetch (w32_of (regs.pc + 2)) Half ∷ [])
 
 -- a turn that leaves these registers and goes on at an address, and accesses nothing but its instruction
-abbrev pub gone : ℕ → Regs → Regs → ℕ → UserTurn
+abbrev pub gone : ℕ → Registers → Registers → ℕ → UserTurn
 gone length regs after to = record {
   regs = record after { pc = to };
   write = None;
@@ -119,11 +119,11 @@ gone length regs after to = record {
 }
 
 -- an instruction that only sets a register
-abbrev pub computed : ℕ → Regs → ℕ → ℕ → UserTurn
+abbrev pub computed : ℕ → Registers → ℕ → ℕ → UserTurn
 computed length regs rd value = gone length regs (with_register regs rd value) (link length regs)
 
 -- a jump that sets a register to the address of the instruction after it
-abbrev pub jumped : ℕ → Regs → ℕ → ℕ → UserTurn
+abbrev pub jumped : ℕ → Registers → ℕ → ℕ → UserTurn
 jumped length regs rd to = gone length regs (with_register regs rd (link length regs)) to
 
 -- a value as a signed number, and a signed number modulo 2^32
@@ -186,13 +186,13 @@ loaded Lw n = n
 loaded Lbu n = n % 2 ^ 8
 loaded Lhu n = n % 2 ^ 16
 
-abbrev pub after_load : ℕ → Regs → LoadKind → ℕ → ℕ → ℕ → Option Rule → UserTurn
+abbrev pub after_load : ℕ → Registers → LoadKind → ℕ → ℕ → ℕ → Option Rule → UserTurn
 after_load length regs kind rd at number None = record (computed length regs rd (loaded kind number)) {
   accesses = fetches length regs ++ (touch_of Load at (load_width kind) ∷ []);
 }
 after_load length regs kind rd at number (Some rule) = trapped regs (denied_at Load at rule)
 
-abbrev pub after_store : ℕ → Regs → Width → ℕ → ℕ → Option Rule → UserTurn
+abbrev pub after_store : ℕ → Registers → Width → ℕ → ℕ → Option Rule → UserTurn
 after_store length regs width at value None = record {
   regs = record regs { pc = link length regs };
   write = Some (record { address = at; width = width; value = value });
@@ -202,23 +202,23 @@ after_store length regs width at value None = record {
 after_store length regs width at value (Some rule) = trapped regs (denied_at Store at rule)
 
 -- the effect of a branch by an instruction of a length in bytes
-abbrev pub branch_effect : ℕ → Regs → BranchTest → ℕ → ℕ → ℕ → UserTurn
+abbrev pub branch_effect : ℕ → Registers → BranchTest → ℕ → ℕ → ℕ → UserTurn
 branch_effect length regs test rs1 rs2 offset =
     gone length regs regs
     (if is_taken test (register regs rs1) (register regs rs2) then w32_of (regs.pc + offset) else link length regs)
 
 -- the effect of a load from an address, and of a store at one, by an instruction of a length in bytes
-abbrev pub load_effect : (Access → ℕ → Width → Option Rule) → (ℕ → ℕ) → ℕ → Regs → LoadKind → ℕ → ℕ → UserTurn
+abbrev pub load_effect : (Access → ℕ → Width → Option Rule) → (ℕ → ℕ) → ℕ → Registers → LoadKind → ℕ → ℕ → UserTurn
 load_effect denies bytes length regs kind rd at =
     after_load length regs kind rd at (number_at bytes at (load_width kind))
     (misaligned_first denies Load at (load_width kind))
 
-abbrev pub store_effect : (Access → ℕ → Width → Option Rule) → ℕ → Regs → Width → ℕ → ℕ → UserTurn
+abbrev pub store_effect : (Access → ℕ → Width → Option Rule) → ℕ → Registers → Width → ℕ → ℕ → UserTurn
 store_effect denies length regs width at value =
     after_store length regs width at value (misaligned_first denies Store at width)
 
 -- the effect of an instruction of a length in bytes
-abbrev pub effect : (Access → ℕ → Width → Option Rule) → (ℕ → ℕ) → ℕ → Instr → Regs → UserTurn
+abbrev pub effect : (Access → ℕ → Width → Option Rule) → (ℕ → ℕ) → ℕ → Instr → Registers → UserTurn
 effect denies bytes length (instrs.Lui rd imm) regs = computed length regs rd imm
 effect denies bytes length (instrs.Auipc rd imm) regs = computed length regs rd (w32_of (regs.pc + imm))
 effect denies bytes length (instrs.Jal rd offset) regs = jumped length regs rd (w32_of (regs.pc + offset))
@@ -243,18 +243,18 @@ effect denies bytes length instrs.Ecall regs = record {
 effect denies bytes length instrs.Ebreak regs = trapped regs (denied_at Fetch regs.pc Breakpoint)
 
 -- what no row fits is illegal
-unfoldable pub executed : (Access → ℕ → Width → Option Rule) → (ℕ → ℕ) → ℕ → Option Instr → Regs → UserTurn
+unfoldable pub executed : (Access → ℕ → Width → Option Rule) → (ℕ → ℕ) → ℕ → Option Instr → Registers → UserTurn
 executed denies bytes length (Some instr) regs = effect denies bytes length instr regs
 executed denies bytes length None regs = trapped regs (denied_at Fetch regs.pc Illegal)
 
-unfoldable pub on_word : (Access → ℕ → Width → Option Rule) → (ℕ → ℕ) → Result ℕ Denial → Regs → UserTurn
+unfoldable pub on_word : (Access → ℕ → Width → Option Rule) → (ℕ → ℕ) → Result ℕ Denial → Registers → UserTurn
 on_word denies bytes (Ok word) regs = executed denies bytes (length_of word) (instr_of word) regs
 on_word denies bytes (Err denial) regs = trapped regs denial
 
 -- one turn, over what is denied and the bytes
-unfoldable pub user_turn : (Access → ℕ → Width → Option Rule) → (ℕ → ℕ) → Regs → UserTurn
+unfoldable pub user_turn : (Access → ℕ → Width → Option Rule) → (ℕ → ℕ) → Registers → UserTurn
 user_turn denies bytes regs = on_word denies bytes (fetched denies bytes regs.pc) regs
 
 -- the bytes that it leaves
-abbrev pub bytes_after : (Access → ℕ → Width → Option Rule) → (ℕ → ℕ) → Regs → ℕ → ℕ
+abbrev pub bytes_after : (Access → ℕ → Width → Option Rule) → (ℕ → ℕ) → Registers → ℕ → ℕ
 bytes_after denies bytes regs = bytes_left (user_turn denies bytes regs) bytes

@@ -6,7 +6,7 @@ use Rattle.tk_base.specs.declared.access.Access.TheVariants.{Fetch, Load, Store}
 use Rattle.tk_base.specs.declared.access.Rule.{Rule}
 use Rattle.tk_base.specs.declared.access.Rule.TheVariants.{NoRegion}
 use Rattle.tk_base.specs.declared.access.Width.{Width}
-use Rattle.tk_base.specs.declared.regs.Regs.{Regs}
+use Rattle.tk_base.specs.Regs.{Registers}
 use Rattle.tk_base.specs.Bus.{byte_of}
 use Rattle.rv32_model.specs.UserTurn.{UserTurn, user_turn}
 
@@ -15,7 +15,7 @@ only_fetches Fetch at width = None
 only_fetches Load at width = Some NoRegion
 only_fetches Store at width = Some NoRegion
 
-abbrev pub begun : Regs
+abbrev pub begun : Registers
 begun = record { x = replicate 32 0; pc = 0 }
 
 -- the turn of an instruction there

@@ -3,11 +3,12 @@ ghost use Rattle.std.specs.Prelude.{◌≡◌, if◌then◌else◌};
 ghost use Rattle.tk_base.specs.declared.access.Rule.TheVariants as rules;
 ghost use Rattle.tk_base.specs.Access.{is_misaligned};
 ghost use Rattle.tk_base.specs.Bus.{answered};
-ghost use Rattle.rv32_model.specs.declared.turn_end.TurnEnd.TheVariants as ends;
+ghost use Rattle.tk_base.specs.Regs.{register};
 ghost use Rattle.rv32_model.specs.UserTurn.{bytes_left, denied_at, branch_effect, load_effect, store_effect, computed, jumped, load_width, loaded};
+ghost use Rattle.rv32_step.specs.Executed.{access_end, at_pc, next_pc};
 
 use crate::operate::takes;
-use rv32_model::{BranchTest, LoadKind, TurnEnd};
+use rv32_model::{BranchTest, LoadKind};
 use tk_base::{Access, Addr, Bus, Denial, Regs, Rule, Width};
 
 /// A denied access, or an instruction that is none. It is never inlined, as it seldom comes.
@@ -59,20 +60,23 @@ fn require_aligned(access: Access, at: Addr, width: Width) -> Result<(), Rule>
     }
 }
 
+/// A load into a register, and where the next instruction is.
 #[inline(always)]
 pub fn load<B: Bus>(
     kind: LoadKind,
     rd: u8,
     at: Addr,
+    pc: Addr,
     length: u32,
     regs: &mut Regs,
     bus: &B,
-) -> TurnEnd
-    ensures regs { regs.new ≡ (load_effect (B.denies bus.now) (B.bytes bus.now) length regs.old kind rd at).regs }
-    ensures end { result ≡ (load_effect (B.denies bus.now) (B.bytes bus.now) length regs.old kind rd at).end }
+) -> Result<Addr, Denial>
+    ensures regs { at_pc regs.new (next_pc pc result)
+        ≡ (load_effect (B.denies bus.now) (B.bytes bus.now) length (at_pc regs.old pc) kind rd at).regs }
+    ensures end { access_end result
+        ≡ (load_effect (B.denies bus.now) (B.bytes bus.now) length (at_pc regs.old pc) kind rd at).end }
 {
     let width = read_width(kind);
-    let next = regs.pc.wrapping_add(length);
     let answer = match require_aligned(Access::Load, at, width) {
         Ok(()) => bus.load(at, width),
         Err(rule) => Err(rule),
@@ -80,78 +84,73 @@ pub fn load<B: Bus>(
     match answer {
         Ok(number) => {
             regs.set(rd, extend(kind, number));
-            regs.pc = next;
-            TurnEnd::Went
+            Ok(pc.wrapping_add(length))
         }
-        Err(rule) => TurnEnd::Trap(denial(Access::Load, at, rule)),
+        Err(rule) => Err(denial(Access::Load, at, rule)),
     }
 }
 
+/// A store of the lowest bytes of register `rs2`, and where the next instruction is.
 #[inline(always)]
 pub fn store<B: Bus>(
     width: Width,
     at: Addr,
-    value: u32,
+    rs2: u8,
+    pc: Addr,
     length: u32,
-    regs: &mut Regs,
+    regs: &Regs,
     bus: &mut B,
-) -> TurnEnd
-    ensures regs { regs.new ≡ (store_effect (B.denies bus.old) length regs.old width at value).regs }
-    ensures end { result ≡ (store_effect (B.denies bus.old) length regs.old width at value).end }
-    ensures bytes { let turn = store_effect (B.denies bus.old) length regs.old width at value in
+) -> Result<Addr, Denial>
+    ensures regs { at_pc regs.now (next_pc pc result)
+        ≡ (store_effect (B.denies bus.old) length (at_pc regs.now pc) width at (register regs.now rs2)).regs }
+    ensures end { access_end result
+        ≡ (store_effect (B.denies bus.old) length (at_pc regs.now pc) width at (register regs.now rs2)).end }
+    ensures bytes { let turn = store_effect (B.denies bus.old) length (at_pc regs.now pc) width at (register regs.now rs2) in
         B.bytes bus.new ≡ bytes_left turn (B.bytes bus.old) }
     ensures denies { B.denies bus.new ≡ B.denies bus.old }
     ensures frame { B.frame bus.new ≡ B.frame bus.old }
 {
-    let next = regs.pc.wrapping_add(length);
     let answer = match require_aligned(Access::Store, at, width) {
-        Ok(()) => bus.store(at, width, value),
+        Ok(()) => bus.store(at, width, regs.get(rs2)),
         Err(rule) => Err(rule),
     };
     match answer {
-        Ok(()) => {
-            regs.pc = next;
-            TurnEnd::Went
-        }
-        Err(rule) => TurnEnd::Trap(denial(Access::Store, at, rule)),
+        Ok(()) => Ok(pc.wrapping_add(length)),
+        Err(rule) => Err(denial(Access::Store, at, rule)),
     }
 }
 
+/// Sets a register, and answers where the next instruction is.
 #[inline(always)]
-pub fn compute(rd: u8, value: u32, length: u32, regs: &mut Regs) -> TurnEnd
-    ensures regs { regs.new ≡ (computed length regs.old rd value).regs }
-    ensures end { result ≡ (computed length regs.old rd value).end }
+pub fn compute(rd: u8, value: u32, pc: Addr, length: u32, regs: &mut Regs) -> Addr
+    ensures { at_pc regs.new result ≡ (computed length (at_pc regs.old pc) rd value).regs }
 {
     regs.set(rd, value);
-    regs.pc = regs.pc.wrapping_add(length);
-    TurnEnd::Went
+    pc.wrapping_add(length)
 }
 
+/// A jump that sets a register, and answers where the next instruction is.
 #[inline(always)]
-pub fn jump(rd: u8, to: Addr, length: u32, regs: &mut Regs) -> TurnEnd
-    ensures regs { regs.new ≡ (jumped length regs.old rd to).regs }
-    ensures end { result ≡ (jumped length regs.old rd to).end }
+pub fn jump(rd: u8, to: Addr, pc: Addr, length: u32, regs: &mut Regs) -> Addr
+    ensures { at_pc regs.new result ≡ (jumped length (at_pc regs.old pc) rd to).regs }
 {
-    let link = regs.pc.wrapping_add(length);
-    regs.set(rd, link);
-    regs.pc = to;
-    TurnEnd::Went
+    regs.set(rd, pc.wrapping_add(length));
+    to
 }
 
+/// Where the instruction after a branch is.
 #[inline(always)]
 pub fn branch(
     test: BranchTest,
     rs1: u8,
     rs2: u8,
     offset: u32,
+    pc: Addr,
     length: u32,
-    regs: &mut Regs,
-) -> TurnEnd
-    ensures regs { regs.new ≡ (branch_effect length regs.old test rs1 rs2 offset).regs }
-    ensures end { result ≡ ends.Went }
+    regs: &Regs,
+) -> Addr
+    ensures { at_pc regs.now result ≡ (branch_effect length (at_pc regs.now pc) test rs1 rs2 offset).regs }
 {
     let taken = takes(test, regs.get(rs1), regs.get(rs2));
-    let by = if taken { offset } else { length };
-    regs.pc = regs.pc.wrapping_add(by);
-    TurnEnd::Went
+    pc.wrapping_add(if taken { offset } else { length })
 }

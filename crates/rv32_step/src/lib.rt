@@ -8,11 +8,14 @@ mod processor;
 ghost use Rattle.std.specs.Prelude.{◌≡◌, ◌≢◌, ◌%◌, ◌<◌, ◌≤◌, ◌^◌, IfOk};
 ghost use Rattle.rv32_model.specs.UserTurn.{user_turn, fetched, parcel_at, bytes_after};
 ghost use Rattle.rv32_model.specs.Stretch.{Goes, Stops};
+ghost use Rattle.rv32_step.specs.Executed.{Leaves, at_pc, end_of};
 ghost use Rattle.rv32_step.specs.Fetched.{Fetches};
 ghost use Rattle.rv32_model.specs.Laws.{MayWrite};
 
 use crate::execute::denial;
-use crate::processor::{narrow, wide};
+use crate::processor::Hart;
+use rv32_compressed::handle16;
+use rv32_decode::handle32;
 use rv32_model::{
     TurnEnd, one_is_the_turn, stopped_turns_change_nothing, turns_follow, writes_are_permitted,
 };
@@ -56,24 +59,28 @@ fn fetch<B: FetchAhead>(bus: &B, pc: Addr) -> Result<u32, Denial>
     }
 }
 
-/// One instruction, as [`turn`] has it.
+/// The instruction at pc, as [`turn`] has it, and whether it went.
 #[inline(always)]
 #[tactic(auto, unfolding(rv32_model::specs::UserTurn::user_turn, rv32_model::specs::UserTurn::on_word, rv32_model::specs::UserTurn::instr_of))]
-fn turn_of<B: FetchAhead>(regs: &mut Regs, bus: &mut B) -> TurnEnd
-    ensures regs { regs.new ≡ (user_turn (B.denies bus.old) (B.bytes bus.old) regs.old).regs }
-    ensures end { result ≡ (user_turn (B.denies bus.old) (B.bytes bus.old) regs.old).end }
-    ensures bytes { B.bytes bus.new ≡ bytes_after (B.denies bus.old) (B.bytes bus.old) regs.old }
-    ensures denies { B.denies bus.new ≡ B.denies bus.old }
-    ensures frame { B.frame bus.new ≡ B.frame bus.old }
+fn turn_of<B: FetchAhead>(hart: &mut Hart<'_, B>) -> bool
+    ensures leaves { let bytes = B.bytes hart.old.bus.now in
+        Leaves (user_turn (B.denies hart.old.bus.now) bytes (at_pc hart.old.regs.now hart.old.pc)) bytes
+        (at_pc hart.new.regs.now hart.new.pc) (B.bytes hart.new.bus.now) (end_of result hart.new.denial) }
+    ensures denies { B.denies hart.new.bus.now ≡ B.denies hart.old.bus.now }
+    ensures frame { B.frame hart.new.bus.now ≡ B.frame hart.old.bus.now }
+    ensures regs { hart.new.regs.ghost_name ≡ hart.old.regs.ghost_name }
+    ensures bus { hart.new.bus.ghost_name ≡ hart.old.bus.ghost_name }
 {
-    let word = match fetch(bus, regs.pc) {
+    let word = match fetch(&*hart.bus, hart.pc) {
         Ok(word) => word,
-        Err(denial) => return TurnEnd::Trap(denial),
+        Err(denial) => return hart.deny(denial),
     };
     if word % 4 == 3 {
-        wide(word, regs, bus)
+        hart.length = 4;
+        handle32(word, hart)
     } else {
-        narrow((word % 65536) as u16, regs, bus)
+        hart.length = 2;
+        handle16((word % 65536) as u16, hart)
     }
 }
 
@@ -97,12 +104,23 @@ pub fn turns<B: FetchAhead>(regs: &mut Regs, bus: &mut B, most: u32) -> Stretch
 {
     stopped_turns_change_nothing();
     turns_follow();
+    let mut hart = Hart {
+        pc: regs.pc(),
+        regs: &mut *regs,
+        bus,
+        length: 0,
+        denial: None,
+    };
     for went in 0..most {
-        match turn_of(regs, bus) {
-            TurnEnd::Went => {}
-            end => return Stretch { went, end },
+        if !turn_of(&mut hart) {
+            let end = hart.denial.map_or(TurnEnd::Call, TurnEnd::Trap);
+            let pc = hart.pc;
+            regs.set_pc(pc);
+            return Stretch { went, end };
         }
     }
+    let pc = hart.pc;
+    regs.set_pc(pc);
     Stretch {
         went: most,
         end: TurnEnd::Went,

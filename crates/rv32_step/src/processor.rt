@@ -1,37 +1,80 @@
 //! A processor that executes an instruction as soon as the decoder knows it.
-ghost use Rattle.std.specs.Prelude.{◌≡◌};
-ghost use Rattle.rv32_model.specs.Instructions.{decoding};
-ghost use Rattle.rv32_model.specs.Compressed.{decoding16};
-ghost use Rattle.rv32_model.specs.UserTurn.{executed, bytes_left};
+ghost use Rattle.std.specs.Prelude.{◌≡◌, true};
+ghost use Rattle.rv32_model.specs.declared.turn_end.TurnEnd.TheVariants.{Trap};
+ghost use Rattle.rv32_step.specs.Executed.{access_end, end_of, next_pc};
 
 use crate::execute::{branch, compute, denial, jump, load, store};
 use crate::operate::operate;
-use rv32_compressed::handle16;
-use rv32_decode::handle32;
-use rv32_model::{BranchTest, LoadKind, Op, TurnEnd};
+use rv32_model::{BranchTest, LoadKind, Op};
 use rv32_traits::Handler;
-use tk_base::{Access, Bus, Regs, Rule, Width};
+use tk_base::{Access, Addr, Bus, Denial, Regs, Rule, Width};
 
-/// The registers and the bus of a process, and how many bytes its present instruction has.
+/// The registers and the bus of a process, and its present instruction.
 #[derive(Drop)]
-struct Hart<'a, B> {
-    regs: &'a mut Regs,
-    bus: &'a mut B,
-    length: u32,
+pub struct Hart<'a, B> {
+    /// The registers, but for pc.
+    pub regs: &'a mut Regs,
+    pub bus: &'a mut B,
+    /// The address of the instruction. It stands apart from the registers, so that no turn waits for memory to tell it.
+    pub pc: Addr,
+    /// How many bytes the instruction has.
+    pub length: u32,
+    /// Why it was denied, where it did not go; None where it is a system call.
+    pub denial: Option<Denial>,
+}
+
+impl<B> Hart<'_, B> {
+    /// The instruction did not go, since it was denied.
+    #[inline(always)]
+    pub fn deny(&mut self, denial: Denial) -> bool
+        ensures end { end_of result self.new.denial ≡ Trap denial }
+        ensures pc { self.new.pc ≡ self.old.pc }
+        ensures regs { self.new.regs ≡ self.old.regs }
+        ensures bus { self.new.bus ≡ self.old.bus }
+    {
+        self.denial = Some(denial);
+        false
+    }
+
+    /// The instruction went, and the next one is at an address.
+    #[inline(always)]
+    fn go_to(&mut self, next: Addr) -> bool
+        ensures end { result ≡ true }
+        ensures pc { self.new.pc ≡ next }
+        ensures regs { self.new.regs ≡ self.old.regs }
+        ensures bus { self.new.bus ≡ self.old.bus }
+    {
+        self.pc = next;
+        true
+    }
+
+    /// How the instruction ended, after an access that may have been denied.
+    #[inline(always)]
+    fn after(&mut self, access: Result<Addr, Denial>) -> bool
+        ensures end { end_of result self.new.denial ≡ access_end access }
+        ensures pc { self.new.pc ≡ next_pc self.old.pc access }
+        ensures regs { self.new.regs ≡ self.old.regs }
+        ensures bus { self.new.bus ≡ self.old.bus }
+    {
+        match access {
+            Ok(next) => self.go_to(next),
+            Err(denial) => self.deny(denial),
+        }
+    }
 }
 
 /// A denied load or store, a breakpoint and bits that are no instruction leave registers and bytes as they
 /// were; a system call leaves pc at its address.
 impl<B: Bus> Handler for Hart<'_, B> {
     ghost use Rattle.rv32_model.specs.UserTurn.{executed};
-    ghost use Rattle.rv32_step.specs.Executed.{Leaves};
+    ghost use Rattle.rv32_step.specs.Executed.{Leaves, at_pc, end_of};
 
-    type Answer = TurnEnd;
+    type Answer = bool;
 
-    ghost handles = { λ before instr end after.
+    ghost handles = { λ before instr went after.
         let bytes = B.bytes before.bus.now in
-        let turn = executed (B.denies before.bus.now) bytes before.length instr before.regs.now in
-        Leaves turn bytes after.regs.now (B.bytes after.bus.now) end
+        let turn = executed (B.denies before.bus.now) bytes before.length instr (at_pc before.regs.now before.pc) in
+        Leaves turn bytes (at_pc after.regs.now after.pc) (B.bytes after.bus.now) (end_of went after.denial)
         × (B.denies after.bus.now ≡ B.denies before.bus.now)
         × (B.frame after.bus.now ≡ B.frame before.bus.now)
         × (after.regs.ghost_name ≡ before.regs.ghost_name)
@@ -39,124 +82,98 @@ impl<B: Bus> Handler for Hart<'_, B> {
 
     #[inline(always)]
     #[tactic(auto, unfolding(rv32_model::specs::UserTurn::executed))]
-    fn lui(&mut self, rd: u8, imm: u32) -> TurnEnd {
-        compute(rd, imm, self.length, self.regs)
+    fn lui(&mut self, rd: u8, imm: u32) -> bool {
+        let next = compute(rd, imm, self.pc, self.length, self.regs);
+        self.go_to(next)
     }
 
     #[inline(always)]
     #[tactic(auto, unfolding(rv32_model::specs::UserTurn::executed))]
-    fn auipc(&mut self, rd: u8, imm: u32) -> TurnEnd {
-        let value = self.regs.pc.wrapping_add(imm);
-        compute(rd, value, self.length, self.regs)
+    fn auipc(&mut self, rd: u8, imm: u32) -> bool {
+        let value = self.pc.wrapping_add(imm);
+        let next = compute(rd, value, self.pc, self.length, self.regs);
+        self.go_to(next)
     }
 
     #[inline(always)]
     #[tactic(auto, unfolding(rv32_model::specs::UserTurn::executed))]
-    fn jal(&mut self, rd: u8, offset: u32) -> TurnEnd {
-        let to = self.regs.pc.wrapping_add(offset);
-        jump(rd, to, self.length, self.regs)
+    fn jal(&mut self, rd: u8, offset: u32) -> bool {
+        let to = self.pc.wrapping_add(offset);
+        let next = jump(rd, to, self.pc, self.length, self.regs);
+        self.go_to(next)
     }
 
     #[inline(always)]
     #[tactic(auto, unfolding(rv32_model::specs::UserTurn::executed))]
-    fn jalr(&mut self, rd: u8, rs1: u8, offset: u32) -> TurnEnd {
+    fn jalr(&mut self, rd: u8, rs1: u8, offset: u32) -> bool {
         let to = self.regs.get(rs1).wrapping_add(offset) / 2 * 2;
-        jump(rd, to, self.length, self.regs)
+        let next = jump(rd, to, self.pc, self.length, self.regs);
+        self.go_to(next)
     }
 
     #[inline(always)]
     #[tactic(auto, unfolding(rv32_model::specs::UserTurn::executed))]
-    fn branch(&mut self, test: BranchTest, rs1: u8, rs2: u8, offset: u32) -> TurnEnd {
-        branch(test, rs1, rs2, offset, self.length, self.regs)
+    fn branch(&mut self, test: BranchTest, rs1: u8, rs2: u8, offset: u32) -> bool {
+        let next = branch(test, rs1, rs2, offset, self.pc, self.length, self.regs);
+        self.go_to(next)
     }
 
     #[inline(always)]
     #[tactic(auto, unfolding(rv32_model::specs::UserTurn::executed))]
-    fn load(&mut self, kind: LoadKind, rd: u8, rs1: u8, offset: u32) -> TurnEnd {
+    fn load(&mut self, kind: LoadKind, rd: u8, rs1: u8, offset: u32) -> bool {
         let at = self.regs.get(rs1).wrapping_add(offset);
-        load(kind, rd, at, self.length, self.regs, self.bus)
+        let loaded = load(kind, rd, at, self.pc, self.length, self.regs, self.bus);
+        self.after(loaded)
     }
 
     #[inline(always)]
     #[tactic(auto, unfolding(rv32_model::specs::UserTurn::executed))]
-    fn store(&mut self, width: Width, rs1: u8, rs2: u8, offset: u32) -> TurnEnd {
+    fn store(&mut self, width: Width, rs1: u8, rs2: u8, offset: u32) -> bool {
         let at = self.regs.get(rs1).wrapping_add(offset);
-        let value = self.regs.get(rs2);
-        store(width, at, value, self.length, self.regs, self.bus)
+        let stored = store(width, at, rs2, self.pc, self.length, self.regs, self.bus);
+        self.after(stored)
     }
 
     #[inline(always)]
     #[tactic(auto, unfolding(rv32_model::specs::UserTurn::executed))]
-    fn op_imm(&mut self, op: Op, rd: u8, rs1: u8, imm: u32) -> TurnEnd {
+    fn op_imm(&mut self, op: Op, rd: u8, rs1: u8, imm: u32) -> bool {
         let value = operate(op, self.regs.get(rs1), imm);
-        compute(rd, value, self.length, self.regs)
+        let next = compute(rd, value, self.pc, self.length, self.regs);
+        self.go_to(next)
     }
 
     #[inline(always)]
     #[tactic(auto, unfolding(rv32_model::specs::UserTurn::executed))]
-    fn op(&mut self, op: Op, rd: u8, rs1: u8, rs2: u8) -> TurnEnd {
+    fn op(&mut self, op: Op, rd: u8, rs1: u8, rs2: u8) -> bool {
         let value = operate(op, self.regs.get(rs1), self.regs.get(rs2));
-        compute(rd, value, self.length, self.regs)
+        let next = compute(rd, value, self.pc, self.length, self.regs);
+        self.go_to(next)
     }
 
     #[inline(always)]
     #[tactic(auto, unfolding(rv32_model::specs::UserTurn::executed))]
-    fn fence(&mut self) -> TurnEnd {
-        self.regs.pc = self.regs.pc.wrapping_add(self.length);
-        TurnEnd::Went
+    fn fence(&mut self) -> bool {
+        self.go_to(self.pc.wrapping_add(self.length))
     }
 
     #[inline(always)]
     #[tactic(auto, unfolding(rv32_model::specs::UserTurn::executed))]
-    fn ecall(&mut self) -> TurnEnd {
-        TurnEnd::Call
+    fn ecall(&mut self) -> bool {
+        self.denial = None;
+        false
     }
 
     #[inline(always)]
     #[tactic(auto, unfolding(rv32_model::specs::UserTurn::executed))]
-    fn ebreak(&mut self) -> TurnEnd {
-        TurnEnd::Trap(denial(Access::Fetch, self.regs.pc, Rule::Breakpoint))
+    fn ebreak(&mut self) -> bool {
+        let at = self.pc;
+        self.deny(denial(Access::Fetch, at, Rule::Breakpoint))
     }
 
     #[inline(always)]
     #[tactic(auto, unfolding(rv32_model::specs::UserTurn::executed))]
-    fn illegal(&mut self) -> TurnEnd {
-        TurnEnd::Trap(denial(Access::Fetch, self.regs.pc, Rule::Illegal))
+    fn illegal(&mut self) -> bool {
+        let at = self.pc;
+        self.deny(denial(Access::Fetch, at, Rule::Illegal))
     }
-}
-
-/// The instruction of a word of 32 bits.
-#[inline(always)]
-pub fn wide<B: Bus>(word: u32, regs: &mut Regs, bus: &mut B) -> TurnEnd
-    ensures regs { regs.new ≡ (executed (B.denies bus.old) (B.bytes bus.old) 4 (decoding word) regs.old).regs }
-    ensures end { result ≡ (executed (B.denies bus.old) (B.bytes bus.old) 4 (decoding word) regs.old).end }
-    ensures bytes { let turn = executed (B.denies bus.old) (B.bytes bus.old) 4 (decoding word) regs.old in
-        B.bytes bus.new ≡ bytes_left turn (B.bytes bus.old) }
-    ensures denies { B.denies bus.new ≡ B.denies bus.old }
-    ensures frame { B.frame bus.new ≡ B.frame bus.old }
-{
-    let mut hart = Hart {
-        regs,
-        bus,
-        length: 4,
-    };
-    handle32(word, &mut hart)
-}
-
-/// The instruction of a parcel of 16 bits.
-#[inline(always)]
-pub fn narrow<B: Bus>(parcel: u16, regs: &mut Regs, bus: &mut B) -> TurnEnd
-    ensures regs { regs.new ≡ (executed (B.denies bus.old) (B.bytes bus.old) 2 (decoding16 parcel) regs.old).regs }
-    ensures end { result ≡ (executed (B.denies bus.old) (B.bytes bus.old) 2 (decoding16 parcel) regs.old).end }
-    ensures bytes { let turn = executed (B.denies bus.old) (B.bytes bus.old) 2 (decoding16 parcel) regs.old in
-        B.bytes bus.new ≡ bytes_left turn (B.bytes bus.old) }
-    ensures denies { B.denies bus.new ≡ B.denies bus.old }
-    ensures frame { B.frame bus.new ≡ B.frame bus.old }
-{
-    let mut hart = Hart {
-        regs,
-        bus,
-        length: 2,
-    };
-    handle16(parcel, &mut hart)
 }

@@ -148,7 +148,7 @@ fn a_store_is_read_back_with_its_sign(rt: HostRuntime) {
     ] {
         assert_eq!(rt; regs.get(n), value, "x{n}");
     }
-    assert_eq!(rt; regs.pc, 24);
+    assert_eq!(rt; regs.pc(), 24);
 }
 
 #[test]
@@ -178,7 +178,7 @@ fn pc_and_link_follow_the_manual(rt: HostRuntime) {
         regs.set(5, 0xffff_ffff);
         let mut memory = SmallMemory::of(&[word]);
         assert_eq!(rt; turn(&mut regs, &mut memory), TurnEnd::Went);
-        assert_eq!(rt; regs.pc, pc, "{word}");
+        assert_eq!(rt; regs.pc(), pc, "{word}");
         assert_eq!(rt; regs.get(n), value, "{word}");
     }
 }
@@ -255,6 +255,6 @@ fn a_compressed_instruction_is_fetched_alone(rt: HostRuntime) {
     let mut memory = SmallMemory::of(&[0, 0, 0, 0, 0, 0, 0, 0x557d_0000]);
     let mut regs = Regs::at(30);
     assert_eq!(rt; turn(&mut regs, &mut memory), TurnEnd::Went);
-    assert_eq!(rt; regs.pc, 32);
+    assert_eq!(rt; regs.pc(), 32);
     assert_eq!(rt; regs.get(10), 0xffff_ffff);
 }

@@ -6,3 +6,4 @@ pub mod Sound
 pub mod Rules
 pub mod Adding
 pub mod Faults
+mod Worked

@@ -108,56 +108,42 @@ pub named : (ws : List (List ℕ)) (line : Line) → line_of ws ≡ Some line �
 unfolding line_of
 named ws line h = (bytes_eq-Decides (word ws 0) (row line).name).0 (and_parts (bytes_eq (word ws 0) (row line).name) (option_map_or (is_key ws) (row line).key true) (find_passes (fits ws) table line h)).0
 
--- the settings with a line of the table more
-pub settings_with : (line : Line) (before : List (List ℕ)) (text : List ℕ) → line_of (words text) ≡ Some line → (is_single line && stands line before) ≡ false → settings (before ++ text ∷ []) ≡ with_line line (words text) (settings before)
-settings_with Ram before text l s =
-    settings_more before text ∙ (ap (settings_at before text) (named (words text) Ram l) ∙ ap (λ n. record (settings before) { ram = n }) (first_number (lines_of Ram before) text (row Ram).default s))
-settings_with Leds before text l s =
-    settings_more before text ∙ (ap (settings_at before text) (named (words text) Leds l) ∙ ap (λ n. record (settings before) { leds = n }) (first_number (lines_of Leds before) text (row Leds).default s))
-settings_with Slice before text l s =
-    settings_more before text ∙ (ap (settings_at before text) (named (words text) Slice l) ∙ ap (λ n. record (settings before) { slice = n }) (first_number (lines_of Slice before) text (row Slice).default s))
-settings_with Start before text l s =
-    settings_more before text ∙ (ap (settings_at before text) (named (words text) Start l) ∙ ap (λ n. record (settings before) { start = n }) (first_number (lines_of Start before) text (row Start).default s))
-settings_with Uart before text l s =
-    settings_more before text ∙ (ap (settings_at before text) (named (words text) Uart l) ∙ ap (λ n. record (settings before) { uart = n }) (first_number (lines_of Uart before) text (row Uart).default s))
-settings_with Storage before text l s =
-    settings_more before text ∙ (ap (settings_at before text) (named (words text) Storage l) ∙ ap (λ n. record (settings before) { storage = n }) (first_number (lines_of Storage before) text (row Storage).default s))
-settings_with Stop before text l s =
-    settings_more before text ∙ (ap (settings_at before text) (named (words text) Stop l) ∙ ap (λ p. record (settings before) { policy = p }) (first_policy (lines_of Stop before) text Stop s l))
-settings_with Restart before text l s =
-    settings_more before text ∙ (ap (settings_at before text) (named (words text) Restart l) ∙ ap (λ p. record (settings before) { policy = p }) (first_policy (lines_of Stop before) text Restart (ap some (sym (one_policy before).0) ∙ s) l))
-settings_with Threshold before text l s =
-    settings_more before text ∙ (ap (settings_at before text) (named (words text) Threshold l) ∙ ap (λ p. record (settings before) { policy = p }) (first_policy (lines_of Stop before) text Threshold (ap some (sym (one_policy before).1) ∙ s) l))
-settings_with StorageFault before text l s =
-    settings_more before text ∙ (ap (settings_at before text) (named (words text) StorageFault l) ∙ ap (λ ks. record (settings before) { faults = ks }) (map-append number_on (lines_of StorageFault before) (text ∷ [])))
-settings_with Random before text l s =
-    settings_more before text ∙ (ap (settings_at before text) (named (words text) Random l) ∙ ap (λ ws. record (settings before) { words = ws }) (flat_map-append words_on (lines_of Random before) (text ∷ []) ∙ ap (λ ws. flat_map words_on (lines_of Random before) ++ ws) (append-nil (words_on text))))
-settings_with Input before text l s =
-    settings_more before text ∙ (ap (settings_at before text) (named (words text) Input l) ∙ ap (λ es. record (settings before) { events = es }) (map-append event_on (lines_of Input before) (text ∷ [])))
+-- the settings with a line of the table more, by its name
+by_name : (line : Line) (before : List (List ℕ)) (text : List ℕ) → line_of (words text) ≡ Some line → settings (before ++ text ∷ []) ≡ settings_at before text (row line).name
+by_name line before text l = settings_more before text ∙ ap (settings_at before text) (named (words text) line l)
 
--- which stand with a line of the table more
+-- what one more says
+pub settings_with : (line : Line) (before : List (List ℕ)) (text : List ℕ) → line_of (words text) ≡ Some line → (is_single line && stands line before) ≡ false → settings (before ++ text ∷ []) ≡ with_line line (words text) (settings before)
+settings_with Ram before text l s = by_name Ram before text l ∙ ap (λ n. record (settings before) { ram = n }) (first_number (lines_of Ram before) text (row Ram).default s)
+settings_with Leds before text l s = by_name Leds before text l ∙ ap (λ n. record (settings before) { leds = n }) (first_number (lines_of Leds before) text (row Leds).default s)
+settings_with Slice before text l s = by_name Slice before text l ∙ ap (λ n. record (settings before) { slice = n }) (first_number (lines_of Slice before) text (row Slice).default s)
+settings_with Start before text l s = by_name Start before text l ∙ ap (λ n. record (settings before) { start = n }) (first_number (lines_of Start before) text (row Start).default s)
+settings_with Uart before text l s = by_name Uart before text l ∙ ap (λ n. record (settings before) { uart = n }) (first_number (lines_of Uart before) text (row Uart).default s)
+settings_with Storage before text l s = by_name Storage before text l ∙ ap (λ n. record (settings before) { storage = n }) (first_number (lines_of Storage before) text (row Storage).default s)
+settings_with Stop before text l s = by_name Stop before text l ∙ ap (λ p. record (settings before) { policy = p }) (first_policy (lines_of Stop before) text Stop s l)
+settings_with Restart before text l s = by_name Restart before text l ∙ ap (λ p. record (settings before) { policy = p }) (first_policy (lines_of Stop before) text Restart (ap some (sym (one_policy before).0) ∙ s) l)
+settings_with Threshold before text l s = by_name Threshold before text l ∙ ap (λ p. record (settings before) { policy = p }) (first_policy (lines_of Stop before) text Threshold (ap some (sym (one_policy before).1) ∙ s) l)
+settings_with StorageFault before text l s = by_name StorageFault before text l ∙ ap (λ ks. record (settings before) { faults = ks }) (map-append number_on (lines_of StorageFault before) (text ∷ []))
+settings_with Random before text l s = by_name Random before text l ∙ ap (λ ws. record (settings before) { words = ws }) (flat_map-append words_on (lines_of Random before) (text ∷ []) ∙ ap (λ ws. flat_map words_on (lines_of Random before) ++ ws) (append-nil (words_on text)))
+settings_with Input before text l s = by_name Input before text l ∙ ap (λ es. record (settings before) { events = es }) (map-append event_on (lines_of Input before) (text ∷ []))
+
+-- which stand with a line of the table more, by its name
+stood_by_name : (line : Line) (before : List (List ℕ)) (text : List ℕ) → line_of (words text) ≡ Some line → stood_in (before ++ text ∷ []) ≡ stood_from before text (row line).name
+stood_by_name line before text l = stood_more before text ∙ ap (stood_from before text) (named (words text) line l)
+
 pub stood_with : (line : Line) (before : List (List ℕ)) (text : List ℕ) → line_of (words text) ≡ Some line → stood_in (before ++ text ∷ []) ≡ stood_after line (stood_in before)
-stood_with Ram before text l =
-    stood_more before text ∙ (ap (stood_from before text) (named (words text) Ram l) ∙ rw (stands_now (lines_of Ram before) text) refl)
-stood_with Leds before text l =
-    stood_more before text ∙ (ap (stood_from before text) (named (words text) Leds l) ∙ rw (stands_now (lines_of Leds before) text) refl)
-stood_with Slice before text l =
-    stood_more before text ∙ (ap (stood_from before text) (named (words text) Slice l) ∙ rw (stands_now (lines_of Slice before) text) refl)
-stood_with Start before text l =
-    stood_more before text ∙ (ap (stood_from before text) (named (words text) Start l) ∙ rw (stands_now (lines_of Start before) text) refl)
-stood_with Uart before text l =
-    stood_more before text ∙ (ap (stood_from before text) (named (words text) Uart l) ∙ rw (stands_now (lines_of Uart before) text) refl)
-stood_with Storage before text l =
-    stood_more before text ∙ (ap (stood_from before text) (named (words text) Storage l) ∙ rw (stands_now (lines_of Storage before) text) refl)
-stood_with Stop before text l =
-    stood_more before text ∙ (ap (stood_from before text) (named (words text) Stop l) ∙ rw (stands_now (lines_of Stop before) text) refl)
-stood_with Restart before text l =
-    stood_more before text ∙ (ap (stood_from before text) (named (words text) Restart l) ∙ rw (stands_now (lines_of Stop before) text) refl)
-stood_with Threshold before text l =
-    stood_more before text ∙ (ap (stood_from before text) (named (words text) Threshold l) ∙ rw (stands_now (lines_of Stop before) text) refl)
-stood_with StorageFault before text l = stood_more before text ∙ ap (stood_from before text) (named (words text) StorageFault l)
-stood_with Random before text l = stood_more before text ∙ ap (stood_from before text) (named (words text) Random l)
-stood_with Input before text l = stood_more before text ∙ ap (stood_from before text) (named (words text) Input l)
+stood_with Ram before text l = stood_by_name Ram before text l ∙ rw (stands_now (lines_of Ram before) text) refl
+stood_with Leds before text l = stood_by_name Leds before text l ∙ rw (stands_now (lines_of Leds before) text) refl
+stood_with Slice before text l = stood_by_name Slice before text l ∙ rw (stands_now (lines_of Slice before) text) refl
+stood_with Start before text l = stood_by_name Start before text l ∙ rw (stands_now (lines_of Start before) text) refl
+stood_with Uart before text l = stood_by_name Uart before text l ∙ rw (stands_now (lines_of Uart before) text) refl
+stood_with Storage before text l = stood_by_name Storage before text l ∙ rw (stands_now (lines_of Storage before) text) refl
+stood_with Stop before text l = stood_by_name Stop before text l ∙ rw (stands_now (lines_of Stop before) text) refl
+stood_with Restart before text l = stood_by_name Restart before text l ∙ rw (stands_now (lines_of Stop before) text) refl
+stood_with Threshold before text l = stood_by_name Threshold before text l ∙ rw (stands_now (lines_of Stop before) text) refl
+stood_with StorageFault before text l = stood_by_name StorageFault before text l
+stood_with Random before text l = stood_by_name Random before text l
+stood_with Input before text l = stood_by_name Input before text l
 
 -- a line that is skipped begins with no name
 begins_not : (w name : List ℕ) → ((bytes : List ℕ) → bytes_eq (35 ∷ bytes) name ≡ false) → (slice_index w 0 == 35) ≡ true → bytes_eq w name ≡ false

@@ -12,6 +12,3 @@ mod text;
 pub use read::read_script;
 pub use rule::{ScriptError, ScriptRule};
 pub use script::{EventList, Script, TimedEvent};
-
-#[cfg(test)]
-mod tests;

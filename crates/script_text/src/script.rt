@@ -85,33 +85,12 @@ pub struct Script {
 }
 
 impl Model for Script {
-    ghost use Rattle.script_text.specs.Settings.{Settings, AreSound};
+    ghost use Rattle.script_text.specs.Settings.{Settings};
+    ghost use Rattle.script_text.specs.Shown.{IsSound, settings_of};
 
     ghost Value = { Settings };
 
-    ghost view = { λ s. record {
-      ram = s.ram;
-      leds = s.leds;
-      slice = s.slice;
-      start = s.start;
-      uart = s.uart;
-      storage = s.storage;
-      policy = s.policy;
-      faults = s.faults.items;
-      words = s.words;
-      events = s.events;
-    } };
+    ghost view = { settings_of };
 
-    ghost invariant = { λ s. AreSound (record {
-      ram = s.ram;
-      leds = s.leds;
-      slice = s.slice;
-      start = s.start;
-      uart = s.uart;
-      storage = s.storage;
-      policy = s.policy;
-      faults = s.faults.items;
-      words = s.words;
-      events = s.events;
-    }) };
+    ghost invariant = { IsSound };
 }

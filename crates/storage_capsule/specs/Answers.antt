@@ -1,10 +1,10 @@
 -- What the storage answers (driver 0x50001 in Tock's list of drivers).
-use Rattle.std.specs.Prelude.{◌≡◌, if◌then◌else◌, List, [], Option, IfNone}
+use Rattle.std.specs.Prelude.{if◌then◌else◌}
 use Rattle.tk_base.specs.declared.process.ProcessId.{ProcessId}
 use Rattle.board_devices.specs.Storage.{Storage as Bytes, slot_bytes}
 use Rattle.grant_enter.specs.Homes.{Homes, own_of}
 use Rattle.driver_model.specs.Storage.{answered}
-use Rattle.driver_requests.specs.Answers.{Answered, Answers as AnswersOf}
+use Rattle.driver_requests.specs.Answers.{Answered}
 use Rattle.storage_capsule.specs.Serving.{after_count, fails_next, stored}
 
 -- the answer to the process of an id; where a request completed the storage has counted it
@@ -16,8 +16,3 @@ answer_to s home id =
       device = if a.completed then stored id.slot a.written (after_count s) else s;
       completed = a.completed;
     }
-
--- the process that waited longest got its answer; or none waited
-abbrev pub Answers : List ProcessId → Bytes → Homes → Option ProcessId → List ProcessId → Bytes → Homes → Type 0
-Answers ids s old result ids' s' new =
-    IfNone result (ids ≡ []) × AnswersOf (answer_to s old) ids s old result ids' s' new

@@ -5,7 +5,8 @@ use Rattle.grant_values.specs.declared.storage.Storage.{Storage as Value}
 use Rattle.grant_values.specs.declared.storage.StorageRequest.{StorageRequest}
 use Rattle.board_devices.specs.Storage.{Storage, is_fault, slot_bytes, with_bytes}
 use Rattle.process_own.specs.Own.{Own}
-use Rattle.driver_model.specs.Storage.{served, with_request}
+use Rattle.driver_model.specs.Requests.{with_request}
+use Rattle.driver_model.specs.Storage.{served, storages}
 
 -- the storage with bytes written over those of a slot, from an offset on, if any are
 abbrev pub stored : ℕ → Option (ℕ × List ℕ) → Storage → Storage
@@ -31,4 +32,4 @@ Serves slot fault flash old (Some request) own new value own' =
 abbrev pub Completes : ℕ → List ℕ → Storage → Own → Storage → Own → StorageRequest → Type 0
 Completes slot flash old own new own' request =
     let s = served (fails_next old) flash (slot_bytes old slot) request own in
-    (own' ≡ with_request None s.own) × (new ≡ stored slot s.written (after_count old))
+    (own' ≡ with_request storages None s.own) × (new ≡ stored slot s.written (after_count old))

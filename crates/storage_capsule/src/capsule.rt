@@ -1,48 +1,29 @@
-//! Who waits for the storage.
-ghost use Rattle.std.specs.Prelude.{◌≡◌, ◌+◌, ◌<◌, ◌≤◌, ◌^◌, false, [], length, slice_get, IfSome, None, ◌==◌, not};
-ghost use Rattle.grant_enter.specs.Homes.{own_of, ChangesOnly};
-ghost use Rattle.grant_enter.specs.Visits.{is_stale};
+//! The storage, and who waits for it.
+ghost use Rattle.std.specs.Prelude.{◌≡◌, [], slice_get, IfNone, IfSome};
+ghost use Rattle.grant_enter.specs.Homes.{own_of};
 ghost use Rattle.driver_model.specs.Commands.{Stores as InStores};
-ghost use Rattle.driver_model.specs.Storage.{command, request_in};
-ghost use Rattle.driver_requests.specs.Waiting.{waiting_after};
-ghost use Rattle.storage_capsule.specs.Answers.{Answers};
-ghost use Rattle.waiting_list.specs.Waiting.{waits, without};
+ghost use Rattle.driver_model.specs.Lines.{IsWithin};
+ghost use Rattle.driver_model.specs.Storage.{command, storages};
+ghost use Rattle.driver_requests.specs.Answers.{Answers};
+ghost use Rattle.driver_requests.specs.Asking.{MayAskAt, MayBeTold, Obeys};
+ghost use Rattle.storage_capsule.specs.Answers.{answer_to};
 
 use crate::commands::ask_within;
-use crate::steps::serve;
 use board_devices::Stores;
+use driver_requests::Line;
 use grant_enter::Home;
 use grant_values::{StorageKind, StorageRequest};
-use std::marker::Model;
 use syscall_abi::Reply;
-use tk_base::{CallRule, ProcessId, Slot};
-use waiting_list::WaitingList;
+use tk_base::{CallRule, ProcessId};
 
-/// The storage. Contracts see the ids of the processes that wait for it, the first one first.
-#[derive(Drop)]
+/// The storage.
+#[derive(Default, Drop)]
 pub struct StorageCapsule {
-    waiting: WaitingList,
-}
-
-impl Model for StorageCapsule {
-    ghost use Rattle.std.specs.Prelude.{List};
-    ghost use Rattle.tk_base.specs.declared.process.ProcessId.{ProcessId};
-
-    ghost Value = { List ProcessId };
-
-    ghost view = { λ c. c.waiting };
+    /// The processes that wait for it.
+    pub waiting: Line<StorageRequest>,
 }
 
 impl StorageCapsule {
-    /// The storage before the first request: none waits.
-    pub fn new() -> StorageCapsule
-        ensures { result ≡ [] }
-    {
-        StorageCapsule {
-            waiting: WaitingList::new(),
-        }
-    }
-
     /// Serves a command of the process of an id to the storage, of which a slot has `size` bytes (TRD 104,
     /// "Command"): the reply, or the rule that refuses it. 0 asks whether the driver is there. 1 asks for
     /// `size`. 2 asks to read, and 3 to write, `a3` bytes from the offset `a2` in the slot's storage on; the
@@ -63,14 +44,9 @@ impl StorageCapsule {
         a2: u32,
         a3: u32,
     ) -> Result<Reply, CallRule>
-        requires slot { id.slot < length home.old.owns }
-        requires present { is_stale id.life (own_of home.old id.slot) ≡ false }
-        requires waits { request_in (own_of home.old id.slot) ≡ None → waits id.slot self.old ≡ false }
-        ensures answer { result ≡ (command size number a2 a3 (own_of home.old id.slot)).answer }
-        ensures own { own_of home.new id.slot ≡ (command size number a2 a3 (own_of home.old id.slot)).own }
-        ensures waiting { self.new
-            ≡ waiting_after InStores id self.old (command size number a2 a3 (own_of home.old id.slot)).acts }
-        ensures rest { ChangesOnly id.slot home.old home.new }
+        requires { MayAskAt storages self.old.waiting home.old id }
+        ensures { Obeys InStores id (command size number a2 a3) self.old.waiting home.old
+            result self.new.waiting home.new }
     {
         let (offset, length) = (a2, a3);
         let read = StorageRequest {
@@ -106,44 +82,13 @@ impl StorageCapsule {
     /// for one more, and that its request lies in a slot's storage, as [`StorageCapsule::command`] sees
     /// to.
     pub fn answer(&mut self, home: &mut Home, stores: &mut Stores) -> Option<ProcessId>
-        requires slot { IfSome (slice_get self.old 0) (λ id. id.slot < length home.old.owns) }
-        requires dropped { IfSome (slice_get self.old 0)
-            (λ id. (own_of home.old id.slot).dropped + 1 < 2 ^ 32) }
-        requires within { IfSome (slice_get self.old 0) (λ id. IfSome (request_in (own_of home.old id.slot))
-            (λ request. request.offset + request.length ≤ stores.old.size)) }
-        ensures { Answers self.old stores.old home.old result self.new stores.new home.new }
+        requires told { IfSome (slice_get self.old.waiting 0) (MayBeTold home.old) }
+        requires within { IfSome (slice_get self.old.waiting 0)
+            (λ id. IsWithin stores.old.size (own_of home.old id.slot)) }
+        ensures none { IfNone result (self.old.waiting ≡ []) }
+        ensures answers { Answers (answer_to stores.old home.old) self.old.waiting stores.old home.old result
+            self.new.waiting stores.new home.new }
     {
-        let Some(id) = self.waiting.first() else {
-            return None;
-        };
-        if serve(home, &id, stores) {
-            self.waiting.remove(id.slot);
-        }
-        Some(id)
-    }
-
-    /// Whether a process waits.
-    pub fn is_waited_for(&self) -> bool
-        ensures { result ≡ not (length self.now == 0) }
-    {
-        !self.waiting.is_empty()
-    }
-
-    /// The process of a slot is gone: it waits no more. The others keep their order.
-    pub fn gone(&mut self, slot: Slot)
-        ensures { self.new ≡ without slot self.old }
-    {
-        self.waiting.remove(slot);
-    }
-}
-
-impl Default for StorageCapsule {
-    ghost use Rattle.std.specs.Prelude.{◌≡◌, []};
-
-    ghost is_default = { λ c. c ≡ [] };
-
-    /// The storage before the first request: none waits.
-    fn default() -> StorageCapsule {
-        StorageCapsule::new()
+        self.waiting.answer::<StorageCapsule>(home, stores)
     }
 }

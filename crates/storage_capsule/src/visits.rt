@@ -31,13 +31,13 @@ pub(crate) fn storages() -> Grant<Storage, 2, 1, 1>
 /// Serves the request that waits, over the storage of a slot; on a fault it moves nothing. It hands the
 /// storage back.
 #[derive(Drop)]
-pub(crate) struct Serve<'a> {
+pub(crate) struct Transfer<'a> {
     pub stores: &'a mut Stores,
     pub slot: Slot,
     pub fault: bool,
 }
 
-impl<'a> Visit<Storage> for Serve<'a> {
+impl<'a> Visit<Storage> for Transfer<'a> {
     ghost use Rattle.std.specs.Prelude.{◌≡◌, ◌+◌, ◌<◌, ◌≤◌, ◌^◌, IfSome};
     ghost use Rattle.storage_capsule.specs.Serving.{Serves};
 
@@ -53,7 +53,7 @@ impl<'a> Visit<Storage> for Serve<'a> {
 
     fn run(self, value: &mut Storage, entered: &mut Entered<'_>) -> &'a mut Stores {
         frames_join();
-        let Serve {
+        let Transfer {
             stores,
             slot,
             fault,

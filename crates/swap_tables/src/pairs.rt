@@ -1,10 +1,9 @@
 //! The pairs that a process holds.
-ghost use Rattle.std.specs.Prelude.{◌≡◌, ℕ, ◌+◌, ◌*◌, ◌/◌, ◌<◌, ◌≤◌, ◌^◌, List, length, slice_index, slice_set};
+ghost use Rattle.std.specs.Prelude.{◌≡◌, ℕ, ◌+◌, ◌*◌, ◌/◌, ◌≤◌, List, length, slice_index, slice_set};
 ghost use Rattle.grant_values.specs.Words.{bytes_of, words_of};
 ghost use Rattle.grant_areas.specs.declared.kinds.PairKind.TheVariants.{Upcall, ReadOnly, ReadWrite};
 ghost use Rattle.grant_areas.specs.Kinds.{pairs_before};
-ghost use Rattle.grant_areas.specs.Laid.{IsLaid};
-ghost use Rattle.swap_tables.specs.Swaps.{IsPair, held_pair};
+ghost use Rattle.swap_tables.specs.Swaps.{CanLookUp, held_pair};
 
 use grant_areas::{Area, PairKind, areas_are_found, pairs_are_found};
 use grant_region::area;
@@ -15,21 +14,16 @@ use tk_base::Counts;
 /// Allow"): its address, and its size in bytes. It is (0, 0) where the process has not entered the
 /// driver. `kernel` is the block from the kernel break on, and `counts` are the driver's.
 pub fn buffer_ro(kernel: &[u8], driver: u32, counts: &Counts, number: u32) -> (u32, u32)
-    requires laid { IsLaid kernel.now }
-    requires small { length kernel.now < 2 ^ 32 }
-    requires pair { IsPair ReadOnly driver counts.now number }
+    requires { CanLookUp ReadOnly driver counts.now number kernel.now }
     ensures { result ≡ held_pair ReadOnly driver number kernel.now }
 {
     pair_held(kernel, driver, counts, PairKind::ReadOnly, number)
 }
 
 /// The read-write buffer of a number that the process has allowed the driver (TRD 104, "Read-Write
-/// Allow"): its address, and its size in bytes. It is (0, 0) where the process has not entered the
-/// driver. `kernel` is the block from the kernel break on, and `counts` are the driver's.
+/// Allow"), as [`buffer_ro`].
 pub fn buffer_rw(kernel: &[u8], driver: u32, counts: &Counts, number: u32) -> (u32, u32)
-    requires laid { IsLaid kernel.now }
-    requires small { length kernel.now < 2 ^ 32 }
-    requires pair { IsPair ReadWrite driver counts.now number }
+    requires { CanLookUp ReadWrite driver counts.now number kernel.now }
     ensures { result ≡ held_pair ReadWrite driver number kernel.now }
 {
     pair_held(kernel, driver, counts, PairKind::ReadWrite, number)
@@ -37,11 +31,9 @@ pub fn buffer_rw(kernel: &[u8], driver: u32, counts: &Counts, number: u32) -> (u
 
 /// The upcall of a number that the process has subscribed with the driver (TRD 104, "Subscribe"):
 /// its function, and the application data. It is (0, 0), the null upcall, where the process has not
-/// entered the driver. `kernel` is the block from the kernel break on, and `counts` are the driver's.
+/// entered the driver. `kernel` and `counts` are those of [`buffer_ro`].
 pub fn upcall(kernel: &[u8], driver: u32, counts: &Counts, number: u32) -> (u32, u32)
-    requires laid { IsLaid kernel.now }
-    requires small { length kernel.now < 2 ^ 32 }
-    requires pair { IsPair Upcall driver counts.now number }
+    requires { CanLookUp Upcall driver counts.now number kernel.now }
     ensures { result ≡ held_pair Upcall driver number kernel.now }
 {
     pair_held(kernel, driver, counts, PairKind::Upcall, number)
@@ -49,9 +41,7 @@ pub fn upcall(kernel: &[u8], driver: u32, counts: &Counts, number: u32) -> (u32,
 
 /// The pair of a kind and a number that the process holds with the driver.
 fn pair_held(kernel: &[u8], driver: u32, counts: &Counts, kind: PairKind, number: u32) -> (u32, u32)
-    requires laid { IsLaid kernel.now }
-    requires small { length kernel.now < 2 ^ 32 }
-    requires pair { IsPair kind driver counts.now number }
+    requires { CanLookUp kind driver counts.now number kernel.now }
     ensures { result ≡ held_pair kind driver number kernel.now }
 {
     words_in_bytes();

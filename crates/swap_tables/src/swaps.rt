@@ -1,10 +1,9 @@
 //! Swaps of the pairs that a process holds.
-ghost use Rattle.std.specs.Prelude.{◌≡◌, ◌<◌, ◌^◌, length, is_ok, IfOk, IfErr, OnErr, IfSome, IfNone, None};
+ghost use Rattle.std.specs.Prelude.{◌≡◌, length, IfSome, IfNone, None};
 ghost use Rattle.grant_areas.specs.declared.kinds.PairKind.TheVariants.{Upcall, ReadOnly, ReadWrite};
 ghost use Rattle.grant_areas.specs.Grants.{grant_of};
-ghost use Rattle.grant_areas.specs.Laid.{IsLaid, read_back};
-ghost use Rattle.grant_region.specs.Region.{AreParts, Refuses};
-ghost use Rattle.swap_tables.specs.Swaps.{IsPair, Swaps, SwapsHeld, has_place};
+ghost use Rattle.grant_areas.specs.Laid.{read_back};
+ghost use Rattle.swap_tables.specs.Swaps.{CanLookUp, CanSwap, SwapOutcome, SwapsHeld};
 
 use crate::pairs::{first_word, pair_at, put_pair};
 use grant_areas::{PairKind, areas_are_found, pairs_are_found};
@@ -29,34 +28,16 @@ pub fn swap_ro(
     number: u32,
     pair: (u32, u32),
 ) -> Result<(u32, u32), NoRoom>
-    requires parts { AreParts layout.old app.old kernel.old }
-    requires small { length kernel.old < 2 ^ 32 }
-    requires pair { IsPair ReadOnly driver counts.now number }
-    ensures room { is_ok result ≡ has_place layout.old driver kernel.old }
-    ensures swapped { IfOk result (Swaps ReadOnly driver number pair
-        layout.old layout.new app.old app.new kernel.old kernel.new) }
-    ensures refused { IfErr result (Refuses layout.old layout.new app.old app.new) }
-    ensures kept { OnErr result (kernel.new ≡ kernel.old) }
+    requires { CanSwap ReadOnly driver counts.now number layout.old app.old kernel.old }
+    ensures { SwapOutcome ReadOnly driver number pair
+        layout.old layout.new app.old app.new kernel.old kernel.new result }
 {
-    swap_pair(
-        layout,
-        app,
-        kernel,
-        driver,
-        counts,
-        PairKind::ReadOnly,
-        number,
-        pair,
-    )
+    let kind = PairKind::ReadOnly;
+    swap_pair(layout, app, kernel, driver, counts, kind, number, pair)
 }
 
 /// Swaps the read-write buffer of a number that the process has allowed the driver (TRD 104,
-/// "Read-Write Allow"): the new one's address, and its size in bytes. The answer is the former one,
-/// at first (0, 0), and the driver is entered. `app` and `kernel` are the block, cut at the kernel
-/// break, and `counts` are the driver's; all that they hold beside this pair is as it was.
-///
-/// There is [`NoRoom`], and nothing changes, exactly where the driver is not entered and the kernel
-/// break less the cost of its grant is below the break.
+/// "Read-Write Allow"): the new one's address, and its size in bytes. All else is as for [`swap_ro`].
 pub fn swap_rw(
     layout: &mut Layout,
     app: &mut [u8],
@@ -66,35 +47,17 @@ pub fn swap_rw(
     number: u32,
     pair: (u32, u32),
 ) -> Result<(u32, u32), NoRoom>
-    requires parts { AreParts layout.old app.old kernel.old }
-    requires small { length kernel.old < 2 ^ 32 }
-    requires pair { IsPair ReadWrite driver counts.now number }
-    ensures room { is_ok result ≡ has_place layout.old driver kernel.old }
-    ensures swapped { IfOk result (Swaps ReadWrite driver number pair
-        layout.old layout.new app.old app.new kernel.old kernel.new) }
-    ensures refused { IfErr result (Refuses layout.old layout.new app.old app.new) }
-    ensures kept { OnErr result (kernel.new ≡ kernel.old) }
+    requires { CanSwap ReadWrite driver counts.now number layout.old app.old kernel.old }
+    ensures { SwapOutcome ReadWrite driver number pair
+        layout.old layout.new app.old app.new kernel.old kernel.new result }
 {
-    swap_pair(
-        layout,
-        app,
-        kernel,
-        driver,
-        counts,
-        PairKind::ReadWrite,
-        number,
-        pair,
-    )
+    let kind = PairKind::ReadWrite;
+    swap_pair(layout, app, kernel, driver, counts, kind, number, pair)
 }
 
 /// Swaps the upcall of a number that the process has subscribed with the driver (TRD 104,
-/// "Subscribe"): the new one's function, and the application data. The answer is the former one, at
-/// first (0, 0), the null upcall, and the driver is entered. `app` and `kernel` are the block, cut
-/// at the kernel break, and `counts` are the driver's; all that they hold beside this pair is as it
-/// was.
-///
-/// There is [`NoRoom`], and nothing changes, exactly where the driver is not entered and the kernel
-/// break less the cost of its grant is below the break.
+/// "Subscribe"): the new one's function, and the application data. The former one is at first
+/// (0, 0), the null upcall. All else is as for [`swap_ro`].
 pub fn swap_upcall(
     layout: &mut Layout,
     app: &mut [u8],
@@ -104,25 +67,12 @@ pub fn swap_upcall(
     number: u32,
     pair: (u32, u32),
 ) -> Result<(u32, u32), NoRoom>
-    requires parts { AreParts layout.old app.old kernel.old }
-    requires small { length kernel.old < 2 ^ 32 }
-    requires pair { IsPair Upcall driver counts.now number }
-    ensures room { is_ok result ≡ has_place layout.old driver kernel.old }
-    ensures swapped { IfOk result (Swaps Upcall driver number pair
-        layout.old layout.new app.old app.new kernel.old kernel.new) }
-    ensures refused { IfErr result (Refuses layout.old layout.new app.old app.new) }
-    ensures kept { OnErr result (kernel.new ≡ kernel.old) }
+    requires { CanSwap Upcall driver counts.now number layout.old app.old kernel.old }
+    ensures { SwapOutcome Upcall driver number pair
+        layout.old layout.new app.old app.new kernel.old kernel.new result }
 {
-    swap_pair(
-        layout,
-        app,
-        kernel,
-        driver,
-        counts,
-        PairKind::Upcall,
-        number,
-        pair,
-    )
+    let kind = PairKind::Upcall;
+    swap_pair(layout, app, kernel, driver, counts, kind, number, pair)
 }
 
 /// Swaps the pair of a kind and a number that the process holds with the driver.
@@ -136,14 +86,9 @@ fn swap_pair(
     number: u32,
     pair: (u32, u32),
 ) -> Result<(u32, u32), NoRoom>
-    requires parts { AreParts layout.old app.old kernel.old }
-    requires small { length kernel.old < 2 ^ 32 }
-    requires pair { IsPair kind driver counts.now number }
-    ensures room { is_ok result ≡ has_place layout.old driver kernel.old }
-    ensures swapped { IfOk result (Swaps kind driver number pair
-        layout.old layout.new app.old app.new kernel.old kernel.new) }
-    ensures refused { IfErr result (Refuses layout.old layout.new app.old app.new) }
-    ensures kept { OnErr result (kernel.new ≡ kernel.old) }
+    requires { CanSwap kind driver counts.now number layout.old app.old kernel.old }
+    ensures { SwapOutcome kind driver number pair
+        layout.old layout.new app.old app.new kernel.old kernel.new result }
 {
     parts_join();
     if let Some(held) = swap_held(kernel, driver, counts, kind, number, pair) {
@@ -165,9 +110,7 @@ fn swap_held(
     number: u32,
     pair: (u32, u32),
 ) -> Option<(u32, u32)>
-    requires laid { IsLaid kernel.old }
-    requires small { length kernel.old < 2 ^ 32 }
-    requires pair { IsPair kind driver counts.now number }
+    requires { CanLookUp kind driver counts.now number kernel.old }
     ensures some { IfSome result (SwapsHeld kind driver number pair kernel.old kernel.new) }
     ensures none { IfNone result (grant_of driver (read_back kernel.old) ≡ None) }
     ensures unchanged { IfNone result (kernel.new ≡ kernel.old) }

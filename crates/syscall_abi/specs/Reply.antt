@@ -1,6 +1,6 @@
 -- What a process gets back for a system call: TRD 104, "Return Values".
 use Rattle.std.specs.Prelude.{ℕ, ◌+◌, ◌/◌, ◌%◌, ◌^◌, Bool, true, false, List, [], ◌∷◌}
-use Rattle.tk_base.specs.declared.regs.Regs.{Regs}
+use Rattle.tk_base.specs.Regs.{Registers}
 use Rattle.tk_base.specs.Call.{code_of}
 use Rattle.tk_base.specs.Regs.{with_register}
 use Rattle.syscall_abi.specs.declared.reply.Reply.{Reply}
@@ -27,12 +27,12 @@ words_of (SuccessU32U32U32 first second third) = 132 ∷ first ∷ second ∷ th
 words_of (SuccessU32U64 first value) = 133 ∷ first ∷ low value ∷ high value ∷ []
 
 -- the registers with words put into one after another, from a number on
-abbrev pub with_words : ℕ → List ℕ → Regs → Regs
+abbrev pub with_words : ℕ → List ℕ → Registers → Registers
 with_words n [] regs = regs
 with_words n (word ∷ words) regs = with_words (n + 1) words (with_register regs n word)
 
 -- the registers with a reply: its words stand in a0 and those after it, and no other register changes
-abbrev pub put_reply : Reply → Regs → Regs
+abbrev pub put_reply : Reply → Registers → Registers
 put_reply reply regs = with_words 10 (words_of reply) regs
 
 -- the variants whose first value is an error

@@ -95,14 +95,14 @@ text_in Trace n w end = refl
 text_in Soak n w end = ap (λ (t : List ℕ). t ++ (total_text (telling_of Soak (round n w).world (printed (round n w).labels)) ++ end)) (silent (steps n w))
 
 -- quiet turns have no lines
-quiet_lines : (present : Option ℕ) (time : ℕ) (ls : List Label) → All (IsQuietTurn present) ls → flat_map (label_lines time) ls ≡ []
-quiet_lines present time [] all = refl
-quiet_lines present time (TurnOf slot at told ∷ ls) all =
-    let quiet = All-head (IsQuietTurn present) (TurnOf slot at told) ls all in
-    ap (λ (t : List ℕ). turn_text time slot told.call told.denial ++ t) (quiet_lines present time ls (All-tail (IsQuietTurn present) (TurnOf slot at told) ls all))
-    ∙ ap₂ (λ (call : Option CallMade) (denial : Option Denial). turn_text time slot call denial ++ []) quiet.1 quiet.3
-quiet_lines present time (Answered slot event ∷ ls) all = absurd (All-head (IsQuietTurn present) (Answered slot event) ls all)
-quiet_lines present time (Printed slot bytes ∷ ls) all = absurd (All-head (IsQuietTurn present) (Printed slot bytes) ls all)
+quiet_lines : (time : ℕ) (ls : List Label) → All IsQuietTurn ls → flat_map (label_lines time) ls ≡ []
+quiet_lines time [] all = refl
+quiet_lines time (TurnOf slot at told ∷ ls) all =
+    let quiet = All-head IsQuietTurn (TurnOf slot at told) ls all in
+    ap (λ (t : List ℕ). turn_text time slot told.call told.denial ++ t) (quiet_lines time ls (All-tail IsQuietTurn (TurnOf slot at told) ls all))
+    ∙ ap₂ (λ (call : Option CallMade) (denial : Option Denial). turn_text time slot call denial ++ []) quiet.0 quiet.2
+quiet_lines time (Answered slot event ∷ ls) all = absurd (All-head IsQuietTurn (Answered slot event) ls all)
+quiet_lines time (Printed slot bytes ∷ ls) all = absurd (All-head IsQuietTurn (Printed slot bytes) ls all)
 
 both_parts : {X : Type 0} (P : X → Type 0) (xs ys : List X) → All P (xs ++ ys) → All P xs × All P ys
 both_parts P [] ys all = (All-nil P, all)
@@ -110,19 +110,19 @@ both_parts P (x ∷ xs) ys all =
     let rest = both_parts P xs ys (All-tail P x (xs ++ ys) all) in
     (All-cons P x xs (All-head P x (xs ++ ys) all) rest.0, rest.1)
 
-quiet_steps : (present : Option ℕ) (k : ℕ) (w : World) → All (IsQuietTurn present) (round k w).labels → flat_map step_lines (steps k w) ≡ []
-quiet_steps present zero w all = ap (flat_map step_lines) (steps-zero w)
-quiet_steps present (suc k) w all = by_next (next w) refl (λ c. quiet_steps present k (after w c))
+quiet_steps : (k : ℕ) (w : World) → All IsQuietTurn (round k w).labels → flat_map step_lines (steps k w) ≡ []
+quiet_steps zero w all = ap (flat_map step_lines) (steps-zero w)
+quiet_steps (suc k) w all = by_next (next w) refl (λ c. quiet_steps k (after w c))
   where
-    by_next : (o : Option Choice) → next w ≡ o → ((c : Choice) → All (IsQuietTurn present) (round k (after w c)).labels → flat_map step_lines (steps k (after w c)) ≡ []) → flat_map step_lines (steps (suc k) w) ≡ []
+    by_next : (o : Option Choice) → next w ≡ o → ((c : Choice) → All IsQuietTurn (round k (after w c)).labels → flat_map step_lines (steps k (after w c)) ≡ []) → flat_map step_lines (steps (suc k) w) ≡ []
     by_next None e later = ap (flat_map step_lines) (steps-stop (suc k) w e)
     by_next (Some c) e later =
-        let parts = both_parts (IsQuietTurn present) (labels w c) (round k (after w c)).labels (subst (λ (r : Ran). All (IsQuietTurn present) r.labels) (round-step k w c e) all) in
+        let parts = both_parts IsQuietTurn (labels w c) (round k (after w c)).labels (subst (λ (r : Ran). All IsQuietTurn r.labels) (round-step k w c e) all) in
         ap (flat_map step_lines) (steps-step k w c e)
-        ∙ ap₂ (λ (a b : List ℕ). a ++ b) (quiet_lines present w.clock.time (labels w c) parts.0) (later c parts.1)
+        ∙ ap₂ (λ (a b : List ℕ). a ++ b) (quiet_lines w.clock.time (labels w c) parts.0) (later c parts.1)
 
 -- so nothing is told of a quiet stretch
 pub nothing_told : (mode : Mode) (k : ℕ) (w v : World) → IsStretch k w v → steps_text mode (steps k w) ≡ []
 nothing_told Boot k w v s = sym (printed-round k w) ∙ s.prints
-nothing_told Trace k w v s = quiet_steps w.present.slot k w s.quiet
+nothing_told Trace k w v s = quiet_steps k w s.quiet
 nothing_told Soak k w v s = silent (steps k w)

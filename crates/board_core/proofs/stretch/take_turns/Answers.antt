@@ -12,14 +12,17 @@ returns-clause-quiet c =
     let e = c.instruct_quietly-made.ensures in
     quietly c.instruct_quietly-made.result c.args.most c.args.home.now.flash c.args.process.now own after c.instruct_quietly-made.new.regs c.requires.seated.own.object e.made e.stops
 
-pub returns-clause-seated : goal.returns-clause-seated
-returns-clause-seated c =
+pub returns-clause-leaves : goal.returns-clause-leaves
+returns-clause-leaves c =
     let flash = c.args.home.now.flash in
     let own = own_of c.args.home.now c.args.slot in
     let after = own_of c.instruct_quietly-made.new.self c.args.slot in
     let k = c.instruct_quietly-made.result in
     let later = c.instruct_quietly-made.new.regs in
-    later_seated flash c.args.moment.now.steps k c.args.process.now own after later (left_own k flash c.args.process.now own after later c.requires.seated.own.object c.instruct_quietly-made.ensures.made) c.requires.seated
+    record {
+      seated = later_seated flash c.args.moment.now.steps k c.args.process.now own after later (left_own k flash c.args.process.now own after later c.requires.seated.own.object c.instruct_quietly-made.ensures.made) c.requires.seated;
+      rest = c.instruct_quietly-made.ensures.rest;
+    }
 
 pub returns-clause-guard : goal.returns-clause-guard
 returns-clause-guard c =

@@ -22,10 +22,10 @@ pub returns-clause-own : goal.returns-clause-own
 returns-clause-own c =
     let a = (goal.at.returns-clause-own c).After-lend_block-bytes in
     ap (λ (xs : List ℕ). own_in (with_run c.args.memory.now c.args.seat.now.layout.start xs).ram c.args.seat.now) (left a)
-    ∙ flag_own c.args.memory.now c.args.seat.now c.requires.settled c.requires.seated c.args.at c.args.flag (low a) (high a)
+    ∙ flag_own c.args.memory.now c.args.seat.now c.requires c.args.at c.args.flag (low a) (high a)
 
 pub returns-clause-reseats : goal.returns-clause-reseats
 returns-clause-reseats c =
     let a = (goal.at.returns-clause-reseats c).After-lend_block-bytes in
     subst (λ (xs : List ℕ). Reseats c.args.memory.now c.args.seat.now (with_run c.args.memory.now c.args.seat.now.layout.start xs) c.args.seat.now) (sym (left a))
-    (flag_reseats c.args.memory.now c.args.seat.now c.requires.settled c.requires.seated c.args.at c.args.flag (low a) (high a))
+    (flag_reseats c.args.memory.now c.args.seat.now c.requires c.args.at c.args.flag (low a) (high a))

@@ -7,8 +7,8 @@ use Rattle.grant_enter.proofs.laws.buffers_are_whole.Goals as goal
 
 pub returns : goal.returns
 returns c = record {
-  read_only = λ e n l. ro_whole e.memory.now e.seat.now l.settled (held ReadOnly e.driver n (own_entered e)) (ro_may e.memory.now e.seat.now l.settled l.seated e.driver n);
-  read_write = λ e n l. rw_whole e.memory.now e.seat.now l.settled (held ReadWrite e.driver n (own_entered e)) (rw_lies e.memory.now e.seat.now l.settled l.seated e.driver n);
+  read_only = λ e n l. ro_whole e.memory.now e.seat.now l.sits.settled (held ReadOnly e.driver n (own_entered e)) (ro_may e.memory.now e.seat.now l.sits e.driver n);
+  read_write = λ e n l. rw_whole e.memory.now e.seat.now l.sits.settled (held ReadWrite e.driver n (own_entered e)) (rw_lies e.memory.now e.seat.now l.sits e.driver n);
   front = front_written;
   same = same_written;
 }

@@ -13,15 +13,15 @@ use Rattle.grant_enter.proofs.visit.visit_at.Goals.{After-kernel_of, After-kerne
 
 pub value_at-value-requires : goal.value_at-value-requires
 value_at-value-requires g c =
-    let size = size_of c.args.driver g.T.GrantValue.SIZE g.T.GrantValue.count c.args.counts c.requires.counts c.requires.value g.met.T.GrantValue.whole in
+    let size = size_of c.args.driver g.T.GrantValue.SIZE g.T.GrantValue.count c.args.counts c.requires.counted g.met.T.GrantValue.whole in
     omega (arith, c.in_ok-at.ensures.found.within, size, ap length (c.kernel_of-2.ensures.bytes ∙ sym c.kernel_of.ensures.bytes))
 
 lent : (g : Over) (c : After-kernel_of-2 g) → IsLentTo c.args.driver c.args.counts c.args.memory.now c.args.seat.now
-lent g c = record { settled = c.requires.settled; seated = c.requires.seated; counts_are = c.requires.counts }
+lent g c = record { sits = c.requires.sits; counts_are = c.requires.counted.counts_are }
 
 stands : (g : Over) (c : After-kernel_of-2 g) → IsValue (kernel_in c.args.memory.now.ram c.args.seat.now.layout) c.in_ok-at.at g.T.GrantValue.SIZE c.args.driver
 stands g c =
-    subst (λ (n : ℕ). IsValue (kernel_in c.args.memory.now.ram c.args.seat.now.layout) c.in_ok-at.at n c.args.driver) (size_of c.args.driver g.T.GrantValue.SIZE g.T.GrantValue.count c.args.counts c.requires.counts c.requires.value g.met.T.GrantValue.whole)
+    subst (λ (n : ℕ). IsValue (kernel_in c.args.memory.now.ram c.args.seat.now.layout) c.in_ok-at.at n c.args.driver) (size_of c.args.driver g.T.GrantValue.SIZE g.T.GrantValue.count c.args.counts c.requires.counted g.met.T.GrantValue.whole)
     (subst (λ (xs : List ℕ). IsValue xs c.in_ok-at.at (value_bytes c.args.driver) c.args.driver) c.kernel_of.ensures.bytes c.in_ok-at.ensures.found)
 
 is : (g : Over) (c : After-value_at-value g) → c.value_at-value.result ≡ g.T.GrantValue.value (words_of (take g.T.GrantValue.SIZE (drop c.in_ok-at.at (kernel_in c.args.memory.now.ram c.args.seat.now.layout))))
@@ -38,7 +38,7 @@ keep_value-requires-clause-within g c =
     (value_again c.args.driver c.args.counts c.args.memory.now c.args.seat.now (lent g at.After-kernel_of-2) c.in_ok-at.at g.T.GrantValue.SIZE (stands g at.After-kernel_of-2) c.run_visit-answer.new.memory c.run_visit-answer.new.seat c.run_visit-answer.ensures.serves).within
 
 many : (g : Over) (c : After-keep_value g) → length (g.T.GrantValue.words c.run_visit-answer.new.value) ≡ (shape_of c.args.driver).value / 4
-many g c = c.keep_value.ensures.size ∙ count_of c.args.driver g.T.GrantValue.SIZE g.T.GrantValue.count c.args.counts c.requires.counts c.requires.value g.met.T.GrantValue.whole
+many g c = c.keep_value.ensures.size ∙ count_of c.args.driver g.T.GrantValue.SIZE g.T.GrantValue.count c.args.counts c.requires.counted g.met.T.GrantValue.whole
 
 pub returns-clause-visited : goal.returns-clause-visited
 returns-clause-visited g c =

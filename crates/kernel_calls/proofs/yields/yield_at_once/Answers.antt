@@ -15,8 +15,9 @@ returns-clause-serves c = λ storage.
     now_some (record_at c.args.home.now c.args.slot c.args.process.now storage) (record_at c.flag-2.new.home c.args.slot c.flag-2.new.process storage) c.args.at _ (search rules) (c.flag-2.ensures.flags storage) c.flag-2.ensures.pending
     ∙ ap (λ (x : Record). record { after = x; outcome = Delivered; acts = [] }) (sym (c.deliver.ensures.delivers storage))
 
-pub returns-clause-stays : goal.returns-clause-stays
-returns-clause-stays c = stays_after c.args.process.now c.flag-2.new.process c.deliver.new.process c.flag-2.ensures.process c.deliver.ensures.stays
-
-pub returns-clause-rest : goal.returns-clause-rest
-returns-clause-rest c = changes_twice c.args.slot c.args.home.now c.flag-2.new.home c.deliver.new.home c.flag-2.ensures.rest c.deliver.ensures.rest
+pub returns-clause-keeps : goal.returns-clause-keeps
+returns-clause-keeps c = record {
+  own = c.deliver.ensures.own;
+  stays = stays_after c.args.process.now c.flag-2.new.process c.deliver.new.process c.flag-2.ensures.process c.deliver.ensures.stays;
+  rest = changes_twice c.args.slot c.args.home.now c.flag-2.new.home c.deliver.new.home c.flag-2.ensures.rest c.deliver.ensures.rest;
+}

@@ -10,18 +10,29 @@ use Rattle.swap_tables.proofs.swaps.swap_pair.Goals as goal
 pub cost_of-requires : goal.cost_of-requires
 cost_of-requires c = cost-fits c.args.driver c.args.counts.now c.requires.pair.counts_are
 
-pub returns-in_err-make_area-clause-room : goal.returns-in_err-make_area-clause-room
-returns-in_err-make_area-clause-room c =
+pub returns-in_err-make_area : goal.returns-in_err-make_area
+returns-in_err-make_area c =
     let k = shape-is c.args.driver c.args.counts.now c.requires.pair.counts_are in
     let r : is_ok c.from_residual.result ≡ false = search rules in
-    r ∙ c.in_err-make_area.ensures.room ∙ ap (has_room c.args.layout.now) (c.cost_of.ensures ∙ sym (ap cost_of k)) ∙ sym (ap (fits c.args.layout.now c.args.driver) c.in_default.ensures.none)
+    record {
+      room = r ∙ c.in_err-make_area.ensures.room ∙ ap (has_room c.args.layout.now) (c.cost_of.ensures ∙ sym (ap cost_of k)) ∙ sym (ap (fits c.args.layout.now c.args.driver) c.in_default.ensures.none);
+      swapped = search rules;
+      refused = search rules;
+      kept = search rules;
+    }
 
-pub returns-clause-swapped : goal.returns-clause-swapped
-returns-clause-swapped c =
+pub returns : goal.returns
+returns c =
     let m = c.in_ok-make_area.ensures in
     let front = c.split_at_mut-area.ensures.front ∙ ap (λ (e : Extents). take (e.kernel_break - e.start) c.make_area.new.app) c.layout.view_is in
     let rest = c.split_at_mut-area.ensures.back ∙ ap (λ (e : Extents). drop (e.kernel_break - e.start) c.make_area.new.app) c.layout.view_is in
-    swaps-made c.parts_join.ensures c.args.kind c.args.driver c.args.number c.args.counts.now c.args.pair c.swap_held-2.result
-    c.args.layout.now c.make_area.new.layout c.args.app.now c.make_area.new.app c.split_at_mut-area.result.0.now c.split_at_mut-area.result.1.now c.swap_held-2.new.kernel c.args.kernel.now c.swap_held.new.kernel
-    c.requires.pair.counts_are c.requires.parts.laid c.in_default.ensures.unchanged c.in_default.ensures.none
-    (m.layout ∙ ap (λ n. with_room n c.args.layout.now) c.cost_of.ensures) m.made front rest c.swap_held-2.ensures.length c.swap_held-2.ensures.some c.swap_held-2.ensures.none
+    record {
+      room = search rules;
+      swapped =
+          swaps-made c.parts_join.ensures c.args.kind c.args.driver c.args.number c.args.counts.now c.args.pair c.swap_held-2.result
+          c.args.layout.now c.make_area.new.layout c.args.app.now c.make_area.new.app c.split_at_mut-area.result.0.now c.split_at_mut-area.result.1.now c.swap_held-2.new.kernel c.args.kernel.now c.swap_held.new.kernel
+          c.requires.pair.counts_are c.requires.parts.laid c.in_default.ensures.unchanged c.in_default.ensures.none
+          (m.layout ∙ ap (λ n. with_room n c.args.layout.now) c.cost_of.ensures) m.made front rest c.swap_held-2.ensures.length c.swap_held-2.ensures.some c.swap_held-2.ensures.none;
+      refused = search rules;
+      kept = search rules;
+    }

@@ -8,12 +8,13 @@ use Rattle.process_record.specs.declared.emit.Emit.{Emit}
 use Rattle.board_core.specs.Calm.{IsCalm}
 use Rattle.board_core.specs.Residents.{id_of, shown_in, with_shown}
 use Rattle.board_core.specs.Shows.{world_of}
-use Rattle.board_core.proofs.Boards.{below_limit, ready_within}
+use Rattle.board_core.proofs.Boards.{ready_within}
 use Rattle.board_core.proofs.Calm.{idle_calm, kept_calm, later_calm}
-use Rattle.board_core.proofs.Changes.{as_many, as_many_owns, beside, still_seated, turn_shown, world_after}
-use Rattle.board_core.proofs.Devices.{lost_where, made_so, still_lost}
-use Rattle.board_core.proofs.TurnLines.{line_stays, may_serve, served_stays, turn_driven, turn_is_idle, turn_lives}
-use Rattle.board_core.proofs.Turns.{keeps_quiet, loses_one}
+use Rattle.board_core.proofs.Changes.{beside, turn_shown, world_after}
+use Rattle.board_core.proofs.Devices.{made_so}
+use Rattle.board_core.proofs.Tables.{may_turn_on}
+use Rattle.board_core.proofs.TurnLines.{line_stays, may_serve, turn_is_idle, turned_board}
+use Rattle.board_core.proofs.Turns.{keeps_quiet}
 use Rattle.board_core.proofs.board.Board.run.Goals as goal
 use Rattle.board_core.proofs.board.Board.run.Goals.{After-clear}
 
@@ -24,11 +25,10 @@ can_run_is c = ap (λ (w : World). is_ready w (Run c.args.slot)) c.self.view_is 
 within : (c : After-clear) → (c.self.inside.moment.steps < STEP_LIMIT) × (c.args.slot < length c.self.inside.processes.items)
 within c = ready_within c.self.inside c.args.slot c.self.invariant (can_run_is c)
 
-pub turn_at-requires-clause-within : goal.turn_at-requires-clause-within
-turn_at-requires-clause-within c = (within (goal.at.turn_at-requires-clause-within c).After-clear).1
-
-pub turn_at-requires-clause-limit : goal.turn_at-requires-clause-limit
-turn_at-requires-clause-limit c = (within (goal.at.turn_at-requires-clause-limit c).After-clear).0
+pub turn_at-requires-clause-turn : goal.turn_at-requires-clause-turn
+turn_at-requires-clause-turn c =
+    let w = within (goal.at.turn_at-requires-clause-turn c).After-clear in
+    may_turn_on 1 c.self.inside c.args.slot c.self.invariant w.1 (omega (arith, w.0))
 
 pub turn_at-requires-clause-may : goal.turn_at-requires-clause-may
 turn_at-requires-clause-may c =
@@ -54,29 +54,10 @@ calm_after-self-inside-requires-clause-calm c quiet =
 
 pub invariant_of-self : goal.invariant_of-self
 invariant_of-self c =
-    let b = c.self.inside in
-    let t = c.turn_at.ensures.turn in
-    let home = c.turn_at.new.home in
-    let d = c.turn_at.new.drivers in
-    let shown = shown_in c.turn_at.new.emit in
-    let processes = c.turn_at.new.processes.items in
-    let a = (goal.at.invariant_of-self c).After-clear in
-    let r = within a in
-    let lives : t.at.before.1.lives ≡ true = turn_lives b c.args.slot home processes shown d c.self.invariant t (below_limit b c.args.slot c.self.invariant r.0 ∙ can_run_is a) in
-    record {
-      seated = still_seated c.args.slot b.home home b.processes.items processes t.at b.moment.steps t.seated c.self.invariant.seated;
-      lost = still_lost b.moment.steps c.args.slot b.home home t.at.after.1 t.at.own_is (omega (arith, loses_one b.moment c.args.slot b.home.flash t.at.before t.at.after shown b.drivers d c.grants_change_at_calls.ensures.drops t.turns, lost_where b.moment.steps b.home.owns c.args.slot t.at.before.1 t.at.own_was c.self.invariant.lost)) c.self.invariant.lost;
-      owns = as_many_owns c.args.slot b.home home b.processes.items processes t.at ∙ c.self.invariant.owns ∙ as_many c.args.slot b.home home b.processes.items processes t.at;
-      few = omega (arith, as_many c.args.slot b.home home b.processes.items processes t.at, c.self.invariant.few);
-      guard = c.turn_at.ensures.guard;
-      driven = turn_driven b c.args.slot home processes shown d c.self.invariant t c.turns_keep_lines.ensures.lines lives;
-      served = omega (arith, served_stays b c.args.slot home processes shown d c.self.invariant t, c.self.invariant.served);
-      steps = omega (arith, r.0);
-      time = omega (arith, c.self.invariant.time);
-      calm = c.calm_after-self-inside.ensures;
-      slice = c.self.invariant.slice;
-      used = c.used_after_turn-self-inside.ensures.within;
-    }
+    let t = c.turn_at in
+    let left = record c.self.inside { home = t.new.home; processes = t.new.processes; guard = t.new.guard; drivers = t.new.drivers } in
+    turned_board c.self.inside left c.args.slot (shown_in t.new.emit) c.self.invariant t.ensures.turn _ _ c.grants_change_at_calls.ensures.drops c.turns_keep_lines.ensures.lines
+    (can_run_is (goal.at.invariant_of-self c).After-clear) t.ensures.guard c.calm_after-self-inside.ensures c.used_after_turn-self-inside.ensures.within
 
 pub returns : goal.returns
 returns c =

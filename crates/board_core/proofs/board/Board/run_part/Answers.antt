@@ -1,31 +1,40 @@
-use Rattle.std.proofs.Common.{◌≡◌, ◌+◌, ℕ, List, true, All, slice_get, sym, ap, subst, ◌∙◌, arith}
+use Rattle.std.proofs.Common.{◌≡◌, ◌+◌, ℕ, List, Some, true, All, slice_get, sym, ap, subst, ◌∙◌, arith}
 use Rattle.std.specs.List.{zip}
+use Rattle.tk_base.specs.declared.process.Choice.TheVariants.{Run}
 use Rattle.process_record.specs.declared.process.Process.{Process}
+use Rattle.kernel_model.specs.Run.{next}
 use Rattle.kernel_model.specs.Stretch.{GoesOn}
 use Rattle.board_core.specs.Calm.{IsCalm}
 use Rattle.board_core.specs.Driven.{AreDriven}
 use Rattle.board_core.specs.Residents.{HasLost, IsSeated}
+use Rattle.board_core.specs.Shows.{world_of}
 use Rattle.board_core.specs.Stretches.{slot_runs}
-use Rattle.board_core.proofs.Stretches.{ends_shown, looked_ahead, nothing_comes, rests_there, runs_within, still, stretch_shown}
+use Rattle.board_core.proofs.Stretches.{chosen_in_calm, ends_shown, looked_ahead, nothing_comes, rests_there, runs_within, still, stretch_shown, used_within}
+use Rattle.board_core.proofs.Tables.{may_turn_on}
 use Rattle.board_core.proofs.board.Board.run_part.Goals as goal
 use Rattle.board_core.proofs.board.Board.run_part.Goals.{After-is_over}
 
 pub returns-then-not-runs-clause-ends : goal.returns-then-not-runs-clause-ends
 returns-then-not-runs-clause-ends c e h g =
-    rests_there c.self.inside c.self.invariant c.in-Some.slot c.in-Some.is
+    rests_there c.self.inside c.self.invariant c.in-Some.slot (ap next c.self.view_is ∙ c.in-Some.ensures.some)
     (ap (λ (ps : List Process). slot_runs (slice_get ps c.in-Some.slot)) (sym c.deref.ensures.value) ∙ sym c.runs.ensures ∙ c.if-not-runs.true)
     (subst GoesOn (sym c.self.view_is) g)
 
 pub returns-then-self-clause-ends : goal.returns-then-self-clause-ends
 returns-then-self-clause-ends c e h g =
-    nothing_comes c.self.inside c.self.invariant g.calm c.next_is_ready.ensures.ahead (c.calm_ahead-self-inside.ensures.come c.if-self.true)
+    nothing_comes c.self.inside c.self.invariant (chosen_in_calm (world_of c.self.inside) g.slot g.chosen) c.next_is_ready.ensures.ahead (c.calm_ahead-self-inside.ensures.come c.if-self.true)
 
-pub turns_at-made-requires-clause-within : goal.turns_at-made-requires-clause-within
-turns_at-made-requires-clause-within c =
-    runs_within c.self.inside.processes.items c.in-Some.slot
-    (ap (λ (ps : List Process). slot_runs (slice_get ps c.in-Some.slot)) (sym c.deref.ensures.value) ∙ sym c.runs.ensures ∙ c.if-not-runs.false)
+pub turns_at-made-requires : goal.turns_at-made-requires
+turns_at-made-requires c =
+    may_turn_on c.turns_left-left.result c.self.inside c.in-Some.slot c.self.invariant
+    (runs_within c.self.inside.processes.items c.in-Some.slot
+    (ap (λ (ps : List Process). slot_runs (slice_get ps c.in-Some.slot)) (sym c.deref.ensures.value) ∙ sym c.runs.ensures ∙ c.if-not-runs.false))
+    c.turns_left-left.ensures.limit
 
--- the slot's process runs, and the board looked ahead
+-- the slot has the next turn, and its process runs
+chosen : (c : After-is_over) → next (world_of c.self.inside) ≡ Some (Run c.in-Some.slot)
+chosen c = ap next c.self.view_is ∙ c.in-Some.ensures.some
+
 runs_there : (c : After-is_over) → slot_runs (slice_get c.self.inside.processes.items c.in-Some.slot) ≡ true
 runs_there c = ap (λ (ps : List Process). slot_runs (slice_get ps c.in-Some.slot)) (sym c.deref.ensures.value) ∙ sym c.runs.ensures ∙ c.if-not-runs.false
 
@@ -38,7 +47,8 @@ invariant_of-self-2 c =
     let processes = c.turns_at-made.new.processes.items in
     let left = c.turns_left-left.ensures in
     let ticks = c.from-ticks.ensures in
-    let holds = still b board c.in-Some.slot k c.turns_left-left.result home processes c.turns_at-made.ensures.quiet in
+    let present = c.present_after-present in
+    let holds = still b board c.in-Some.slot k c.turns_left-left.result present.result.1 present.result.0 home processes c.turns_at-made.ensures.quiet in
     record {
       seated = subst (λ (n : ℕ). All (IsSeated home.flash (b.moment.steps + n)) (zip processes home.owns)) (sym ticks) holds.seated;
       lost = subst (λ (n : ℕ). All (HasLost (b.moment.steps + n)) home.owns) (sym ticks) holds.lost;
@@ -51,7 +61,7 @@ invariant_of-self-2 c =
       time = omega (arith, board.time);
       calm = subst (λ (n : ℕ). IsCalm b.moment.settings.start (b.moment.time + n) b.calm home.owns b.drivers) (sym ticks) holds.calm;
       slice = board.slice;
-      used = omega (arith, left.slice, c.turns_at-made.ensures.most);
+      used = used_within b.used b.slice c.used_before-before.result k present.result.1 board.used (omega (arith, left.slice, c.turns_at-made.ensures.most)) (λ none. (present.ensures.none none).1) (λ some. (present.ensures.some some).1);
     }
 
 pub returns-clause-stretch : goal.returns-clause-stretch
@@ -60,13 +70,20 @@ returns-clause-stretch c =
     let board = looked_ahead c.self.inside c.calm_ahead-self-inside.result c.self.invariant c.calm_ahead-self-inside.ensures.calm in
     let left = c.turns_left-left.ensures in
     let most = c.turns_at-made.ensures.most in
+    let present = c.present_after-present in
     let q = c.turns_at-made.ensures.quiet in
-    stretch_shown b board c.in-Some.slot c.turns_at-made.result c.turns_left-left.result c.turns_at-made.new.home c.turns_at-made.new.processes.items q c.from-ticks.result c.args.self.now c.round_is_stretch.ensures.round c.from-ticks.ensures c.self.view_is c.in-Some.is
-    (ap slot_runs (sym q.at.was) ∙ runs_there c) (omega (arith, left.slice, most)) (omega (arith, left.until, most))
+    stretch_shown b board c.in-Some.slot c.turns_at-made.result c.turns_left-left.result present.result.1 present.result.0 c.turns_at-made.new.home c.turns_at-made.new.processes.items q
+    (chosen c) (ap slot_runs (sym q.at.was) ∙ runs_there c) c.used_before-before.result c.used_before-before.ensures.value (omega (arith, left.slice, most)) (omega (arith, left.until, most)) present.ensures.none present.ensures.some
+    c.from-ticks.result c.args.self.now c.round_is_stretch.ensures.round c.round_is_stretch.ensures.none c.from-ticks.ensures c.self.view_is
 
 pub returns-clause-ends : goal.returns-clause-ends
 returns-clause-ends c e h g =
     let b = record c.self.inside { calm = c.calm_ahead-self-inside.result } in
     let board = looked_ahead c.self.inside c.calm_ahead-self-inside.result c.self.invariant c.calm_ahead-self-inside.ensures.calm in
-    ends_shown b board c.in-Some.slot c.turns_at-made.result c.turns_left-left.result c.turns_at-made.new.home c.turns_at-made.new.processes.items c.turns_at-made.ensures.quiet c.from-ticks.result c.args.most c.calm_ahead-self-inside.result
-    c.from-ticks.ensures c.in-Some.is c.turns_at-made.ensures.most (c.is_over.ensures.over e) c.turns_left-left.ensures.all h g
+    let left = c.turns_left-left.ensures in
+    let most = c.turns_at-made.ensures.most in
+    let present = c.present_after-present in
+    let q = c.turns_at-made.ensures.quiet in
+    ends_shown b board c.in-Some.slot c.turns_at-made.result c.turns_left-left.result present.result.1 present.result.0 c.turns_at-made.new.home c.turns_at-made.new.processes.items q
+    (chosen c) (ap slot_runs (sym q.at.was) ∙ runs_there c) c.used_before-before.result c.used_before-before.ensures.value (omega (arith, left.slice, most)) (omega (arith, left.until, most)) present.ensures.none present.ensures.some
+    c.round_is_stretch.ensures.stays c.from-ticks.result c.args.most c.calm_ahead-self-inside.result c.from-ticks.ensures most (c.is_over.ensures.over e) left.slice c.used_before-before.ensures.within (omega (arith, c.if-self.false)) c.requires left.all g

@@ -37,7 +37,7 @@ told c =
     subst (λ (o : Option ProcessId). Acted b c.args.device o c.act.new.printed.items c.act.new.home c.act.new.self) c.in-Some.is (c.act.ensures b c.self.invariant)
 
 pub calm-self-inside-requires-clause-free : goal.calm-self-inside-requires-clause-free
-calm-self-inside-requires-clause-free c = (told (goal.at.calm-self-inside-requires-clause-free c).In-Some).free
+calm-self-inside-requires-clause-free c = (told (goal.at.calm-self-inside-requires-clause-free c).In-Some).serves.uart.free
 
 pub invariant_of-self-2 : goal.invariant_of-self-2
 invariant_of-self-2 c =

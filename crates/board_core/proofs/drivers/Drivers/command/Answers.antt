@@ -17,7 +17,7 @@ returns-in-1-clause-comes c =
     let own = own_of c.args.home.now c.args.id.slot in
     let does = c.command-in-1.ensures in
     commands_by c.args.tick c.args.id c.args.order.now c.args.self.now _ own (own_of c.command-in-1.new.home c.args.id.slot) c.command-in-1.result 0x1 _ c.in-1.is console_row
-    (does.answer, does.own, console_drives c.args.id c.args.self.now c.command-in-1.new.self.writes c.command-in-1.new.self.reads _ (c.drivers_ask_for_their_own.ensures.console c.args.order.now.number c.args.order.now.a2 own) does.writes does.reads)
+    (does.writes.answer, does.writes.own, console_drives c.args.id c.args.self.now c.command-in-1.new.self.writes c.command-in-1.new.self.reads _ (c.drivers_ask_for_their_own.ensures.console c.args.order.now.number c.args.order.now.a2 own) does.writes.waiting does.reads.waiting)
 
 pub returns-in-2-clause-comes : goal.returns-in-2-clause-comes
 returns-in-2-clause-comes c =
@@ -31,7 +31,7 @@ returns-in-262145-clause-comes c =
     let own = own_of c.args.home.now c.args.id.slot in
     let does = c.command-in-262145.ensures in
     commands_by c.args.tick c.args.id c.args.order.now c.args.self.now _ own (own_of c.command-in-262145.new.home c.args.id.slot) c.command-in-262145.result 0x40001 _ c.in-262145.is random_row
-    (does.answer, does.own, random_drives c.args.id c.args.self.now c.command-in-262145.new.self _ (c.drivers_ask_for_their_own.ensures.random c.args.order.now.number c.args.order.now.a2 own) does.waiting)
+    (does.answer, does.own, random_drives c.args.id c.args.self.now c.command-in-262145.new.self.waiting _ (c.drivers_ask_for_their_own.ensures.random c.args.order.now.number c.args.order.now.a2 own) does.waiting)
 
 pub returns-in_default-clause-comes : goal.returns-in_default-clause-comes
 returns-in_default-clause-comes c =
@@ -44,4 +44,4 @@ returns-in_default-clause-comes c =
     let not_random : (0x40001 == c.args.order.now.driver) ≡ false = search rules in
     let asks = λ (n : ℕ). storage.command n c.args.order.now.number c.args.order.now.a2 c.args.order.now.a3 own in
     commands_by c.args.tick c.args.id c.args.order.now c.args.self.now _ own (own_of c.command-in_default.new.home c.args.id.slot) c.command-in_default.result c.args.order.now.driver _ refl (storage_left c.args.order.now.driver c.requires.driver not_alarm not_console not_leds not_random)
-    (does.answer ∙ ap (λ (n : ℕ). (asks n).answer) size, does.own ∙ ap (λ (n : ℕ). (asks n).own) size, storage_drives c.args.id c.args.self.now c.command-in_default.new.self _ (c.drivers_ask_for_their_own.ensures.storage _ c.args.order.now.number c.args.order.now.a2 c.args.order.now.a3 own) (does.waiting ∙ ap (λ (n : ℕ). waiting_after Stores c.args.id c.args.self.now.storage (asks n).acts) size))
+    (does.answer ∙ ap (λ (n : ℕ). (asks n).answer) size, does.own ∙ ap (λ (n : ℕ). (asks n).own) size, storage_drives c.args.id c.args.self.now c.command-in_default.new.self.waiting _ (c.drivers_ask_for_their_own.ensures.storage _ c.args.order.now.number c.args.order.now.a2 c.args.order.now.a3 own) (does.waiting ∙ ap (λ (n : ℕ). waiting_after Stores c.args.id c.args.self.now.storage.waiting (asks n).acts) size))

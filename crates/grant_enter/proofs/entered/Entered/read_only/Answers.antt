@@ -15,7 +15,7 @@ pair_is c = c.buffer_ro-at.ensures ∙ ap (λ (xs : List ℕ). held_pair ReadOnl
 may : (c : After-buffer_ro-at) → MayBeRead c.args.self.now.seat.now.layout c.buffer_ro-at.result
 may c =
     let l = c.requires.lent in
-    subst (MayBeRead c.args.self.now.seat.now.layout) (sym (pair_is c)) (ro_may c.args.self.now.memory.now c.args.self.now.seat.now l.settled l.seated c.args.self.now.driver c.args.n)
+    subst (MayBeRead c.args.self.now.seat.now.layout) (sym (pair_is c)) (ro_may c.args.self.now.memory.now c.args.self.now.seat.now l.sits c.args.self.now.driver c.args.n)
 
 pub buffer_at-requires-clause-may : goal.buffer_at-requires-clause-may
 buffer_at-requires-clause-may c = may (goal.at.buffer_at-requires-clause-may c).After-buffer_ro-at
@@ -25,5 +25,5 @@ returns c =
     let l = c.requires.lent in
     let at = (goal.at.returns c).After-buffer_ro-at in
     c.buffer_at.ensures
-    ∙ read_is c.args.self.now.memory.now c.args.self.now.seat.now l.settled c.buffer_ro-at.result (may at)
+    ∙ read_is c.args.self.now.memory.now c.args.self.now.seat.now l.sits.settled c.buffer_ro-at.result (may at)
     ∙ ap (bytes_at c.args.self.now.memory.now.flash (own_in c.args.self.now.memory.now.ram c.args.self.now.seat.now)) (pair_is at)

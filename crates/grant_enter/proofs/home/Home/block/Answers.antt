@@ -1,6 +1,5 @@
-use Rattle.std.proofs.Common.{rules}
-use Rattle.grant_enter.proofs.Moves.{settled_is}
+use Rattle.grant_enter.proofs.Moves.{sits_before}
 use Rattle.grant_enter.proofs.home.Home.block.Goals as goal
 
-pub block_at-requires-clause-settled : goal.block_at-requires-clause-settled
-block_at-requires-clause-settled c = settled_is c.self.inside c.args.slot c.index.result c.index-seat.result.now c.index.ensures.value c.index-seat.ensures (search rules) c.self.invariant
+pub block_at-requires : goal.block_at-requires
+block_at-requires c = sits_before (record { home = c.self.invariant; shown = c.self.view_is; there = c.requires; is = c.index.ensures.value; read = c.index-seat.ensures })

@@ -1,34 +1,25 @@
-use Rattle.std.proofs.Common.{◌≡◌, sym, ap, ◌∙◌, rules}
-use Rattle.std.specs.Vec.{with_item}
+use Rattle.std.proofs.Common.{◌≡◌, false}
 use Rattle.process_own.specs.Own.{ended}
-use Rattle.grant_enter.specs.Homes.{own_of, with_own}
-use Rattle.grant_enter.specs.Seats.{homes_of}
-use Rattle.grant_enter.proofs.Moves.{end_reseats, ended_own, own_of_old, put_found, put_only, reseated, reshown, seated_is, settled_is}
+use Rattle.grant_enter.proofs.Moves.{Reads, ended_own, requeued, reseated, reseated_only, reseated_shows, sits_before}
 use Rattle.grant_enter.proofs.home.Home.end.Goals as goal
 use Rattle.grant_enter.proofs.home.Home.end.Goals.{After-clear}
 
+-- the seat of the slot
+reads : (c : After-clear) → Reads c.self.inside c.args.self.now c.args.slot c.index.result c.index_mut-seat.result.now
+reads c = record { home = c.self.invariant; shown = c.self.view_is; there = c.requires; is = c.index.ensures.value; read = c.index_mut-seat.ensures.value }
+
 pub invariant_of-self : goal.invariant_of-self
 invariant_of-self c =
-    let seat = c.index_mut-seat.result.now in
-    reseated c.self.inside c.args.slot c.index.result seat c.index.ensures.value c.index_mut-seat.ensures.value (search rules) c.self.invariant c.self.inside.memory _
-    (end_reseats c.self.inside.memory seat c.clear.new.self
-    (settled_is c.self.inside c.args.slot c.index.result seat c.index.ensures.value c.index_mut-seat.ensures.value (search rules) c.self.invariant)
-    (seated_is c.self.inside c.args.slot c.index.result seat c.index.ensures.value c.index_mut-seat.ensures.value (search rules) c.self.invariant))
-
--- what contracts see
-shown : (c : After-clear) → homes_of (record c.self.inside { seats = with_item c.self.inside.seats c.index.result (record c.index_mut-seat.result.now { pending = record c.index_mut-seat.result.now.pending { queue = c.clear.new.self }; lives = Rattle.std.specs.Prelude.false }) }) ≡ with_own c.args.self.now c.args.slot (ended (own_of c.args.self.now c.args.slot))
-shown c =
-    let seat = c.index_mut-seat.result.now in
-    reshown c.self.inside c.args.slot c.index.result seat c.index.ensures.value c.index_mut-seat.ensures.value (search rules) c.self.invariant c.self.inside.memory _
-    (end_reseats c.self.inside.memory seat c.clear.new.self
-    (settled_is c.self.inside c.args.slot c.index.result seat c.index.ensures.value c.index_mut-seat.ensures.value (search rules) c.self.invariant)
-    (seated_is c.self.inside c.args.slot c.index.result seat c.index.ensures.value c.index_mut-seat.ensures.value (search rules) c.self.invariant))
-    c.args.self.now _ c.self.view_is
-    (ended_own c.self.inside.memory.ram seat c.clear.new.self c.clear.ensures
-    ∙ ap ended (sym (own_of_old c.self.inside c.args.slot c.index.result seat c.index.ensures.value c.index_mut-seat.ensures.value (search rules) c.args.self.now c.self.view_is)))
+    let r = reads (goal.at.invariant_of-self c).After-clear in
+    reseated r c.self.inside.memory _ (requeued c.self.inside.memory c.index_mut-seat.result.now c.clear.new.self _ (sits_before r))
 
 pub returns-clause-own : goal.returns-clause-own
-returns-clause-own c = put_found c.args.self.now _ c.args.slot (ended (own_of c.args.self.now c.args.slot)) c.requires (shown (goal.at.returns-clause-own c).After-clear)
+returns-clause-own c =
+    let r = reads (goal.at.returns-clause-own c).After-clear in
+    let seat = c.index_mut-seat.result.now in
+    reseated_shows r c.self.inside.memory _ (requeued c.self.inside.memory seat c.clear.new.self false (sits_before r)) (λ flash own own_after. own_after ≡ ended own) (ended_own c.self.inside.memory.ram seat c.clear.new.self c.clear.ensures)
 
 pub returns-clause-rest : goal.returns-clause-rest
-returns-clause-rest c = put_only c.args.self.now _ c.args.slot (ended (own_of c.args.self.now c.args.slot)) c.requires (shown (goal.at.returns-clause-rest c).After-clear)
+returns-clause-rest c =
+    let r = reads (goal.at.returns-clause-rest c).After-clear in
+    reseated_only r c.self.inside.memory _ (requeued c.self.inside.memory c.index_mut-seat.result.now c.clear.new.self _ (sits_before r))

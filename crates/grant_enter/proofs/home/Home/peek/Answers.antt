@@ -1,6 +1,5 @@
-use Rattle.std.proofs.Common.{rules}
-use Rattle.grant_enter.proofs.Moves.{settled_is}
+use Rattle.grant_enter.proofs.Moves.{sits_before}
 use Rattle.grant_enter.proofs.home.Home.peek.Goals as goal
 
-pub peek_seat-requires-clause-settled : goal.peek_seat-requires-clause-settled
-peek_seat-requires-clause-settled g c = settled_is c.self.inside c.args.id.slot c.index.result c.index-seat.result.now c.index.ensures.value c.index-seat.ensures (search rules) c.self.invariant
+pub peek_seat-requires-clause-sits : goal.peek_seat-requires-clause-sits
+peek_seat-requires-clause-sits g c = sits_before (record { home = c.self.invariant; shown = c.self.view_is; there = c.requires.slot; is = c.index.ensures.value; read = c.index-seat.ensures })

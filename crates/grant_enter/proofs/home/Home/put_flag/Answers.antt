@@ -1,26 +1,22 @@
-use Rattle.std.proofs.Common.{◌≡◌, sym, ap, ◌∙◌, rules}
+use Rattle.std.proofs.Common.{◌≡◌}
 use Rattle.process_own.specs.Flag.{with_flag}
-use Rattle.grant_enter.specs.Homes.{own_of, with_own}
-use Rattle.grant_enter.specs.Seats.{homes_of}
-use Rattle.grant_enter.proofs.Moves.{own_of_old, put_found, put_only, settled_is, still_home, still_shown}
+use Rattle.grant_enter.proofs.Moves.{Reads, sits_before, still_home, still_only, still_shows}
 use Rattle.grant_enter.proofs.home.Home.put_flag.Goals as goal
-use Rattle.grant_enter.proofs.home.Home.put_flag.Goals.{After-put_flag_at}
+use Rattle.grant_enter.proofs.home.Home.put_flag.Goals.{After-index-2}
 
-pub put_flag_at-requires-clause-settled : goal.put_flag_at-requires-clause-settled
-put_flag_at-requires-clause-settled c = settled_is c.self.inside c.args.slot c.index.result c.index-2.result.now c.index.ensures.value c.index-2.ensures (search rules) c.self.invariant
+-- the seat of the slot
+reads : (c : After-index-2) → Reads c.self.inside c.args.self.now c.args.slot c.index.result c.index-2.result.now
+reads c = record { home = c.self.invariant; shown = c.self.view_is; there = c.requires; is = c.index.ensures.value; read = c.index-2.ensures }
+
+pub put_flag_at-requires : goal.put_flag_at-requires
+put_flag_at-requires c = sits_before (reads (goal.at.put_flag_at-requires c).After-index-2)
 
 pub invariant_of-self : goal.invariant_of-self
-invariant_of-self c = still_home c.self.inside c.args.slot c.index.result c.index-2.result.now c.index.ensures.value c.index-2.ensures (search rules) c.self.invariant c.put_flag_at.new.memory c.put_flag_at.ensures.reseats
-
--- what contracts see
-shown : (c : After-put_flag_at) → homes_of (record { memory = c.put_flag_at.new.memory; seats = c.self.inside.seats }) ≡ with_own c.args.self.now c.args.slot (with_flag c.args.at c.args.flag (own_of c.args.self.now c.args.slot))
-shown c =
-    let seat = c.index-2.result.now in
-    still_shown c.self.inside c.args.slot c.index.result seat c.index.ensures.value c.index-2.ensures (search rules) c.self.invariant c.put_flag_at.new.memory c.put_flag_at.ensures.reseats c.args.self.now _ c.self.view_is
-    (c.put_flag_at.ensures.own ∙ ap (with_flag c.args.at c.args.flag) (sym (own_of_old c.self.inside c.args.slot c.index.result seat c.index.ensures.value c.index-2.ensures (search rules) c.args.self.now c.self.view_is)))
+invariant_of-self c = still_home (reads (goal.at.invariant_of-self c).After-index-2) c.put_flag_at.new.memory c.put_flag_at.ensures.reseats
 
 pub returns-clause-own : goal.returns-clause-own
-returns-clause-own c = put_found c.args.self.now _ c.args.slot _ c.requires (shown (goal.at.returns-clause-own c).After-put_flag_at)
+returns-clause-own c =
+    still_shows (reads (goal.at.returns-clause-own c).After-index-2) c.put_flag_at.new.memory c.put_flag_at.ensures.reseats (λ flash own own_after. own_after ≡ with_flag c.args.at c.args.flag own) c.put_flag_at.ensures.own
 
 pub returns-clause-rest : goal.returns-clause-rest
-returns-clause-rest c = put_only c.args.self.now _ c.args.slot (with_flag c.args.at c.args.flag (own_of c.args.self.now c.args.slot)) c.requires (shown (goal.at.returns-clause-rest c).After-put_flag_at)
+returns-clause-rest c = still_only (reads (goal.at.returns-clause-rest c).After-index-2) c.put_flag_at.new.memory c.put_flag_at.ensures.reseats

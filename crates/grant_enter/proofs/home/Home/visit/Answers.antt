@@ -1,26 +1,23 @@
-use Rattle.std.proofs.Common.{◌≡◌, ℕ, List, sym, ap, subst, rules}
-use Rattle.process_own.specs.Own.{Own}
-use Rattle.grant_enter.specs.Homes.{Homes, own_of}
-use Rattle.grant_enter.specs.Seats.{own_in}
 use Rattle.grant_enter.specs.Visits.{Visits}
-use Rattle.grant_enter.proofs.Moves.{own_of_old, reseated, reseated_only, reseated_own, settled_is}
+use Rattle.grant_enter.proofs.Moves.{Reads, reseated, reseated_only, reseated_shows, sits_before}
 use Rattle.grant_enter.proofs.home.Home.visit.Goals as goal
+use Rattle.grant_enter.proofs.home.Home.visit.Given.{Over}
+use Rattle.grant_enter.proofs.home.Home.visit.Goals.{After-index_mut-seat}
 
-pub visit_seat-requires-clause-settled : goal.visit_seat-requires-clause-settled
-visit_seat-requires-clause-settled g c = settled_is c.self.inside c.args.id.slot c.index.result c.index_mut-seat.result.now c.index.ensures.value c.index_mut-seat.ensures.value (search rules) c.self.invariant
+-- the seat of the slot
+reads : (g : Over) (c : After-index_mut-seat g) → Reads c.self.inside c.args.self.now c.args.id.slot c.index.result c.index_mut-seat.result.now
+reads g c = record { home = c.self.invariant; shown = c.self.view_is; there = c.requires.slot; is = c.index.ensures.value; read = c.index_mut-seat.ensures.value }
+
+pub visit_seat-requires-clause-sits : goal.visit_seat-requires-clause-sits
+visit_seat-requires-clause-sits g c = sits_before (reads g (goal.at.visit_seat-requires-clause-sits g c).After-index_mut-seat)
 
 pub invariant_of-self : goal.invariant_of-self
-invariant_of-self g c = reseated c.self.inside c.args.id.slot c.index.result c.index_mut-seat.result.now c.index.ensures.value c.index_mut-seat.ensures.value (search rules) c.self.invariant c.visit_seat.new.memory c.visit_seat.new.seat c.visit_seat.ensures.reseats
+invariant_of-self g c = reseated (reads g (goal.at.invariant_of-self g c).After-index_mut-seat) c.visit_seat.new.memory c.visit_seat.new.seat c.visit_seat.ensures.reseats
 
 pub returns-clause-visits : goal.returns-clause-visits
 returns-clause-visits g c =
-    let seat = c.index_mut-seat.result.now in
-    let h = c.self.inside in
-    let before : own_of c.args.self.now c.args.id.slot ≡ own_in h.memory.ram seat = own_of_old h c.args.id.slot c.index.result seat c.index.ensures.value c.index_mut-seat.ensures.value (search rules) c.args.self.now c.self.view_is in
-    let after = reseated_own h c.args.id.slot c.index.result seat c.index.ensures.value c.index_mut-seat.ensures.value (search rules) c.self.invariant c.visit_seat.new.memory c.visit_seat.new.seat c.visit_seat.ensures.reseats c.args.self.now c.self.view_is c.requires.slot in
-    subst (λ (o : Own). Visits (g.V.Visit.leaves c.args.visitor) g.T.GrantValue.value g.T.GrantValue.words c.args.driver c.args.counts c.args.id.life c.args.self.now.flash (own_of c.args.self.now c.args.id.slot) c.visit_seat.result o) (sym after)
-    (subst (λ (o : Own). Visits (g.V.Visit.leaves c.args.visitor) g.T.GrantValue.value g.T.GrantValue.words c.args.driver c.args.counts c.args.id.life c.args.self.now.flash o c.visit_seat.result (own_in c.visit_seat.new.memory.ram c.visit_seat.new.seat)) (sym before)
-    (subst (λ (f : List ℕ). Visits (g.V.Visit.leaves c.args.visitor) g.T.GrantValue.value g.T.GrantValue.words c.args.driver c.args.counts c.args.id.life f (own_in h.memory.ram seat) c.visit_seat.result (own_in c.visit_seat.new.memory.ram c.visit_seat.new.seat)) (ap (λ (x : Homes). x.flash) c.self.view_is) c.visit_seat.ensures.visits))
+    reseated_shows (reads g (goal.at.returns-clause-visits g c).After-index_mut-seat) c.visit_seat.new.memory c.visit_seat.new.seat c.visit_seat.ensures.reseats
+    (λ flash own own_after. Visits (g.V.Visit.leaves c.args.visitor) g.T.GrantValue.value g.T.GrantValue.words c.args.driver c.args.counts c.args.id.life flash own c.visit_seat.result own_after) c.visit_seat.ensures.visits
 
 pub returns-clause-rest : goal.returns-clause-rest
-returns-clause-rest g c = reseated_only c.self.inside c.args.id.slot c.index.result c.index_mut-seat.result.now c.index.ensures.value c.index_mut-seat.ensures.value (search rules) c.self.invariant c.visit_seat.new.memory c.visit_seat.new.seat c.visit_seat.ensures.reseats c.args.self.now c.self.view_is c.requires.slot
+returns-clause-rest g c = reseated_only (reads g (goal.at.returns-clause-rest g c).After-index_mut-seat) c.visit_seat.new.memory c.visit_seat.new.seat c.visit_seat.ensures.reseats

@@ -1,0 +1,21 @@
+-- The settings that a script shows. Only proofs use this.
+use Rattle.script_text.specs.declared.script.Script.TheInside.{Inside}
+use Rattle.script_text.specs.Settings.{AreSound, Settings}
+
+abbrev pub settings_of : Inside → Settings
+settings_of s = record {
+  ram = s.ram;
+  leds = s.leds;
+  slice = s.slice;
+  start = s.start;
+  uart = s.uart;
+  storage = s.storage;
+  policy = s.policy;
+  faults = s.faults.items;
+  words = s.words;
+  events = s.events;
+}
+
+-- they are in their ranges
+abbrev pub IsSound : Inside → Type 0
+IsSound s = AreSound (settings_of s)
