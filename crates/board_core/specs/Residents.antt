@@ -124,14 +124,16 @@ pub record IsSeated (flash : List ℕ) (steps : ℕ) (r : Resident) : Type 0 whe
 
 -- So many turns of the process in a slot may be made at a moment: it is as it is to be, so many steps are left, and the
 -- registers protect whomever they are set for.
-pub record MayTurn (turns : ℕ) (m : Moment) (place : ℕ) (home : Homes) (process : Process) (registers : Guard) : Type 0 where
+pub record MayTurn (turns : ℕ) (m : Moment) (place : ℕ) (home : Homes) (process : Process) (registers : Guard)
+    : Type 0 where
   pub slot : place < length home.owns
   pub seated : IsSeated home.flash m.steps (resident home place process)
   pub limit : m.steps + turns ≤ STEP_LIMIT
   pub guard : GuardsOnly registers home
 
 -- the same of a slot of the tables of a board
-pub record MayTurnAt (turns : ℕ) (m : Moment) (place : ℕ) (home : Homes) (processes : List Process) (registers : Guard) : Type 0 where
+pub record MayTurnAt (turns : ℕ) (m : Moment) (place : ℕ) (home : Homes) (processes : List Process)
+    (registers : Guard) : Type 0 where
   pub within : place < length processes
   pub owns : length home.owns ≡ length processes
   pub seated : All (IsSeated home.flash m.steps) (zip processes home.owns)

@@ -1,10 +1,10 @@
-//! Two applications on one board, step by step.
+//! Two applications on one board, step by step. Each function makes few calls: the proof of a long one costs more than
+//! those of its parts.
 use super::*;
 use process_record::Emit;
 use script_text::read_script;
 use std::alloc::Global;
 use std::process::Abort;
-use std::test::Fail;
 use test_objects::{Tlv, image, object};
 use tk_base::{Access, Choice, Denial, Rule, Slot};
 use tk_outside::MemSink;
@@ -33,71 +33,59 @@ fn board_of(alloc: Global) -> Option<Board> {
     Board::boot(alloc, flash, script).ok()
 }
 
-/// Makes so many steps by the round robin; whether all of them could be made.
-fn go_on(board: &mut Board, emit: &mut Emit, steps: u32) -> bool {
-    for _ in 0..steps {
-        let Some(choice) = board.next_choice() else {
-            return false;
-        };
-        if board.step(choice, emit).is_err() {
-            return false;
-        }
-    }
-    true
+/// What choices come to on a board; None for want of memory.
+fn played(board: &mut Board, alloc: Global, choices: &[Choice]) -> Option<PlayEnd> {
+    let mut out = MemSink::new(alloc, 1, 1, Vec::new(alloc)).ok()?;
+    board.play(choices, &mut out).err()
 }
 
-#[test]
-fn the_next_application_cannot_store_in_the_first_ones_block(rt: HostRuntime) -> Result<(), Fail> {
-    let Some(mut board) = board_of(rt.alloc()) else {
-        assert!(rt; false, "no memory");
-        return Ok(());
-    };
+/// Makes the round robin's next step, and answers whose turn it was, and what was denied in it.
+fn go_on(board: &mut Board) -> (Option<Slot>, Option<Denial>) {
     let mut emit = Emit::new();
-    assert!(rt; go_on(&mut board, &mut emit, 100));
-    assert_eq!(rt; emit.slot, Some(Slot::new(0)));
-    assert!(rt; board.next_choice() == Some(Choice::Run(Slot::new(1))));
-    assert!(rt; go_on(&mut board, &mut emit, 2));
+    if let Some(choice) = board.next_choice() {
+        let _ = board.step(choice, &mut emit);
+    }
+    (emit.slot, emit.denial)
+}
+
+/// How many turns quiet stretches have: ten at the most from the first step on; then to the end of the slice and on to
+/// the second application's first turn; and before its second one.
+fn stretches(board: &mut Board) -> [u32; 3] {
+    let ten = board.run_quietly(10);
+    let rest = board.run_quietly(1000);
+    [ten, rest, board.run_quietly(10)]
+}
+
+/// Whether the second application's store is denied, and the first one goes on.
+fn is_stopped(board: &mut Board) -> bool {
     let stray = Denial {
         access: Access::Store,
         address: 0x8000_0000,
         rule: Rule::NoRegion,
     };
-    assert_eq!(rt; emit.denial, Some(stray));
-    assert!(rt; board.step(Choice::Run(Slot::new(1)), &mut emit).is_err());
-    let summary = board.summary();
-    assert_eq!(rt; summary.steps, 102);
-    Ok(())
+    go_on(board) == (Some(Slot::new(1)), Some(stray)) && go_on(board) == (Some(Slot::new(0)), None)
+}
+
+/// Three turns of the first application, one of the second one, and one of the first one again.
+fn five_turns() -> [Choice; 5] {
+    let mut choices = [Choice::Run(Slot::new(0)); 5];
+    choices[3] = Choice::Run(Slot::new(1));
+    choices
+}
+
+/// What is seen of the board, what comes of choices from outside then, and how many steps were made.
+fn seen(board: &mut Board, alloc: Global) -> ([u32; 3], bool, Option<PlayEnd>, u64) {
+    let stretches = stretches(board);
+    let is_stopped = is_stopped(board);
+    let end = played(board, alloc, &five_turns());
+    (stretches, is_stopped, end, board.summary().steps)
 }
 
 #[test]
-fn the_first_choice_that_is_not_ready_is_named(rt: HostRuntime) -> Result<(), Fail> {
-    let Some(mut board) = board_of(rt.alloc()) else {
-        assert!(rt; false, "no memory");
-        return Ok(());
-    };
-    // Its second turn is denied, and ends it.
-    let stray = Choice::Run(Slot::new(1));
-    let choices = [Choice::Run(Slot::new(0)), stray, stray, stray, stray];
-    let mut out = MemSink::new(rt.alloc(), 1, 1, vec![in rt.alloc()]?)?;
-    assert_eq!(rt; board.play(&choices, &mut out), Err(PlayEnd::NotReady(3)));
-    assert_eq!(rt; board.summary().steps, 3);
-    Ok(())
-}
-
-#[test]
-fn a_quiet_stretch_goes_on_to_the_next_slice_and_stops_before_a_denial(
-    rt: HostRuntime,
-) -> Result<(), Fail> {
-    let Some(mut board) = board_of(rt.alloc()) else {
-        assert!(rt; false, "no memory");
-        return Ok(());
-    };
-    assert_eq!(rt; board.run_quietly(10), 10);
-    // The 90 others of the slice, and the first instruction of the next slot's process; its second one is denied.
-    assert_eq!(rt; board.run_quietly(1000), 91);
-    assert!(rt; board.next_choice() == Some(Choice::Run(Slot::new(1))));
-    assert_eq!(rt; board.run_quietly(10), 0);
-    let summary = board.summary();
-    assert_eq!(rt; summary.steps, 101);
-    Ok(())
+fn two_applications_go_on_as_was_worked_out(rt: HostRuntime) {
+    let mut board = board_of(rt.alloc()).expect(&rt, "memory");
+    assert_eq!(rt;
+        seen(&mut board, rt.alloc()),
+        ([10, 91, 0], true, Some(PlayEnd::NotReady(3)), 106)
+    );
 }
