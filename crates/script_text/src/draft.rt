@@ -1,5 +1,5 @@
 //! What the lines so far say.
-ghost use Rattle.std.specs.Prelude.{◌≡◌, ◌≤◌, ◌++◌, ◌*◌, true, false, length, map, drop, Some, None, IfOk};
+ghost use Rattle.std.specs.Prelude.{◌≡◌, ◌≤◌, ◌++◌, ◌*◌, ◌/◌, true, false, nat_lt, length, map, drop, Some, None, IfOk};
 ghost use Rattle.decimal_number.specs.Number.{is_number, number};
 ghost use Rattle.script_text.specs.Said.{hex_bytes, hex_word};
 ghost use Rattle.script_text.specs.Rules.{is_hex, has_bad_hex};
@@ -116,6 +116,20 @@ fn add_words(list: &mut Vec<u32>, text: &[u8]) -> Result<(), AllocError>
     Ok(())
 }
 
+/// Whether hex digits write more bytes than an event has at most.
+fn is_long(word: &[u8]) -> bool
+    ensures { result ≡ nat_lt 64 (length word.now / 2) }
+{
+    word.len() / 2 > EVENT_BYTES
+}
+
+/// Whether a time lies before that of an event.
+fn is_before(time: u64, event: &TimedEvent) -> bool
+    ensures { result ≡ nat_lt time event.now.time }
+{
+    time < u64::from(event.time)
+}
+
 /// The number that a word of a line writes, where it is below 2^32.
 fn small_at(text: &[u8], place: usize) -> u32
     requires digits { is_number (word (words text.now) place) ≡ true }
@@ -170,7 +184,7 @@ impl Draft {
     {
         match line {
             Line::Input => match self.events.last() {
-                Some(event) => written_at(text, 1) < u64::from(event.time),
+                Some(event) => is_before(written_at(text, 1), event),
                 None => false,
             },
             Line::StorageFault => {
@@ -192,9 +206,7 @@ impl Draft {
         match line {
             Line::StorageFault => self.faults.is_full(),
             Line::Random => self.words.len() + word_count(text) > WORD_LIMIT + 1,
-            Line::Input => {
-                self.events.len() >= EVENT_LIMIT || word_at(text, 3).len() / 2 > EVENT_BYTES
-            }
+            Line::Input => self.events.len() >= EVENT_LIMIT || is_long(word_at(text, 3)),
             _ => false,
         }
     }

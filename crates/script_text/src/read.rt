@@ -1,13 +1,21 @@
 //! Reading a whole script.
-ghost use Rattle.std.specs.Prelude.{◌≤◌, length};
+ghost use Rattle.std.specs.Prelude.{◌≡◌, ◌≤◌, length};
+ghost use Rattle.script_text.specs.declared.rule.ScriptError.TheVariants.{Bad};
 ghost use Rattle.script_text.specs.Reading.{reading, Reads};
 
 use crate::draft::{Draft, Trouble};
-use crate::rule::ScriptError;
+use crate::rule::{ScriptError, ScriptRule};
 use crate::script::Script;
 use crate::text::Lines;
 use std::alloc::Global;
 use tk_base::SCRIPT_LIMIT;
+
+/// The error of a line that breaks a rule.
+fn bad(line: u32, rule: ScriptRule) -> ScriptError
+    ensures { result ≡ Bad line rule }
+{
+    ScriptError::Bad { line, rule }
+}
 
 /// What a script says, of at most [`SCRIPT_LIMIT`] bytes.
 ///
@@ -45,7 +53,7 @@ pub fn read_script(alloc: Global, script: &[u8]) -> Result<Script, ScriptError>
         number += 1;
         match draft.add(line) {
             Ok(()) => (),
-            Err(Trouble::Breaks(rule)) => return Err(ScriptError::Bad { line: number, rule }),
+            Err(Trouble::Breaks(rule)) => return Err(bad(number, rule)),
             Err(Trouble::Memory) => return Err(ScriptError::Memory),
         }
     }
