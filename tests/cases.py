@@ -5,6 +5,7 @@ The applications are written here instruction by instruction, but for those in C
 the rules in docs/definitions.md; none was taken from the program. A text is laid out with its lines indented alike.
 """
 
+import os
 from dataclasses import dataclass
 from inspect import cleandoc
 
@@ -25,9 +26,21 @@ class Case:
     flash: object = None
     script: object = b""
     is_in_readme: bool = False
+    # What is written in place of a text.
+    image: object = None
 
     def output(self):
-        return (cleandoc(self.text) + "\n").encode()
+        return (cleandoc(self.text) + "\n").encode() if self.image is None else self.image
+
+    def write_files(self, folder):
+        """Puts the case's files into the folder."""
+        for name, content in (("flash", self.flash), ("script", self.script)):
+            path = os.path.join(folder, name)
+            if content == DIRECTORY:
+                os.mkdir(path)
+            elif content is not None:
+                with open(path, "wb") as file:
+                    file.write(content)
 
 
 def boot(name, shows, flash, text, script=b"", turns=1000, status=0):
@@ -50,6 +63,17 @@ def listing(name, shows, flash, text, status=0):
     return Case(name, shows, ["list", "flash"], status, text, flash, None)
 
 
+def makes(name, shows, command, flash, image, other=None):
+    """A flash image is made of this flash file, and of another one that is named `script`."""
+    return Case(name, shows, command.split(), 0, "", flash, other, image=image)
+
+
+def makes_none(name, shows, command, flash, text, other=None, status=8):
+    """No image is made of them; the words are a text or a list."""
+    words = command.split() if isinstance(command, str) else command
+    return Case(name, shows, words, status, text, flash, other)
+
+
 def readme(name, shows, command, text):
     """A run that the README shows, with its command and its text word for word."""
     return Case(name, shows, command.split()[1:], 0, text, is_in_readme=True)
@@ -61,7 +85,8 @@ def no_command(name, shows, *words):
 
 
 USAGE = ("usage: tock boot FLASH SCRIPT --turns N | trace FLASH SCRIPT --turns N"
-         " | list FLASH | soak NUMBER --turns N")
+         " | list FLASH | soak NUMBER --turns N | pack FILE .. | enable FLASH OFFSET | disable FLASH OFFSET"
+         " | rename FLASH OFFSET NAME")
 
 
 # Parts of applications.
@@ -390,6 +415,10 @@ YIELDS = [
 ALARM_AT_60 = app(mv(S0, A0), li(A4, SUBSCRIBE), li(A0, ALARM), li(A1, 0), addi(A2, S0, offset("rings")),
                   li(A3, 0), ecall, command(ALARM, 6, 0, 60), yields(1), "rings", mv(A1, A0), exits())
 
+# Exits with the first argument of the upcall of the alarm that it arms 20 ticks after the command.
+WRAPS = app(mv(S0, A0), li(A4, SUBSCRIBE), li(A0, ALARM), li(A1, 0), addi(A2, S0, offset("rings")), li(A3, 0), ecall,
+            li(A4, 2), li(A0, ALARM), li(A1, 5), li(A2, 20), ecall, yields(1), "rings", mv(A1, A0), exits())
+
 ALARMS = [
     tells("alarm-is-there", "a driver that is there says so", 128, command(ALARM, 0), mv(A1, A0)),
     tells("alarm-frequency", "a second has 1000 ticks", 1000, command(ALARM, 1)),
@@ -414,10 +443,7 @@ ALARMS = [
     tells("no-such-command", "a number that the alarm does not know", 10, command(ALARM, 4)),
     tells("command-to-no-driver", "a number without a driver", 11, command(NO_DRIVER, 0)),
     tells("no-room-for-an-alarm", "an alarm needs room for its grant", 9, memop(0, TOP), command(ALARM, 5, 1)),
-    boot("alarm-near-the-clocks-end", "the clock wraps while a process waits: the upcall tells tick 15",
-         app(mv(S0, A0), li(A4, SUBSCRIBE), li(A0, ALARM), li(A1, 0), addi(A2, S0, offset("rings")), li(A3, 0),
-             ecall, li(A4, 2), li(A0, ALARM), li(A1, 5), li(A2, 20), ecall, yields(1),
-             "rings", mv(A1, A0), exits()),
+    boot("alarm-near-the-clocks-end", "the clock wraps while a process waits: the upcall tells tick 15", WRAPS,
          script=b"start 4294967280", text="""
         ==
         slot 0 - terminated 15 turns 20 restarts 0
@@ -487,6 +513,16 @@ def reads(count, size, exit_code):
                command(CONSOLE, 2, count), yields(1), "came", exit_code, exits())
 
 
+# Asks for a write of 100 bytes of one buffer at time 11, and hands another of 70.
+CHANGES_ITS_BUFFER = app(mv(S0, A0), *hands(READ_ONLY, CONSOLE, 1, "first", 100),
+                         li(A4, 2), li(A0, CONSOLE), li(A1, 1), li(A2, 100), ecall,
+                         *hands(READ_ONLY, CONSOLE, 1, "second", 70), *hands(SUBSCRIBE, CONSOLE, 1, "told"), yields(1),
+                         "told", mv(A1, A0), exits(), "first", b"a" * 100, "second", b"b" * 70)
+
+# Asks for 4 bytes into a buffer of 8, and exits with the first two.
+READS_4 = app(mv(S0, A0), mv(S1, A1), lends(READ_WRITE, CONSOLE, 1, 8), *hands(SUBSCRIBE, CONSOLE, 2, "came"),
+              li(A4, 2), li(A0, CONSOLE), li(A1, 2), li(A2, 4), ecall, yields(1), "came", lhu(A1, S1), exits())
+
 CONSOLES = [
     boot("write-of-70-bytes", "the UART takes 64 bytes at most, and a byte takes a tick", prints(b"p" * 70), """
         %s==
@@ -502,13 +538,11 @@ CONSOLES = [
         end done steps 30 time 37
     """),
     boot("write-from-another-buffer", "each step takes bytes of the buffer that is held then, and no more than it has",
-         app(mv(S0, A0), *hands(READ_ONLY, CONSOLE, 1, "first", 100), command(CONSOLE, 1, 100),
-             *hands(READ_ONLY, CONSOLE, 1, "second", 70), *hands(SUBSCRIBE, CONSOLE, 1, "told"), yields(1),
-             "told", mv(A1, A0), exits(), "first", b"a" * 100, "second", b"b" * 70), """
+         CHANGES_ITS_BUFFER, """
         %s==
-        slot 0 - terminated 70 turns 33 restarts 0
+        slot 0 - terminated 70 turns 32 restarts 0
         leds 0000
-        end done steps 38 time 88
+        end done steps 37 time 87
     """ % ("a" * 64 + "b" * 6)),
     boot("two-writers", "writes are taken in the order in which they were asked for", prints(b"p" * 70) + prints(b"pong"), """
         %spong==
@@ -529,6 +563,13 @@ CONSOLES = [
         slot 0 - terminated 26984 turns 28 restarts 0
         leds 0000
         end done steps 31 time 55
+    """),
+    boot("input-for-a-read-of-four", "a read of 4 bytes is done by the 2 that came in", READS_4,
+         script=b"at 50 input 6869", text="""
+        ==
+        slot 0 - terminated 26984 turns 27 restarts 0
+        leds 0000
+        end done steps 30 time 55
     """),
     boot("read-without-a-buffer", "a read whose buffer has no bytes is told the status of a size", reads(4, 0, mv(A1, A0)),
          script=b"at 50 input 41", text="""
@@ -626,7 +667,30 @@ RANDOMS = [
     """),
 ]
 
+def storage_reads(places, exit_code):
+    """An application that makes a read for each (offset, length), one after another, into a buffer of 8 bytes whose
+    first is 0x55, and exits with what the part puts in a1."""
+    each = [command(STORAGE, 2, *place) + yields(1) for place in places]
+    return app(mv(S0, A0), mv(S1, A1), li(T0, 0x55), sb(T0, S1), lends(READ_WRITE, STORAGE, 0, 8),
+               *hands(SUBSCRIBE, STORAGE, 0, "told"), *each, exit_code, exits(), "told", jalr(ZERO, RA))
+
+
 STORAGES = [
+    # A read and its upcall are 12 turns and a step of the storage.
+    boot("storage-read-" + name, shows, storage_reads(places, exit_code), script=b"storage 16\nstorage-fault 1", text="""
+        ==
+        slot 0 - terminated %d turns %d restarts 0
+        leds 0000
+        end done steps %d time %d
+    """ % (code, 22 + 12 * len(places), 22 + 13 * len(places), 22 + 12 * len(places)))
+    for name, shows, places, exit_code, code in [
+        ("that-fails", "its upcall says so", [(0, 4)], nop, 1),
+        ("that-moves-nothing", "and the buffer is as it was", [(0, 4)], lbu(A1, S1), 0x55),
+        ("after-a-fault", "the next request is served", [(0, 4)] * 2, mv(A1, A0), 4),
+        ("of-fresh-bytes", "storage is all ones at first", [(0, 4)] * 2, lw(A1, S1), 0xFFFFFFFF),
+        ("at-the-end", "a read of nothing may lie at the end", [(0, 4), (16, 0)], mv(A1, A0), 0),
+    ]
+] + [
     tells("storage-size", "a script says how many bytes of storage a slot has", 4096, command(STORAGE, 1),
           script=b"storage 4096"),
     tells("no-storage", "there may be none", 0, command(STORAGE, 1), script=b"storage 0"),
@@ -690,6 +754,14 @@ SEVERAL = [
         slot 1 - faulted store 80000000 no-region turns 123 restarts 0
         leds 0000
         end done steps 330 time 330
+    """),
+    boot("store-into-the-block-of-the-turn-before", "in the second turn the registers are those of the second process",
+         app("here", jal(ZERO, "here"), size=40) + app(sw(ZERO, A1, -1024)), script=b"slice 1", turns=2, text="""
+        ==
+        slot 0 - running turns 1 restarts 0
+        slot 1 - faulted store 80000000 no-region turns 1 restarts 0
+        leds 0000
+        end turns steps 2 time 2
     """),
     boot("store-into-the-next-block", "no process stores into the next one's block",
          app(sw(ZERO, A1, 0x400)) + EXIT_7, """
@@ -782,9 +854,9 @@ THREE = (app(CODE_7, name="hello") + app(sw(ZERO, A1), sw(ZERO, A1, 256), name="
 FOOTERS = bytes(range(12))
 
 
-def blink(footers):
-    header = [main_tlv(), program_tlv(binary_end=84), package_name_tlv("blink")]
-    return tbf(header, CODE_7 + footers) + padding()
+def blink(footers, name="blink", flags=ENABLED):
+    header = [main_tlv(), program_tlv(binary_end=84), package_name_tlv(name)]
+    return tbf(header, CODE_7 + footers, flags) + padding()
 
 
 BAD_CHECKSUM = patched(EXIT_7, 12, b"\x43")
@@ -871,7 +943,7 @@ IMAGES = [
 KEPT = {
     "examples/exit7.bin": EXIT_7,
     "examples/three.bin": THREE,
-    "crates/tock_cli/data/exit7.bin": EXIT_7,
+    "crates/tock/data/exit7.bin": EXIT_7,
 }
 
 SCRIPTS = [
@@ -924,6 +996,16 @@ SCRIPTS = [
         leds 0000
         end turns steps 14 time 14
     """),
+    boot("threshold-of-2-beside-a-count", "what the one that spins does changes nothing of the others",
+         app("here", addi(T0, T0, 1), jal(ZERO, "here")) + BREAKPOINT + EXIT_7, turns=14,
+         script=b"slice 2\npolicy threshold 2\n", text="""
+        ==
+        slot 0 - running turns 7 restarts 0
+        slot 1 - faulted fetch 20000048 breakpoint turns 3 restarts 2
+        slot 2 - terminated 7 turns 4 restarts 0
+        leds 0000
+        end turns steps 14 time 14
+    """),
     boot("policy-restart", "and without an end under restart", BREAKPOINT, turns=5,
          script=b"policy restart", text="""
         ==
@@ -938,6 +1020,21 @@ SCRIPTS = [
         leds 0000
         end done steps 1 time 1
     """),
+]
+
+# Scripts that are refused, each by the first rule that its first bad line breaks.
+BAD_SCRIPTS = [
+    boot("script-with-" + name, shows, EXIT_7, status=5, script=script, text="script " + answer)
+    for name, shows, script, answer in [
+        ("input-of-nothing", "an input has bytes", b"at 5 input", "1 words"),
+        ("threshold-of-nothing", "a threshold has a number", b"policy threshold", "1 words"),
+        ("time-of-eleven-digits", "so has a time", b"at 12345678901 input 41", "1 bad-number"),
+        ("time-of-33-bits", "which has 32 bits", b"at 4294967296 input 41", "1 out-of-range"),
+        ("seven-hex-digits", "a random word has 8 digits", b"random 1234567", "1 bad-hex"),
+        ("setting-after-an-event", "settings come before events", b"at 5 input 41\nleds 4", "2 order"),
+        ("fault-that-does-not-rise", "the numbers of faults rise", b"storage-fault 2\nstorage-fault 2", "2 order"),
+        ("input-of-65-bytes", "at most 64 bytes come in at a time", b"at 5 input " + b"41" * 65, "1 too-many"),
+    ]
 ]
 
 FILES = [
@@ -1024,6 +1121,62 @@ TRACES = [
         leds 0000
         end done steps 26 time 26
     """),
+    trace("trace-of-two-buffers-of-a-write", "the bytes that the UART took of each",
+          CHANGES_ITS_BUFFER, """
+        @6 0 call 4 00000001 00000001 2000009c 00000064 = 00000082 00000000 00000000 00000064
+        @11 0 call 2 00000001 00000001 00000064 00000064 = 00000080 00000001 00000064 00000064
+        @12 0 out %s
+        @17 0 call 4 00000001 00000001 20000100 00000046 = 00000082 2000009c 00000064 00000046
+        @23 0 call 1 00000001 00000001 2000008c 00000000 = 00000082 00000000 00000000 00000000
+        @26 0 call 0 00000001 00000000 00000000 00000000
+        @76 0 out 626262626262
+        @86 0 call 6 00000000 00000046 00000000 00000000
+        ==
+        slot 0 - terminated 70 turns 32 restarts 0
+        leds 0000
+        end done steps 37 time 87
+    """ % ("61" * 64)),
+    trace("trace-of-a-subscribe-that-drops", "a subscribe drops what is pending for it: the yield finds no upcall",
+          app(mv(S0, A0), mv(S3, A1), li(S2, RANDOM),
+              li(A4, SUBSCRIBE), mv(A0, S2), li(A1, 0), mv(A2, S0), li(A3, 0), ecall,
+              li(A4, 2), mv(A0, S2), li(A1, 1), li(A2, 0), ecall, li(T0, 5), sb(T0, S3),
+              li(A4, SUBSCRIBE), mv(A0, S2), li(A1, 0), addi(A2, S0, 4), li(A3, 9), ecall,
+              li(A4, 0), li(A0, 0), mv(A1, S3), ecall, lbu(A1, S3), exits()), """
+        @9 0 call 1 00040001 00000000 20000020 00000000 = 00000082 00000000 00000000 00000000
+        @14 0 call 2 00040001 00000001 00000000 00000000 = 00000080 00000001 00000000 00000000
+        @22 0 call 1 00040001 00000000 20000024 00000009 = 00000082 20000020 00000000 00000009
+        @26 0 call 0 00000000 80000000 00000000 00000009
+        @30 0 call 6 00000000 00000000 00000000 00000009
+        ==
+        slot 0 - terminated 0 turns 31 restarts 0
+        leds 0000
+        end done steps 32 time 31
+    """),
+    trace("trace-of-an-alarm", "the reply is the tick of the expiration, past the clock's end", WRAPS,
+          script=b"start 4294967280", text="""
+        @6 0 call 1 00000000 00000000 2000005c 00000000 = 00000082 00000000 00000000 00000000
+        @11 0 call 2 00000000 00000005 00000014 00000000 = 00000081 0000000f 00000014 00000000
+        @14 0 call 0 00000001 0000000f 00000014 00000000
+        @35 0 call 6 00000000 0000000f 00000000 00000000
+        ==
+        slot 0 - terminated 15 turns 20 restarts 0
+        leds 0000
+        end done steps 22 time 36
+    """),
+    trace("trace-of-permissions", "one command of one driver is permitted, and nothing else",
+          app(li(A4, 2), li(A0, LED), li(A1, 1), li(A2, 0), ecall,
+              li(A4, READ_WRITE), li(A0, STORAGE), li(A1, 0), li(A2, 0), li(A3, 0), ecall,
+              li(A4, 2), li(A0, CONSOLE), li(A1, 1), li(A2, 0), ecall, word(0),
+              elements=[permissions_tlv((CONSOLE, 0, 2))]), """
+        @4 0 call 2 00000002 00000001 00000000 80000100 = 00000000 0000000b 00000000 80000100 permission
+        @11 0 call 3 00050001 00000000 00000000 00000000 = 00000002 0000000b 00000000 00000000 permission
+        @16 0 call 2 00000001 00000001 00000000 00000000 = 00000080 00000001 00000000 00000000
+        @17 0 denied fetch 2000007c illegal
+        ==
+        slot 0 - faulted fetch 2000007c illegal turns 18 restarts 0
+        leds 0000
+        end done steps 19 time 18
+    """),
     trace("trace-of-a-yield", "a yield has no reply", app(yields(1)), """
         @2 0 call 0 00000001 80000000 00000400 80000100
         ==
@@ -1093,6 +1246,20 @@ SOAKS = [
         slot 7 - running turns 0 restarts 0
         leds 0000
         end turns steps 100 time 100
+    """),
+    soak("soak-of-the-first-message", "in its second slice the first one asks for its write, of eight bytes", "0", 133, """
+        printed 8 sum 409
+        ==
+        slot 0 - running turns 20 restarts 0
+        slot 1 - running turns 16 restarts 0
+        slot 2 - running turns 16 restarts 0
+        slot 3 - running turns 16 restarts 0
+        slot 4 - running turns 16 restarts 0
+        slot 5 - running turns 16 restarts 0
+        slot 6 - running turns 16 restarts 0
+        slot 7 - running turns 16 restarts 0
+        leds 0000
+        end turns steps 133 time 132
     """),
     soak("soak-of-the-greatest-number", "the number has at most 32 bits", "4294967295", 1, """
         printed 0 sum 0
@@ -1241,6 +1408,63 @@ README = [
     """),
 ]
 
+# What the tool writes of an image is what the builder of objects makes of the changed object.
+BLINK = blink(FOOTERS)
+TWO_NAMES = app(CODE_7, name="blink", elements=[package_name_tlv("other")])
+HALF = app(CODE_7, size=524288)
+
+MADE = [
+    makes("disable", "an object is disabled, and its checksum is right again", "disable flash 0", EXIT_7,
+          patched(EXIT_7, 8, bytes(4) + bytes.fromhex("43012c00"))),
+    makes("disable-twice", "it may be so already", "disable flash 0", app(CODE_7, flags=0), app(CODE_7, flags=0)),
+    makes("disable-blink", "the objects behind it stay", "disable flash 0", BLINK, blink(FOOTERS, flags=0)),
+    makes("enable-blink", "it is enabled again", "enable flash 0", blink(FOOTERS, flags=0), BLINK),
+    makes("enable-keeps-the-other-flags", "bit 0 alone is set", "enable flash 64",
+          EXIT_7 + app(CODE_7, flags=0xFFFFFFFE), EXIT_7 + app(CODE_7, flags=0xFFFFFFFF)),
+    makes("rename-blink", "it gets another name", "rename flash 0 flash", BLINK, blink(FOOTERS, "flash")),
+    makes("rename-to-six-bytes", "of the same length rounded up to 4", "rename flash 0 lights", BLINK,
+          blink(FOOTERS, "lights")),
+    makes("rename-to-fewer-bytes", "what was there before is gone", "rename flash 0 lo-fi", blink(FOOTERS, "lights"),
+          blink(FOOTERS, "lo-fi")),
+    listing("list-after-edits", "the name is read again", blink(FOOTERS, "lights"), """
+        object 0 96 app lights
+        object 96 16 padding -
+        objects 2
+    """),
+    makes("rename-the-first-name", "of two names the first counts", "rename flash 0 lamps", TWO_NAMES,
+          app(CODE_7, name="lamps", elements=[package_name_tlv("other")])),
+    makes_none("no-object-at-4", "an object is named by where it begins", "rename flash 4 -", BLINK, "image no-object"),
+    makes_none("bad-object-edited", "a bad object is not edited", "enable flash 0", BAD_CHECKSUM, "image no-object"),
+    makes_none("name-with-a-blank", "a name is visible", ["rename", "flash", "0", "a b"], EXIT_7, "image bad-name"),
+    makes_none("name-of-nothing", "and not empty", ["rename", "flash", "0", ""], EXIT_7, "image bad-name"),
+    makes_none("name-of-33-bytes", "and has 32 bytes at most", ["rename", "flash", "0", "n" * 33], BLINK,
+               "image bad-name"),
+    makes_none("rename-to-three-bytes", "the rounded length stays", "rename flash 0 cam", BLINK, "image name-length"),
+    makes_none("rename-without-a-name", "an object has a name or has none", "rename flash 0 flash", EXIT_7,
+               "image name-length"),
+    makes_none("edit-of-no-file", "a file that is not there is not edited", "enable flash 0", None,
+               "file flash fault", status=3),
+    makes_none("edit-of-too-much", "nor one past the limit", "enable flash 0", bytes(1048577),
+               "file flash too long", status=4),
+    makes("pack-twice", "objects one after another", "pack flash flash", EXIT_7, EXIT_7 + EXIT_7),
+    makes("pack-without-the-rest", "bytes that are no object are left out", "pack flash script", EXIT_7 + bytes(20),
+          EXIT_7 + BLINK, BLINK + b"rest"),
+    makes("pack-nothing", "a file without objects adds nothing", "pack flash", b"no object", b""),
+    makes("pack-64-files", "there may be 64 files", "pack" + " flash" * 64, EXIT_7, EXIT_7 * 64),
+    makes("pack-up-to-the-limit", "and 1,048,576 bytes", "pack flash flash", HALF, HALF + HALF),
+    makes_none("pack-65-objects", "there are 64 objects at most", "pack script" + " flash" * 63, EXIT_7,
+               "image too-many", BLINK),
+    makes_none("pack-past-the-limit", "and no byte more", "pack flash flash script", HALF, "image too-long", padding()),
+    makes_none("pack-too-many-and-too-long", "which is asked for first", "pack flash flash",
+               EXIT_7 * 32 + HALF + padding(), "image too-many"),
+    makes_none("pack-refused-before-a-fault", "the first file that is refused decides", "pack flash flash none",
+               EXIT_7 * 33, "image too-many"),
+    makes_none("pack-fault-before-a-refusal", "whatever is wrong with it", "pack flash none flash", EXIT_7 * 33,
+               "file flash fault", status=3),
+    makes_none("pack-too-long-a-file", "a file is read whole before it is packed", "pack flash script", EXIT_7,
+               "file flash too long", bytes(1048577), status=4),
+]
+
 COMMAND_LINES = [
     no_command("too-few-words", "boot wants its words", "boot", "a"),
     no_command("list-with-another-word", "list names one file", "list", "flash", "script"),
@@ -1249,12 +1473,17 @@ COMMAND_LINES = [
     no_command("soak-of-a-file", "soak takes no file", "soak", "flash", "--turns", "1"),
     no_command("soak-of-33-bits", "its number ends at 32 bits", "soak", "4294967296", "--turns", "1"),
     no_command("soak-of-eleven-digits", "and has at most 10 digits", "soak", "00000000001", "--turns", "1"),
-    no_command("pack-is-no-command-yet", "other words are no command", "pack", "a"),
+    no_command("another-command", "other words are no command", "unpack", "flash"),
+    no_command("pack-of-no-file", "pack wants a file", "pack"),
+    no_command("pack-of-65-files", "and takes 64 at most", "pack", *["flash"] * 65),
+    no_command("enable-without-an-offset", "an edit wants an offset", "enable", "flash"),
+    no_command("disable-at-33-bits", "of 32 bits", "disable", "flash", "4294967296"),
+    no_command("rename-without-a-new-name", "and a new name, where it gives one", "rename", "flash", "0"),
     no_command("word-that-is-not-utf-8", "a word is UTF-8", b"\xff"),
     no_command("file-that-is-not-utf-8", "so is the name of a file", "list", b"flash\xff"),
     no_command("number-that-is-not-utf-8", "and the number after words that are",
                "boot", "flash", "script", "--turns", b"\xff"),
 ]
 
-CASES = RUNS + DENIALS + INSTRUCTIONS + CALLS + SWAPS + YIELDS + ALARMS + CONSOLES + LEDS + RANDOMS + STORAGES + SEVERAL + IMAGES + SCRIPTS + FILES + TRACES + SOAKS
-CASES += README + COMMAND_LINES
+CASES = RUNS + DENIALS + INSTRUCTIONS + CALLS + SWAPS + YIELDS + ALARMS + CONSOLES + LEDS + RANDOMS + STORAGES + SEVERAL + IMAGES + SCRIPTS + BAD_SCRIPTS + FILES + TRACES + SOAKS
+CASES += MADE + README + COMMAND_LINES

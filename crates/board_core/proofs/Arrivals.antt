@@ -10,7 +10,7 @@ use Rattle.board_devices.specs.SerialLine.{SerialLine}
 use Rattle.script_text.specs.Settings.{Event}
 use Rattle.process_record.specs.Emit.{nothing}
 use Rattle.kernel_model.specs.Shown.{shown_by}
-use Rattle.kernel_model.specs.World.{Deed, Devices, after, arrived, deed_of, done, labels, stepped, unmade}
+use Rattle.kernel_model.specs.World.{Deed, Devices, arrived, carried_out, deed_of, done}
 use Rattle.board_core.specs.declared.board.Board.TheInside.{Inside}
 use Rattle.board_core.specs.declared.drivers.Drivers.{Drivers}
 use Rattle.board_core.specs.Calm.{IsCalm}
@@ -47,18 +47,18 @@ module _ (b : Inside) (events : List Event) (line : SerialLine) (may : is_time b
       deed_with devices = record { told = None; printed = []; devices = devices }
 
   -- the world after they came in
-  pub world_arrived : with_step b (world_of b).records (devices_of drivers_then) (a_step_later b.moment) b.present b.used ≡ after (world_of b) (Device dev.Event)
-  unfolding stepped
+  pub world_arrived : with_step b (world_of b).records (devices_of drivers_then) (a_step_later b.moment) b.present b.used ≡ (carried_out (world_of b) (Device dev.Event)).after
+  unfolding carried_out
   world_arrived =
       let w = world_of b in
-      sym (ap (λ (c : Bool). (if c then done w (deed_of w dev.Event) else unmade w).after) may ∙ ap (λ (o : Option Deed). (done w o).after) deed_is)
+      sym (ap (λ (o : Option Deed). (done w o).after) deed_is)
 
   -- nothing is shown
-  pub arrived_shown : nothing ≡ shown_by (labels (world_of b) (Device dev.Event))
-  unfolding stepped shown_by
+  pub arrived_shown : nothing ≡ shown_by (carried_out (world_of b) (Device dev.Event)).labels
+  unfolding carried_out shown_by
   arrived_shown =
       let w = world_of b in
-      sym (ap (λ (c : Bool). shown_by (if c then done w (deed_of w dev.Event) else unmade w).labels) may ∙ ap (λ (o : Option Deed). shown_by (done w o).labels) deed_is)
+      sym (ap (λ (o : Option Deed). shown_by (done w o).labels) deed_is)
 
   pub soon : b.drivers.uart.free ≤ b.moment.time + 64000 → line.free ≤ b.moment.time + 64000
   soon h = omega (arith, ap (λ (l : SerialLine). l.free) with, (line_keeps b.drivers.arrivals b.drivers.uart).1, h)

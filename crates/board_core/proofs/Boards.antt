@@ -12,6 +12,7 @@ use Rattle.tk_base.specs.declared.process.Choice.TheVariants.{Run, Device, Pass}
 use Rattle.tk_base.specs.declared.process.Choice.{Choice}
 use Rattle.turn_scheduler.specs.Situation.{Situation}
 use Rattle.turn_scheduler.specs.RoundRobin.{IsNextAhead, choice, next_slot, ready_device}
+use Rattle.process_own.specs.Handed.{HoldsInPlace}
 use Rattle.process_own.specs.Own.{Own}
 use Rattle.process_record.specs.Name.{name_of}
 use Rattle.kernel_calls.specs.Own.{object_in}
@@ -20,10 +21,11 @@ use Rattle.process_record.specs.declared.summary.SlotLine.{SlotLine}
 use Rattle.process_record.specs.declared.summary.Summary.{Summary}
 use Rattle.process_record.specs.declared.summary.Unplaced.{Unplaced}
 use Rattle.driver_model.specs.Leds.{bits_of}
-use Rattle.grant_enter.specs.Homes.{Homes, nobody, own_of}
+use Rattle.grant_enter.specs.Homes.{Homes, IsInPlace, nobody, own_of}
 use Rattle.kernel_model.specs.Record.{Record}
 use Rattle.kernel_model.specs.Turn.{may_turn}
 use Rattle.kernel_model.specs.World.{World, is_ready, may_be_made, can_run}
+use Rattle.kernel_model.specs.Causes.{AreWhole}
 use Rattle.kernel_model.specs.Laws.{NextIsReady, NextLiesAhead}
 use Rattle.kernel_model.specs.Run.{next, next_time, ready_devices, ready_slots, situation_of}
 use Rattle.kernel_model.specs.Shown.{summary_of, line_of}
@@ -46,6 +48,16 @@ owns_shown flash processes owns slots n stored = reads_shown (λ (r : Record). r
     seconds [] (o ∷ os) n = cc
     seconds (p ∷ ps) [] n = cc
     seconds (p ∷ ps) (o ∷ os) n = ap (λ (xs : List Own). o ∷ xs) (seconds ps os (omega (arith, n)))
+
+-- what is the own of each process is whole, as it is in the home
+pub shown_whole : (b : Inside) → IsBoard b → ((slot : ℕ) → slot < length b.home.owns → HoldsInPlace (own_of b.home slot)) → ((slot : ℕ) → slot < length b.home.owns → IsInPlace (own_of b.home slot)) → AreWhole (world_of b)
+shown_whole b board holds lies slot r is =
+    let there : slice_get b.home.owns slot ≡ Some r.own
+    = ap (λ (owns : List Own). slice_get owns slot) (sym (owns_shown b.home.flash b.processes.items b.home.owns b.drivers.stores.slots board.owns (has_storage b board)))
+    ∙ slice_get-map (λ (x : Record). x.own) (world_of b).records slot ∙ ap (option_map (λ (x : Record). x.own)) is in
+    let within = slice_get_within b.home.owns slot r.own there in
+    let same : own_of b.home slot ≡ r.own = get_or_from_slice_get b.home.owns slot r.own nobody there in
+    record { bytes = subst (λ (o : Own). length o.ram ≡ o.layout.kernel_break - o.layout.start) same (lies slot within).ram; buffers = subst HoldsInPlace same (holds slot within) }
 
 -- which slots are ready
 ready_slots_shown : (b : Inside) → IsBoard b → ready_slots (world_of b) ≡ map resident_turns (residents b)

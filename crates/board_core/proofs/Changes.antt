@@ -16,7 +16,7 @@ use Rattle.process_record.specs.declared.process.Process.{Process}
 use Rattle.grant_enter.specs.Homes.{Homes}
 use Rattle.kernel_model.specs.Record.{Record}
 use Rattle.kernel_model.specs.Turn.{Turned, turned}
-use Rattle.kernel_model.specs.World.{World, Devices, stepped, ran, after, labels, routed}
+use Rattle.kernel_model.specs.World.{World, Devices, carried_out, ran, routed}
 use Rattle.kernel_model.specs.Shown.{shown_by}
 use Rattle.board_core.specs.declared.board.Board.TheInside.{Inside}
 use Rattle.board_core.specs.declared.drivers.Drivers.{Drivers}
@@ -120,8 +120,8 @@ module _ (b : Inside) (slot : ℕ) (home : Homes) (processes : List Process) (sh
   turn_found = found slot b.home home b.processes.items processes t.at b.drivers.stores.slots few
 
   -- the world after the turn
-  pub world_after : (used : ℕ) → used ≡ used_after b.present b.used b.slice slot → with_step b (map (record_of home.flash) (zip (zip processes home.owns) d.stores.slots)) (devices_of d) (turn_later b.moment) (Some slot) used ≡ after (world_of b) (Run slot)
-  unfolding stepped
+  pub world_after : (used : ℕ) → used ≡ used_after b.present b.used b.slice slot → with_step b (map (record_of home.flash) (zip (zip processes home.owns) d.stores.slots)) (devices_of d) (turn_later b.moment) (Some slot) used ≡ (carried_out (world_of b) (Run slot)).after
+  unfolding carried_out
   world_after used u =
       let m = turn_later b.moment in
       let does = t.turns (bytes_of b.drivers.stores.slots slot) in
@@ -135,8 +135,8 @@ module _ (b : Inside) (slot : ℕ) (home : Homes) (processes : List Process) (sh
       ∙ sym (ap (λ (o : Option Record). (ran (world_of b) slot o).after) turn_found)
 
   -- what the turn shows
-  pub turn_shown : (printed : ArrayVec ℕ) → printed.items ≡ [] → ◌≡◌ {A = Emit} (record { printed = printed; slot = Some slot; made = shown.call; denial = shown.denial }) (shown_by (labels (world_of b) (Run slot)))
-  unfolding stepped shown_by
+  pub turn_shown : (printed : ArrayVec ℕ) → printed.items ≡ [] → ◌≡◌ {A = Emit} (record { printed = printed; slot = Some slot; made = shown.call; denial = shown.denial }) (shown_by (carried_out (world_of b) (Run slot)).labels)
+  unfolding carried_out shown_by
   turn_shown printed p =
       let shows = (t.turns (bytes_of b.drivers.stores.slots slot)).1 in
       ap (λ (xs : List ℕ). record { printed = record { items = xs }; slot = Some slot; made = shown.call; denial = shown.denial }) p

@@ -30,7 +30,7 @@ use Rattle.driver_requests.specs.Waiting.{waiting_still}
 use Rattle.grant_enter.specs.Homes.{Homes, ChangesOnly, nobody, own_of}
 use Rattle.kernel_model.specs.Record.{Record}
 use Rattle.kernel_model.specs.Turn.{Event}
-use Rattle.kernel_model.specs.World.{Answer, Answered, Deed, Printed, World, after, can_act, deed_of, done, is_ready, labels, may_be_made, printing, records_after, stepped, told_to, unmade}
+use Rattle.kernel_model.specs.World.{Answer, Answered, Deed, Printed, Stepped, World, can_act, carried_out, deed_of, done, is_ready, may_be_made, printing, records_after, told_to}
 use Rattle.kernel_model.specs.Shown.{shown_by}
 use Rattle.board_core.specs.declared.board.Board.TheInside.{Inside}
 use Rattle.board_core.specs.declared.drivers.Drivers.{Drivers}
@@ -45,6 +45,7 @@ use Rattle.board_core.specs.Tells.{Told}
 use Rattle.board_core.proofs.Pairs.{zip-get}
 use Rattle.board_core.proofs.Lines.{line_after}
 use Rattle.board_core.proofs.Changes.{a_step_later, as_many_owns, beside, bytes_of, changed_records, found, still_seated, with_step}
+use Rattle.board_core.proofs.Ready.{is_carried_out}
 
 -- what a slot's process has lost
 pub lost_there : (steps : ℕ) (home : Homes) (slot : ℕ) → All (HasLost steps) home.owns → (own_of home slot).dropped ≤ steps
@@ -183,8 +184,8 @@ module _ (b : Inside) (device : Dev) (slot : ℕ) (printed : List ℕ) (home : H
   told_found = found slot b.home home b.processes.items b.processes.items told_at b.drivers.stores.slots few
 
   -- the world after it
-  pub world_told : with_step b (map (record_of home.flash) (zip (zip b.processes.items home.owns) d.stores.slots)) (devices_of d) (a_step_later b.moment) b.present b.used ≡ after (world_of b) (Device device)
-  unfolding stepped told_at
+  pub world_told : with_step b (map (record_of home.flash) (zip (zip b.processes.items home.owns) d.stores.slots)) (devices_of d) (a_step_later b.moment) b.present b.used ≡ (carried_out (world_of b) (Device device)).after
+  unfolding carried_out told_at
   world_told =
       let w = world_of b in
       let answer : Answer = record { slot = slot; event = t.serves.event } in
@@ -195,15 +196,15 @@ module _ (b : Inside) (device : Dev) (slot : ℕ) (printed : List ℕ) (home : H
       let records : map (record_of home.flash) (zip (zip b.processes.items home.owns) d.stores.slots) ≡ records_after w (Some answer) =
       changed ∙ ap (slice_set w.records slot) (sym t.serves.tells) ∙ sym (ap (told_to w answer) told_found) in
       ap (λ (rs : List Record). with_step b rs (devices_of d) (a_step_later b.moment) b.present b.used) records
-      ∙ sym (ap (λ (c : Bool). (if c then done w (deed_of w device) else unmade w).after) t.may ∙ ap (λ (o : Option Deed). (done w o).after) t.serves.deed)
+      ∙ sym (ap (λ (o : Option Deed). (done w o).after) t.serves.deed)
 
   -- what it shows
-  pub told_shown : shown_printed slot printed ≡ shown_by (labels (world_of b) (Device device))
-  unfolding stepped
+  pub told_shown : shown_printed slot printed ≡ shown_by (carried_out (world_of b) (Device device)).labels
+  unfolding carried_out
   told_shown =
       let w = world_of b in
       printed_shown slot t.serves.event printed
-      ∙ sym (ap (λ (c : Bool). shown_by (if c then done w (deed_of w device) else unmade w).labels) t.may ∙ ap (λ (o : Option Deed). shown_by (done w o).labels) t.serves.deed)
+      ∙ sym (ap (λ (o : Option Deed). shown_by (done w o).labels) t.serves.deed)
 
   -- it may be made below the limit of steps
   pub may_tell : b.moment.steps < STEP_LIMIT → IsTrue (is_ready (world_of b) (Device device))
@@ -282,10 +283,15 @@ refused_so u v w choice emit stays is not_ready =
     (record { ready = unready u choice not_ready; ok = tt; shown = tt; refused = (stays, refl) })
 
 -- and one that may is made
-pub made_so : (v w v' : World) (choice : Choice) (emit emit' : Emit) → v ≡ w → IsTrue (is_ready v choice) → v' ≡ after v choice → emit' ≡ shown_by (labels v choice) → Makes choice w v' emit emit' (Ok tt)
+pub made_so : (v w v' : World) (choice : Choice) (emit emit' : Emit) → v ≡ w → IsTrue (is_ready v choice) → v' ≡ (carried_out v choice).after → emit' ≡ shown_by (carried_out v choice).labels → Makes choice w v' emit emit' (Ok tt)
 made_so v w v' choice emit emit' is ready made shown =
-    subst (λ (x : World). Makes choice x v' emit emit' (Ok tt)) is
-    (record { ready = ready_now v choice ready; ok = made; shown = shown; refused = tt })
+    let steps = is_carried_out v choice ready in
+    subst (λ (x : World). Makes choice x v' emit emit' (Ok tt)) is (record {
+      ready = ready_now v choice ready;
+      ok = made ∙ sym (ap (λ (s : Stepped). s.after) steps);
+      shown = shown ∙ sym (ap (λ (s : Stepped). shown_by s.labels) steps);
+      refused = tt;
+    })
 
 -- a device that may not act is not ready
 pub not_acting : (w : World) (device : Dev) → can_act w device ≡ false → is_ready w (Device device) ≡ false

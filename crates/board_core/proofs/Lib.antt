@@ -21,3 +21,6 @@ pub mod TurnLines
 pub mod Turns
 pub mod Plays
 pub mod Openings
+pub mod Alone
+pub mod Looks
+pub mod Boots

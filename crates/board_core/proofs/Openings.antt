@@ -25,6 +25,12 @@ use Rattle.kernel_model.specs.Histories.{HandedNothing}
 use Rattle.board_core.specs.Opening.{opened, opened_by, opening, places, record_at, record_in}
 use Rattle.board_core.specs.Histories.{OpensWithNothingHanded}
 
+-- what holds of each record holds with one more before them
+pub with_first : (P : Record → Type 0) (o : Option Record) (records : List Record) → IfSome o P → ((slot : ℕ) → IfSome (slice_get records slot) P) → (slot : ℕ) → IfSome (slice_get (cons_option o records) slot) P
+with_first P None records first others slot = others slot
+with_first P (Some r) records first others zero = first
+with_first P (Some r) records first others (suc slot) = others slot
+
 module _ (storage : ℕ) (flash : List ℕ) where
   -- an application in its place
   opened_nothing : (offset : ℕ) (e : Extents) (h : Result Meaning HeaderFault) → reading (object_bytes flash offset) ≡ h → IfSome (opened_by storage flash offset e h) HandedNothing
@@ -40,15 +46,9 @@ module _ (storage : ℕ) (flash : List ℕ) where
   placed_nothing offset (Ok place) = opened_nothing offset place.layout (reading (object_bytes flash offset)) refl
   placed_nothing offset (Err fault) = tt
 
-  -- of each slot
-  with_first : (o : Option Record) (records : List Record) → IfSome o HandedNothing → ((slot : ℕ) → IfSome (slice_get records slot) HandedNothing) → (slot : ℕ) → IfSome (slice_get (cons_option o records) slot) HandedNothing
-  with_first None records first others slot = others slot
-  with_first (Some r) records first others zero = first
-  with_first (Some r) records first others (suc slot) = others slot
-
   all_nothing : (placed : List Placed) (slot : ℕ) → IfSome (slice_get (filter_map (record_at storage flash) placed) slot) HandedNothing
   all_nothing [] slot = tt
-  all_nothing (p ∷ placed) slot = with_first (record_at storage flash p) (filter_map (record_at storage flash) placed) (placed_nothing p.offset p.place) (all_nothing placed) slot
+  all_nothing (p ∷ placed) slot = with_first HandedNothing (record_at storage flash p) (filter_map (record_at storage flash) placed) (placed_nothing p.offset p.place) (all_nothing placed) slot
 
 pub opens_with_nothing_handed : OpensWithNothingHanded
 unfolding opening

@@ -1,5 +1,6 @@
 -- Choices from outside, one after another.
-use Rattle.std.proofs.Common.{◌≡◌, ℕ, suc, ◌+◌, ◌<◌, ◌≤◌, Bool, true, false, ◌&&◌, List, [], ◌∷◌, ◌++◌, take, length, slice_get, slice_index_or, Some, refl, sym, ap, subst, ◌∙◌, arith, append_assoc, append-nil, length-append}
+use Rattle.std.proofs.Common.{◌≡◌, ℕ, suc, ◌+◌, ◌<◌, ◌≤◌, Bool, true, false, ◌&&◌, List, [], ◌∷◌, ◌++◌, take, length, slice_get, slice_index_or, Option, Some, IfSome, refl, sym, ap, subst, ◌∙◌, arith, append_assoc, append-nil, length-append}
+use Rattle.std.specs.Option.{option_map}
 use Rattle.std.proofs.lemmas.Option.{slice_get-get_or}
 use Rattle.std.proofs.KnownBytes.{Appends-trans}
 use Rattle.tk_outside.specs.Count.{Rose}
@@ -10,11 +11,16 @@ use Rattle.tk_outside.specs.Sink.{SinkFacts}
 use Rattle.tk_outside.specs.Writes.{WroteAll, WrotePart}
 use Rattle.tk_outside.specs.Laws.{WritesCompose}
 use Rattle.process_record.specs.declared.emit.Emit.{Emit}
+use Rattle.kernel_model.specs.Record.{Record}
+use Rattle.kernel_model.specs.Turn.{Event}
+use Rattle.kernel_model.specs.declared.settings.Settings.{Settings}
 use Rattle.kernel_model.specs.World.{World, Label, TurnOf, Answered, Printed, after, is_ready, labels}
+use Rattle.kernel_model.specs.Accounts.{IsAccountedFor}
 use Rattle.kernel_model.specs.Run.{printed, printed_by}
 use Rattle.kernel_model.specs.Shown.{shown_by}
-use Rattle.kernel_model.specs.Replay.{RecordIsReplay, after_all}
-use Rattle.kernel_model.specs.Choices.{are_ready, labels_of_all, printed_by_all}
+use Rattle.kernel_model.specs.Replay.{RecordIsReplay, after_all, history, replay}
+use Rattle.kernel_model.specs.Choices.{Throughout, are_ready, labels_of_all, printed_by_all}
+use Rattle.board_core.specs.Alone.{IsFirstAlone, first_alone}
 use Rattle.board_core.specs.Plays.{FailedAfter, Made, PlayedAll, StoppedAt}
 
 -- a choice more, after others
@@ -39,6 +45,10 @@ labels-more w (d ∷ cs) c =
 printed-more : (w : World) (cs : List Choice) (c : Choice) → printed_by_all w (cs ++ c ∷ []) ≡ printed_by_all w cs ++ printed (labels (after_all w cs) c)
 printed-more w cs c = ap printed (labels-more w cs c) ∙ flat_map-append printed_by (labels_of_all w cs) (labels (after_all w cs) c)
 
+throughout-more : (w : World) (cs : List Choice) (c : Choice) → Throughout IsAccountedFor w cs → IsAccountedFor (after_all w cs) c → Throughout IsAccountedFor w (cs ++ c ∷ [])
+throughout-more w [] c all one = (one, tt)
+throughout-more w (d ∷ cs) c all one = (all.0, throughout-more (after w d) cs c all.1 one)
+
 -- what a step shows that it printed
 shown-printed : (ls : List Label) → (shown_by ls).printed.items ≡ printed ls
 unfolding shown_by
@@ -46,6 +56,28 @@ shown-printed [] = refl
 shown-printed (TurnOf slot time told ∷ ls) = shown-printed ls
 shown-printed (Answered slot event ∷ ls) = shown-printed ls
 shown-printed (Printed slot bytes ∷ ls) = ap (λ (xs : List ℕ). bytes ++ xs) (shown-printed ls)
+
+-- what choices that were made lead to, of each process by itself
+made_of : (old new : World) (cs : List Choice) → RecordIsReplay → are_ready old cs ≡ true → new ≡ after_all old cs → Throughout IsAccountedFor old cs → Made old new cs
+made_of old new cs law ready world accounted =
+    record {
+      ready = ready;
+      world = world;
+      records = replayed;
+      accounted = accounted;
+      same = λ other others slot place settings first histories.
+          law other others place
+          ∙ ap (λ (s : Settings). option_map (replay s (history place other others)) (slice_get other.records place)) settings
+          ∙ ap (λ (h : List Event). option_map (replay old.settings h) (slice_get other.records place)) histories
+          ∙ ap (option_map (replay old.settings (history slot old cs))) first
+          ∙ sym (replayed slot);
+      alone = λ opens slot r is.
+          let first : Some r ≡ first_alone old.settings.storage r.object r.process.object.address r.own.layout.start = subst (λ (o : Option Record). IfSome o (IsFirstAlone old.settings.storage)) is (opens slot) in
+          replayed slot ∙ ap (option_map (replay old.settings (history slot old cs))) (is ∙ first);
+    }
+  where
+    replayed : (slot : ℕ) → slice_get new.records slot ≡ option_map (replay old.settings (history slot old cs)) (slice_get old.records slot)
+    replayed slot = ap (λ (w : World). slice_get w.records slot) world ∙ law old cs slot
 
 number : (i : ℕ) → suc i ≡ i + 1
 number i = omega arith
@@ -58,19 +90,16 @@ rose_later a b c kept rose = omega arith
 pub record PlaysOn {K : Type 0} (tells : K → SinkFacts) (old new : World) (choices : List Choice) (i : ℕ) (out now : K) : Type 0 where
   pub ready : are_ready old (take i choices) ≡ true
   pub world : new ≡ after_all old (take i choices)
+  pub accounted : Throughout IsAccountedFor old (take i choices)
   pub wrote : WroteAll tells out now (printed_by_all old (take i choices))
 
 pub begins : {K : Type 0} (tells : K → SinkFacts) (old : World) (choices : List Choice) (out : K) → WritesCompose tells → PlaysOn tells old old choices 0 out out
-begins tells old choices out law = record { ready = refl; world = refl; wrote = law.wrote_nothing out }
+begins tells old choices out law = record { ready = refl; world = refl; accounted = tt; wrote = law.wrote_nothing out }
 
 module _ {K : Type 0} {tells : K → SinkFacts} {old new : World} {choices : List Choice} {i : ℕ} {out now : K} (p : PlaysOn tells old new choices i out now) where
   -- what was made is known of each process
   made : RecordIsReplay → Made old new (take i choices)
-  made law = record {
-    ready = p.ready;
-    world = p.world;
-    records = λ slot. ap (λ (w : World). slice_get w.records slot) p.world ∙ law old (take i choices) slot;
-  }
+  made law = made_of old new (take i choices) law p.ready p.world p.accounted
 
   module _ (c : Choice) (h : i < length choices) (is : slice_index_or choices i c ≡ c) where
     one_longer : take (i + 1) choices ≡ take i choices ++ c ∷ []
@@ -89,23 +118,26 @@ module _ {K : Type 0} {tells : K → SinkFacts} {old new : World} {choices : Lis
       e ∙ ap (λ (w : World). after w c) p.world ∙ sym (after-more old (take i choices) c) ∙ ap (after_all old) (sym one_longer),
     )
 
-    pub plays_on : WritesCompose tells → (then : World) (later : K) (step : Emit) → is_ready new c ≡ true → then ≡ after new c → step ≡ shown_by (labels new c) → WroteAll tells now later step.printed.items → PlaysOn tells old then choices (i + 1) out later
-    plays_on law then later step r e s w = record {
+    accounted_then : IsAccountedFor new c → Throughout IsAccountedFor old (take (i + 1) choices)
+    accounted_then one = subst (Throughout IsAccountedFor old) (sym one_longer) (throughout-more old (take i choices) c p.accounted (subst (λ (w : World). IsAccountedFor w c) p.world one))
+
+    pub plays_on : WritesCompose tells → (then : World) (later : K) (step : Emit) → is_ready new c ≡ true → then ≡ after new c → step ≡ shown_by (labels new c) → IsAccountedFor new c → WroteAll tells now later step.printed.items → PlaysOn tells old then choices (i + 1) out later
+    plays_on law then later step r e s one w = record {
       ready = (steps then r e).0;
       world = (steps then r e).1;
+      accounted = accounted_then one;
       wrote = subst (λ (text : List ℕ). WroteAll tells out later text) (sym (bytes step s)) (law.all_then_all p.wrote w);
     }
 
     -- the sink failed after it
-    pub failed : WritesCompose tells → RecordIsReplay → (then : World) (later : K) (step : Emit) → is_ready new c ≡ true → then ≡ after new c → step ≡ shown_by (labels new c) → WrotePart tells now later step.printed.items → FailedAfter tells old then choices out later
-    failed law replay then later step r e s w = record {
+    pub failed : WritesCompose tells → RecordIsReplay → (then : World) (later : K) (step : Emit) → is_ready new c ≡ true → then ≡ after new c → step ≡ shown_by (labels new c) → IsAccountedFor new c → WrotePart tells now later step.printed.items → FailedAfter tells old then choices out later
+    failed law each then later step r e s one w = record {
       before = i;
       within = h;
-      made = record {
-        ready = ap (λ (k : ℕ). are_ready old (take k choices)) (number i) ∙ (steps then r e).0;
-        world = (steps then r e).1 ∙ ap (λ (k : ℕ). after_all old (take k choices)) (sym (number i));
-        records = λ slot. ap (λ (v : World). slice_get v.records slot) ((steps then r e).1 ∙ ap (λ (k : ℕ). after_all old (take k choices)) (sym (number i))) ∙ replay old (take (suc i) choices) slot;
-      };
+      made = made_of old then (take (suc i) choices) each
+          (ap (λ (k : ℕ). are_ready old (take k choices)) (number i) ∙ (steps then r e).0)
+          ((steps then r e).1 ∙ ap (λ (k : ℕ). after_all old (take k choices)) (sym (number i)))
+          (subst (λ (k : ℕ). Throughout IsAccountedFor old (take k choices)) (sym (number i)) (accounted_then one));
       wrote = record {
         front = printed_by_all old (take i choices) ++ w.front;
         missing = w.missing;
@@ -121,19 +153,19 @@ module _ {K : Type 0} {tells : K → SinkFacts} {old new : World} {choices : Lis
 
     -- it was not ready
     pub stopped : RecordIsReplay → is_ready new c ≡ false → StoppedAt tells old new choices out now i
-    stopped replay r = record {
+    stopped each r = record {
       choice = c;
       there = slice_get-get_or choices i c h ∙ ap Some is;
       refused = r;
-      made = made replay;
+      made = made each;
       wrote = p.wrote;
     }
 
   -- all were made
   pub whole : RecordIsReplay → length choices ≤ i → PlayedAll tells old new choices out now
-  whole replay h =
+  whole each h =
       let all : take i choices ≡ choices = take_all i choices h in
       record {
-        made = subst (λ (cs : List Choice). Made old new cs) all (made replay);
+        made = subst (λ (cs : List Choice). Made old new cs) all (made each);
         wrote = subst (λ (cs : List Choice). WroteAll tells out now (printed_by_all old cs)) all p.wrote;
       }

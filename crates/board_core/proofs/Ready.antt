@@ -1,15 +1,16 @@
 -- Which device steps of a board are ready, and when the next one becomes so.
-use Rattle.std.proofs.Common.{◌≡◌, ℕ, ◌+◌, Bool, false, List, [], ◌∷◌, is_some, Ok, IsTrue, refl, sym, ap, ◌∙◌}
+use Rattle.std.proofs.Common.{◌≡◌, ℕ, ◌+◌, Bool, true, false, cond, List, [], ◌∷◌, is_some, Ok, IsTrue, refl, sym, ap, ◌∙◌}
 use Rattle.std.specs.Option.{option_map}
 use Rattle.board_devices.specs.Arriving.{next_time as arrival_time}
 use Rattle.board_devices.specs.Clock.{clock_at}
 use Rattle.process_own.specs.Own.{Own}
 use Rattle.driver_model.specs.Alarm.{nearer, next_left}
+use Rattle.tk_base.specs.declared.process.Choice.{Choice}
 use Rattle.tk_base.specs.declared.process.Choice.TheVariants.{Pass}
 use Rattle.process_record.specs.Emit.{nothing}
 use Rattle.process_record.specs.declared.emit.Emit.{Emit}
 use Rattle.kernel_model.specs.Shown.{shown_by}
-use Rattle.kernel_model.specs.World.{World, after, is_ready, owns_in, stepped}
+use Rattle.kernel_model.specs.World.{Stepped, World, carried_out, is_ready, owns_in, stepped, unmade}
 use Rattle.kernel_model.specs.Run.{next_time, ready_devices, sending_time}
 use Rattle.board_core.specs.declared.board.Board.TheInside.{Inside}
 use Rattle.board_core.specs.Calm.{IsCalmAt}
@@ -44,12 +45,25 @@ module _ (b : Inside) (board : IsBoard b) where
   pub calm_shown : IsCalmAt b.moment.settings.start b.moment.time b.home.owns b.drivers → ready_devices (world_of b) ≡ false ∷ false ∷ false ∷ false ∷ false ∷ false ∷ []
   calm_shown calm = sym devices_shown ∙ calm_ready b.moment b.home.owns b.drivers calm
 
+-- a choice that is ready is made
+pub is_carried_out : (w : World) (choice : Choice) → IsTrue (is_ready w choice) → stepped w choice ≡ carried_out w choice
+unfolding stepped
+is_carried_out w choice ready = by_ready (is_ready w choice) ready
+  where
+    by_ready : (b : Bool) → IsTrue b → cond b (carried_out w choice) (unmade w) ≡ carried_out w choice
+    by_ready true h = refl
+    by_ready false h = absurd (cc)
+
 -- the world after so many ticks
 pub passes : (b : Inside) (w : World) (ticks n : ℕ) (before after_it : Emit) → world_of b ≡ w → n ≡ ticks → IsTrue (is_ready w (Pass ticks)) → after_it ≡ nothing → Makes (Pass ticks) w (world_of (record b { moment = record b.moment { time = b.moment.time + n; steps = b.moment.steps + 1 } })) before after_it (Ok tt)
-unfolding stepped shown_by
-passes b w ticks n before after_it view is ready hidden = record {
-  ready = (λ e. ready, λ h. refl);
-  ok = ap (λ (k : ℕ). world_of (record b { moment = record b.moment { time = b.moment.time + k; steps = b.moment.steps + 1 } })) is ∙ ap (λ (x : World). after x (Pass ticks)) view;
-  shown = hidden;
-  refused = tt;
-}
+unfolding carried_out shown_by
+passes b w ticks n before after_it view is ready hidden =
+    let steps = is_carried_out w (Pass ticks) ready in
+    record {
+      ready = (λ e. ready, λ h. refl);
+      ok =
+          ap (λ (k : ℕ). world_of (record b { moment = record b.moment { time = b.moment.time + k; steps = b.moment.steps + 1 } })) is
+          ∙ ap (λ (x : World). (carried_out x (Pass ticks)).after) view ∙ sym (ap (λ (s : Stepped). s.after) steps);
+      shown = hidden ∙ sym (ap (λ (s : Stepped). shown_by s.labels) steps);
+      refused = tt;
+    }

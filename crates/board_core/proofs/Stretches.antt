@@ -295,10 +295,10 @@ module _ (b : Inside) (board : IsBoard b) where
         ∙ ap₂ (λ (time steps : ℕ). with_step b (world_of b).records (devices_of b.drivers) (record b.moment { time = time; steps = steps }) b.present b.used) (none_more b.moment.time) (none_more b.moment.steps)
 
     -- some are a stretch
-    module _ (f : next (world_of b) ≡ Some (Run slot)) (runs : is_running q.at.before.0.state ≡ true) (first : ℕ) (begins : first ≡ used_after b.present b.used b.slice slot - 1) (lasts : first + k ≤ b.slice) (until : b.moment.time + k ≤ b.calm)
+    module _ (f : next (world_of b) ≡ Some (Run slot)) (runs : is_running q.at.before.0.state ≡ true) (first : ℕ) (begins : first ≡ used_after b.present b.used b.slice slot - 1) (lasts : first + k ≤ b.slice) (until : b.moment.time + k ≤ b.calm) (limit : b.moment.steps + k ≤ STEP_LIMIT)
         (none : k ≡ 0 → (present ≡ b.present) × (used ≡ b.used)) (some : 0 < k → (present ≡ Some slot) × (used ≡ first + k)) where
       stretched : RoundIsStretch → 0 < k → IsStretch k (world_of b) world_then
-      stretched law more = subst (IsStretch k (world_of b)) (sym same) (law k slot (world_of b) before more f was_there (state_is q.at.before.0.state runs) (subst (λ (n : ℕ). n + k ≤ b.slice) begins lasts) (q.quiet.go storage) (none_acts until))
+      stretched law more = subst (IsStretch k (world_of b)) (sym same) (law k slot (world_of b) before more limit f was_there (state_is q.at.before.0.state runs) (subst (λ (n : ℕ). n + k ≤ b.slice) begins lasts) (q.quiet.go storage) (none_acts until))
         where
           same : world_then ≡ after_stretch k (at_turn (world_of b) slot) slot (after_instructions k before)
           same =

@@ -1,5 +1,7 @@
 pub mod Settings
 pub mod Opening
+pub mod Alone
+pub mod Looks
 pub mod Guards
 pub mod Driven
 pub mod Calm
@@ -11,3 +13,4 @@ pub mod Makes
 pub mod Plays
 pub mod Tells
 pub mod Histories
+pub mod Certified

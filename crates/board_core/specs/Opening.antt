@@ -19,15 +19,20 @@ use Rattle.kernel_model.specs.Record.{Record}
 use Rattle.kernel_model.specs.World.{World}
 use Rattle.board_core.specs.Settings.{erased, settings, pace}
 
--- the record of an application whose object stands at an offset: at its start, its block zeroed, so many bytes of
--- storage erased
-unfoldable pub opened : ℕ → List ℕ → ℕ → Extents → Meaning → Main → Record
-opened storage flash offset e h m = record {
-  process = started (FLASH_START + offset) h m e.start (e.end - e.start) e.brk;
-  object = object_bytes flash offset;
-  own = own.opened (record { object = record { address = FLASH_START + offset; size = h.total_size }; layout = e });
+-- the first record of an application with these bytes, whose object stands at an address: at its start, its block
+-- zeroed, so many bytes of storage erased
+abbrev pub first_record : ℕ → List ℕ → ℕ → Extents → Meaning → Main → Record
+first_record storage object address e h m = record {
+  process = started address h m e.start (e.end - e.start) e.brk;
+  object = object;
+  own = own.opened (record { object = record { address = address; size = h.total_size }; layout = e });
   storage = erased storage;
 }
+
+-- of one whose object stands at an offset in flash
+unfoldable pub opened : ℕ → List ℕ → ℕ → Extents → Meaning → Main → Record
+opened storage flash offset e h m =
+    first_record storage (object_bytes flash offset) (FLASH_START + offset) e h m
 
 abbrev pub opened_by : ℕ → List ℕ → ℕ → Extents → Result Meaning HeaderFault → Option Record
 opened_by storage flash offset e (Ok h) = option_map (opened storage flash offset e h) h.main

@@ -1,22 +1,34 @@
 -- Choices that a board makes one after another, and what it prints meanwhile.
 use Rattle.std.specs.Prelude.{◌≡◌, ◌<◌, ◌≤◌, ℕ, suc, true, false, List, take, length, slice_get, Some, Result, Ok, Err}
-use Rattle.std.specs.Option.{option_map}
 use Rattle.tk_base.specs.declared.process.Choice.{Choice}
 use Rattle.tk_outside.specs.Sink.{SinkFacts}
 use Rattle.tk_outside.specs.Writes.{WroteAll, WrotePart}
+use Rattle.kernel_model.specs.Record.{Record}
 use Rattle.kernel_model.specs.World.{World, is_ready}
-use Rattle.kernel_model.specs.Replay.{after_all, history, replay}
-use Rattle.kernel_model.specs.Choices.{are_ready, printed_by_all}
+use Rattle.kernel_model.specs.Accounts.{IsAccountedFor}
+use Rattle.kernel_model.specs.Replay.{after_all, history}
+use Rattle.kernel_model.specs.Choices.{Throughout, are_ready, printed_by_all}
+use Rattle.board_core.specs.Alone.{IsReplayed, OpensAlone, alone}
 use Rattle.board_core.specs.declared.play.PlayEnd.{PlayEnd}
 use Rattle.board_core.specs.declared.play.PlayEnd.TheVariants.{NotReady, Failed}
 
 -- Choices were made: each was ready in its turn, and the world is the one after them. So the record of each process is
--- the replay of its own turns, and of what devices answered it, meanwhile.
+-- the replay of its own turns, and of what devices answered it, meanwhile; and each of the steps is accounted for: each
+-- byte of a process that it changed has its cause, each access was permitted, each denial due.
 pub record Made (old new : World) (choices : List Choice) : Type 0 where
   pub ready : are_ready old choices ≡ true
   pub world : new ≡ after_all old choices
-  pub records : (slot : ℕ) → slice_get new.records slot
-      ≡ option_map (replay old.settings (history slot old choices)) (slice_get old.records slot)
+  pub records : IsReplayed old new choices
+  pub accounted : Throughout IsAccountedFor old choices
+  -- in any other world under the same settings, and after any choices there, a process that had the same record, and
+  -- the same turns and answers since, has the same record, whichever slots the two are in
+  pub same : (other : World) (others : List Choice) (slot place : ℕ) → other.settings ≡ old.settings
+      → slice_get other.records place ≡ slice_get old.records slot → history place other others ≡ history slot old choices
+      → slice_get (after_all other others).records place ≡ slice_get new.records slot
+  -- from the board's first world on, the record is a function of the process's object, of where that and its block lie,
+  -- of the settings, and of its own turns and answers
+  pub alone : OpensAlone old → (slot : ℕ) (r : Record) → slice_get old.records slot ≡ Some r → slice_get new.records slot
+      ≡ alone old.settings r.object r.process.object.address r.own.layout.start (history slot old choices)
 
 -- all were made, and what they printed was written
 pub record PlayedAll {K : Type 0} (tells : K → SinkFacts) (old new : World) (choices : List Choice)

@@ -1,5 +1,5 @@
 //! The board.
-ghost use Rattle.std.specs.Prelude.{◌≡◌, ◌+◌, ◌-◌, ◌^◌, [], true, false, ◌≤◌, ◌<◌, ◌↔◌, All, map, length, slice_get, IsOk, IsTrue, IfOk, IfSome, Some, OnOk, OnErr, vec_len};
+ghost use Rattle.std.specs.Prelude.{◌≡◌, ◌+◌, ◌-◌, ◌^◌, [], ◌∷◌, true, false, ◌≤◌, ◌<◌, ◌↔◌, All, map, length, slice_get, IsOk, IsTrue, IfOk, IfSome, Some, OnOk, OnErr, vec_len};
 ghost use Rattle.std.specs.List.{zip};
 ghost use Rattle.tk_base.specs.declared.process.Choice.TheVariants.{Run, Device, Pass};
 ghost use Rattle.tk_base.specs.declared.process.Dev.TheVariants.{Event, Alarm, Uart, Receive, Random, Store};
@@ -10,8 +10,11 @@ ghost use Rattle.process_record.specs.Emit.{nothing};
 ghost use Rattle.process_record.specs.Name.{name_of};
 ghost use Rattle.kernel_calls.specs.Own.{object_in};
 ghost use Rattle.kernel_model.specs.World.{is_ready, after, labels};
+ghost use Rattle.kernel_model.specs.Accounts.{IsAccountedFor};
+ghost use Rattle.kernel_model.specs.Causes.{AreWhole};
 ghost use Rattle.kernel_model.specs.Run.{next, situation_of};
 ghost use Rattle.kernel_model.specs.Shown.{shown_by, summary_of};
+ghost use Rattle.board_core.specs.Alone.{IsReplayed, OpensAlone};
 ghost use Rattle.board_core.specs.Opening.{opening};
 ghost use Rattle.board_core.specs.Settings.{settings};
 ghost use Rattle.board_core.specs.Calm.{IsCalm};
@@ -32,7 +35,10 @@ use alarm_capsule::next_due;
 use arrayvec::ArrayVec;
 use driver_model::an_alarm_is_due_where_no_ticks_are_left;
 use grant_enter::Home;
-use kernel_model::{Settings, grants_change_at_calls, next_is_ready, turns_keep_lines};
+use kernel_model::{
+    Settings, a_record_is_the_replay_of_its_events, grants_change_at_calls, next_is_ready,
+    steps_are_accounted_for, turns_keep_lines,
+};
 use led_capsule::bits;
 use process_own::Object;
 use process_record::{Emit, Process, SlotLine, Summary, Unplaced, object_name};
@@ -271,10 +277,12 @@ fn slot_lines(home: &Home, processes: &[Process]) -> ArrayVec<SlotLine, 8>
 impl Board {
     /// The board of a flash image of at most [`FLASH_LIMIT`] bytes under a script, before its first step. The
     /// applications of the image are in their places, each block of RAM is zeroed. The one error is
-    /// want of memory; image and script are dropped then.
+    /// want of memory; image and script are dropped then. The record of each process is a function of the bytes of its
+    /// object, of where that and its block lie, and of the size of its storage: of nothing else in image and script.
     pub fn boot(alloc: Global, flash: Vec<u8>, script: Script) -> Result<Board, NoMemory>
         requires { vec_len flash ≤ FLASH_LIMIT }
-        ensures { IfOk result (λ board. board ≡ opening script flash.items) }
+        ensures world { IfOk result (λ board. board ≡ opening script flash.items) }
+        ensures alone { IfOk result OpensAlone }
     {
         let placed = placed_in(&flash, script.ram);
         let Crew {
@@ -419,10 +427,24 @@ impl Board {
         Ok(())
     }
 
+    /// As always, what is a process's own is whole, and each buffer that it has allowed lies where it may. The function
+    /// does nothing.
+    #[inline(always)]
+    fn owns_are_whole(&self)
+        ensures { AreWhole self.now }
+    {
+        self.home.held_buffers_lie_in_place();
+        self.home.owns_lie_in_place();
+    }
+
     /// Makes one step, and shows it in `emit`. Afterwards the board shows the world after the abstract
     /// kernel's step. `NotReady` comes exactly where the choice may not be made: its slot holds no
     /// process that can have a turn, its device has nothing to do (the alarm, where none is due), a pass takes no
-    /// ticks, or 4,000,000,000 steps were made; nothing has changed then.
+    /// ticks, or 4,000,000,000 steps were made; nothing has changed then. Each byte of a process that the step changes,
+    /// of its block and of its storage, has its cause among the labels; each access of a turn was permitted, and each
+    /// denial was due, and is shown with its address and its rule; a call that was refused changes the process's reply and
+    /// counts alone. The record of each process is the replay of its own turn, or of what the device answers it, and as
+    /// it was where the step is neither.
     #[inline(always)]
     #[tactic(auto, unfolding(kernel_model::specs::World::may_be_made))]
     pub fn step(&mut self, choice: Choice, emit: &mut Emit) -> Result<(), NotReady>
@@ -430,7 +452,12 @@ impl Board {
         ensures ok { OnOk result (self.new ≡ after self.old choice) }
         ensures shown { OnOk result (emit.new ≡ shown_by (labels self.old choice)) }
         ensures refused { OnErr result ((self.new ≡ self.old) × (emit.new ≡ emit.old)) }
+        ensures accounted { IsAccountedFor self.old choice }
+        ensures records { OnOk result (IsReplayed self.old self.new (choice ∷ [])) }
     {
+        self.owns_are_whole();
+        steps_are_accounted_for();
+        a_record_is_the_replay_of_its_events();
         match choice {
             Choice::Run(slot) => self.run(slot, emit),
             Choice::Device(device) => self.act(device, emit),

@@ -1,8 +1,10 @@
 //! Laws of all runs from a boot. The functions do nothing.
+ghost use Rattle.board_core.specs.Alone.{OpeningsAreAlone, RunsAreAlone, SameViewSameRecord};
 ghost use Rattle.board_core.specs.Histories.{DeliveriesFromBootAreOfTheLast, OpensWithNothingHanded, RunsFromBootAreFair, SwapsFromBootGiveBackTheLast};
 
 use kernel_model::{
-    deliveries_are_of_the_last, ready_processes_have_turns, swaps_give_back_the_last,
+    a_record_is_the_replay_of_its_events, deliveries_are_of_the_last, ready_processes_have_turns,
+    swaps_give_back_the_last,
 };
 
 /// Whatever choices are made after a boot, each subscribe and each allow of a process that succeeds gives back
@@ -32,4 +34,17 @@ pub fn runs_from_boot_are_fair()
     ensures { RunsFromBootAreFair }
 {
     ready_processes_have_turns();
+}
+
+/// What becomes of a process depends on nothing but its object, where that and its block lie, the settings that it can
+/// see, and its own turns and answers. On any two boards, whatever their other objects and scripts are, and after any two
+/// lists of choices, two processes that agree in these have equal records: registers, state and counts, the whole
+/// block with its grants, layout, pending upcalls, life and storage, byte by byte. The slots may differ. So it is in each
+/// world of a run by round robin (Levy et al., SOSP 2017).
+pub fn a_process_depends_on_its_own_view_alone()
+    ensures opens { OpeningsAreAlone }
+    ensures same { SameViewSameRecord }
+    ensures runs { RunsAreAlone }
+{
+    a_record_is_the_replay_of_its_events();
 }

@@ -3,6 +3,9 @@ ghost use Rattle.std.specs.Prelude.{◌≡◌, ◌+◌, ◌-◌, ◌≤◌, ◌<
 ghost use Rattle.tk_base.specs.declared.limits.TheConstants.{STEP_LIMIT};
 ghost use Rattle.turn_scheduler.specs.RoundRobin.{used_after};
 ghost use Rattle.tk_base.specs.declared.process.Choice.TheVariants.{Run};
+ghost use Rattle.kernel_model.specs.Accounts.{IsAccountedFor};
+ghost use Rattle.kernel_model.specs.Choices.{Throughout};
+ghost use Rattle.kernel_model.specs.Replay.{chosen};
 ghost use Rattle.kernel_model.specs.Run.{next};
 ghost use Rattle.kernel_model.specs.Stretch.{GoesOn, IsStretch};
 ghost use Rattle.board_core.specs.Calm.{HasCome, IsCalm, ServesNobody, coming};
@@ -15,7 +18,7 @@ use crate::drivers::Drivers;
 use crate::guard::Guard;
 use crate::moment::Moment;
 use grant_enter::Home;
-use kernel_model::{next_is_ready, round_is_stretch};
+use kernel_model::{next_is_ready, round_is_stretch, steps_are_accounted_for};
 use process_record::{Process, State};
 use tk_base::{Choice, STEP_LIMIT, Slot};
 
@@ -213,13 +216,16 @@ impl Board {
     }
 
     /// Makes as many of the round robin's next steps as are turns that only execute an instruction, one after another,
-    /// at most `most`, and answers how many. None of these steps makes a system call, is denied or prints. Where it
+    /// at most `most`, and answers how many. None of these steps makes a system call, is denied or prints, and each byte
+    /// of a process that one of them changes has its cause among its labels: a store that the process may make. Where it
     /// answers less than `most`, the next step is not such a turn.
     pub fn run_quietly(&mut self, most: u32) -> u32
         ensures most { result ≤ most }
         ensures stretch { IsStretch result self.old self.new }
+        ensures accounted { Throughout IsAccountedFor self.old (chosen result self.old) }
         ensures ends { result < most → GoesOn self.new → ⊥ }
     {
+        steps_are_accounted_for();
         round_is_stretch();
         let mut made = 0;
         while made < most {

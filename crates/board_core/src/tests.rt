@@ -1,7 +1,7 @@
 //! Two applications on one board, step by step. Each function makes few calls: the proof of a long one costs more than
 //! those of its parts.
 use super::*;
-use process_record::Emit;
+use process_record::{Emit, State};
 use script_text::read_script;
 use std::alloc::Global;
 use std::process::Abort;
@@ -15,8 +15,34 @@ const SPIN: [u32; 1] = [0x0000_006f];
 /// `lui a1, 0x80000` and `sw x0, 0(a1)`: a store at the start of RAM, which is the first application's.
 const STRAY: [u32; 2] = [0x8000_05b7, 0x0005_a023];
 
-/// An application of 64 bytes with this code.
-fn application(code: &[u32]) -> [u8; 64] {
+/// `ebreak`
+const BREAK: [u32; 1] = [0x0010_0073];
+
+/// `addi t0, t0, 1` and `j .-4`
+const COUNT: [u32; 2] = [0x0012_8293, 0xffdf_f06f];
+
+/// `li a4, 6`, `li a0, 0`, `li a1, 7` and `ecall`: it exits with the code 7.
+const EXIT: [u32; 4] = [0x0060_0713, 0x0000_0513, 0x0070_0593, 0x0000_0073];
+
+/// It allows the console a buffer that it may read into, the first 16 bytes of its RAM, and then 8 bytes at 32: `mv s0,
+/// a1`, `li a4, 3`, and twice `li a0, 1`, `li a1, 1`, the buffer's address in a2 and its size in a3, and `ecall`.
+const ALLOWS: [u32; 12] = [
+    0x0005_8413,
+    0x0030_0713,
+    0x0010_0513,
+    0x0010_0593,
+    0x0004_0613,
+    0x0100_0693,
+    0x0000_0073,
+    0x0010_0513,
+    0x0010_0593,
+    0x0204_0613,
+    0x0080_0693,
+    0x0000_0073,
+];
+
+/// An application of N bytes with this code.
+fn application<const N: usize>(code: &[u32]) -> [u8; N] {
     let main = Tlv::Main {
         init: 0,
         protected: 0,
@@ -27,10 +53,71 @@ fn application(code: &[u32]) -> [u8; 64] {
 
 /// A board with the two applications, without a script; None for want of memory.
 fn board_of(alloc: Global) -> Option<Board> {
-    let flash: [u8; 128] = image(&[&application(&SPIN), &application(&STRAY)]);
+    let flash: [u8; 128] = image(&[&application::<64>(&SPIN), &application::<64>(&STRAY)]);
     let flash = Vec::from_slice(alloc, &flash).ok()?;
     let script = read_script(alloc, b"").ok()?;
     Board::boot(alloc, flash, script).ok()
+}
+
+/// A board with three applications: one with this code, one that stops at an `ebreak`, and one that exits; a process
+/// that faults is started again twice. None for want of memory.
+fn board_beside(alloc: Global, code: &[u32]) -> Option<Board> {
+    let flash: [u8; 140] = image(&[
+        &application::<40>(code),
+        &application::<36>(&BREAK),
+        &application::<64>(&EXIT),
+    ]);
+    let flash = Vec::from_slice(alloc, &flash).ok()?;
+    let script = read_script(alloc, b"slice 2\npolicy threshold 2\n").ok()?;
+    Board::boot(alloc, flash, script).ok()
+}
+
+/// The turns of the three by round robin in slices of two, fourteen of them.
+fn fourteen_turns() -> [Choice; 14] {
+    let mut choices = [Choice::Run(Slot::new(0)); 14];
+    choices[2] = Choice::Run(Slot::new(1));
+    choices[3] = Choice::Run(Slot::new(1));
+    choices[4] = Choice::Run(Slot::new(2));
+    choices[5] = Choice::Run(Slot::new(2));
+    choices[8] = Choice::Run(Slot::new(1));
+    choices[9] = Choice::Run(Slot::new(2));
+    choices[10] = Choice::Run(Slot::new(2));
+    choices
+}
+
+/// Whether the process in a slot of two boards has the same registers, state and counts, layout, block and storage.
+fn is_alike(board: &Board, other: &Board, slot: Slot) -> bool {
+    board.process(slot) == other.process(slot)
+        && board.layout(slot) == other.layout(slot)
+        && board.block(slot) == other.block(slot)
+        && board.storage(slot) == other.storage(slot)
+}
+
+/// Of each of three slots whether its process is the same on two boards.
+fn alike(board: &Board, other: &Board) -> [bool; 3] {
+    [
+        is_alike(board, other, Slot::new(0)),
+        is_alike(board, other, Slot::new(1)),
+        is_alike(board, other, Slot::new(2)),
+    ]
+}
+
+/// How the process in a slot stands.
+fn state(board: &Board, slot: Slot) -> Option<State> {
+    board.process(slot).map(|process| process.state)
+}
+
+/// Of each slot whether its process is the same on two boards, which differ in what the first application does, after
+/// fourteen turns; and how the second and the third process stand. None for want of memory.
+fn beside_another(alloc: Global) -> Option<([bool; 3], [Option<State>; 2])> {
+    let mut board = board_beside(alloc, &SPIN)?;
+    let mut other = board_beside(alloc, &COUNT)?;
+    let _ = played(&mut board, alloc, &fourteen_turns());
+    let _ = played(&mut other, alloc, &fourteen_turns());
+    Some((
+        alike(&board, &other),
+        [state(&other, Slot::new(1)), state(&other, Slot::new(2))],
+    ))
 }
 
 /// What choices come to on a board; None for want of memory.
@@ -88,4 +175,45 @@ fn two_applications_go_on_as_was_worked_out(rt: HostRuntime) {
         seen(&mut board, rt.alloc()),
         ([10, 91, 0], true, Some(PlayEnd::NotReady(3)), 106)
     );
+}
+
+#[test]
+fn a_process_is_the_same_beside_any_other(rt: HostRuntime) {
+    let seen = beside_another(rt.alloc()).expect(&rt, "memory");
+    assert_eq!(rt;
+        seen,
+        (
+            [false, true, true],
+            [Some(State::Faulted), Some(State::Terminated(7))]
+        )
+    );
+}
+
+/// The console's area once the second buffer was allowed: the driver's number and what the area costs, three upcalls and a
+/// read-only buffer that were not handed over, the read-write buffer, and the driver's value.
+fn console_area() -> [u8; 96] {
+    let mut area = [0; 96];
+    area[0] = 1;
+    area[4] = 96;
+    area[56] = 0x20;
+    area[59] = 0x80;
+    area[60] = 8;
+    area
+}
+
+/// Whether the last bytes of the block are the console's area after the twelve turns of the two allows. None for want of
+/// memory.
+fn lays_its_grant(alloc: Global) -> Option<bool> {
+    let flash: [u8; 80] = image(&[&application::<80>(&ALLOWS)]);
+    let flash = Vec::from_slice(alloc, &flash).ok()?;
+    let script = read_script(alloc, b"").ok()?;
+    let mut board = Board::boot(alloc, flash, script).ok()?;
+    let _ = played(&mut board, alloc, &[Choice::Run(Slot::new(0)); 12]);
+    let block = board.block(Slot::new(0))?;
+    Some(block.len() == 1024 && block.split_at(928).1 == &console_area()[..])
+}
+
+#[test]
+fn a_grant_stands_in_the_block_byte_by_byte(rt: HostRuntime) {
+    assert_eq!(rt; lays_its_grant(rt.alloc()), Some(true));
 }

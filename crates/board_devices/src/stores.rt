@@ -34,6 +34,13 @@ impl Store {
         Ok(Store { bytes })
     }
 
+    /// All bytes.
+    fn all(&self) -> &[u8]
+        ensures { result.now ≡ self.now }
+    {
+        &self.bytes
+    }
+
     /// Copies bytes from an offset on.
     fn read(&self, offset: usize, into: &mut [u8])
         requires within { offset + length into.old ≤ length self.now }
@@ -94,7 +101,7 @@ fn erased_slots(alloc: Global, size: usize) -> Result<Vec<Store>, AllocError>
 
 impl Stores {
     ghost use Rattle.tk_outside.specs.Count.{counted};
-    ghost use Rattle.board_devices.specs.Storage.{AreSized, fresh_storage, bytes_from, with_bytes, is_fault};
+    ghost use Rattle.board_devices.specs.Storage.{AreSized, fresh_storage, bytes_from, slot_bytes, with_bytes, is_fault};
 
     /// The storage of eight slots with so many bytes each, which are 0xFF, before the first request.
     /// `faults` are the numbers of the requests that fail. It fails where there is no memory for the
@@ -111,6 +118,13 @@ impl Stores {
             }),
             Err(_) => Err(NoMemory),
         }
+    }
+
+    /// The bytes of a slot.
+    pub fn bytes(&self, slot: Slot) -> &[u8]
+        ensures { result.now ≡ slot_bytes self.now slot }
+    {
+        self.slots[slot.index()].all()
     }
 
     /// The size of a slot's storage in bytes. Each of the eight slots has so many.

@@ -2,3 +2,4 @@ pub mod FlashList
 pub mod Report
 pub mod Trace
 pub mod Words
+pub mod OwnWords

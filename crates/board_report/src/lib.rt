@@ -10,3 +10,4 @@ mod words;
 pub use list::write_list;
 pub use report::{End, write_report};
 pub use trace::write_trace;
+pub use words::rules_have_words_of_their_own;

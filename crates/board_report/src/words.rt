@@ -1,5 +1,6 @@
 //! The words of the report and of the trace.
 ghost use Rattle.std.specs.Prelude.{◌≡◌, ◌≤◌, length, map};
+ghost use Rattle.board_report.specs.OwnWords.{RulesHaveWordsOfTheirOwn};
 ghost use Rattle.board_report.specs.Words.{access_text, rule_text, call_rule_text, fault_text, glyph, name_text};
 
 use arrayvec::ArrayVec;
@@ -90,3 +91,9 @@ pub fn shown_name(name: &[u8]) -> ArrayVec<u8, 32>
     }
     text
 }
+
+/// No two rules by which calls are refused share a word, and no two by which accesses are denied: so a trace tells which
+/// one was broken.
+pub fn rules_have_words_of_their_own()
+    ensures { RulesHaveWordsOfTheirOwn }
+{}

@@ -22,7 +22,8 @@ use Rattle.driver_model.specs.Alarm as alarm
 use Rattle.driver_model.specs.Alarm.{with_alarm}
 use Rattle.driver_model.specs.Laws.{IsAtMostOneMore}
 use Rattle.driver_model.specs.Answers.{FollowsAnswer, LinesFollowAnswers, Remains, left_by}
-use Rattle.driver_model.proofs.Scheduled.{Serves, none_more, serves, serves_silently}
+use Rattle.driver_model.proofs.Scheduled.{Serves, as_before, none_more, serves, serves_silently}
+use Rattle.driver_model.proofs.Sizes.{written_size}
 use Rattle.driver_model.proofs.Asked.{Asked, asked, told_by, asked_randoms, asked_reads, asked_stores, asked_writes, if_told}
 use Rattle.driver_model.proofs.Waits.{LiesWithin, Moves, each_waits, is_within, stays}
 use Rattle.driver_model.proofs.Follows.{arms_apart}
@@ -120,10 +121,10 @@ sends flash life own = by_waiting (waiting_of console_writes life own) refl
     by_portion : (write : WaitingWrite) (b : Bool) → waiting_of console_writes life own ≡ Some write → Sends own (cond b (record { own = console.write_done own; printed = []; completed = true }) (record { own = console.taken own; printed = console.next_bytes flash write own; completed = false }))
     by_portion write true is =
         subst (λ (w : _). FollowsAnswer (left_by Writes true) own (unwrap_or (option_map (console.writing own) w) own)) (sym (waits console_writes life own write is))
-        (put_writes own _ (serves _ _ _ own.ram own) write None (asks console_writes life own write is))
+        (put_writes own _ (serves _ _ _ own.ram own (as_before own)) write None (asks console_writes life own write is))
     by_portion write false is =
         subst (λ (w : _). FollowsAnswer (left_by Writes false) own (unwrap_or (option_map (console.taking own) w) own)) (sym (waits console_writes life own write is))
-        (put_writes own _ (serves_silently own.ram own) write (Some (record write { taken = write.taken + console.portion write own })) (asks console_writes life own write is))
+        (put_writes own _ (serves_silently own.ram own (as_before own)) write (Some (record write { taken = write.taken + console.portion write own })) (asks console_writes life own write is))
 
     by_waiting : (w : Option WaitingWrite) → waiting_of console_writes life own ≡ w → Sends own (unwrap_or (option_map (console.sending flash own) w) (console.unsent own))
     by_waiting None is = unmoved _ own (never_left Writes)
@@ -137,7 +138,7 @@ receives ring life own = by_waiting (waiting_of console_reads life own) refl
     by_waiting None is = unmoved _ own (never_left Reads)
     by_waiting (Some read) is =
         subst (λ (w : _). FollowsAnswer (left_by Reads true) own (unwrap_or (option_map (console.reading_in (console.moving ring read own) own) w) own)) (sym (waits console_reads life own read is))
-        (put_reads own _ (serves _ _ _ _ own) read None (asks console_reads life own read is))
+        (put_reads own _ (serves _ _ _ _ own (written_size console.console 1 0 (console.moving ring read own) own)) read None (asks console_reads life own read is))
 
 -- a step of a request for random bytes
 serves_if : (own : Own) (b : Bool) (p q : Progress) → Serves own p.own → Serves own q.own → Serves own (cond b p q).own
@@ -145,12 +146,12 @@ serves_if own true p q first second = first
 serves_if own false p q first second = second
 
 serves_drawing : (left : ℕ) (request : RandomRequest) (own : Own) (word : Option ℕ) → Serves own (random.drawing left request own word).own
-serves_drawing left request own None = serves _ _ _ own.ram own
-serves_drawing left request own (Some word) = serves_if own (nat_le left 4) _ _ (serves _ _ _ _ own) (serves_silently _ own)
+serves_drawing left request own None = serves _ _ _ own.ram own (as_before own)
+serves_drawing left request own (Some word) = serves_if own (nat_le left 4) _ _ (serves _ _ _ _ own (written_size random.random 0 request.written _ own)) (serves_silently _ own (written_size random.random 0 request.written _ own))
 
 pub serves_progress : (word : Option ℕ) (request : RandomRequest) (own : Own) → Serves own (random.progress word request own).own
 serves_progress word request own =
-    serves_if own (nat_le (random.wanted request own) request.written) _ _ (serves _ _ _ own.ram own)
+    serves_if own (nat_le (random.wanted request own) request.written) _ _ (serves _ _ _ own.ram own (as_before own))
     (serves_drawing (random.wanted request own - request.written) request own word)
 
 draws : (words : List ℕ) (life : ℕ) (own : Own) → let a = random.answered words life own in FollowsAnswer (left_by Randoms a.completed) own a.own
@@ -167,9 +168,9 @@ pub serves_served : (fault : Bool) (flash bytes : List ℕ) (request : StorageRe
 serves_served fault flash bytes request own = by_fault fault request.kind
   where
     by_fault : (b : Bool) (kind : StorageKind) → Serves own (cond b (record { own = storage.completing request.kind 0 1 own; written = None }) (storage.moving kind flash bytes request own)).own
-    by_fault true kind = serves _ _ _ own.ram own
-    by_fault false Read = serves _ _ _ _ own
-    by_fault false Write = serves _ _ _ own.ram own
+    by_fault true kind = serves _ _ _ own.ram own (as_before own)
+    by_fault false Read = serves _ _ _ _ own (written_size storage.storage 0 0 _ own)
+    by_fault false Write = serves _ _ _ own.ram own (as_before own)
 
 stores : (fault : Bool) (flash bytes : List ℕ) (life : ℕ) (own : Own) → let a = storage.answered fault flash bytes life own in FollowsAnswer (left_by Stores a.completed) own a.own
 unfolding storage.answered
@@ -185,7 +186,7 @@ fires now own = by_due (alarm.due_alarm now own)
   where
     by_due : (due : Option Armed) → FollowsAnswer (λ line. false) own (alarm.fired_if now own due)
     by_due None = unmoved _ own (λ line. refl)
-    by_due (Some armed) = stops_alarm own _ (serves _ _ _ own.ram own)
+    by_due (Some armed) = stops_alarm own _ (serves _ _ _ own.ram own (as_before own))
 
 pub lines_follow_answers : LinesFollowAnswers
 lines_follow_answers = record { writes = sends; reads = receives; randoms = draws; stores = stores; alarms = fires }

@@ -1,5 +1,5 @@
 -- Who waits after a command.
-use Rattle.std.proofs.Common.{◌≡◌, true, [], ◌∷◌, Option, None, Some, Ok, refl, ap, sym, ◌∙◌}
+use Rattle.std.proofs.Common.{◌≡◌, Bool, true, false, cond, not, ◌&&◌, [], ◌∷◌, Option, None, Some, is_some, Ok, refl, ap, sym, ◌∙◌}
 use Rattle.std.proofs.lemmas.Bool.{false≢true}
 use Rattle.tk_base.specs.Call.{code_of}
 use Rattle.tk_base.specs.declared.call.ErrorCode.TheVariants.{Cancel}
@@ -11,18 +11,37 @@ use Rattle.process_own.specs.Own.{Own}
 use Rattle.process_own.specs.Handed.{entering}
 use Rattle.process_own.specs.Served.{scheduled}
 use Rattle.driver_model.specs.Commands.{Commanded, Leaves, Reads}
+use Rattle.driver_model.specs.Requests.{Desk, request_in}
 use Rattle.driver_model.specs.Alarm.{with_alarm}
-use Rattle.driver_model.specs.Console.{console, without_read}
-use Rattle.driver_model.specs.Lines.{FollowsCommand, LinesFollowCommands, waits_after}
+use Rattle.driver_model.specs.Console.{console, console_reads, console_writes, without_read}
+use Rattle.driver_model.specs.Random.{randoms}
+use Rattle.driver_model.specs.Storage.{storages}
+use Rattle.driver_model.specs.Lines.{FollowsCommand, LinesFollowCommands, OfEachDesk, has_waiting, waits_after, waits_once}
 use Rattle.driver_model.specs.Drivers.{Surroundings}
 use Rattle.driver_model.proofs.Scheduled.{schedules}
 use Rattle.driver_model.proofs.Asked.{Asked, asked, asked_apart, asked_reads, asked_still, entered_reads, entered_randoms, entered_stores, entered_writes, if_none}
 use Rattle.driver_model.proofs.Waits.{LiesWithin, Moves, each_waits, is_within, stays}
 use Rattle.driver_model.proofs.Outcomes.{of_command}
 
+-- it begins to wait nowhere twice
+abbrev BeginsOnce : Own → Commanded → Type 0
+BeginsOnce own c = OfEachDesk (λ R desk. waits_once desk.line (has_waiting desk own) c.acts ≡ true)
+
+-- where no request is kept, it does not wait yet
+not_yet : {R : Type 0} (desk : Desk R) (own : Own) → request_in desk own ≡ None → (not (has_waiting desk own) && true) ≡ true
+not_yet {R} desk own none = ap (λ (q : Option R). not (is_some (cond own.lives q None)) && true) none ∙ by_lives own.lives
+  where
+    nothing : Option R
+    nothing = None
+
+    by_lives : (b : Bool) → (not (is_some (cond b nothing None)) && true) ≡ true
+    by_lives true = refl
+    by_lives false = refl
+
 -- by what is asked for after the command
-follows : (around : Surroundings) (own : Own) (c : Commanded) (after : Asked) → c.own.lives ≡ own.lives → asked c.own.grants ≡ after → Moves (λ line waits. waits_after line waits c.acts) (asked own.grants) after → (LiesWithin around.storage (asked own.grants).stores → LiesWithin around.storage after.stores) → FollowsCommand around own c
-follows around own c after lives is moves lies = record {
+follows : (around : Surroundings) (own : Own) (c : Commanded) (after : Asked) → c.own.lives ≡ own.lives → asked c.own.grants ≡ after → Moves (λ line waits. waits_after line waits c.acts) (asked own.grants) after → (LiesWithin around.storage (asked own.grants).stores → LiesWithin around.storage after.stores) → BeginsOnce own c → FollowsCommand around own c
+follows around own c after lives is moves lies once = record {
+  once = once;
   lines = λ (l : own.lives ≡ true). each_waits _ own c.own after lives is (λ line ended. absurd (false≢true (sym ended ∙ l))) moves;
   within = λ held. is_within around.storage c.own after is (lies held);
 }
@@ -40,20 +59,20 @@ cancels around own =
     let told : asked (without_read own).grants ≡ record (asked own.grants) { reads = None } =
     asked_reads None s ∙ (λ i. record (asked (same i)) { reads = if_none (grant_of console s.grants) i }) in
     follows around own _ (record (asked own.grants) { reads = None }) lives told
-    (record { writes = refl; reads = refl; randoms = refl; stores = refl }) (λ held. held)
+    (record { writes = refl; reads = refl; randoms = refl; stores = refl }) (λ held. held) (record { writes = refl; reads = refl; randoms = refl; stores = refl })
 
 pub lines_follow_commands : LinesFollowCommands
 lines_follow_commands driver taker is around number a2 a3 own =
     let before = asked own.grants in
     of_command FollowsCommand driver taker is around number a2 a3 own (record {
-      refuses = λ rule. follows around own _ before refl refl (stays before) (λ held. held);
-      replies = λ reply. follows around own _ before refl refl (stays before) (λ held. held);
-      lights = λ led switch. follows around own _ before refl refl (stays before) (λ held. held);
-      arms = λ alarm. follows around own _ before refl (arms_apart (Some alarm) (entering 0x0 own) ∙ asked_still 0x0 own.grants) (stays before) (λ held. held);
-      stops = follows around own _ before refl (arms_apart None own) (stays before) (λ held. held);
+      refuses = λ rule. follows around own _ before refl refl (stays before) (λ held. held) (record { writes = refl; reads = refl; randoms = refl; stores = refl });
+      replies = λ reply. follows around own _ before refl refl (stays before) (λ held. held) (record { writes = refl; reads = refl; randoms = refl; stores = refl });
+      lights = λ led switch. follows around own _ before refl refl (stays before) (λ held. held) (record { writes = refl; reads = refl; randoms = refl; stores = refl });
+      arms = λ alarm room. follows around own _ before refl (arms_apart (Some alarm) (entering 0x0 own) ∙ asked_still 0x0 own.grants) (stays before) (λ held. held) (record { writes = refl; reads = refl; randoms = refl; stores = refl });
+      stops = follows around own _ before refl (arms_apart None own) (stays before) (λ held. held) (record { writes = refl; reads = refl; randoms = refl; stores = refl });
       cancels = cancels around own;
-      writes = λ request. follows around own _ _ refl (entered_writes (Some request) own) (record { writes = refl; reads = refl; randoms = refl; stores = refl }) (λ held. held);
-      reads = λ request. follows around own _ _ refl (entered_reads (Some request) own) (record { writes = refl; reads = refl; randoms = refl; stores = refl }) (λ held. held);
-      draws = λ request. follows around own _ _ refl (entered_randoms (Some request) own) (record { writes = refl; reads = refl; randoms = refl; stores = refl }) (λ held. held);
-      stores = λ request fits. follows around own _ _ refl (entered_stores (Some request) own) (record { writes = refl; reads = refl; randoms = refl; stores = refl }) (λ held. fits);
+      writes = λ request room none. follows around own _ _ refl (entered_writes (Some request) own) (record { writes = refl; reads = refl; randoms = refl; stores = refl }) (λ held. held) (record { writes = not_yet console_writes own none; reads = refl; randoms = refl; stores = refl });
+      reads = λ request room none. follows around own _ _ refl (entered_reads (Some request) own) (record { writes = refl; reads = refl; randoms = refl; stores = refl }) (λ held. held) (record { writes = refl; reads = not_yet console_reads own none; randoms = refl; stores = refl });
+      draws = λ request room none. follows around own _ _ refl (entered_randoms (Some request) own) (record { writes = refl; reads = refl; randoms = refl; stores = refl }) (λ held. held) (record { writes = refl; reads = refl; randoms = not_yet randoms own none; stores = refl });
+      stores = λ request fits room none. follows around own _ _ refl (entered_stores (Some request) own) (record { writes = refl; reads = refl; randoms = refl; stores = refl }) (λ held. fits) (record { writes = refl; reads = refl; randoms = refl; stores = not_yet storages own none });
     })

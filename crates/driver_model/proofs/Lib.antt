@@ -1,6 +1,7 @@
 mod Tables
 mod Outcomes
 mod Scheduled
+mod Sizes
 mod Refusals
 mod Places
 mod Nearing
@@ -17,3 +18,6 @@ mod Telling
 mod Services
 mod Upcalls
 mod Pairs
+mod Bytes
+mod Held
+mod Settled

@@ -35,28 +35,28 @@ pub record OfEachOutcome (around : Surroundings) (own : Own) (P : Commanded → 
   pub refuses : (rule : CallRule) → P (refused rule own)
   pub replies : (reply : Reply) → P (accepted reply own)
   pub lights : (led : ℕ) (switch : Switch) → P (record { answer = Ok Success; own = own; acts = Lights led switch ∷ [] })
-  pub arms : (alarm : Armed) → P (accepted (SuccessU32 (expiration alarm)) (with_alarm (Some alarm) (entering 0 own)))
+  pub arms : (alarm : Armed) → has_place 0 own ≡ true → P (accepted (SuccessU32 (expiration alarm)) (with_alarm (Some alarm) (entering 0 own)))
   pub stops : P (accepted Success (with_alarm None own))
   pub cancels : P (record { answer = Ok Success; own = without_read own; acts = Leaves Reads ∷ [] })
-  pub writes : (request : WaitingWrite) → P (begun console_writes request own)
-  pub reads : (request : WaitingRead) → P (begun console_reads request own)
-  pub draws : (request : RandomRequest) → P (begun randoms request own)
-  pub stores : (request : StorageRequest) → request.offset + request.length ≤ around.storage → P (begun storages request own)
+  pub writes : (request : WaitingWrite) → has_place console_writes.driver own ≡ true → request_in console_writes own ≡ None → P (begun console_writes request own)
+  pub reads : (request : WaitingRead) → has_place console_reads.driver own ≡ true → request_in console_reads own ≡ None → P (begun console_reads request own)
+  pub draws : (request : RandomRequest) → has_place randoms.driver own ≡ true → request_in randoms own ≡ None → P (begun randoms request own)
+  pub stores : (request : StorageRequest) → request.offset + request.length ≤ around.storage → has_place storages.driver own ≡ true → request_in storages own ≡ None → P (begun storages request own)
 
 by_test : (P : Commanded → Type 0) (b : Bool) (c d : Commanded) → (b ≡ true → P c) → P d → P (cond b c d)
 by_test P true c d p q = p refl
 by_test P false c d p q = q
 
-by_beside : {R : Type 0} (P : Commanded → Type 0) (desk : Desk R) (waiting : Option R) (request : R) (own : Own) → ((rule : CallRule) → P (refused rule own)) → P (begun desk request own) → P (asking_beside desk waiting request own)
-by_beside P desk None request own refuses begins = by_test P (has_place desk.driver own) _ _ (λ room. begins) (refuses NoRoom)
-by_beside P desk (Some waiting) request own refuses begins = refuses Busy
+by_beside : {R : Type 0} (P : Commanded → Type 0) (desk : Desk R) (waiting : Option R) (request : R) (own : Own) → request_in desk own ≡ waiting → ((rule : CallRule) → P (refused rule own)) → (has_place desk.driver own ≡ true → request_in desk own ≡ None → P (begun desk request own)) → P (asking_beside desk waiting request own)
+by_beside P desk None request own is refuses begins = by_test P (has_place desk.driver own) _ _ (λ room. begins room is) (refuses NoRoom)
+by_beside P desk (Some waiting) request own is refuses begins = refuses Busy
 
-by_asking : {R : Type 0} (P : Commanded → Type 0) (desk : Desk R) (request : R) (own : Own) → ((rule : CallRule) → P (refused rule own)) → P (begun desk request own) → P (asking desk request own)
-by_asking P desk request own refuses begins = by_beside P desk (request_in desk own) request own refuses begins
+by_asking : {R : Type 0} (P : Commanded → Type 0) (desk : Desk R) (request : R) (own : Own) → ((rule : CallRule) → P (refused rule own)) → (has_place desk.driver own ≡ true → request_in desk own ≡ None → P (begun desk request own)) → P (asking desk request own)
+by_asking P desk request own refuses begins = by_beside P desk (request_in desk own) request own refl refuses begins
 
 module _ (P : Commanded → Type 0) (around : Surroundings) (number a2 a3 : ℕ) (own : Own) (each : OfEachOutcome around own P) where
   by_arming : (alarm : Armed) → P (arming alarm own)
-  by_arming alarm = by_test P (has_place 0 own) _ _ (λ room. each.arms alarm) (each.refuses NoRoom)
+  by_arming alarm = by_test P (has_place 0 own) _ _ (each.arms alarm) (each.refuses NoRoom)
 
   by_stopping : (alarm : Option Armed) → P (stopping alarm own)
   by_stopping None = each.refuses Nothing

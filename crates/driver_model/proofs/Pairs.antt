@@ -15,6 +15,6 @@ drivers_leave_pairs law =
     of_services HandsTheSame (record {
       same = λ own. law.grants own own refl;
       keeps = law.keeping;
-      enters = λ driver words own. then (law.entering driver own) (law.keeping driver words (entering driver own));
+      enters = λ driver words own room. then (law.entering driver own) (law.keeping driver words (entering driver own));
       serves = λ driver words own o s. then (law.grants own o (ap (λ (x : Own). x.grants) s.rest)) (law.keeping driver words o);
     })

@@ -17,7 +17,7 @@ use Rattle.driver_model.proofs.Outcomes.{begun, of_command}
 use Rattle.driver_model.proofs.Scheduled.{Queues, none_more, schedules}
 
 -- entering takes room alone
-entering_stays : (driver : ℕ) (own : Own) → StaysInPlace own (entering driver own)
+pub entering_stays : (driver : ℕ) (own : Own) → StaysInPlace own (entering driver own)
 entering_stays driver own = ap (λ (e : _). record own { layout = e; ram = (entering driver own).ram; grants = (entering driver own).grants }) (takes_room (grant_of driver own.grants))
   where
     takes_room : (g : Option Grant) → roomed driver own.layout g ≡ record own.layout { kernel_break = (roomed driver own.layout g).kernel_break }
@@ -37,13 +37,13 @@ commands_stay_in_place driver taker is around number a2 a3 own =
       refuses = λ rule. refl;
       replies = λ reply. refl;
       lights = λ led switch. refl;
-      arms = λ alarm. ap (with_alarm (Some alarm)) (entering_stays 0 own);
+      arms = λ alarm room. ap (with_alarm (Some alarm)) (entering_stays 0 own);
       stops = refl;
       cancels = subst (λ (o : Own). StaysInPlace own (with_request console_reads None o)) (sym (cancels own).rest) refl;
-      writes = λ request. begun_stays console_writes request own;
-      reads = λ request. begun_stays console_reads request own;
-      draws = λ request. begun_stays randoms request own;
-      stores = λ request fits. begun_stays storages request own;
+      writes = λ request room none. begun_stays console_writes request own;
+      reads = λ request room none. begun_stays console_reads request own;
+      draws = λ request room none. begun_stays randoms request own;
+      stores = λ request fits room none. begun_stays storages request own;
     })
 
 pub command_drops_at_most_one : CommandDropsAtMostOne
@@ -52,11 +52,11 @@ command_drops_at_most_one driver taker around number a2 a3 own is =
       refuses = λ rule. none_more own.dropped;
       replies = λ reply. none_more own.dropped;
       lights = λ led switch. none_more own.dropped;
-      arms = λ alarm. none_more own.dropped;
+      arms = λ alarm room. none_more own.dropped;
       stops = none_more own.dropped;
       cancels = (cancels own).dropped;
-      writes = λ request. none_more own.dropped;
-      reads = λ request. none_more own.dropped;
-      draws = λ request. none_more own.dropped;
-      stores = λ request fits. none_more own.dropped;
+      writes = λ request room none. none_more own.dropped;
+      reads = λ request room none. none_more own.dropped;
+      draws = λ request room none. none_more own.dropped;
+      stores = λ request fits room none. none_more own.dropped;
     })

@@ -28,12 +28,12 @@ refused_by_any_driver driver taker around number a2 a3 own rule is e =
       refuses = keeps_refused own;
       replies = λ reply. keeps_accepted own _ reply _;
       lights = λ led switch. keeps_accepted own _ Success _;
-      arms = λ alarm. keeps_accepted own _ _ _;
+      arms = λ alarm room. keeps_accepted own _ _ _;
       stops = keeps_accepted own _ Success _;
       cancels = keeps_accepted own _ Success _;
-      writes = λ request. keeps_accepted own _ Success _;
-      reads = λ request. keeps_accepted own _ Success _;
-      draws = λ request. keeps_accepted own _ Success _;
-      stores = λ request fits. keeps_accepted own _ Success _;
+      writes = λ request room none. keeps_accepted own _ Success _;
+      reads = λ request room none. keeps_accepted own _ Success _;
+      draws = λ request room none. keeps_accepted own _ Success _;
+      stores = λ request fits room none. keeps_accepted own _ Success _;
     })
     rule e

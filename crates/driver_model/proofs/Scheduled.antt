@@ -1,15 +1,18 @@
 -- What an upcall that is scheduled changes of a process.
-use Rattle.std.proofs.Common.{◌≡◌, ℕ, ◌+◌, ◌==◌, Bool, true, false, cond, List, [], ◌∷◌, ◌++◌, refl, sym, subst, ◌∙◌, arith, eq-eqb}
+use Rattle.std.proofs.Common.{◌≡◌, ◌≤◌, ◌<◌, nat_lt, length, ℕ, ◌+◌, ◌==◌, Bool, true, false, cond, List, [], ◌∷◌, ◌++◌, refl, ap, sym, subst, ◌∙◌, arith, eq-eqb}
 use Rattle.std.proofs.lemmas.Bool.{false≢true}
-use Rattle.std.proofs.lemmas.List.{append-nil}
+use Rattle.std.proofs.lemmas.Bool.Decides.{nat_tests}
+use Rattle.std.proofs.lemmas.List.{append-nil, length-append}
 use Rattle.std.proofs.lemmas.List.Elements.{All-nil, All-cons}
 use Rattle.tk_base.specs.declared.upcall.Upcall.{Upcall}
 use Rattle.upcall_queue.specs.Pending.{has_room}
 use Rattle.process_own.specs.Own.{Own}
 use Rattle.process_own.specs.Handed.{held}
 use Rattle.process_own.specs.Served.{queueing, scheduled, upcall_of}
+use Rattle.process_own.specs.Changes.{IsWhole}
 use Rattle.grant_areas.specs.declared.kinds.PairKind.TheVariants.{Upcall as Upcalls}
 use Rattle.driver_model.specs.Laws.{IsAtMostOneMore}
+use Rattle.driver_model.specs.Keeping.{KeepsLimit}
 use Rattle.driver_model.specs.Upcalls.{IsHeld, SchedulesHeld}
 
 pub none_more : (dropped : ℕ) → IsAtMostOneMore dropped dropped
@@ -24,18 +27,30 @@ schedules_none own o same = record {
   each = All-nil (IsHeld own);
 }
 
+-- where the same waits and is dropped
+pub same_limit : (own : Own) → KeepsLimit own own
+same_limit own = record { limit = λ few. few; room = λ few. refl }
+
+more_fits : (n : ℕ) → nat_lt n 10 ≡ true → n + 1 ≤ 10
+more_fits n h = grind (arith, nat_tests)
+
+is_less : (n m : ℕ) → n < m → nat_lt n m ≡ true
+is_less n m h = grind (arith, nat_tests)
+
 -- what waits to be delivered, and one more that is dropped
 pub record Queues (own o : Own) : Type 0 where
+  pub limit : KeepsLimit own o
   pub rest : o ≡ record own { pending = o.pending; dropped = o.dropped }
   pub dropped : IsAtMostOneMore own.dropped o.dropped
   pub upcalls : SchedulesHeld own o
 
 queues : (upcall : Upcall) (own : Own) → held Upcalls upcall.driver upcall.number own ≡ (upcall.function, upcall.app) → Queues own (queueing upcall own)
-queues upcall own is = by_function (upcall.function == 0) (has_room own.pending) refl
+queues upcall own is = by_function (upcall.function == 0) (has_room own.pending) refl refl
   where
-    by_function : (null room : Bool) → (upcall.function == 0) ≡ null → Queues own (cond null own (cond room (record own { pending = own.pending ++ upcall ∷ [] }) (record own { dropped = own.dropped + 1 })))
-    by_function true room e = record { rest = refl; dropped = none_more own.dropped; upcalls = schedules_none own _ refl }
-    by_function false true e = record {
+    by_function : (null room : Bool) → (upcall.function == 0) ≡ null → has_room own.pending ≡ room → Queues own (cond null own (cond room (record own { pending = own.pending ++ upcall ∷ [] }) (record own { dropped = own.dropped + 1 })))
+    by_function true room e h = record { limit = same_limit own; rest = refl; dropped = none_more own.dropped; upcalls = schedules_none own _ refl }
+    by_function false true e h = record {
+      limit = record { limit = λ few. rw length-append (more_fits (length own.pending) h); room = λ few. refl };
       rest = refl;
       dropped = none_more own.dropped;
       upcalls = record {
@@ -45,27 +60,38 @@ queues upcall own is = by_function (upcall.function == 0) (has_room own.pending)
         each = All-cons (IsHeld own) upcall [] (is, λ null. false≢true (sym e ∙ eq-eqb upcall.function 0 null)) (All-nil (IsHeld own));
       };
     }
-    by_function false false e = record { rest = refl; dropped = record { not_less = omega arith; not_more = omega arith }; upcalls = schedules_none own _ refl }
+    by_function false false e h = record { limit = record { limit = λ few. few; room = λ few. absurd (false≢true (sym h ∙ is_less (length own.pending) 10 few)) }; rest = refl; dropped = record { not_less = omega arith; not_more = omega arith }; upcalls = schedules_none own _ refl }
 
 pub schedules : (driver number : ℕ) (args : List ℕ) (own : Own) → Queues own (scheduled driver number args own)
 schedules driver number args own = queues (upcall_of driver number args own) own refl
 
+-- there are as many bytes as before, where what is a process's own is whole, and its break not above its kernel break
+abbrev pub AsMany : Own → List ℕ → Type 0
+AsMany own ram = IsWhole own → own.layout.brk ≤ own.layout.kernel_break → length ram ≡ length own.ram
+
+pub as_before : (own : Own) → AsMany own own.ram
+as_before own whole low = refl
+
 -- what a driver may do to a process that it serves, beside the request: write into its bytes, and have it told
 pub record Serves (own o : Own) : Type 0 where
+  pub size : AsMany own o.ram
+  pub limit : KeepsLimit own o
   pub rest : o ≡ record own { ram = o.ram; pending = o.pending; dropped = o.dropped }
   pub dropped : IsAtMostOneMore own.dropped o.dropped
   pub upcalls : SchedulesHeld own o
 
 -- it has bytes written, or not, and is told
-pub serves : (driver number : ℕ) (args ram : List ℕ) (own : Own) → Serves own (scheduled driver number args (record own { ram = ram }))
-serves driver number args ram own =
+pub serves : (driver number : ℕ) (args ram : List ℕ) (own : Own) → AsMany own ram → Serves own (scheduled driver number args (record own { ram = ram }))
+serves driver number args ram own size =
     let q = schedules driver number args (record own { ram = ram }) in
     record {
+      size = λ whole low. ap (λ (o : Own). length o.ram) q.rest ∙ size whole low;
+      limit = record { limit = q.limit.limit; room = q.limit.room };
       rest = subst (λ (o : Own). o ≡ record own { ram = o.ram; pending = o.pending; dropped = o.dropped }) (sym q.rest) refl;
       dropped = q.dropped;
       upcalls = record { more = q.upcalls.more; pending = q.upcalls.pending; one = q.upcalls.one; each = q.upcalls.each };
     }
 
 -- it has bytes written, or not
-pub serves_silently : (ram : List ℕ) (own : Own) → Serves own (record own { ram = ram })
-serves_silently ram own = record { rest = refl; dropped = none_more own.dropped; upcalls = schedules_none own _ refl }
+pub serves_silently : (ram : List ℕ) (own : Own) → AsMany own ram → Serves own (record own { ram = ram })
+serves_silently ram own size = record { size = size; limit = record { limit = λ few. few; room = λ few. refl }; rest = refl; dropped = none_more own.dropped; upcalls = schedules_none own _ refl }

@@ -13,3 +13,5 @@ pub mod Answers
 pub mod Services
 pub mod Upcalls
 pub mod Pairs
+pub mod Bytes
+pub mod Keeping

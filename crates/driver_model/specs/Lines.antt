@@ -1,5 +1,5 @@
 -- Who waits for a device. A process waits in a list of the board's exactly where it keeps a request there.
-use Rattle.std.specs.Prelude.{◌≡◌, ◌≤◌, ℕ, ◌+◌, Bool, true, false, if◌then◌else◌, List, [], ◌∷◌, Some, is_some, IfSome}
+use Rattle.std.specs.Prelude.{◌≡◌, ◌≤◌, ℕ, ◌+◌, Bool, true, false, not, ◌&&◌, if◌then◌else◌, List, [], ◌∷◌, Some, is_some, IfSome}
 use Rattle.grant_areas.specs.declared.kinds.PairKind.{PairKind}
 use Rattle.process_own.specs.Own.{Own, restarted, ended}
 use Rattle.process_own.specs.Handed.{entering, handing}
@@ -32,15 +32,28 @@ abbrev pub waits_after : Line → Bool → List Act → Bool
 waits_after here waits [] = waits
 waits_after here waits (act ∷ acts) = waits_after here (waits_by here act waits) acts
 
+-- whether one thing that a turn asks lets a process begin to wait in a list
+abbrev pub begins : Line → Act → Bool
+begins here (Waits line) = is_same line here
+begins here (Leaves line) = false
+begins here (Lights led switch) = false
+
+-- whether a process begins to wait in a list only where it does not wait there already, one thing after another
+abbrev pub waits_once : Line → Bool → List Act → Bool
+waits_once here waits [] = true
+waits_once here waits (act ∷ acts) = not (begins here act && waits) && waits_once here (waits_by here act waits) acts
+
 -- the storage request that a process keeps, if it keeps one, is for some of so many bytes
 abbrev pub IsWithin : ℕ → Own → Type 0
 IsWithin size own = IfSome (request_in storages own) (λ request. request.offset + request.length ≤ size)
 
 -- What a command leaves of requests. A process that lives has one at a desk exactly where it waits in that list after
--- what the command asked of the board. One for storage is for some of the bytes that a slot has, as one before it was.
+-- what the command asked of the board, and begins to wait only where it does not wait already. One for storage is for
+-- some of the bytes that a slot has, as one before it was.
 pub record FollowsCommand (around : Surroundings) (own : Own) (c : Commanded) : Type 0 where
   pub lines : own.lives ≡ true →
       OfEachDesk (λ R desk. has_waiting desk c.own ≡ waits_after desk.line (has_waiting desk own) c.acts)
+  pub once : OfEachDesk (λ R desk. waits_once desk.line (has_waiting desk own) c.acts ≡ true)
   pub within : IsWithin around.storage own → IsWithin around.storage c.own
 
 -- so it is with each command to a driver

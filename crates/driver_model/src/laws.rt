@@ -1,12 +1,14 @@
 //! Laws of the definitions, each the contract of a function that does nothing.
 ghost use Rattle.driver_model.specs.Asked.{AskTheirOwn};
+ghost use Rattle.driver_model.specs.Bytes.{AnswersWriteInBuffers, CommandsKeepBytes};
 ghost use Rattle.driver_model.specs.Laws.{AnAlarmLeavesTheRest, CommandsStayInPlace, DueSlotIsThere, IsDueWhereNoneAreLeft, QuietUntilNext, TimeBringsNearer};
 ghost use Rattle.driver_model.specs.Laws.{EachLedIsItsBit, OneLedTurns, TurnedWithItsBit};
 ghost use Rattle.driver_model.specs.Laws.{CommandDropsAtMostOne, RefusedByAnyDriver};
+ghost use Rattle.driver_model.specs.Keeping.{DriversKeep, DriversKeepSettled};
 ghost use Rattle.driver_model.specs.Pairs.{DriversLeavePairs};
 ghost use Rattle.driver_model.specs.Upcalls.{DriversScheduleHeld};
 
-use process_own::only_handing_changes_pairs;
+use process_own::{only_handing_changes_pairs, only_writes_change_bytes};
 
 /// A command changes of what is a process's own its room for grants, its grants, what waits to be delivered and
 /// the count of dropped upcalls; where it lies, its life, and that it lives, stay.
@@ -88,4 +90,32 @@ pub fn drivers_leave_pairs()
     ensures { DriversLeavePairs }
 {
     only_handing_changes_pairs();
+}
+
+/// No command to a driver changes a byte below the kernel break of the process that gives it; and what a device answers
+/// changes bytes inside the read-write buffer alone that the process has allowed the driver (TRD 104, "Read-Write
+/// Allow"; Levy et al., SOSP 2017).
+pub fn drivers_write_in_buffers()
+    ensures commands { CommandsKeepBytes }
+    ensures answers { AnswersWriteInBuffers }
+{
+    only_writes_change_bytes();
+}
+
+/// Whatever drivers do to a process, by a command or by a device's answer: where it lies, its life, and that it lives,
+/// stay; its memory stays in order, the grants of the drivers entered filling the block from the kernel break on; ten
+/// upcalls wait at most, and one is dropped only where ten wait (Levy et al., SOSP 2017; TRD 104, "Yield").
+#[tactic(auto, using(crate::proofs::Held::drivers_keep))]
+pub fn drivers_keep_places_and_order()
+    ensures { DriversKeep }
+{}
+
+/// So what is a process's own stays settled: its bytes end at the kernel break, where its grants begin, and each buffer
+/// that it has allowed lies in accessible flash, or in its RAM below the mark; also where it hands a pair that it may
+/// hand. What is settled is whole (TRD 104, "Read-Only Allow", "Read-Write Allow"; Levy et al., SOSP 2017).
+pub fn drivers_keep_buffers_below_the_mark()
+    ensures { DriversKeepSettled }
+{
+    only_handing_changes_pairs();
+    drivers_leave_pairs();
 }

@@ -3,8 +3,9 @@ ghost use Rattle.driver_model.specs.Answers.{EventsTellSteps, LinesFollowAnswers
 ghost use Rattle.driver_model.specs.Lines.{LinesFollowCommands, OnlyDriversMoveLines};
 
 /// After a command a process keeps a request for a device exactly where it waits for that device after what the
-/// command asked of the board, if it did so before; whichever driver took it (TRD 104, "Command"). A request for
-/// storage lies in the bytes that a slot has, where one that was kept before did.
+/// command asked of the board, if it did so before; whichever driver took it (TRD 104, "Command"). It begins to wait
+/// only where it does not wait already. A request for storage lies in the bytes that a slot has, where one that was
+/// kept before did.
 pub fn lines_follow_commands()
     ensures { LinesFollowCommands }
 {}

@@ -13,7 +13,7 @@ use grant_enter::{Grant, Home};
 use std::marker::{Model, PhantomData};
 use syscall_abi::Reply;
 use tk_base::{CallRule, ProcessId, Slot};
-use waiting_list::WaitingList;
+use waiting_list::{Waiting, WaitingList};
 
 /// The processes whose request of one kind waits for its device, the one that waits longest first. Contracts see the
 /// list of their ids.
@@ -41,6 +41,13 @@ impl<R> Line<R> {
             waiting: WaitingList::new(),
             requests: PhantomData,
         }
+    }
+
+    /// Those that wait, the one that waits longest first.
+    pub fn as_slice(&self) -> &[Waiting]
+        ensures { result.now ≡ self.now }
+    {
+        self.waiting.as_slice()
     }
 
     /// Whether none waits.

@@ -91,6 +91,14 @@ impl Home {
         self.seats[slot.index()].layout
     }
 
+    /// The upcalls that wait to be delivered to the process in a slot, the first one first (TRD 104, "Yield").
+    pub fn pending(&self, slot: Slot) -> &[Upcall]
+        requires { slot < length self.now.owns }
+        ensures { result.now ≡ (own_of self.now slot).pending }
+    {
+        self.seats[slot.index()].pending.queue.as_slice()
+    }
+
     /// How many upcalls of the process in a slot were dropped.
     pub fn dropped(&self, slot: Slot) -> u32
         requires { slot < length self.now.owns }
@@ -305,6 +313,13 @@ impl Home {
     /// flash. The function does nothing.
     pub fn held_buffers_lie_in_place(&self)
         ensures { (slot : ℕ) → slot < length self.now.owns → HoldsInPlace (own_of self.now slot) }
+    {
+        let _seats = &self.seats;
+    }
+
+    /// As always, what is a process's own lies in its place. The function does nothing.
+    pub fn owns_lie_in_place(&self)
+        ensures { (slot : ℕ) → slot < length self.now.owns → IsInPlace (own_of self.now slot) }
     {
         let _seats = &self.seats;
     }

@@ -3,11 +3,11 @@ use Rattle.std.proofs.Common.{◌≡◌, ℕ, zero, suc, ◌+◌, ◌*◌, ◌/�
 use Rattle.std.proofs.lemmas.List.{length-append}
 use Rattle.std.proofs.lemmas.Fmt.{length-decimal-le}
 use Rattle.tk_outside.specs.Text.{hex_digits}
-use Rattle.image_make.specs.Program.{program}
+use Rattle.image_make.specs.Program.{program, header_of}
 use Rattle.image_make.specs.Generator.{drawn, fourth, message, object_of, objects, soak_flash, soak_script}
 
 length-object : (k x : ℕ) → length (object_of k x) ≡ 172
-unfolding object_of program message hex_digits
+unfolding object_of program header_of message hex_digits
 length-object k x = refl
 
 length-objects : (n k x : ℕ) → length (objects n k x) ≡ n * 172

@@ -4,7 +4,7 @@ use Rattle.std.specs.Int.{to_le_bytes, w32}
 use Rattle.tk_outside.specs.Text.{hex_digits}
 use Rattle.image_make.specs.declared.assembler.Instruction.{Instruction}
 use Rattle.image_make.specs.Assembler.{word_of}
-use Rattle.image_make.specs.Program.{program, header}
+use Rattle.image_make.specs.Program.{program, header_of}
 
 -- the draw after a draw, or after the number
 abbrev pub drawn : ℕ → ℕ
@@ -25,7 +25,7 @@ object_of k x =
     let d1 = drawn x in
     let d2 = drawn d1 in
     let d3 = drawn d2 in
-    assembled header ++ assembled (program (1 + d1 / 2 ^ 22) (1 + d2 / 2 ^ 22) (d3 / 2 ^ 24)) ++ message k (drawn d3)
+    assembled (header_of 172) ++ assembled (program (1 + d1 / 2 ^ 22) (1 + d2 / 2 ^ 22) (d3 / 2 ^ 24)) ++ message k (drawn d3)
 
 -- the draw after four
 abbrev pub fourth : ℕ → ℕ

@@ -1,3 +1,10 @@
 pub mod Assembler
 pub mod Program
 pub mod Generator
+pub mod Attacks
+pub mod Edits
+pub mod Images
+pub mod Laws
+pub mod Outcomes
+pub mod Packs
+pub mod Edited

@@ -1,7 +1,7 @@
 //! The instructions that the programs are made of, and their words (RISC-V unprivileged manual, "RV32I
 //! Base Integer Instruction Set" and "RISC-V Assembly Programmer's Handbook").
 ghost use Rattle.std.specs.Prelude.{◌≡◌, ◌<◌};
-ghost use Rattle.image_make.specs.Assembler.{number_of, i_type, b_type, word_of};
+ghost use Rattle.image_make.specs.Assembler.{number_of, i_type, b_type, s_type, word_of};
 
 /// The registers that the programs use, by their names in the calling convention.
 #[derive(Clone, Copy)]
@@ -40,8 +40,8 @@ impl Register {
 }
 
 /// An instruction as an assembler writes it, or a word of data: the register that is written comes
-/// first. A number below zero is given modulo `2^12`, and the offset of a branch, in bytes, modulo
-/// `2^13`.
+/// first, and of a store the register that is stored. A number below zero is given modulo `2^12`, and
+/// the offset of a branch, in bytes, modulo `2^13`.
 #[derive(Clone, Copy)]
 pub enum Instruction {
     /// A word of data.
@@ -56,6 +56,8 @@ pub enum Instruction {
     Bne(Register, Register, u32),
     /// Goes on at an address in a register, and keeps the address of the next instruction.
     Jalr(Register, Register, u32),
+    /// Stores a word at an offset from the address in the second register.
+    Sw(Register, Register, u32),
     /// A system call.
     Ecall,
 }
@@ -91,6 +93,21 @@ fn b_type(opcode: u32, funct3: u32, rs1: Register, rs2: Register, offset: u32) -
         + opcode
 }
 
+/// A store, whose offset has 12 bits.
+#[tactic(auto, unfolding(crate::specs::Assembler::s_type))]
+fn s_type(opcode: u32, funct3: u32, rs2: Register, rs1: Register, offset: u32) -> u32
+    requires opcode { opcode < 128 }
+    requires funct3 { funct3 < 8 }
+    ensures { result ≡ s_type opcode funct3 rs2 rs1 offset }
+{
+    offset / (1 << 5) % (1 << 7) * (1 << 25)
+        + rs2.number() * (1 << 20)
+        + rs1.number() * (1 << 15)
+        + funct3 * (1 << 12)
+        + offset % (1 << 5) * (1 << 7)
+        + opcode
+}
+
 impl Instruction {
     /// The instruction's word.
     pub fn word(self) -> u32
@@ -103,6 +120,7 @@ impl Instruction {
             Instruction::Mv(rd, rs1) => i_type(0x13, 0, rd, rs1, 0),
             Instruction::Bne(rs1, rs2, offset) => b_type(0x63, 1, rs1, rs2, offset),
             Instruction::Jalr(rd, rs1, offset) => i_type(0x67, 0, rd, rs1, offset),
+            Instruction::Sw(rs2, rs1, offset) => s_type(0x23, 2, rs2, rs1, offset),
             Instruction::Ecall => 0x73,
         }
     }

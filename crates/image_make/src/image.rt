@@ -1,5 +1,6 @@
 //! The two files.
 ghost use Rattle.std.specs.Prelude.{◌≡◌, ◌<◌, ◌≤◌, ◌++◌, IfOk, OnOk, length};
+ghost use Rattle.image_make.specs.Program.{header_of};
 ghost use Rattle.image_make.specs.Generator.{fourth, message, assembled, object_of, objects, soak_flash, script_line, soak_script};
 
 use crate::assembler::Instruction::{self, Word};
@@ -8,18 +9,6 @@ use crate::program::program;
 use itoa::Buffer;
 use std::alloc::{AllocError, Global};
 use tk_outside::{NoMemory, hex_text};
-
-/// The header of each application (Tock Binary Format, "TBF Header Base" and "Main").
-const HEADER: [Instruction; 8] = [
-    Word(0x0020_0002),
-    Word(0xAC),
-    Word(1),
-    Word(0x002C_01AE),
-    Word(0x000C_0001),
-    Word(0),
-    Word(0),
-    Word(0x100),
-];
 
 /// How many applications there are.
 const APPLICATIONS: u8 = 8;
@@ -46,8 +35,25 @@ fn message(k: u8, draw: u32) -> [u8; 8]
     ]
 }
 
+/// The header of an application of so many bytes (Tock Binary Format, "TBF Header Base" and "Main").
+#[tactic(auto, unfolding(crate::specs::Program::header_of))]
+pub fn header_of(size: u32) -> [Instruction; 8]
+    ensures { result ≡ header_of size }
+{
+    [
+        Word(0x0020_0002),
+        Word(size),
+        Word(1),
+        Word(0x0020_0002 ^ size ^ 1 ^ 0x000C_0001 ^ 0x100),
+        Word(0x000C_0001),
+        Word(0),
+        Word(0),
+        Word(0x100),
+    ]
+}
+
 /// Appends the words of instructions.
-fn put_code(flash: &mut Vec<u8>, code: &[Instruction]) -> Result<(), AllocError>
+pub fn put_code(flash: &mut Vec<u8>, code: &[Instruction]) -> Result<(), AllocError>
     ensures { OnOk result (flash.new.items ≡ flash.old.items ++ assembled code.now) }
 {
     for instruction in code {
@@ -67,7 +73,7 @@ fn put_object(flash: &mut Vec<u8>, k: u8, draws: &mut Draws) -> Result<(), Alloc
     let spins = 1 + draws.draw() / (1 << 22);
     let code = draws.draw() / (1 << 24);
     let line = message(k, draws.draw());
-    put_code(flash, &HEADER)?;
+    put_code(flash, &header_of(OBJECT_SIZE as u32))?;
     put_code(flash, &program(rounds, spins, code))?;
     flash.extend_from_slice(&line)
 }

@@ -6,7 +6,7 @@ use crate::assembler::Instruction::{self, Addi, Bne, Ecall, Jalr, Li, Mv};
 use crate::assembler::Register::{A0, A1, A2, A3, A4, Ra, S0, S1, T0, Zero};
 
 /// Minus 1, as a 12-bit number.
-const MINUS_1: u32 = (1 << 12) - 1;
+pub const MINUS_1: u32 = (1 << 12) - 1;
 
 /// The offset of the instruction before a branch.
 const BACK_4: u32 = (1 << 13) - 4;

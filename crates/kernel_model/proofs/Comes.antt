@@ -1,6 +1,6 @@
 -- What every call comes to, by cases on the call: it is refused, and changes nothing but the reply registers, pc and the
 -- recorded refusal; or it is served.
-use Rattle.std.proofs.Common.{◌≡◌, ◌≢◌, ℕ, ◌-◌, ◌==◌, Bool, true, false, cond, List, [], ◌∷◌, slice_set, Option, None, Some, Result, Ok, Err, refl, ap, sym, subst, arith}
+use Rattle.std.proofs.Common.{◌≡◌, ◌≢◌, ◌<◌, length, ℕ, ◌-◌, ◌==◌, Bool, true, false, cond, List, [], ◌∷◌, slice_set, Option, None, Some, Result, Ok, Err, refl, ap, sym, subst, arith}
 use Rattle.tk_base.specs.declared.call.CallRule.{CallRule}
 use Rattle.tk_base.specs.declared.call.CallRule.TheVariants.{NoDriver, NoOperation, Permission}
 use Rattle.tk_base.specs.declared.upcall.Upcall.{Upcall as Scheduled}
@@ -33,6 +33,7 @@ use Rattle.kernel_model.proofs.Memops.{by_test, memop_gives}
 pub record IsServed (around : Surroundings) (r : Record) (s : Served) : Type 0 where
   pub no_rule : rule_shown s.outcome ≡ None
   pub dropped : IsAtMostOneMore r.own.dropped s.after.own.dropped
+  pub room : length r.own.pending < 10 → s.after.own.dropped ≡ r.own.dropped
   pub done : s.outcome ≢ ToDriver
   pub lines : r.own.lives ≡ true → CanStartAgain r → KeepsLines around.storage r.own s.after.own s.acts
 
@@ -52,6 +53,7 @@ served_so : (around : Surroundings) (r : Record) (s : Served) → rule_shown s.o
 served_so around r s none same done acts = record {
   no_rule = none;
   dropped = subst (IsAtMostOneMore r.own.dropped) (sym same.dropped) (no_more r.own.dropped);
+  room = λ few. same.dropped;
   done = done;
   lines = λ lives can. subst (KeepsLines around.storage r.own s.after.own) (sym acts) (keeps_same around.storage r.own s.after.own same);
 }
@@ -61,6 +63,7 @@ served_gone : (around : Surroundings) (r : Record) (s : Served) → rule_shown s
 served_gone around r s none same done lines = record {
   no_rule = none;
   dropped = subst (IsAtMostOneMore r.own.dropped) (sym same) (no_more r.own.dropped);
+  room = λ few. same;
   done = done;
   lines = λ lives can. lines can;
 }
@@ -123,23 +126,24 @@ of_swap P promise around r kind driver number pair None both =
     both.served _ (record {
       no_rule = refl;
       dropped = no_more r.own.dropped;
+      room = λ few. refl;
       done = λ e. cc;
       lines = λ lives can. keeps_handed promise.alone around.storage kind driver number pair r.own;
     })
 of_swap P promise around r kind driver number pair (Some rule) both = both.refused rule
 
-of_commanded : (P : Served → Type 0) (around : Surroundings) (r : Record) (c : Commanded) (answer : Result Reply CallRule) → c.answer ≡ answer → ((rule : CallRule) → c.answer ≡ Err rule → c ≡ refused_by_driver rule r.own) → IsAtMostOneMore r.own.dropped c.own.dropped → (r.own.lives ≡ true → KeepsLines around.storage r.own c.own c.acts) → OfBoth P around r plain → P (commanded r c)
-of_commanded P around r c (Ok reply) is refuses drops lines both =
+of_commanded : (P : Served → Type 0) (around : Surroundings) (r : Record) (c : Commanded) (answer : Result Reply CallRule) → c.answer ≡ answer → ((rule : CallRule) → c.answer ≡ Err rule → c ≡ refused_by_driver rule r.own) → IsAtMostOneMore r.own.dropped c.own.dropped → (length r.own.pending < 10 → c.own.dropped ≡ r.own.dropped) → (r.own.lives ≡ true → KeepsLines around.storage r.own c.own c.acts) → OfBoth P around r plain → P (commanded r c)
+of_commanded P around r c (Ok reply) is refuses drops room lines both =
     let same : record (replied (with_own r c.own) reply) { acts = c.acts } ≡ commanded r c = ap (λ (x : Result Reply CallRule). record (answered (with_own r c.own) x) { acts = c.acts }) (sym is) in
-    subst P same (both.served (record (replied (with_own r c.own) reply) { acts = c.acts }) (record { no_rule = refl; dropped = drops; done = λ e. cc; lines = λ lives can. lines lives }))
-of_commanded P around r c (Err rule) is refuses drops lines both = subst P (ap (commanded r) (sym (refuses rule is))) (both.refused rule)
+    subst P same (both.served (record (replied (with_own r c.own) reply) { acts = c.acts }) (record { no_rule = refl; dropped = drops; room = room; done = λ e. cc; lines = λ lives can. lines lives }))
+of_commanded P around r c (Err rule) is refuses drops room lines both = subst P (ap (commanded r) (sym (refuses rule is))) (both.refused rule)
 
 of_taken : (P : Served → Type 0) (promise : DriversPromise) (around : Surroundings) (driver number a2 a3 : ℕ) (r : Record) (o : Option Taker) → taker_of driver ≡ o → OfBoth P around r plain → P (taken_by around number a2 a3 r o)
 of_taken P promise around driver number a2 a3 r None is both = both.refused NoDriver
 of_taken P promise around driver number a2 a3 r (Some taker) is both =
     let follows = promise.follow driver taker is around number a2 a3 r.own in
     let stays = promise.stay driver taker is around number a2 a3 r.own in
-    of_commanded P around r (taker around number a2 a3 r.own) _ refl (λ rule. promise.refuse driver taker around number a2 a3 r.own rule is) (promise.drop driver taker around number a2 a3 r.own is)
+    of_commanded P around r (taker around number a2 a3 r.own) _ refl (λ rule. promise.refuse driver taker around number a2 a3 r.own rule is) (promise.drop driver taker around number a2 a3 r.own is) (promise.limit.command driver taker is around number a2 a3 r.own).room
     (λ lives. keeps_commanded around r.own (taker around number a2 a3 r.own) lives follows stays) both
 
 of_class : (P : Served → Type 0) (promise : DriversPromise) (around : Surroundings) (r : Record) (call : SystemCall) → OfBoth P around r (failure_of call) → P (by_class around r call)

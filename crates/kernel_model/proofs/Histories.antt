@@ -4,6 +4,7 @@ use Rattle.std.specs.Prelude.{reverse}
 use Rattle.std.specs.List.{flat_map}
 use Rattle.std.proofs.lemmas.List.{append_assoc, append-nil, reverse-append}
 use Rattle.tk_base.specs.declared.process.Choice.{Choice}
+use Rattle.tk_base.specs.declared.process.Choice.TheVariants.{Run}
 use Rattle.process_own.specs.Own.{Own}
 use Rattle.process_own.specs.Pairs.{HandsTheSame, OnlyHandingChangesPairs}
 use Rattle.driver_model.specs.Pairs.{DriversLeavePairs}
@@ -11,9 +12,10 @@ use Rattle.process_record.specs.declared.emit.CallMade.{CallMade}
 use Rattle.kernel_model.specs.Record.{Record}
 use Rattle.kernel_model.specs.declared.settings.Settings.{Settings}
 use Rattle.kernel_model.specs.Turn.{Event, Told, apply, turned}
-use Rattle.kernel_model.specs.World.{Label, TurnOf, World, after, labels, ran, stepped}
+use Rattle.kernel_model.specs.World.{Label, Stepped, TurnOf, World, after, carried_out, labels, ran}
 use Rattle.kernel_model.specs.Replay.{after_all}
 use Rattle.kernel_model.specs.Histories.{HandedNothing, Key, SwapsGiveBackTheLast, handed_by, last_pair, swap_reply, turns_in, turns_of}
+use Rattle.kernel_model.proofs.Places.{of_stepped}
 use Rattle.kernel_model.proofs.Steps.{IsAnswer, answer_changes, of_answer, of_step}
 use Rattle.kernel_model.proofs.Swaps.{Remembers, follows_turn}
 
@@ -70,22 +72,28 @@ module _ (law : OnlyHandingChangesPairs) (drivers : DriversLeavePairs) where
     pairs = λ key. (law.none r.own nothing.grants).none key.kind key.driver key.number;
   }
 
+  no_label : (slot time : ℕ) (told : Told) → ◌≡◌ {A = List Label} [] (TurnOf slot time told ∷ []) → ⊥
+  no_label slot time told e = cc
+
+  -- a step that tells a turn was made
+  turn_made : (w : World) (slot time : ℕ) (told : Told) → labels w (Run slot) ≡ TurnOf slot time told ∷ [] → (ran w slot (slice_get w.records slot)).labels ≡ TurnOf slot time told ∷ []
+  unfolding carried_out
+  turn_made w slot time told =
+      let tells = TurnOf slot time told ∷ [] in
+      of_stepped (λ (s : Stepped). s.labels ≡ tells → (ran w slot (slice_get w.records slot)).labels ≡ tells) w (Run slot) (λ e. absurd (no_label slot time told e)) (λ ready e. e)
+
   -- a turn that a step tells is the one that the process has
   gives_back : (w : World) (slot time : ℕ) (past : List Told) (told : Told) (o : Option Record) → Known past o → (ran w slot o).labels ≡ TurnOf slot time told ∷ []
       → (made : CallMade) (key : Key) (pair : ℕ × ℕ) → told.call ≡ Some made → handed_by key made ≡ Some pair → made.reply ≡ Some (swap_reply (last_pair key past) pair)
-  gives_back w slot time past told None known is made key pair call handed = absurd (no_label is)
-    where
-      no_label : ◌≡◌ {A = List Label} [] (TurnOf slot time told ∷ []) → ⊥
-      no_label e = cc
+  gives_back w slot time past told None known is made key pair call handed = absurd (no_label slot time told is)
   gives_back w slot time past told (Some r) known is made key pair call handed =
       let same : (turned w.settings w.clock.time r).told ≡ told = cc in
       (follows_turn law drivers past w.settings w.clock.time r known).reply made key pair (ap (λ (t : Told). t.call) same ∙ call) handed
 
   pub swaps_give_back_the_last : SwapsGiveBackTheLast
-  unfolding stepped
   swaps_give_back_the_last w slot nothing choices time told made key pair is call handed =
       let v = after_all w choices in
       let turns = turns_of slot w choices in
       let known = all_known w choices slot [] (known_first (slice_get w.records slot) nothing) in
       subst (λ (past : List Told). made.reply ≡ Some (swap_reply (last_pair key past) pair)) (append-nil (reverse turns))
-      (gives_back v slot time (with_more turns []) told (slice_get v.records slot) known is made key pair call handed)
+      (gives_back v slot time (with_more turns []) told (slice_get v.records slot) known (turn_made v slot time told is) made key pair call handed)

@@ -1,5 +1,5 @@
 -- What a turn changes of a process, by the end of its instruction: what it drops, and what drivers keep.
-use Rattle.std.proofs.Common.{◌≡◌, ℕ, List, [], ◌∷◌, true, Option, None, Some, refl, subst, sym}
+use Rattle.std.proofs.Common.{◌≡◌, ◌<◌, length, IfSome, ◌∙◌, ℕ, List, [], ◌∷◌, true, Option, None, Some, refl, subst, sym}
 use Rattle.tk_base.specs.declared.access.Denial.{Denial}
 use Rattle.tk_base.specs.declared.upcall.Upcall.{Upcall as Scheduled}
 use Rattle.fault_policy.specs.declared.Action.{Action}
@@ -20,20 +20,26 @@ use Rattle.process_record.specs.Process.{after_fault}
 use Rattle.kernel_model.specs.Record.{Record, instruction, with_effect, with_process}
 use Rattle.kernel_model.specs.declared.settings.Settings.{Settings}
 use Rattle.kernel_model.specs.Calls.{failure_of, refused_with, served}
-use Rattle.kernel_model.specs.Turn.{Turned, called, calls, counted, delivery, ended, faulted, idle, instructed, made, settled, surroundings, turned, turn_in, unknown_call}
+use Rattle.kernel_model.specs.Turn.{Turned, apply, called, calls, counted, delivery, ended, faulted, idle, instructed, made, settled, surroundings, turned, turn_in, unknown_call}
 use Rattle.kernel_model.specs.Laws.{CanStartAgain, DriversPromise, DropsAtMostOne, GrantsChangeAtCalls, KeepsLines, TurnsActAtCalls, TurnsKeepLines}
+use Rattle.driver_model.specs.Keeping.{KeepsLimit}
+use Rattle.kernel_model.specs.Replay.{after_all}
+use Rattle.kernel_model.specs.Lives.{DropsOnlyWhereTenWait}
+use Rattle.kernel_model.proofs.Steps.{of_answer, of_step}
 use Rattle.kernel_model.proofs.Comes.{all_same, no_more, of_call, restart_keeps}
 use Rattle.kernel_model.proofs.Lines.{SameKept, keeps_ended, keeps_restarted, keeps_same}
 
 -- at most one upcall was dropped; and a process that lives keeps a request exactly where it waits
 record Leaves (settings : Settings) (r : Record) (t : Turned) : Type 0 where
   dropped : IsAtMostOneMore r.own.dropped t.after.own.dropped
+  room : length r.own.pending < 10 → t.after.own.dropped ≡ r.own.dropped
   lines : r.own.lives ≡ true → CanStartAgain r → KeepsLines settings.storage r.own t.after.own t.acts
 
 -- a turn that asks nothing of the board, of a process of which drivers keep the same
 leaves_same : (settings : Settings) (r : Record) (t : Turned) → SameKept r.own t.after.own → t.acts ≡ [] → Leaves settings r t
 leaves_same settings r t same acts = record {
   dropped = subst (IsAtMostOneMore r.own.dropped) (sym same.dropped) (no_more r.own.dropped);
+  room = λ few. same.dropped;
   lines = λ lives can. subst (KeepsLines settings.storage r.own t.after.own) (sym acts) (keeps_same settings.storage r.own t.after.own same);
 }
 
@@ -45,7 +51,7 @@ leaves_call promise settings time r accesses call =
     of_call (λ s. Leaves settings r (called r accesses call s)) promise (surroundings settings time) r call
     (record {
       refused = λ rule. leaves_same settings r (called r accesses call (refused_with r rule (failure_of call rule))) (all_same r.own) refl;
-      served = λ s is. record { dropped = is.dropped; lines = is.lines };
+      served = λ s is. record { dropped = is.dropped; room = is.room; lines = is.lines };
     })
 
 leaves_fault : (settings : Settings) (r : Record) (denial : Denial) → Leaves settings r (faulted settings r denial)
@@ -55,8 +61,8 @@ leaves_fault settings r denial = by_action (decision settings.policy r.process.r
     s = with_process r (after_fault r.process denial)
 
     by_action : (action : Action) → Leaves settings r (record (faulted settings r denial) { after = settled s action })
-    by_action Stop = record { dropped = no_more r.own.dropped; lines = λ lives can. keeps_ended settings.storage r.own }
-    by_action Restart = record { dropped = subst (IsAtMostOneMore r.own.dropped) (sym (restart_keeps s)) (no_more r.own.dropped); lines = λ lives can. keeps_restarted settings.storage s can }
+    by_action Stop = record { dropped = no_more r.own.dropped; room = λ few. refl; lines = λ lives can. keeps_ended settings.storage r.own }
+    by_action Restart = record { dropped = subst (IsAtMostOneMore r.own.dropped) (sym (restart_keeps s)) (no_more r.own.dropped); room = λ few. restart_keeps s; lines = λ lives can. keeps_restarted settings.storage s can }
 
 leaves_calls : (promise : DriversPromise) (settings : Settings) (time : ℕ) (r : Record) (accesses : List Touch) (call : Option SystemCall) → Leaves settings r (calls settings time r accesses call)
 leaves_calls promise settings time r accesses (Some call) = leaves_call promise settings time r accesses call
@@ -72,10 +78,10 @@ leaves_instructed : (promise : DriversPromise) (settings : Settings) (time : ℕ
 leaves_instructed promise settings time r =
     let t = instruction r in
     let l = leaves_ended promise settings time (with_effect (counted r) t) t.accesses t.end in
-    record { dropped = l.dropped; lines = λ lives can. same_lines (l.lines lives can) }
+    record { dropped = l.dropped; room = l.room; lines = λ lives can. same_lines (l.lines lives can) }
   where
     same_lines : {after : Own} {acts : List Act} → KeepsLines settings.storage (with_effect (counted r) (instruction r)).own after acts → KeepsLines settings.storage r.own after acts
-    same_lines k = record { lines = k.lines; life = k.life; within = k.within }
+    same_lines k = record { lines = k.lines; once = k.once; life = k.life; within = k.within }
 
 leaves_delivery : (settings : Settings) (r : Record) (pending : List Scheduled) → Leaves settings r (delivery r pending)
 leaves_delivery settings r [] = leaves_idle settings r
@@ -90,6 +96,27 @@ leaves_turn promise settings time (Terminated code) r = leaves_idle settings r
 pub drops_at_most_one : DriversPromise → DropsAtMostOne
 unfolding turned
 drops_at_most_one promise settings time r = (leaves_turn promise settings time r.process.state r).dropped
+
+pub drops_with_room : DriversPromise → (settings : Settings) (time : ℕ) (r : Record) → length r.own.pending < 10 → (turned settings time r).after.own.dropped ≡ r.own.dropped
+unfolding turned
+drops_with_room promise settings time r = (leaves_turn promise settings time r.process.state r).room
+
+same_some : {X : Type 0} (x y : X) → Some x ≡ Some y → x ≡ y
+same_some x y e = cc
+
+pub drops_only_where_ten_wait : DriversPromise → DropsOnlyWhereTenWait
+drops_only_where_ten_wait promise w choices choice slot before now is later few =
+    let v = after_all w choices in
+    subst (λ (o : Option Record). IfSome o (λ x. x.own.dropped ≡ before.own.dropped)) later
+    (of_step v slot (λ tolds o. IfSome o (λ x. x.own.dropped ≡ before.own.dropped))
+    (record {
+      stays = subst (λ (o : Option Record). IfSome o (λ x. x.own.dropped ≡ before.own.dropped)) (sym is) refl;
+      turn = λ r at.
+          subst (λ (x : Record). (turned v.settings v.clock.time x).after.own.dropped ≡ before.own.dropped) (same_some before r (sym is ∙ at)) (drops_with_room promise v.settings v.clock.time before few);
+      answer = λ r at event answers.
+          subst (λ (x : Record). (apply v.settings event x).own.dropped ≡ before.own.dropped) (same_some before r (sym is ∙ at)) ((of_answer KeepsLimit promise.limit v.settings event before answers).room few);
+    })
+    choice)
 
 pub turns_keep_lines : DriversPromise → TurnsKeepLines
 unfolding turned

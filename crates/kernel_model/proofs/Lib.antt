@@ -1,10 +1,12 @@
 pub mod Places
+mod Labels
 pub mod Memops
 mod Classes
 mod Restarts
 mod Lines
 mod Comes
 pub mod Refusals
+mod Refused
 pub mod Runs
 mod Replays
 mod Kept
@@ -14,5 +16,21 @@ mod Steps
 mod Swaps
 mod Histories
 mod Deliveries
+mod Delivered
 mod Schedulings
 mod Stretch
+mod Causes
+mod Answered
+mod Caused
+mod Accounts
+mod OneRun
+mod Changes
+mod Lives
+mod Counts
+mod Reopened
+mod Prints
+mod Tables
+mod Lists
+mod Words
+mod Wholes
+mod Loads

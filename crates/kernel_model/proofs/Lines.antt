@@ -41,6 +41,7 @@ keeps_same size own o s = record {
     randoms = same_waiting randoms own o s;
     stores = same_waiting storages own o s;
   };
+  once = record { writes = refl; reads = refl; randoms = refl; stores = refl };
   life = record { writes = λ e. s.life; reads = λ e. s.life; randoms = λ e. s.life; stores = λ e. s.life };
   within = still_within size own o (ap (λ (gs : List Grant). option_and_then storages.told (option_map (λ g. g.value) (grant_of storages.driver gs))) s.grants);
 }
@@ -49,6 +50,7 @@ keeps_same size own o s = record {
 pub keeps_ended : (size : ℕ) (own : Own) → KeepsLines size own (ended own) gone
 keeps_ended size own = record {
   lines = record { writes = refl; reads = refl; randoms = refl; stores = refl };
+  once = record { writes = refl; reads = refl; randoms = refl; stores = refl };
   life = record { writes = λ e. refl; reads = λ e. refl; randoms = λ e. refl; stores = λ e. refl };
   within = λ h. h;
 }
@@ -59,6 +61,7 @@ keeps_restarted size r can =
     restarts (λ s. KeepsLines size r.own s.own gone) r can
     (λ h m. record {
       lines = record { writes = refl; reads = refl; randoms = refl; stores = refl };
+      once = record { writes = refl; reads = refl; randoms = refl; stores = refl };
       life = record { writes = λ e. absurd (cc); reads = λ e. absurd (cc); randoms = λ e. absurd (cc); stores = λ e. absurd (cc) };
       within = λ h. tt;
     })
@@ -69,6 +72,7 @@ keeps_handed law size kind driver number pair own =
     let same = law.handing kind driver number pair own in
     record {
       lines = same.waiting;
+      once = record { writes = refl; reads = refl; randoms = refl; stores = refl };
       life = record { writes = λ e. refl; reads = λ e. refl; randoms = λ e. refl; stores = λ e. refl };
       within = still_within size own (handing kind driver number pair own) same.requests.stores;
     }
@@ -79,6 +83,7 @@ keeps_commanded around own c lives follows stays =
     let life : c.own.life ≡ own.life = ap (λ (o : Own). o.life) stays in
     record {
       lines = follows.lines lives;
+      once = follows.once;
       life = record { writes = λ e. life; reads = λ e. life; randoms = λ e. life; stores = λ e. life };
       within = follows.within;
     }

@@ -5,11 +5,29 @@ use Rattle.std.proofs.lemmas.Option.{slice_get_within, slice_get-get_or}
 use Rattle.std.proofs.lemmas.List.{get_or-set_same, length-set}
 use Rattle.kernel_model.specs.Record.{Record}
 use Rattle.kernel_model.specs.Turn.{Turn, Turned, apply, turned}
-use Rattle.kernel_model.specs.World.{Answer, Deed, World, acted_by, after, after_deed, after_turn_of, can_act, deed_of, done, passed, ran, records_after, stepped, told_to, unmade}
+use Rattle.kernel_model.specs.World.{Answer, Deed, Stepped, World, after, after_deed, after_turn_of, carried_out, deed_of, done, is_ready, labels, passed, ran, records_after, stepped, told_to, unmade}
 use Rattle.kernel_model.specs.Laws.{answer_of}
 use Rattle.tk_base.specs.declared.process.Choice.{Choice}
 use Rattle.tk_base.specs.declared.process.Choice.TheVariants.{Run, Device, Pass}
 use Rattle.tk_base.specs.declared.process.Dev.{Dev}
+
+-- what holds where nothing is made, and of what a choice that is ready comes to, holds of a step
+pub of_stepped : (P : Stepped → Type 0) (w : World) (choice : Choice) → P (unmade w) → (is_ready w choice ≡ true → P (carried_out w choice)) → P (stepped w choice)
+unfolding stepped
+of_stepped P w choice none made = by_ready (is_ready w choice) refl
+  where
+    by_ready : (b : Bool) → is_ready w choice ≡ b → P (cond b (carried_out w choice) (unmade w))
+    by_ready true e = made e
+    by_ready false e = none
+
+-- a step that is ready is made, and no other is
+pub stepped_ready : (w : World) (choice : Choice) → is_ready w choice ≡ true → stepped w choice ≡ carried_out w choice
+unfolding stepped
+stepped_ready w choice e = ap (λ (b : Bool). cond b (carried_out w choice) (unmade w)) e
+
+pub stepped_else : (w : World) (choice : Choice) → is_ready w choice ≡ false → stepped w choice ≡ unmade w
+unfolding stepped
+stepped_else w choice e = ap (λ (b : Bool). cond b (carried_out w choice) (unmade w)) e
 
 pub slice_get-set_same : {X : Type 0} (xs : List X) (i : ℕ) (y : X) → i < length xs → slice_get (slice_set xs i y) i ≡ Some y
 slice_get-set_same xs i y h = slice_get-get_or (slice_set xs i y) i y (rw length-set h) ∙ ap Some (get_or-set_same xs i y y h)
@@ -43,8 +61,9 @@ told-other w a other None ne = refl
 told-other w a other (Some r) ne = slice_get-set_other w.records a.slot other (apply w.settings a.event r) ne
 
 -- what a device step leaves of the records is what it told
-pub acted_records : (w : World) (device : Dev) → (acted_by w device).after.records ≡ records_after w (answer_of w device)
-acted_records w device = by_ready (can_act w device)
+pub acted_records : (w : World) (device : Dev) → (after w (Device device)).records ≡ records_after w (answer_of w device)
+unfolding stepped carried_out
+acted_records w device = by_ready (is_ready w (Device device))
   where
     by_deed : (o : Option Deed) → (done w o).after.records ≡ records_after w (option_and_then (λ (deed : Deed). deed.told) o)
     by_deed None = refl
@@ -56,23 +75,24 @@ acted_records w device = by_ready (can_act w device)
 
 -- what holds of a world holds of the one after a step, where it holds after each turn, each deed and each pass of time
 module _ (P : World → Type 0) (w : World) (before : P w) where
-  pub of_acted : ((deed : Deed) → P (after_deed w deed)) → (device : Dev) → P (acted_by w device).after
-  of_acted acts device = by_ready (can_act w device)
-    where
-      by_deed : (o : Option Deed) → P (done w o).after
-      by_deed None = before
-      by_deed (Some deed) = acts deed
+  of_done : ((deed : Deed) → P (after_deed w deed)) → (o : Option Deed) → P (done w o).after
+  of_done acts None = before
+  of_done acts (Some deed) = acts deed
 
-      by_ready : (b : Bool) → P (cond b (done w (deed_of w device)) (unmade w)).after
-      by_ready true = by_deed (deed_of w device)
-      by_ready false = before
+  of_ran : ((slot : ℕ) (t : Turned) → P (after_turn_of w slot t)) → (slot : ℕ) (o : Option Record) → P (ran w slot o).after
+  of_ran turns slot None = before
+  of_ran turns slot (Some r) = turns slot (turned w.settings w.clock.time r)
+
+  of_carried_out : ((slot : ℕ) (t : Turned) → P (after_turn_of w slot t)) → ((deed : Deed) → P (after_deed w deed)) → ((ticks : ℕ) → P (passed w ticks)) → (choice : Choice) → P (carried_out w choice).after
+  unfolding carried_out
+  of_carried_out turns acts passes (Run slot) = of_ran turns slot (slice_get w.records slot)
+  of_carried_out turns acts passes (Device device) = of_done acts (deed_of w device)
+  of_carried_out turns acts passes (Pass ticks) = passes ticks
 
   pub of_world : ((slot : ℕ) (t : Turned) → P (after_turn_of w slot t)) → ((deed : Deed) → P (after_deed w deed)) → ((ticks : ℕ) → P (passed w ticks)) → (choice : Choice) → P (after w choice)
-  unfolding stepped
-  of_world turns acts passes (Run slot) = by_record (slice_get w.records slot)
-    where
-      by_record : (o : Option Record) → P (ran w slot o).after
-      by_record None = before
-      by_record (Some r) = turns slot (turned w.settings w.clock.time r)
-  of_world turns acts passes (Device device) = of_acted acts device
-  of_world turns acts passes (Pass ticks) = passes ticks
+  of_world turns acts passes choice = of_stepped (λ (s : Stepped). P s.after) w choice before (λ ready. of_carried_out turns acts passes choice)
+
+  -- no turn, in particular
+  pub of_acted : ((deed : Deed) → P (after_deed w deed)) → (device : Dev) → P (after w (Device device))
+  unfolding carried_out
+  of_acted acts device = of_stepped (λ (s : Stepped). P s.after) w (Device device) before (λ ready. of_done acts (deed_of w device))

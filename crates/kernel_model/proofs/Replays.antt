@@ -9,13 +9,13 @@ use Rattle.tk_base.specs.declared.process.Dev.{Dev}
 use Rattle.kernel_model.specs.Record.{Record}
 use Rattle.kernel_model.specs.declared.settings.Settings.{Settings}
 use Rattle.kernel_model.specs.Turn.{Event, Turn, apply}
-use Rattle.kernel_model.specs.World.{Answer, Deed, Label, Printed, Stepped, World, after, can_act, deed_of, done, labels_of, printing, ran, records_after, stepped, unmade}
+use Rattle.kernel_model.specs.World.{Answer, Deed, Label, Printed, Stepped, World, after, carried_out, deed_of, done, labels_of, printing, ran, records_after, stepped}
 use Rattle.kernel_model.specs.Run.{next, on_choice, round, stays, goes_on}
 use Rattle.kernel_model.specs.Replay.{after_all, chosen, events, happened, history, replay, RecordIsReplay, RoundFollowsChoices, SameHistorySameRecord}
-use Rattle.kernel_model.proofs.Places.{of_world, ran-other, ran-own, told-other, told-own}
+use Rattle.kernel_model.proofs.Places.{of_stepped, of_world, ran-other, ran-own, told-other, told-own}
 
 -- no step changes the settings
-kept_settings : (w : World) (choice : Choice) → (after w choice).settings ≡ w.settings
+pub kept_settings : (w : World) (choice : Choice) → (after w choice).settings ≡ w.settings
 kept_settings w choice = of_world (λ v. v.settings ≡ w.settings) w refl (λ slot t. refl) (λ deed. refl) (λ ticks. refl) choice
 
 mapped_none : (settings : Settings) (o : Option Record) → o ≡ option_map (replay settings []) o
@@ -70,16 +70,15 @@ deed_replayed : (w : World) (slot : ℕ) (o : Option Deed) → replayed w slot (
 deed_replayed w slot None = mapped_none w.settings (slice_get w.records slot)
 deed_replayed w slot (Some deed) = told_replayed w deed slot deed.told
 
-device_replayed : (w : World) (device : Dev) (slot : ℕ) (b : Bool) → replayed w slot (cond b (done w (deed_of w device)) (unmade w))
-device_replayed w device slot true = deed_replayed w slot (deed_of w device)
-device_replayed w device slot false = mapped_none w.settings (slice_get w.records slot)
+choice_replayed : (w : World) (choice : Choice) (slot : ℕ) → replayed w slot (carried_out w choice)
+unfolding carried_out
+choice_replayed w (Run other) slot = ran_replayed w other slot (slice_get w.records other) refl
+choice_replayed w (Device device) slot = deed_replayed w slot (deed_of w device)
+choice_replayed w (Pass ticks) slot = mapped_none w.settings (slice_get w.records slot)
 
 -- a step is the replay of what it does to the process
-one_step : (w : World) (choice : Choice) (slot : ℕ) → slice_get (after w choice).records slot ≡ option_map (replay w.settings (events slot w choice)) (slice_get w.records slot)
-unfolding stepped
-one_step w (Run other) slot = ran_replayed w other slot (slice_get w.records other) refl
-one_step w (Device device) slot = device_replayed w device slot (can_act w device)
-one_step w (Pass ticks) slot = mapped_none w.settings (slice_get w.records slot)
+pub one_step : (w : World) (choice : Choice) (slot : ℕ) → slice_get (after w choice).records slot ≡ option_map (replay w.settings (events slot w choice)) (slice_get w.records slot)
+one_step w choice slot = of_stepped (replayed w slot) w choice (mapped_none w.settings (slice_get w.records slot)) (λ ready. choice_replayed w choice slot)
 
 replay_joined : (settings : Settings) (first then : List Event) (r : Record) → replay settings then (replay settings first r) ≡ replay settings (first ++ then) r
 replay_joined settings [] then r = refl

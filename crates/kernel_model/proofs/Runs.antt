@@ -17,7 +17,7 @@ use Rattle.kernel_model.specs.Turn.{may_turn}
 use Rattle.kernel_model.specs.World.{Devices, World, can_act, can_run, is_ready, is_waited_for, may_be_made, now_in, owns_in}
 use Rattle.kernel_model.specs.Run.{alarm_time, next, next_time, ready_devices, ready_slots, sending_time}
 
-found_passes : {X : Type 0} (p : X → Bool) (xs : List X) (x : X) → find p xs ≡ Some x → p x ≡ true
+pub found_passes : {X : Type 0} (p : X → Bool) (xs : List X) (x : X) → find p xs ≡ Some x → p x ≡ true
 found_passes p [] x e = cc
 found_passes p (y ∷ ys) x e = by_test (p y) refl e (found_passes p ys x)
   where
@@ -48,7 +48,7 @@ no_choice c e = cc
 below_limit : (w : World) (b : Bool) → b ≡ true → w.clock.steps < STEP_LIMIT → IsTrue (nat_lt w.clock.steps STEP_LIMIT && b)
 below_limit w b e h = grind (arith, nat_tests)
 
-ready_at : (w : World) (device : Dev) → is_ready_at (ready_devices w) (place_of device) ≡ can_act w device
+pub ready_at : (w : World) (device : Dev) → is_ready_at (ready_devices w) (place_of device) ≡ can_act w device
 ready_at w Event = refl
 ready_at w Alarm = refl
 ready_at w Uart = refl
@@ -60,7 +60,7 @@ device_ready : (w : World) (device : Dev) → ready_device (ready_devices w) ≡
 unfolding ready_device
 device_ready w device e = sym (ready_at w device) ∙ found_passes (λ d. is_ready_at (ready_devices w) (place_of d)) device_order device e
 
-passed_over : {X : Type 0} (b : Bool) (x : X) (rest : Option X) → cond b (Some x) rest ≡ None → (b ≡ false) × (rest ≡ None)
+pub passed_over : {X : Type 0} (b : Bool) (x : X) (rest : Option X) → cond b (Some x) rest ≡ None → (b ≡ false) × (rest ≡ None)
 passed_over true x rest e = cc
 passed_over false x rest e = (refl, e)
 

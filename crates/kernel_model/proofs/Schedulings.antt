@@ -3,12 +3,14 @@ use Rattle.std.proofs.Common.{◌≡◌, ◌<◌, ◌≤◌, ℕ, ◌+◌, Bool,
 use Rattle.std.specs.Prelude.{All}
 use Rattle.std.proofs.lemmas.Bool.{false≢true}
 use Rattle.std.proofs.lemmas.List.{append-nil, length-append, length-map, map-append}
-use Rattle.std.proofs.lemmas.List.Elements.{All-nil, All-cons, All-append, All-drop, All-filter, All-map, All-same, All-weaker, filter_passes}
+use Rattle.std.proofs.lemmas.List.Elements.{All-nil, All-cons, All-head, All-append, All-drop, All-filter, All-map, All-same, All-weaker, filter_passes}
 use Rattle.std.proofs.Math.Seq.{drop-append_seam}
 use Rattle.tk_base.specs.declared.process.Choice.{Choice}
 use Rattle.tk_base.specs.declared.upcall.Upcall.{Upcall as Scheduled}
 use Rattle.tbf_headers.specs.Meaning.{reading}
+use Rattle.rv32_model.specs.Laws.{CallsAreOfEcall}
 use Rattle.process_own.specs.Pairs.{HandsTheSame}
+use Rattle.process_record.specs.Process.{delivered}
 use Rattle.driver_model.specs.Upcalls.{IsHeld, SchedulesHeld}
 use Rattle.kernel_model.specs.Record.{Record}
 use Rattle.kernel_model.specs.declared.settings.Settings.{Settings}
@@ -17,7 +19,8 @@ use Rattle.kernel_model.specs.Laws.{CanStartAgain, main_by}
 use Rattle.kernel_model.specs.World.{World, after}
 use Rattle.kernel_model.specs.Replay.{after_all}
 use Rattle.kernel_model.specs.Histories.{HandedNothing}
-use Rattle.kernel_model.specs.Deliveries.{DeliveriesAreOfTheLast, IsOfTheLast, Scheduling, delivers, is_yielded, left_by, left_by_turn, left_in, pending_in, pending_of, scheduled_in, schedulings, schedulings_from, takes_away, told_in, waiting_after, yielded_of}
+use Rattle.kernel_model.specs.Deliveries.{DeliveriesAreOfTheLast, IsDelivered, before_delivery, IsOfTheLast, Scheduling, delivers, is_yielded, left_by, left_by_turn, left_in, pending_in, pending_of, scheduled_in, schedulings, schedulings_from, takes_away, told_in, waiting_after, yielded_of}
+use Rattle.kernel_model.proofs.Delivered.{step_delivers}
 use Rattle.kernel_model.proofs.Deliveries.{Leaves, Promise, Sound, of_turn, schedules, upcalls}
 use Rattle.kernel_model.proofs.Steps.{IsAnswer, answer_changes, of_answer, of_step}
 
@@ -212,14 +215,16 @@ module _ (slot : ℕ) where
       both (λ s. s.step < step → Q s) (IsOfTheLastFrom (step + 1) (after w c) cs) (IsOfTheLastFrom step w (c ∷ cs)) (schedulings_from slot step w (c ∷ cs) waiting)
       (by_split step w c cs) first then
 
-pub deliveries_are_of_the_last : Promise → DeliveriesAreOfTheLast
-deliveries_are_of_the_last promise w slot nothing = record {
-  held = λ choices. all_held (slice_get (after_all w choices).records slot) (good_after_all promise slot choices w good);
+pub deliveries_are_of_the_last : Promise → CallsAreOfEcall → DeliveriesAreOfTheLast
+deliveries_are_of_the_last promise of_ecall w slot nothing = record {
+  held = held;
   history = λ choices. history choices;
   one = λ choices choice. one_more promise slot (after_all w choices) choice (schedulings slot w choices) (good_after_all promise slot choices w good) (history choices);
-  last = λ choices.
-      All-weaker (IsOfTheLastFrom slot 0 w choices) (IsOfTheLast slot w choices) (λ s h early late choice e below. h early late choice e (omega (arith, below)))
-      (schedulings slot w choices) (last_from slot choices 0 w [] (All-nil (λ s. s.step < 0)));
+  last = last;
+  delivered = λ choices choice r s is after_it.
+      let held_there : All (IsHeld r.own) r.own.pending = subst (λ (o : Option Record). IfSome o (λ r. All (IsHeld r.own) r.own.pending)) is (held choices) in
+      let waits : upcalls (schedulings slot w choices) ≡ r.own.pending = history choices ∙ ap pending_of is in
+      first_delivered choices choice r s is after_it (schedulings slot w choices) waits held_there (last choices);
 }
   where
     good : GoodIn slot w
@@ -231,3 +236,29 @@ deliveries_are_of_the_last promise w slot nothing = record {
     all_held : (o : Option Record) → IfSome o IsGood → IfSome o (λ r. All (IsHeld r.own) r.own.pending)
     all_held None h = tt
     all_held (Some r) h = h.sound.held
+
+    held : (choices : List Choice) → IfSome (slice_get (after_all w choices).records slot) (λ r. All (IsHeld r.own) r.own.pending)
+    held choices = all_held (slice_get (after_all w choices).records slot) (good_after_all promise slot choices w good)
+
+    last : (choices : List Choice) → All (IsOfTheLast slot w choices) (schedulings slot w choices)
+    last choices =
+        All-weaker (IsOfTheLastFrom slot 0 w choices) (IsOfTheLast slot w choices) (λ s h early late choice e below. h early late choice e (omega (arith, below)))
+        (schedulings slot w choices) (last_from slot choices 0 w [] (All-nil (λ s. s.step < 0)))
+
+    -- what a turn delivers is the first of what waits
+    DeliversFirst : List Choice → Record → Record → List Scheduling → Told → Type 0
+    DeliversFirst choices r s waiting told = delivers (is_yielded r.process.state) told.call ≡ true → IfSome (slice_get waiting 0) (IsDelivered slot w choices r s)
+
+    first_delivered : (choices : List Choice) (choice : Choice) (r s : Record) → slice_get (after_all w choices).records slot ≡ Some r → slice_get (after (after_all w choices) choice).records slot ≡ Some s
+        → (waiting : List Scheduling) → upcalls waiting ≡ r.own.pending → All (IsHeld r.own) r.own.pending → All (IsOfTheLast slot w choices) waiting
+        → All (DeliversFirst choices r s waiting) (told_in slot (after_all w choices) choice)
+    first_delivered choices choice r s is after_it [] waits held lasts = every (DeliversFirst choices r s []) (told_in slot (after_all w choices) choice) (λ told e. tt)
+    first_delivered choices choice r s is after_it (first ∷ rest) waits held lasts =
+        All-weaker (λ told. delivers (is_yielded r.process.state) told.call ≡ true → s.process ≡ delivered first.upcall (before_delivery r.process)) (DeliversFirst choices r s (first ∷ rest))
+        (λ told delivers_it e. record {
+          process = delivers_it e;
+          held = All-head (IsHeld r.own) first.upcall (upcalls rest) (subst (All (IsHeld r.own)) (sym waits) held);
+          last = All-head (IsOfTheLast slot w choices) first rest lasts;
+        })
+        (told_in slot (after_all w choices) choice)
+        (step_delivers of_ecall (after_all w choices) slot choice r s first.upcall (upcalls rest) is after_it (sym waits))

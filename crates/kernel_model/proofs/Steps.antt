@@ -14,11 +14,11 @@ use Rattle.driver_model.specs.Services.{OfEachService}
 use Rattle.kernel_model.specs.declared.settings.Settings.{Settings}
 use Rattle.kernel_model.specs.Record.{Record}
 use Rattle.kernel_model.specs.Turn.{Event, Turn, Alarmed, Taken, WriteDone, Input, Word, NoWord, Stored, Told, Turned, apply, turned}
-use Rattle.kernel_model.specs.World.{Answer, Deed, World, acted_by, after, alarmed, arrived, can_act, deed_of, done, drawing, drawn, first_of, labels, labels_of, now_in, owns_in, ran, receiving, records_after, stepped, storing, transmitting, unmade}
+use Rattle.kernel_model.specs.World.{Answer, Deed, Stepped, World, after, alarmed, arrived, carried_out, deed_of, done, drawing, drawn, first_of, is_ready, labels, labels_of, now_in, owns_in, ran, receiving, records_after, storing, transmitting}
 use Rattle.kernel_model.specs.Laws.{answer_of}
 use Rattle.kernel_model.specs.Histories.{turns_in}
 use Rattle.kernel_model.proofs.Replays.{nothing_printed}
-use Rattle.kernel_model.proofs.Places.{acted_records, ran-other, ran-own, told-other, told-own}
+use Rattle.kernel_model.proofs.Places.{acted_records, of_stepped, ran-other, ran-own, told-other, told-own}
 
 -- an event that is no turn
 unfoldable pub IsAnswer : Event → Type 0
@@ -56,7 +56,7 @@ answer_changes settings NoWord r is = refl
 answer_changes settings (Stored moved) r is = refl
 
 -- what a device tells in what it does, if it tells anything, is no turn
-abbrev TellsNoTurn : Option Deed → Type 0
+abbrev pub TellsNoTurn : Option Deed → Type 0
 TellsNoTurn o = IfSome (option_and_then (λ (deed : Deed). deed.told) o) (λ a. IsAnswer a.event)
 
 sent_is_answer : (completed : Bool) → IsAnswer (cond completed WriteDone Taken)
@@ -90,7 +90,7 @@ unfolding IsAnswer
 alarm_tells w None = tt
 alarm_tells w (Some at) = tt
 
-deed_tells : (w : World) (device : Dev) → TellsNoTurn (deed_of w device)
+pub deed_tells : (w : World) (device : Dev) → TellsNoTurn (deed_of w device)
 unfolding IsAnswer
 deed_tells w dev.Event = arrived_tells w w.devices.arrivals
 deed_tells w dev.Alarm = alarm_tells w (due_slot (now_in w) (owns_in w))
@@ -100,7 +100,7 @@ deed_tells w dev.Random = first_tells drawing w w.devices.randoms (λ at r. draw
 deed_tells w dev.Store = first_tells storing w w.devices.stores (λ at r. tt)
 
 answer_tells : (w : World) (device : Dev) → IfSome (answer_of w device) (λ a. IsAnswer a.event)
-answer_tells w device = by_ready (can_act w device)
+answer_tells w device = by_ready (is_ready w (Device device))
   where
     by_ready : (b : Bool) → IfSome (cond b (option_and_then (λ (deed : Deed). deed.told) (deed_of w device)) None) (λ a. IsAnswer a.event)
     by_ready true = deed_tells w device
@@ -115,12 +115,9 @@ done_no_turn : (slot : ℕ) (w : World) (o : Option Deed) → flat_map (turns_in
 done_no_turn slot w None = refl
 done_no_turn slot w (Some deed) = answered_no_turn slot deed deed.told
 
-acted_no_turn : (slot : ℕ) (w : World) (device : Dev) → flat_map (turns_in slot) (acted_by w device).labels ≡ []
-acted_no_turn slot w device = by_ready (can_act w device)
-  where
-    by_ready : (b : Bool) → flat_map (turns_in slot) (cond b (done w (deed_of w device)) (unmade w)).labels ≡ []
-    by_ready true = done_no_turn slot w (deed_of w device)
-    by_ready false = refl
+acted_no_turn : (slot : ℕ) (w : World) (device : Dev) → flat_map (turns_in slot) (labels w (Device device)) ≡ []
+unfolding carried_out
+acted_no_turn slot w device = of_stepped (λ (s : Stepped). flat_map (turns_in slot) s.labels ≡ []) w (Device device) refl (λ ready. done_no_turn slot w (deed_of w device))
 
 -- what holds of each thing that a step may do to the process in a slot: of what its turn tells, if it has one, and of its
 -- record afterwards
@@ -160,10 +157,13 @@ module _ (w : World) (slot : ℕ) (P : List Told → Option Record → Type 0) (
           (subst (P []) (sym (told-own w a (slice_get w.records a.slot) refl ∙ ap (λ (s : ℕ). option_map (apply w.settings a.event) (slice_get w.records s)) same)) (by_record (slice_get w.records slot) refl))
       by_slot false e = subst (P []) (sym (told-other w a slot (slice_get w.records a.slot) (λ same. false≢true (sym e ∙ eq-eqb a.slot slot (sym same))))) each.stays
 
+  abbrev Does : Stepped → Type 0
+  Does s = P (flat_map (turns_in slot) s.labels) (slice_get s.after.records slot)
+
   pub of_step : (choice : Choice) → P (flat_map (turns_in slot) (labels w choice)) (slice_get (after w choice).records slot)
-  unfolding stepped
-  of_step (Run other) = of_ran other (slice_get w.records other) refl
+  unfolding carried_out
+  of_step (Run other) = of_stepped Does w (Run other) each.stays (λ ready. of_ran other (slice_get w.records other) refl)
   of_step (Device device) =
-      subst (λ (tolds : List Told). P tolds (slice_get (acted_by w device).after.records slot)) (sym (acted_no_turn slot w device))
+      subst (λ (tolds : List Told). P tolds (slice_get (after w (Device device)).records slot)) (sym (acted_no_turn slot w device))
       (subst (λ (rs : List Record). P [] (slice_get rs slot)) (sym (acted_records w device)) (of_told (answer_of w device) (answer_tells w device)))
-  of_step (Pass ticks) = each.stays
+  of_step (Pass ticks) = of_stepped Does w (Pass ticks) each.stays (λ ready. each.stays)

@@ -7,6 +7,7 @@ use Rattle.std.proofs.lemmas.List.{set-set}
 use Rattle.std.proofs.lemmas.List.Elements.{All-nil, All-cons, All-append}
 use Rattle.std.proofs.lemmas.Option.{slice_get-map, slice_get_within, get_or_from_slice_get}
 use Rattle.rv32_model.specs.declared.turn_end.TurnEnd.TheVariants.{Went}
+use Rattle.tk_base.specs.declared.limits.TheConstants.{STEP_LIMIT}
 use Rattle.tk_base.specs.declared.process.Choice.{Choice}
 use Rattle.tk_base.specs.declared.process.Choice.TheVariants.{Run, Device, Pass}
 use Rattle.tk_base.specs.declared.process.Dev.{Dev}
@@ -16,10 +17,11 @@ use Rattle.turn_scheduler.specs.RoundRobin.{choice, is_ready as is_ready_at, nex
 use Rattle.kernel_model.specs.declared.settings.Settings.{Settings}
 use Rattle.kernel_model.specs.Record.{Record, instruction}
 use Rattle.kernel_model.specs.Turn.{Told, Turned, ended, has_turn, is_pending, may_turn, turn_in, turned}
-use Rattle.kernel_model.specs.World.{World, Label, Stepped, TurnOf, after_turn_of, ran, stepped}
+use Rattle.kernel_model.specs.World.{World, Label, Stepped, TurnOf, after_turn_of, can_run, carried_out, is_ready, ran, stepped}
 use Rattle.kernel_model.specs.Run.{Ran, next, next_time, on_choice, printed, ready_devices, ready_slots, round, stays, goes_on, told_first}
 use Rattle.kernel_model.specs.Stretch.{AllGo, IsQuietTurn, IsStretch, NoneActs, NoneIsStretch, PresentStaysOn, RoundIsStretch, RoundsJoin, StretchesJoin, after_instructions, after_stretch, at_turn, executed}
-use Rattle.kernel_model.proofs.Places.{slice_get-set_same}
+use Rattle.kernel_model.proofs.Places.{slice_get-set_same, stepped_ready}
+use Rattle.kernel_model.proofs.Turns.{run_ready, turn_is_ready}
 
 set-same : {X : Type 0} (xs : List X) (i : ℕ) (x : X) → slice_get xs i ≡ Some x → slice_set xs i x ≡ xs
 set-same [] i x e = refl
@@ -56,6 +58,11 @@ stays_on w slot r p at runs u =
     left : (true && nat_lt w.present.used w.pace.slice) ≡ true
     left = grind (arith, nat_tests)
 
+-- a turn of a process that runs is ready below the limit of steps
+runs_ready : (w : World) (slot : ℕ) (r : Record) → slice_get w.records slot ≡ Some r → r.process.state ≡ Running → w.clock.steps < STEP_LIMIT → is_ready w (Run slot) ≡ true
+runs_ready w slot r at runs below =
+    run_ready w slot (ap can_run at ∙ ap (λ (state : State). has_turn state (is_pending r.own.pending)) runs) below
+
 module _ (w : World) (slot : ℕ) (r : Record) (p : w.present.slot ≡ Some slot) (at : slice_get w.records slot ≡ Some r) (runs : r.process.state ≡ Running) where
   -- no turn leads anywhere
   none_made : after_stretch 0 w slot r ≡ w
@@ -76,10 +83,11 @@ module _ (w : World) (slot : ℕ) (r : Record) (p : w.present.slot ≡ Some slot
   used_more u = ap (λ (o : Option ℕ). used_after o w.present.used w.pace.slice slot) p ∙ grind (arith, nat_tests)
 
   -- its step is a stretch of one
-  one_step : w.present.used < w.pace.slice → (instruction r).end ≡ Went → stepped w (Run slot) ≡ record { after = after_stretch 1 w slot (executed r); labels = TurnOf slot w.clock.time (quiet_told r) ∷ [] }
-  unfolding stepped
-  one_step u e =
-      ap (ran w slot) at
+  one_step : w.clock.steps < STEP_LIMIT → w.present.used < w.pace.slice → (instruction r).end ≡ Went → stepped w (Run slot) ≡ record { after = after_stretch 1 w slot (executed r); labels = TurnOf slot w.clock.time (quiet_told r) ∷ [] }
+  unfolding carried_out
+  one_step below u e =
+      stepped_ready w (Run slot) (runs_ready w slot r at runs below)
+      ∙ ap (ran w slot) at
       ∙ ap (λ (t : Turned). made_by t) (went w.settings w.clock.time r runs e)
       ∙ ap (λ (n : ℕ). record { after = record w { records = slice_set w.records slot (executed r); clock = record { time = w.clock.time + 1; steps = w.clock.steps + 1 }; present = record { slot = Some slot; used = n } }; labels = TurnOf slot w.clock.time (quiet_told r) ∷ [] }) (used_more u)
     where
@@ -94,13 +102,13 @@ module _ (w : World) (slot : ℕ) (r : Record) (p : w.present.slot ≡ Some slot
       ∙ ap (λ (used : ℕ). record w { records = slice_set w.records slot later; clock = record { time = w.clock.time + suc k; steps = w.clock.steps + suc k }; present = record { slot = Some slot; used = used } }) (sym (one_then w.present.used k))
 
   -- a stretch that goes on after one step
-  one_first : (k : ℕ) (later : Record) → ready_device (ready_devices w) ≡ None → w.present.used < w.pace.slice → (instruction r).end ≡ Went → IsStretch k (after_stretch 1 w slot (executed r)) (after_stretch k (after_stretch 1 w slot (executed r)) slot later) → IsStretch (suc k) w (after_stretch (suc k) w slot later)
+  one_first : (k : ℕ) (later : Record) → w.clock.steps < STEP_LIMIT → ready_device (ready_devices w) ≡ None → w.present.used < w.pace.slice → (instruction r).end ≡ Went → IsStretch k (after_stretch 1 w slot (executed r)) (after_stretch k (after_stretch 1 w slot (executed r)) slot later) → IsStretch (suc k) w (after_stretch (suc k) w slot later)
   unfolding round
-  one_first k later calm u e rest =
+  one_first k later below calm u e rest =
       let there = after_stretch 1 w slot (executed r) in
       let label = TurnOf slot w.clock.time (quiet_told r) in
       let first : round (suc k) w ≡ told_first (label ∷ []) (round k there)
-      = ap (on_choice (stays w) (λ c. goes_on (round k) (stepped w c))) (goes_on_next calm u) ∙ ap (goes_on (round k)) (one_step u e) in
+      = ap (on_choice (stays w) (λ c. goes_on (round k) (stepped w c))) (goes_on_next calm u) ∙ ap (goes_on (round k)) (one_step below u e) in
       record {
         reached = sym (together k later) ∙ rest.reached ∙ sym (ap (λ (q : Ran). q.world) first);
         turns = ap (λ (q : Ran). length q.labels) first ∙ ap suc rest.turns;
@@ -118,13 +126,13 @@ pub none_is_stretch : NoneIsStretch
 none_is_stretch w v e = subst (λ (x : World). IsStretch 0 w x) (sym e) (no_stretch w)
 
 -- the present slot's turns
-present_stretch : (k slot : ℕ) (w : World) (r : Record) → w.present.slot ≡ Some slot → slice_get w.records slot ≡ Some r → r.process.state ≡ Running → w.present.used + k ≤ w.pace.slice → AllGo k r → NoneActs k w slot r → IsStretch k w (after_stretch k w slot (after_instructions k r))
+present_stretch : (k slot : ℕ) (w : World) (r : Record) → w.clock.steps + k ≤ STEP_LIMIT → w.present.slot ≡ Some slot → slice_get w.records slot ≡ Some r → r.process.state ≡ Running → w.present.used + k ≤ w.pace.slice → AllGo k r → NoneActs k w slot r → IsStretch k w (after_stretch k w slot (after_instructions k r))
 unfolding after_instructions
-present_stretch zero slot w r p at runs u go none = subst (IsStretch 0 w) (sym (none_made w slot r p at runs)) (no_stretch w)
-present_stretch (suc k) slot w r p at runs u go none =
+present_stretch zero slot w r limit p at runs u go none = subst (IsStretch 0 w) (sym (none_made w slot r p at runs)) (no_stretch w)
+present_stretch (suc k) slot w r limit p at runs u go none =
     let there = after_stretch 1 w slot (executed r) in
-    one_first w slot r p at runs k (after_instructions k (executed r)) (ap (λ (v : World). ready_device (ready_devices v)) (sym (none_made w slot r p at runs)) ∙ none 0 (omega arith)) (omega (arith, u)) (go 0 (omega arith))
-    (present_stretch k slot there (executed r) refl (slice_get-set_same w.records slot (executed r) (slice_get_within w.records slot r at)) runs (omega (arith, u))
+    one_first w slot r p at runs k (after_instructions k (executed r)) (omega (arith, limit)) (ap (λ (v : World). ready_device (ready_devices v)) (sym (none_made w slot r p at runs)) ∙ none 0 (omega arith)) (omega (arith, u)) (go 0 (omega arith))
+    (present_stretch k slot there (executed r) (omega (arith, limit)) refl (slice_get-set_same w.records slot (executed r) (slice_get_within w.records slot r at)) runs (omega (arith, u))
     (λ j h. go (suc j) (omega (arith, h)))
     (λ j h. ap (λ (v : World). ready_device (ready_devices v)) (together w slot r p at runs j (after_instructions j (executed r))) ∙ none (suc j) (omega (arith, h))))
 
@@ -144,9 +152,9 @@ uses_one o used slice slot u = begins ∙ one_more o
         by false = refl
 
 -- so both worlds go on in the same way
-same_round : (n slot : ℕ) (w : World) (r : Record) → next w ≡ Some (Run slot) → next (at_turn w slot) ≡ Some (Run slot) → slice_get w.records slot ≡ Some r → (at_turn w slot).present.used < w.pace.slice → round (suc n) (at_turn w slot) ≡ round (suc n) w
-unfolding round stepped
-same_round n slot w r f g at u =
+same_round : (n slot : ℕ) (w : World) (r : Record) → w.clock.steps < STEP_LIMIT → next w ≡ Some (Run slot) → next (at_turn w slot) ≡ Some (Run slot) → slice_get w.records slot ≡ Some r → (at_turn w slot).present.used < w.pace.slice → round (suc n) (at_turn w slot) ≡ round (suc n) w
+unfolding round carried_out
+same_round n slot w r below f g at u =
     ap (on_choice (stays (at_turn w slot)) (λ c. goes_on (round n) (stepped (at_turn w slot) c))) g
     ∙ ap (goes_on (round n)) same_step
     ∙ sym (ap (on_choice (stays w) (λ c. goes_on (round n) (stepped w c))) f)
@@ -156,18 +164,19 @@ same_round n slot w r f g at u =
 
     same_step : stepped (at_turn w slot) (Run slot) ≡ stepped w (Run slot)
     same_step =
-        ap (ran (at_turn w slot) slot) at
+        stepped_ready (at_turn w slot) (Run slot) (run_ready (at_turn w slot) slot (turn_is_ready w slot f) below)
+        ∙ ap (ran (at_turn w slot) slot) at
         ∙ ap (step_with (turned w.settings w.clock.time r)) (uses_one w.present.slot w.present.used w.pace.slice slot u)
-        ∙ sym (ap (ran w slot) at)
+        ∙ sym (stepped_ready w (Run slot) (run_ready w slot (turn_is_ready w slot f) below) ∙ ap (ran w slot) at)
 
 pub round_is_stretch : RoundIsStretch
 unfolding after_instructions
-round_is_stretch zero slot w r some f at runs u go none = absurd (omega (arith, some))
-round_is_stretch (suc n) slot w r some f at runs u go none =
+round_is_stretch zero slot w r some limit f at runs u go none = absurd (omega (arith, some))
+round_is_stretch (suc n) slot w r some limit f at runs u go none =
     let first : ready_device (ready_devices w) ≡ None = ap (λ (v : World). ready_device (ready_devices v)) (sym (none_made (at_turn w slot) slot r refl at runs)) ∙ none 0 (omega arith) in
     let left : (at_turn w slot).present.used < w.pace.slice = omega (arith, u) in
-    let s = present_stretch (suc n) slot (at_turn w slot) r refl at runs u go none in
-    let same = same_round n slot w r f (goes_on_next (at_turn w slot) slot r refl at runs first left) at left in
+    let s = present_stretch (suc n) slot (at_turn w slot) r limit refl at runs u go none in
+    let same = same_round n slot w r (omega (arith, limit)) f (goes_on_next (at_turn w slot) slot r refl at runs first left) at left in
     record {
       reached = s.reached ∙ ap (λ (q : Ran). q.world) same;
       turns = sym (ap (λ (q : Ran). length q.labels) same) ∙ s.turns;

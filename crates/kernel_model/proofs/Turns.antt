@@ -1,7 +1,9 @@
 -- The turns of a run by round robin are turns one after another, whatever comes between them.
-use Rattle.std.proofs.Common.{◌≡◌, ℕ, zero, suc, ◌≤◌, ◌<◌, Bool, true, false, cond, List, [], ◌∷◌, ◌++◌, length, map, filter, slice_get, slice_index_or, Option, None, Some, refl, sym, ap, subst, ◌∙◌, arith}
+use Rattle.std.proofs.Common.{◌≡◌, ℕ, zero, suc, ◌≤◌, ◌<◌, Bool, true, false, cond, ◌&&◌, nat_lt, List, [], ◌∷◌, ◌++◌, length, map, filter, slice_get, slice_index_or, Option, None, Some, refl, sym, ap, ap₂, subst, ◌∙◌, arith}
 use Rattle.std.specs.Prelude.{All, Any}
 use Rattle.std.specs.Option.{option_map, option_or}
+use Rattle.std.proofs.lemmas.Bool.Decides.{nat_tests}
+use Rattle.tk_base.specs.declared.limits.TheConstants.{STEP_LIMIT}
 use Rattle.std.proofs.lemmas.List.{length-map, length-set}
 use Rattle.std.proofs.lemmas.List.Elements.{All-nil, All-cons, All-head, All-tail, All-map, All-weaker}
 use Rattle.tk_base.specs.declared.process.Choice.{Choice}
@@ -12,17 +14,17 @@ use Rattle.turn_scheduler.specs.RoundRobin.{choice, is_ready as is_ready_at, nex
 use Rattle.turn_scheduler.specs.Turns.{AreTurns, GivesTurn, ReadyHasTurn}
 use Rattle.kernel_model.specs.Record.{Record}
 use Rattle.kernel_model.specs.Turn.{may_turn}
-use Rattle.kernel_model.specs.World.{Answer, Pace, Present, World, after, can_run, ran, records_after, stepped, told_to}
+use Rattle.kernel_model.specs.World.{Answer, Pace, Present, Stepped, World, after, can_run, carried_out, is_ready, may_be_made, ran, records_after, told_to}
 use Rattle.kernel_model.specs.Run.{next, on_choice, ready_slots, situation_of}
 use Rattle.kernel_model.specs.Replay.{chosen}
-use Rattle.kernel_model.specs.Fairness.{HasTurn, IsReadyIn, ReadyProcessesHaveTurns, is_turn, turn_worlds, worlds}
-use Rattle.kernel_model.proofs.Places.{of_acted, of_world}
+use Rattle.kernel_model.specs.Fairness.{HasTurn, IsReadyIn, ReadyProcessesHaveTurns, is_turn, makes_turn, turn_worlds, worlds}
+use Rattle.kernel_model.proofs.Places.{of_acted, of_stepped, of_world, stepped_else, stepped_ready}
 use Rattle.kernel_model.proofs.Runs.{next_slot_ready, ready_runs}
 
 -- a world with as many records as another, and its pace
-record SameBoard (w v : World) : Type 0 where
-  records : length v.records ≡ length w.records
-  pace : v.pace ≡ w.pace
+pub record SameBoard (w v : World) : Type 0 where
+  pub records : length v.records ≡ length w.records
+  pub pace : v.pace ≡ w.pace
 
 same_then : (w v u : World) → SameBoard w v → SameBoard v u → SameBoard w u
 same_then w v u first second = record { records = second.records ∙ first.records; pace = second.pace ∙ first.pace }
@@ -32,31 +34,35 @@ told_length : (w : World) (a : Answer) (o : Option Record) → length (told_to w
 told_length w a None = refl
 told_length w a (Some r) = length-set w.records a.slot _
 
-answered_length : (w : World) (o : Option Answer) → length (records_after w o) ≡ length w.records
+pub answered_length : (w : World) (o : Option Answer) → length (records_after w o) ≡ length w.records
 answered_length w None = refl
 answered_length w (Some a) = told_length w a (slice_get w.records a.slot)
 
-step_same : (w : World) (c : Choice) → SameBoard w (after w c)
+pub step_same : (w : World) (c : Choice) → SameBoard w (after w c)
 step_same w c =
     of_world (SameBoard w) w (record { records = refl; pace = refl }) (λ slot t. record { records = length-set w.records slot t.after; pace = refl })
     (λ deed. record { records = answered_length w deed.told; pace = refl }) (λ ticks. record { records = refl; pace = refl }) c
 
 -- and a device's step leaves whose turn the last one was, as a pass of time does
 device_present : (w : World) (device : Dev) → (after w (Device device)).present ≡ w.present
-unfolding stepped
 device_present w device = of_acted (λ v. v.present ≡ w.present) w refl (λ deed. refl) device
 
 pass_present : (w : World) (ticks : ℕ) → (after w (Pass ticks)).present ≡ w.present
-unfolding stepped
-pass_present w ticks = refl
+unfolding carried_out
+pass_present w ticks = of_stepped (λ (s : Stepped). s.after.present ≡ w.present) w (Pass ticks) refl (λ ready. refl)
+
+-- a turn of a process that may have one is ready below the limit of steps
+pub run_ready : (w : World) (slot : ℕ) → can_run (slice_get w.records slot) ≡ true → w.clock.steps < STEP_LIMIT → is_ready w (Run slot) ≡ true
+unfolding may_be_made
+run_ready w slot can below = ap (λ (b : Bool). nat_lt w.clock.steps STEP_LIMIT && b) can ∙ grind (arith, nat_tests)
 
 -- a turn sets it, where there is a process in the slot
 abbrev present_after : World → ℕ → Present
 present_after w slot = record { slot = Some slot; used = used_after w.present.slot w.present.used w.pace.slice slot }
 
-turn_present : (w : World) (slot : ℕ) → can_run (slice_get w.records slot) ≡ true → (after w (Run slot)).present ≡ present_after w slot
-unfolding stepped
-turn_present w slot can = by_record (slice_get w.records slot) can
+turn_present : (w : World) (slot : ℕ) → can_run (slice_get w.records slot) ≡ true → w.clock.steps < STEP_LIMIT → (after w (Run slot)).present ≡ present_after w slot
+unfolding carried_out
+turn_present w slot can below = ap (λ (s : Stepped). s.after.present) (stepped_ready w (Run slot) (run_ready w slot can below)) ∙ by_record (slice_get w.records slot) can
   where
     by_record : (o : Option Record) → can_run o ≡ true → (ran w slot o).after.present ≡ present_after w slot
     by_record None e = absurd (cc)
@@ -69,7 +75,7 @@ chosen_slot None (Some q) at pass slot e = cc
 chosen_slot None None (Some n) pass slot e = absurd (cc)
 chosen_slot None None None pass slot e = absurd (cc)
 
-turn_is_ready : (w : World) (slot : ℕ) → next w ≡ Some (Run slot) → can_run (slice_get w.records slot) ≡ true
+pub turn_is_ready : (w : World) (slot : ℕ) → next w ≡ Some (Run slot) → can_run (slice_get w.records slot) ≡ true
 unfolding next choice
 turn_is_ready w slot e =
     let s = situation_of w in
@@ -88,9 +94,9 @@ record Follow (w : World) (vs : List World) : Type 0 where
   each : All (SameBoard w) vs
 
 -- a world before a turn, and then those after it
-begins : (w : World) (slot : ℕ) (vs : List World) → next w ≡ Some (Run slot) → Follow (after w (Run slot)) vs → Follow w (w ∷ vs)
+begins : (w : World) (slot : ℕ) (vs : List World) → next w ≡ Some (Run slot) → w.clock.steps < STEP_LIMIT → Follow (after w (Run slot)) vs → Follow w (w ∷ vs)
 unfolding FirstIsAt next
-begins w slot vs e follow = record {
+begins w slot vs e below follow = record {
   turns = by_rest vs follow;
   first = refl;
   each = All-cons (SameBoard w) w vs (record { records = refl; pace = refl }) (All-weaker (SameBoard v) (SameBoard w) (λ u. same_then w v u (step_same w (Run slot))) vs follow.each);
@@ -102,7 +108,7 @@ begins w slot vs e follow = record {
     by_rest : (us : List World) → Follow v us → AreTurns (situation_of w ∷ map situation_of us)
     by_rest [] f = (slot, e)
     by_rest (u ∷ us) f =
-        let present = f.first ∙ turn_present w slot (turn_is_ready w slot e) in
+        let present = f.first ∙ turn_present w slot (turn_is_ready w slot e) below in
         let same = same_then w v u (step_same w (Run slot)) (All-head (SameBoard v) u us f.each) in
         ((slot, e, ap (λ (p : Present). p.slot) present, ap (λ (p : Present). p.used) present, ap (λ (p : Pace). p.slice) same.pace), f.turns)
 
@@ -123,25 +129,45 @@ nothing_follows : (w : World) → Follow w []
 unfolding FirstIsAt
 nothing_follows w = record { turns = tt; first = tt; each = All-nil (SameBoard w) }
 
+and_false : (b : Bool) → (b && false) ≡ false
+and_false true = refl
+and_false false = refl
+
 -- the worlds before the turns of a run follow from where it begins
 run_follows : (n : ℕ) (w : World) → Follow w (turn_worlds n w)
 unfolding chosen
 run_follows zero w = nothing_follows w
 run_follows (suc n) w = by_next (next w) refl (λ c. run_follows n (after w c))
   where
-    by_next : (o : Option Choice) → next w ≡ o → ((c : Choice) → Follow (after w c) (turn_worlds n (after w c))) → Follow w (filter (λ v. is_turn (next v)) (worlds w (on_choice [] (λ c. c ∷ chosen n (after w c)) o)))
-    by_next None e later = nothing_follows w
-    by_next (Some (Run slot)) e later =
+    is_no_turn : (o : Option Choice) → next w ≡ o → is_turn o ≡ false → makes_turn w ≡ false
+    is_no_turn o e none = ap (λ (b : Bool). nat_lt w.clock.steps STEP_LIMIT && b) (ap is_turn e ∙ none) ∙ and_false (nat_lt w.clock.steps STEP_LIMIT)
+
+    with_rest : (b : Bool) (rest : List World) → makes_turn w ≡ b → Follow w (cond b (w ∷ rest) rest) → Follow w (cond (makes_turn w) (w ∷ rest) rest)
+    with_rest b rest e follow = subst (λ (c : Bool). Follow w (cond c (w ∷ rest) rest)) (sym e) follow
+
+    -- at the limit of steps no turn is made
+    by_limit : (slot : ℕ) (b : Bool) → nat_lt w.clock.steps STEP_LIMIT ≡ b → next w ≡ Some (Run slot)
+        → Follow (after w (Run slot)) (turn_worlds n (after w (Run slot))) → let rest = turn_worlds n (after w (Run slot)) in Follow w (cond (makes_turn w) (w ∷ rest) rest)
+    by_limit slot true below e later =
         let rest = turn_worlds n (after w (Run slot)) in
-        subst (λ (b : Bool). Follow w (cond b (w ∷ rest) rest)) (sym (ap is_turn e)) (begins w slot rest e (later (Run slot)))
+        with_rest true rest (ap₂ (λ (b c : Bool). b && c) below (ap is_turn e)) (begins w slot rest e (grind (arith, nat_tests)) later)
+    by_limit slot false none e later =
+        let rest = turn_worlds n (after w (Run slot)) in
+        let stays : after w (Run slot) ≡ w = ap (λ (s : Stepped). s.after) (stepped_else w (Run slot) (ap (λ (b : Bool). b && may_be_made w (Run slot)) none)) in
+        with_rest false rest (ap (λ (b : Bool). b && is_turn (next w)) none)
+        (passes w (after w (Run slot)) rest (step_same w (Run slot)) (ap (λ (v : World). v.present) stays) later)
+
+    by_next : (o : Option Choice) → next w ≡ o → ((c : Choice) → Follow (after w c) (turn_worlds n (after w c))) → Follow w (filter makes_turn (worlds w (on_choice [] (λ c. c ∷ chosen n (after w c)) o)))
+    by_next None e later = nothing_follows w
+    by_next (Some (Run slot)) e later = by_limit slot (nat_lt w.clock.steps STEP_LIMIT) refl e (later (Run slot))
     by_next (Some (Device device)) e later =
         let c = Device device in
         let rest = turn_worlds n (after w c) in
-        subst (λ (b : Bool). Follow w (cond b (w ∷ rest) rest)) (sym (ap is_turn e)) (passes w (after w c) rest (step_same w c) (device_present w device) (later c))
+        with_rest false rest (is_no_turn (Some c) e refl) (passes w (after w c) rest (step_same w c) (device_present w device) (later c))
     by_next (Some (Pass ticks)) e later =
         let c = Pass ticks in
         let rest = turn_worlds n (after w c) in
-        subst (λ (b : Bool). Follow w (cond b (w ∷ rest) rest)) (sym (ap is_turn e)) (passes w (after w c) rest (step_same w c) (pass_present w ticks) (later c))
+        with_rest false rest (is_no_turn (Some c) e refl) (passes w (after w c) rest (step_same w c) (pass_present w ticks) (later c))
 
 -- turns one after another are so from each of them on, and up to each
 turns_from : (vs us : List World) → AreTurns (map situation_of (vs ++ us)) → AreTurns (map situation_of us)

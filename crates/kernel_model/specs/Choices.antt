@@ -9,6 +9,11 @@ abbrev pub are_ready : World → List Choice → Bool
 are_ready w [] = true
 are_ready w (choice ∷ choices) = is_ready w choice && are_ready (after w choice) choices
 
+-- what holds of each of them in the world in which it is made
+abbrev pub Throughout : (World → Choice → Type 0) → World → List Choice → Type 0
+Throughout P w [] = Unit {0}
+Throughout P w (choice ∷ choices) = P w choice × Throughout P (after w choice) choices
+
 -- what their steps tell, in order
 abbrev pub labels_of_all : World → List Choice → List Label
 labels_of_all w [] = []

@@ -7,8 +7,10 @@ use Rattle.tk_base.specs.declared.upcall.Upcall.{Upcall as Scheduled}
 use Rattle.grant_areas.specs.declared.kinds.PairKind.TheVariants.{Upcall}
 use Rattle.driver_model.specs.Upcalls.{IsHeld}
 use Rattle.process_record.specs.declared.emit.CallMade.{CallMade}
+use Rattle.process_record.specs.declared.process.Process.{Process}
 use Rattle.process_record.specs.declared.process.State.{State}
 use Rattle.process_record.specs.declared.process.State.TheVariants.{Running, Yielded, Faulted, Terminated}
+use Rattle.process_record.specs.Process.{after_call, after_turn, delivered}
 use Rattle.kernel_model.specs.Record.{Record}
 use Rattle.kernel_model.specs.Turn.{Told}
 use Rattle.kernel_model.specs.World.{World, after, labels}
@@ -101,10 +103,23 @@ IsOfTheLast slot w choices s =
     (early late : List Choice) (choice : Choice) → choices ≡ early ++ (choice ∷ late) → s.step < length early →
     All (λ told. takes_away told s.upcall ≡ false) (told_in slot (after_all w early) choice)
 
+-- where a delivery goes on from: in its turn a process that waited, and one past the `ecall` of a yield that does not wait
+abbrev pub before_delivery : Process → Process
+before_delivery p = after_turn (if is_yielded p.state then p else after_call p)
+
+-- A scheduling whose upcall is delivered by a step that leads from one record to another: its function goes on in the
+-- registers, with its arguments; it is the upcall that the process holds then of its driver and number, and none was
+-- subscribed of these since it was scheduled, nor has a life of the process ended.
+pub record IsDelivered (slot : ℕ) (w : World) (choices : List Choice) (r s : Record) (scheduling : Scheduling) : Type 0 where
+  pub process : s.process ≡ delivered scheduling.upcall (before_delivery r.process)
+  pub held : IsHeld r.own scheduling.upcall
+  pub last : IsOfTheLast slot w choices scheduling
+
 -- Of a world and a slot: any choices are made. Then each upcall that waits for the slot's process is the one that it
 -- then holds of its driver and number. What waits is what was scheduled and neither delivered nor taken away, in the
--- order in which it was scheduled, of each step one at most. So no delivery is of an upcall that the process subscribed
--- anew since it was scheduled, and none of one of an earlier life.
+-- order in which it was scheduled, of each step one at most. A turn that delivers, where something waits, delivers the
+-- upcall of the first scheduling of all that wait. So no delivery is of an upcall that the process subscribed anew since
+-- it was scheduled, and none of one of an earlier life.
 pub record DeliversTheLast (w : World) (slot : ℕ) : Type 0 where
   pub held : (choices : List Choice) →
       IfSome (slice_get (after_all w choices).records slot) (λ r. All (IsHeld r.own) r.own.pending)
@@ -114,6 +129,11 @@ pub record DeliversTheLast (w : World) (slot : ℕ) : Type 0 where
       let v = after_all w choices in
       length (pending_in slot (after v choice)) ≤ length (left_in slot v choice (schedulings slot w choices)) + 1
   pub last : (choices : List Choice) → All (IsOfTheLast slot w choices) (schedulings slot w choices)
+  pub delivered : (choices : List Choice) (choice : Choice) (r s : Record) →
+      let v = after_all w choices in
+      slice_get v.records slot ≡ Some r → slice_get (after v choice).records slot ≡ Some s →
+      All (λ told. delivers (is_yielded r.process.state) told.call ≡ true →
+      IfSome (slice_get (schedulings slot w choices) 0) (IsDelivered slot w choices r s)) (told_in slot v choice)
 
 -- so it is where the process had handed nothing yet
 abbrev pub DeliveriesAreOfTheLast : Type 0

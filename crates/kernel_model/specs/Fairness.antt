@@ -1,5 +1,6 @@
 -- That no process which is ready waits for good in a run of the round robin.
-use Rattle.std.specs.Prelude.{◌≡◌, ◌≤◌, ℕ, ◌*◌, Bool, true, false, List, [], ◌∷◌, ◌++◌, filter, length, slice_get, Option, None, Some, All, Any}
+use Rattle.std.specs.Prelude.{◌≡◌, ◌≤◌, ℕ, ◌*◌, Bool, true, false, ◌&&◌, nat_lt, List, [], ◌∷◌, ◌++◌, filter, length, slice_get, Option, None, Some, All, Any}
+use Rattle.tk_base.specs.declared.limits.TheConstants.{STEP_LIMIT}
 use Rattle.tk_base.specs.declared.process.Choice.{Choice}
 use Rattle.tk_base.specs.declared.process.Choice.TheVariants.{Run, Device, Pass}
 use Rattle.kernel_model.specs.World.{World, after, can_run}
@@ -18,10 +19,14 @@ is_turn (Some (Run slot)) = true
 is_turn (Some (Device device)) = false
 is_turn (Some (Pass ticks)) = false
 
+-- whether the round robin's next step is a turn of a process: at the limit of steps none is made any more
+abbrev pub makes_turn : World → Bool
+makes_turn v = nat_lt v.clock.steps STEP_LIMIT && is_turn (next v)
+
 -- those before the turns of processes in the run of n steps by the round robin: device steps, and passes of time, may
 -- come between them
 abbrev pub turn_worlds : ℕ → World → List World
-turn_worlds n w = filter (λ v. is_turn (next v)) (worlds w (chosen n w))
+turn_worlds n w = filter makes_turn (worlds w (chosen n w))
 
 -- whether the process in a slot may have a turn
 abbrev pub IsReadyIn : ℕ → World → Type 0

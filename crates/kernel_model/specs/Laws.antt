@@ -1,5 +1,5 @@
 -- Laws over the definitions alone.
-use Rattle.std.specs.Prelude.{◌≡◌, ◌≢◌, ◌<◌, ℕ, true, if◌then◌else◌, List, [], Option, None, Some, is_some, IfSome, IsTrue, option_and_then, Result, Ok, Err, slice_get}
+use Rattle.std.specs.Prelude.{◌≡◌, ◌≢◌, ◌<◌, ℕ, true, false, if◌then◌else◌, List, [], Option, None, Some, is_some, IfSome, IsTrue, option_and_then, Result, Ok, Err, slice_get}
 use Rattle.std.specs.Option.{option_map}
 use Rattle.tk_base.specs.declared.limits.TheConstants.{STEP_LIMIT}
 use Rattle.tk_base.specs.declared.process.Choice.{Choice}
@@ -14,24 +14,27 @@ use Rattle.process_own.specs.Own.{Own}
 use Rattle.driver_model.specs.Commands.{Act}
 use Rattle.driver_model.specs.Drivers.{Surroundings}
 use Rattle.driver_model.specs.Laws.{CommandDropsAtMostOne, CommandsStayInPlace, IsAtMostOneMore, RefusedByAnyDriver}
-use Rattle.driver_model.specs.Lines.{IsWithin, LinesFollowCommands, OfEachDesk, OnlyDriversMoveLines, has_waiting, waits_after}
+use Rattle.driver_model.specs.Keeping.{KeepsLimit}
+use Rattle.driver_model.specs.Services.{OfEachService}
+use Rattle.driver_model.specs.Lines.{IsWithin, LinesFollowCommands, OfEachDesk, OnlyDriversMoveLines, has_waiting, waits_after, waits_once}
 use Rattle.process_record.specs.declared.outcome.Outcome.TheVariants.{ToDriver}
 use Rattle.kernel_model.specs.Record.{Record}
 use Rattle.kernel_model.specs.declared.settings.Settings.{Settings}
 use Rattle.kernel_model.specs.Calls.{served, refused_with, failure_of}
 use Rattle.kernel_model.specs.Turn.{Turn, apply, rule_shown, turned}
-use Rattle.kernel_model.specs.World.{World, Answer, after, can_act, deed_of, is_ready}
+use Rattle.kernel_model.specs.World.{World, Answer, after, deed_of, is_ready, labels}
 use Rattle.kernel_model.specs.Run.{next, next_time, ready_devices}
 use Rattle.turn_scheduler.specs.RoundRobin.{ready_device}
 
 -- what a device tells in a step, if it makes one
 abbrev pub answer_of : World → Dev → Option Answer
-answer_of w device = if can_act w device then option_and_then (λ deed. deed.told) (deed_of w device) else None
+answer_of w device = if is_ready w (Device device) then option_and_then (λ deed. deed.told) (deed_of w device) else None
 
 -- A turn changes the record of no process but the one whose turn it is, and that one by its turn; what a device does
--- that of no process but the one that it tells something, and that one by what it tells it; a pass of time none.
+-- that of no process but the one that it tells something, and that one by what it tells it; a pass of time none. A
+-- choice that is not ready changes nothing at all, and tells nothing.
 pub record OnlyItsOwnEvents : Type 0 where
-  pub turn : (w : World) (slot : ℕ)
+  pub turn : (w : World) (slot : ℕ) → is_ready w (Run slot) ≡ true
       → slice_get (after w (Run slot)).records slot
       ≡ option_map (apply w.settings (Turn w.clock.time)) (slice_get w.records slot)
   pub no_other_turn : (w : World) (slot other : ℕ) → other ≢ slot
@@ -43,6 +46,7 @@ pub record OnlyItsOwnEvents : Type 0 where
       → other ≢ a.slot → slice_get (after w (Device device)).records other ≡ slice_get w.records other
   pub no_answer : (w : World) (device : Dev) → answer_of w device ≡ None → (after w (Device device)).records ≡ w.records
   pub pass : (w : World) (ticks : ℕ) → (after w (Pass ticks)).records ≡ w.records
+  pub unready : (w : World) (choice : Choice) → is_ready w choice ≡ false → (after w choice ≡ w) × (labels w choice ≡ [])
 
 -- below the limit of steps the next choice of the round robin may be made
 abbrev pub NextIsReady : Type 0
@@ -88,10 +92,11 @@ abbrev pub CanStartAgain : Record → Type 0
 CanStartAgain r = is_some (main_by (reading r.object)) ≡ true
 
 -- What becomes of a process's requests, of which it had some before: it has one at a desk exactly where it waits in that
--- list after what was asked of the board, and it is then in the same life. One for storage is for some of so many bytes,
--- as one before it was.
+-- list after what was asked of the board, and it is then in the same life. It begins to wait only where it does not wait
+-- already. One for storage is for some of so many bytes, as one before it was.
 pub record KeepsLines (size : ℕ) (own after : Own) (acts : List Act) : Type 0 where
   pub lines : OfEachDesk (λ R desk. has_waiting desk after ≡ waits_after desk.line (has_waiting desk own) acts)
+  pub once : OfEachDesk (λ R desk. waits_once desk.line (has_waiting desk own) acts ≡ true)
   pub life : OfEachDesk (λ R desk. has_waiting desk after ≡ true → after.life ≡ own.life)
   pub within : IsWithin size own → IsWithin size after
 
@@ -114,3 +119,4 @@ pub record DriversPromise : Type 0 where
   pub stay : CommandsStayInPlace
   pub follow : LinesFollowCommands
   pub alone : OnlyDriversMoveLines
+  pub limit : OfEachService KeepsLimit

@@ -13,3 +13,14 @@ pub mod Laws
 pub mod Histories
 pub mod Deliveries
 pub mod Worked
+pub mod Refused
+pub mod Causes
+pub mod Accounts
+pub mod OneRun
+pub mod Counts
+pub mod Lives
+pub mod Prints
+pub mod Tables
+pub mod Lists
+pub mod Words
+pub mod Wholes

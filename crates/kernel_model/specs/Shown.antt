@@ -1,5 +1,5 @@
 -- What a step and a world show: the facts of the report, and of one step.
-use Rattle.std.specs.Prelude.{List, [], ◌∷◌, ◌++◌, map, Some}
+use Rattle.std.specs.Prelude.{◌≡◌, List, [], ◌∷◌, ◌++◌, map, Some}
 use Rattle.process_record.specs.declared.emit.Emit.{Emit}
 use Rattle.process_record.specs.declared.summary.SlotLine.{SlotLine}
 use Rattle.process_record.specs.declared.summary.Summary.{Summary}
@@ -38,3 +38,9 @@ with_label (Printed slot bytes) e = record e { slot = Some slot; printed = recor
 unfoldable pub shown_by : List Label → Emit
 shown_by [] = nothing
 shown_by (label ∷ labels) = with_label label (shown_by labels)
+
+-- a turn that is told is shown: its slot, its call, and its denial with address and rule
+abbrev pub IsShownIn : Emit → Label → Type 0
+IsShownIn emit (TurnOf slot time told) = (emit.slot ≡ Some slot) × (emit.made ≡ told.call) × (emit.denial ≡ told.denial)
+IsShownIn emit (Answered slot event) = Unit {0}
+IsShownIn emit (Printed slot bytes) = Unit {0}

@@ -69,11 +69,12 @@ NoneActs k w slot r =
     (j : ℕ) → j < k → ready_device (ready_devices (after_stretch j w slot (after_instructions j r))) ≡ None
 
 -- as long as no device step is ready, the round robin makes the instructions of the process that has the next turn, those
--- that go, up to the end of its slice
+-- that go, up to the end of its slice and to the limit of steps
 abbrev pub RoundIsStretch : Type 0
 RoundIsStretch =
     (k slot : ℕ) (w : World) (r : Record)
     → 0 < k
+    → w.clock.steps + k ≤ STEP_LIMIT
     → next w ≡ Some (Run slot)
     → slice_get w.records slot ≡ Some r
     → r.process.state ≡ Running

@@ -291,18 +291,19 @@ abbrev pub done : World → Option Deed → Stepped
 done w None = unmade w
 done w (Some deed) = record { after = after_deed w deed; labels = labels_of deed deed.told }
 
-abbrev pub acted_by : World → Dev → Stepped
-acted_by w device = if can_act w device then done w (deed_of w device) else unmade w
-
 -- the world after so many ticks in which nothing acts
 abbrev pub passed : World → ℕ → World
 passed w ticks = record w { clock = record { time = w.clock.time + ticks; steps = w.clock.steps + 1 } }
 
--- one step; a choice that is not ready is not made
+-- what a choice comes to where it is ready
+unfoldable pub carried_out : World → Choice → Stepped
+carried_out w (Run slot) = ran w slot (slice_get w.records slot)
+carried_out w (Device device) = done w (deed_of w device)
+carried_out w (Pass ticks) = record { after = passed w ticks; labels = [] }
+
+-- one step; a choice that is not ready is not made: nothing changes, and nothing is told
 unfoldable pub stepped : World → Choice → Stepped
-stepped w (Run slot) = ran w slot (slice_get w.records slot)
-stepped w (Device device) = acted_by w device
-stepped w (Pass ticks) = record { after = passed w ticks; labels = [] }
+stepped w choice = if is_ready w choice then carried_out w choice else unmade w
 
 abbrev pub after : World → Choice → World
 after w choice = (stepped w choice).after

@@ -2,18 +2,20 @@
 ghost use Rattle.kernel_model.specs.Histories.{SwapsGiveBackTheLast};
 ghost use Rattle.kernel_model.specs.Laws.{DriversPromise, DropsAtMostOne, GrantsChangeAtCalls, NextIsReady, NextLiesAhead, NoneIsLeft};
 ghost use Rattle.kernel_model.specs.Laws.{OnlyItsOwnEvents, RefusedChangesNothingElse, TurnsActAtCalls, TurnsKeepLines};
+ghost use Rattle.kernel_model.specs.Refused.{RefusalsChangeLittle};
 ghost use Rattle.kernel_model.specs.Stretch.{NoneIsStretch, PresentStaysOn, RoundIsStretch, RoundsJoin, StretchesJoin};
 ghost use Rattle.kernel_model.specs.Replay.{RecordIsReplay, RoundFollowsChoices, SameHistorySameRecord};
 
 use driver_model::{
     a_command_drops_at_most_one_upcall, a_driver_that_refuses_changes_nothing,
-    an_alarm_is_due_where_no_ticks_are_left, commands_stay_in_place, drivers_leave_pairs,
-    lines_follow_commands, only_drivers_move_lines,
+    an_alarm_is_due_where_no_ticks_are_left, commands_stay_in_place, drivers_keep_places_and_order,
+    drivers_leave_pairs, lines_follow_commands, only_drivers_move_lines,
 };
 use process_own::only_handing_changes_pairs;
+use rv32_model::denials_are_due;
 
 /// What the laws of calls rest on: the laws of the drivers' commands, and of the requests that drivers keep.
-fn drivers_promise()
+pub(crate) fn drivers_promise()
     ensures { DriversPromise }
 {
     a_driver_that_refuses_changes_nothing();
@@ -21,6 +23,7 @@ fn drivers_promise()
     commands_stay_in_place();
     lines_follow_commands();
     only_drivers_move_lines();
+    drivers_keep_places_and_order();
 }
 
 /// A turn changes the record of no process but the one whose turn it is, a device's answer that of none but the
@@ -44,6 +47,15 @@ pub fn refused_changes_nothing_else()
     ensures { RefusedChangesNothingElse }
 {
     drivers_promise();
+}
+
+/// So a step in which a call is refused changes of the world that process, the time, the count of steps, the present slot
+/// and its used turns, and nothing else; of the process also the count of its turns (TRD 104, "Return Values").
+pub fn refusals_change_little()
+    ensures { RefusalsChangeLittle }
+{
+    refused_changes_nothing_else();
+    denials_are_due();
 }
 
 /// A call that is served has come to its end: no driver has it still to answer.
@@ -75,10 +87,10 @@ pub fn grants_change_at_calls()
 }
 
 /// After a turn a process that lives keeps a request for a device exactly where it waits for that device after
-/// what the turn asked of the board, if it did so before; and where it keeps one it is in the same life. A request
-/// for storage lies in the bytes that a slot has, where one that was kept before did. The process's object is that
-/// of an application, as it is of every process that was placed. A turn without a call or a denial asks nothing of
-/// the board.
+/// what the turn asked of the board, if it did so before; and where it keeps one it is in the same life. It begins to
+/// wait only where it does not wait already. A request for storage lies in the bytes that a slot has, where one that
+/// was kept before did. The process's object is that of an application, as it is of every process that was placed. A
+/// turn without a call or a denial asks nothing of the board.
 #[tactic(auto, using(crate::proofs::Kept::turns_act_at_calls))]
 pub fn turns_keep_lines()
     ensures lines { TurnsKeepLines }

@@ -7,3 +7,4 @@ pub mod Served
 pub mod Flash
 pub mod Laws
 pub mod Pairs
+pub mod Changes

@@ -1,7 +1,10 @@
 //! Laws of the definitions. The functions do nothing.
+ghost use Rattle.process_own.specs.Changes.{OnlyWritesChangeBytes};
 ghost use Rattle.process_own.specs.Flash.{ReadsOwnFlash};
 ghost use Rattle.process_own.specs.Laws.{RestartForgets};
 ghost use Rattle.process_own.specs.Pairs.{OnlyHandingChangesPairs};
+
+use rv32_model::{writes_are_listed, writes_are_permitted};
 
 /// A restart forgets every byte of a process's block, its grants and its pending upcalls, and where the
 /// breaks were.
@@ -21,3 +24,13 @@ pub fn reads_own_flash()
 pub fn only_handing_changes_pairs()
     ensures { OnlyHandingChangesPairs }
 {}
+
+/// Of the bytes below a process's kernel break an instruction that goes changes those that a store covers which it
+/// lists, a yield that does not wait its flag, and a driver those inside the read-write buffer that it writes. Entering a
+/// driver and handing it a pair change none (Levy et al., SOSP 2017, section 4; TRD 104, "Yield", "Read-Write Allow").
+pub fn only_writes_change_bytes()
+    ensures { OnlyWritesChangeBytes }
+{
+    writes_are_listed();
+    writes_are_permitted();
+}

@@ -3,3 +3,4 @@ pub mod Sight
 pub mod Stretch
 pub mod Turns
 mod Denials
+pub mod Listed

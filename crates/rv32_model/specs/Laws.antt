@@ -1,5 +1,5 @@
 -- What holds of the instruction table and of every turn.
-use Rattle.std.specs.Prelude.{◌≡◌, ◌≢◌, ◌⊎◌, ℕ, ◌+◌, ◌%◌, ◌≤◌, Bool, true, false, ◌&&◌, nat_le, nat_lt, [], length, Option, None, Some, IfSome, filter, All}
+use Rattle.std.specs.Prelude.{◌≡◌, ◌≢◌, ◌⊎◌, ℕ, ◌+◌, ◌%◌, ◌≤◌, Bool, true, false, ◌&&◌, nat_le, nat_lt, [], length, Option, None, Some, Ok, IfSome, IsTrue, filter, All}
 use Rattle.std.specs.List.{list_any}
 use Rattle.tk_base.specs.declared.access.Access.{Access}
 use Rattle.tk_base.specs.declared.access.Access.TheVariants.{Fetch, Load, Store}
@@ -8,12 +8,14 @@ use Rattle.tk_base.specs.declared.access.Width.TheVariants.{Half}
 use Rattle.tk_base.specs.declared.access.Rule.{Rule}
 use Rattle.tk_base.specs.declared.access.Rule.TheVariants.{Breakpoint, Illegal}
 use Rattle.tk_base.specs.declared.access.Denial.{Denial}
-use Rattle.tk_base.specs.Regs.{Registers}
+use Rattle.tk_base.specs.Regs.{Registers, register}
 use Rattle.tk_base.specs.Access.{width_bytes, misaligned_first}
 use Rattle.tk_base.specs.Bus.{number_at}
-use Rattle.rv32_model.specs.declared.turn_end.TurnEnd.TheVariants.{Trap}
+use Rattle.rv32_model.specs.declared.instr.Instr.{Instr}
+use Rattle.rv32_model.specs.declared.instr.Instr.TheVariants as instrs
+use Rattle.rv32_model.specs.declared.turn_end.TurnEnd.TheVariants.{Call, Trap, Went}
 use Rattle.rv32_model.specs.Instructions.{fits, table}
-use Rattle.rv32_model.specs.UserTurn.{Touch, user_turn, bytes_after, denied_at}
+use Rattle.rv32_model.specs.UserTurn.{Touch, user_turn, bytes_after, denied_at, fetched, instr_of, load_width, touch_of, w32_of}
 
 -- no word fits two rows of the table
 abbrev pub NoWordFitsTwoRows : Type 0
@@ -35,18 +37,62 @@ DataIsAligned =
     (denies : Denies) (bytes : ℕ → ℕ) (regs : Registers)
     → All (λ t. t.access ≢ Fetch → t.address % width_bytes t.width ≡ 0) (user_turn denies bytes regs).accesses
 
--- A denial is due: it names an access that is denied, with the rule that denies it; or the instruction at pc, which is
--- illegal, or a breakpoint.
-abbrev pub IsDue : Denies → Registers → Denial → Type 0
-IsDue denies regs d =
-    ((width : Width) × (misaligned_first denies d.access d.address width ≡ Some d.rule))
-    ⊎ ((d ≡ denied_at Fetch regs.pc Illegal) ⊎ (d ≡ denied_at Fetch regs.pc Breakpoint))
+-- A parcel that may not be fetched: the one at pc, or the one after it, where that at pc may be fetched and is the first
+-- half of an instruction of 32 bits ("Base Instruction-Length Encoding").
+abbrev pub IsDueParcel : Denies → (ℕ → ℕ) → ℕ → Denial → Type 0
+IsDueParcel denies bytes pc d =
+    (d.access ≡ Fetch) × (denies Fetch d.address Half ≡ Some d.rule)
+    × ((d.address ≡ pc)
+    ⊎ ((d.address ≡ w32_of (pc + 2)) × (denies Fetch pc Half ≡ None) × (number_at bytes pc Half % 4 ≡ 3)))
+
+-- a load or a store of a width at an address that is denied it, by the rule that denies it
+abbrev pub IsDueData : Denies → Access → ℕ → Width → Denial → Type 0
+IsDueData denies access at width d =
+    (d.access ≡ access) × (d.address ≡ at) × (misaligned_first denies access at width ≡ Some d.rule)
+
+-- What an instruction is denied for: no row fits it; it is EBREAK; it loads or stores what it may not. Every other one
+-- is denied nothing.
+abbrev pub IsDueOf : Denies → Registers → Denial → Option Instr → Type 0
+IsDueOf denies regs d None = d ≡ denied_at Fetch regs.pc Illegal
+IsDueOf denies regs d (Some instrs.Ebreak) = d ≡ denied_at Fetch regs.pc Breakpoint
+IsDueOf denies regs d (Some (instrs.Load kind rd rs1 offset)) =
+    IsDueData denies Load (w32_of (register regs rs1 + offset)) (load_width kind) d
+IsDueOf denies regs d (Some (instrs.Store width rs1 rs2 offset)) =
+    IsDueData denies Store (w32_of (register regs rs1 + offset)) width d
+IsDueOf denies regs d (Some (instrs.Lui rd imm)) = ⊥
+IsDueOf denies regs d (Some (instrs.Auipc rd imm)) = ⊥
+IsDueOf denies regs d (Some (instrs.Jal rd offset)) = ⊥
+IsDueOf denies regs d (Some (instrs.Jalr rd rs1 offset)) = ⊥
+IsDueOf denies regs d (Some (instrs.Branch test rs1 rs2 offset)) = ⊥
+IsDueOf denies regs d (Some (instrs.OpImm op rd rs1 imm)) = ⊥
+IsDueOf denies regs d (Some (instrs.Op op rd rs1 rs2)) = ⊥
+IsDueOf denies regs d (Some instrs.Fence) = ⊥
+IsDueOf denies regs d (Some instrs.Ecall) = ⊥
+
+-- the instruction at pc, which may be fetched
+pub record IsAt (denies : Denies) (bytes : ℕ → ℕ) (pc : ℕ) (instr : Option Instr) : Type 0 where
+  pub word : ℕ
+  pub fetch : fetched denies bytes pc ≡ Ok word
+  pub means : instr_of word ≡ instr
+
+-- A denial is due: of a parcel that may not be fetched, or of the instruction at pc.
+abbrev pub IsDue : Denies → (ℕ → ℕ) → Registers → Denial → Type 0
+IsDue denies bytes regs d =
+    IsDueParcel denies bytes regs.pc d
+    ⊎ ((instr : Option Instr) × IsAt denies bytes regs.pc instr × IsDueOf denies regs d instr)
 
 -- so is the one of each denied turn
 abbrev pub DenialsAreDue : Type 0
 DenialsAreDue =
     (denies : Denies) (bytes : ℕ → ℕ) (regs : Registers) (denial : Denial)
-    → (user_turn denies bytes regs).end ≡ Trap denial → IsDue denies regs denial
+    → (user_turn denies bytes regs).end ≡ Trap denial → IsDue denies bytes regs denial
+
+-- a turn that ends in a call is one of ECALL, leaves the registers, and writes nothing
+abbrev pub CallsAreOfEcall : Type 0
+CallsAreOfEcall =
+    (denies : Denies) (bytes : ℕ → ℕ) (regs : Registers) →
+    let t = user_turn denies bytes regs in
+    t.end ≡ Call → IsAt denies bytes regs.pc (Some instrs.Ecall) × (t.regs ≡ regs) × (t.write ≡ None)
 
 -- a denied turn changes neither registers nor bytes, and lists no access
 abbrev pub DeniedTurnsChangeNothing : Type 0
@@ -80,6 +126,14 @@ MayWrite denies bytes regs = IfSome (user_turn denies bytes regs).write (λ w. d
 -- this holds of every turn
 abbrev pub WritesArePermitted : Type 0
 WritesArePermitted = (denies : Denies) (bytes : ℕ → ℕ) (regs : Registers) → MayWrite denies bytes regs
+
+-- a turn that writes goes, and what it writes is covered by a store that it lists
+abbrev pub WritesAreListed : Type 0
+WritesAreListed =
+    (denies : Denies) (bytes : ℕ → ℕ) (regs : Registers) →
+    let t = user_turn denies bytes regs in
+    IfSome t.write (λ w. (t.end ≡ Went) × ((at : ℕ) → IsTrue (stores_at at (touch_of Store w.address w.width))
+    → IsTrue (list_any (stores_at at) t.accesses)))
 
 -- Two boards that look alike to a process: they deny the same, and have the same numbers where it may fetch and load.
 pub record LookAlike (denies others : Denies) (bytes other_bytes : ℕ → ℕ) : Type 0 where

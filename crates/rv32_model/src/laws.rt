@@ -1,6 +1,6 @@
 //! What holds of the instruction table and of every turn. The functions do nothing: each stands for
 //! the law that it ensures.
-ghost use Rattle.rv32_model.specs.Laws.{NoWordFitsTwoRows, AccessesArePermitted, DataIsAligned, DenialsAreDue, DeniedTurnsChangeNothing, OnlyStoresWrite, SeesOnlyPermitted, WritesArePermitted};
+ghost use Rattle.rv32_model.specs.Laws.{NoWordFitsTwoRows, AccessesArePermitted, CallsAreOfEcall, DataIsAligned, DenialsAreDue, DeniedTurnsChangeNothing, OnlyStoresWrite, SeesOnlyPermitted, WritesAreListed, WritesArePermitted};
 ghost use Rattle.rv32_model.specs.Stretch.{NoneGoes, OneIsTheTurn, OneMoreGoes, StoppedTurnsChangeNothing, StoppedTurnsStop};
 
 /// No word fits two rows of the instruction table.
@@ -21,11 +21,13 @@ pub fn data_is_aligned()
     ensures { DataIsAligned }
 {}
 
-/// What a denied turn is denied for is so: it names an access that is denied, with the rule that denies it, or an
-/// illegal instruction or a breakpoint at pc.
-#[tactic(auto, using(crate::proofs::Denials::denials_are_due))]
+/// What a denied turn is denied for is so: a parcel at pc that may not be fetched, or the one after it where the first
+/// is half an instruction; or the instruction at pc, where no row fits it, where it is EBREAK, or where it loads or
+/// stores what it may not, of the width that it tries. A turn that ends in a system call is one of ECALL, leaves the
+/// registers and writes nothing.
 pub fn denials_are_due()
-    ensures { DenialsAreDue }
+    ensures denials { DenialsAreDue }
+    ensures calls { CallsAreOfEcall }
 {}
 
 /// A denied turn changes neither registers nor bytes, and lists no access.
@@ -44,6 +46,11 @@ pub fn only_stores_write()
 #[tactic(auto, using(crate::proofs::Turns::writes_are_permitted))]
 pub fn writes_are_permitted()
     ensures { WritesArePermitted }
+{}
+
+/// A turn that writes goes, and what it writes is covered by a store that it lists.
+pub fn writes_are_listed()
+    ensures { WritesAreListed }
 {}
 
 /// A turn sees nothing but what it may access.

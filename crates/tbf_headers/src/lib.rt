@@ -14,10 +14,11 @@ mod tlv;
 pub use app::AppHeader;
 pub use fault::HeaderFault;
 pub use header::{Header, read_header};
-pub use numbers::{half_at, word_at};
+pub use numbers::{checksum_of, half_at, word_at};
 pub use object::object_at;
 pub use perms::Perms;
 pub use program::Main;
+pub use tlv::{NAME, first_tlv};
 
 #[cfg(test)]
 mod tests;

@@ -73,7 +73,7 @@ pub fn first_bad_tlv(header: &[u8]) -> Option<usize>
 }
 
 /// The place of the first TLV of a type.
-fn first_tlv(header: &[u8], kind: u16) -> Option<usize>
+pub fn first_tlv(header: &[u8], kind: u16) -> Option<usize>
     requires aligned { length header.now % 4 ≡ 0 }
     requires short { length header.now < 65536 }
     ensures place { result ≡ first_of kind header.now }

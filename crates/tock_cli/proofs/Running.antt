@@ -9,11 +9,11 @@ use Rattle.tk_outside.specs.Writes.{WroteAll, WrotePart}
 use Rattle.tk_outside.specs.Laws.{WritesCompose}
 use Rattle.process_record.specs.declared.emit.Emit.{Emit}
 use Rattle.kernel_model.specs.Record.{Record}
-use Rattle.kernel_model.specs.World.{Deed, World, after, can_act, deed_of, done, labels, ran, stepped, unmade}
+use Rattle.kernel_model.specs.World.{Deed, Stepped, World, after, carried_out, deed_of, done, labels, ran}
 use Rattle.kernel_model.specs.Shown.{shown_by}
 use Rattle.kernel_model.specs.Stretch.{IsStretch, RoundsJoin}
 use Rattle.kernel_model.specs.Run.{Ran, next, round, printed, stays}
-use Rattle.tock_cli.proofs.Runs.{printed_in, printed-round, round-stop, round-step, round-zero, round-more, shown_by-printed, steps-plus, steps-stop, steps-step, steps-zero}
+use Rattle.tock_cli.proofs.Runs.{of_stepped, printed_in, printed-round, round-stop, round-step, round-zero, round-more, shown_by-printed, steps-plus, steps-stop, steps-step, steps-zero}
 use Rattle.tock_cli.proofs.Telling.{nothing_told, passed_on-steps, told_on-step, told_text-step}
 use Rattle.tock_cli.specs.declared.run.Mode.{Mode}
 use Rattle.tock_cli.specs.declared.run.Mode.TheVariants.{Boot, Trace, Soak}
@@ -34,23 +34,22 @@ pub record RunsOn {K : Type 0} (tells : K → SinkFacts) (mode : Mode) (n i : �
   pub steps_made : here.clock.steps ≤ from.clock.steps + i
 
 -- a step counts once at most
-steps-after : (w : World) (c : Choice) → (after w c).clock.steps ≤ w.clock.steps + 1
-unfolding stepped
-steps-after w (Run slot) = of_record (slice_get w.records slot)
+steps-carried_out : (w : World) (c : Choice) → (carried_out w c).after.clock.steps ≤ w.clock.steps + 1
+unfolding carried_out
+steps-carried_out w (Run slot) = of_record (slice_get w.records slot)
   where
     of_record : (o : Option Record) → (ran w slot o).after.clock.steps ≤ w.clock.steps + 1
     of_record None = omega arith
     of_record (Some r) = omega arith
-steps-after w (Device device) = by_ready (can_act w device)
+steps-carried_out w (Device device) = of_deed (deed_of w device)
   where
     of_deed : (o : Option Deed) → (done w o).after.clock.steps ≤ w.clock.steps + 1
     of_deed None = omega arith
     of_deed (Some deed) = omega arith
+steps-carried_out w (Pass ticks) = omega arith
 
-    by_ready : (b : Bool) → (cond b (done w (deed_of w device)) (unmade w)).after.clock.steps ≤ w.clock.steps + 1
-    by_ready true = of_deed (deed_of w device)
-    by_ready false = omega arith
-steps-after w (Pass ticks) = omega arith
+steps-after : (w : World) (c : Choice) → (after w c).clock.steps ≤ w.clock.steps + 1
+steps-after w c = of_stepped (λ (s : Stepped). s.after.clock.steps ≤ w.clock.steps + 1) w c (omega arith) (steps-carried_out w c)
 
 -- one step more
 flat_map-more : (f : Step → List ℕ) (done : List Step) (step : Step) → flat_map f (done ++ step ∷ []) ≡ flat_map f done ++ f step

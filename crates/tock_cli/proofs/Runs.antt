@@ -1,12 +1,21 @@
 -- Runs by the round robin, step by step.
-use Rattle.std.proofs.Common.{◌≡◌, ℕ, zero, suc, ◌+◌, List, [], ◌∷◌, ◌++◌, Option, None, Some, refl, sym, ap, ◌∙◌, arith}
+use Rattle.std.proofs.Common.{◌≡◌, ℕ, zero, suc, ◌+◌, Bool, true, false, cond, List, [], ◌∷◌, ◌++◌, Option, None, Some, refl, sym, ap, ◌∙◌, arith}
 use Rattle.std.proofs.lemmas.Grind.{flat_map-append}
 use Rattle.std.specs.List.{flat_map}
 use Rattle.tk_base.specs.declared.process.Choice.{Choice}
-use Rattle.kernel_model.specs.World.{World, Label, TurnOf, Answered, Printed, after, labels, stepped}
+use Rattle.kernel_model.specs.World.{World, Label, Stepped, TurnOf, Answered, Printed, after, carried_out, is_ready, labels, stepped, unmade}
 use Rattle.kernel_model.specs.Run.{Ran, next, round, stays, told_first, goes_on, on_choice, printed}
 use Rattle.kernel_model.specs.Shown.{shown_by}
 use Rattle.tock_cli.specs.RunText.{Step, step_of, steps}
+
+-- what holds where nothing is made, and of what a choice comes to where it is ready, holds of a step
+pub of_stepped : (P : Stepped → Type 0) (w : World) (c : Choice) → P (unmade w) → P (carried_out w c) → P (stepped w c)
+unfolding stepped
+of_stepped P w c none made = by_ready (is_ready w c)
+  where
+    by_ready : (b : Bool) → P (cond b (carried_out w c) (unmade w))
+    by_ready true = made
+    by_ready false = none
 
 -- a run that stops at once
 pub round-stop : (n : ℕ) (w : World) → next w ≡ None → round n w ≡ stays w

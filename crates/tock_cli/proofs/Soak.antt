@@ -11,7 +11,7 @@ use Rattle.script_text.specs.Said.{lines_of}
 use Rattle.script_text.specs.Table.{line_of}
 use Rattle.image_make.specs.Generator.{drawn, soak_script}
 use Rattle.tock_cli.specs.declared.refusal.Refusal.{Refusal}
-use Rattle.tock_cli.specs.declared.refusal.Refusal.TheVariants.{Usage, Fault, TooLong, Script, Memory}
+use Rattle.tock_cli.specs.declared.refusal.Refusal.TheVariants.{Usage, Fault, TooLong, Script, Image, Memory}
 use Rattle.tock_cli.specs.Ready.{HasNoBoard}
 
 -- whether a test passes at each number below another
@@ -59,4 +59,5 @@ only_memory number Usage h = absurd h
 only_memory number (Fault file) h = absurd h
 only_memory number (TooLong file) h = absurd h
 only_memory number (Script line rule) h = absurd (ok_is_no_error (reading (soak_script number)) _ (soak_reads number) h)
+only_memory number (Image fault) h = absurd h
 only_memory number Memory h = refl

@@ -8,12 +8,12 @@ use Rattle.tk_base.specs.declared.process.Choice.TheVariants.{Run, Device, Pass}
 use Rattle.process_record.specs.declared.emit.CallMade.{CallMade}
 use Rattle.process_record.specs.declared.emit.Emit.{Emit}
 use Rattle.kernel_model.specs.Record.{Record}
-use Rattle.kernel_model.specs.World.{Answer, Answered, Deed, Label, Printed, TurnOf, World, after, can_act, deed_of, done, labels, labels_of, ran, stepped, unmade}
+use Rattle.kernel_model.specs.World.{Answer, Answered, Deed, Label, Printed, Stepped, TurnOf, World, after, carried_out, deed_of, done, labels, labels_of, ran}
 use Rattle.kernel_model.specs.Run.{Ran, next, printed, round}
 use Rattle.kernel_model.specs.Stretch.{IsQuietTurn, IsStretch}
 use Rattle.kernel_model.specs.Shown.{shown_by}
 use Rattle.board_report.specs.Trace.{out_text, trace_text, turn_text}
-use Rattle.tock_cli.proofs.Runs.{printed-round, round-step, shown_by-printed, steps-step, steps-stop, steps-zero}
+use Rattle.tock_cli.proofs.Runs.{of_stepped, printed-round, round-step, shown_by-printed, steps-step, steps-stop, steps-zero}
 use Rattle.tock_cli.proofs.Tallies.{counting-tally_of}
 use Rattle.tock_cli.specs.declared.run.Mode.{Mode}
 use Rattle.tock_cli.specs.declared.run.Mode.TheVariants.{Boot, Trace, Soak}
@@ -23,14 +23,14 @@ use Rattle.tock_cli.specs.RunText.{Step, step_lines, step_of, steps, label_lines
 use Rattle.tock_cli.specs.Telling.{count_of, passed_on, step_text, steps_text, telling_of, told_on, told_text, total_text}
 
 -- the lines of a step by what it shows are those of its labels
-trace_text-shown_by : (time : ℕ) (w : World) (c : Choice) → trace_text time (shown_by (labels w c)) ≡ flat_map (label_lines time) (labels w c)
-unfolding trace_text shown_by stepped
-trace_text-shown_by time w (Run slot) = of_record (slice_get w.records slot)
+trace_text-carried_out : (time : ℕ) (w : World) (c : Choice) → trace_text time (shown_by (carried_out w c).labels) ≡ flat_map (label_lines time) (carried_out w c).labels
+unfolding trace_text shown_by carried_out
+trace_text-carried_out time w (Run slot) = of_record (slice_get w.records slot)
   where
     of_record : (o : Option Record) → trace_text time (shown_by (ran w slot o).labels) ≡ flat_map (label_lines time) (ran w slot o).labels
     of_record None = refl
     of_record (Some r) = refl
-trace_text-shown_by time w (Device device) = by_ready (can_act w device)
+trace_text-carried_out time w (Device device) = of_deed (deed_of w device)
   where
     of_bytes : (slot : ℕ) (bytes : List ℕ) (b : Bool) → trace_text time (shown_by (cond b [] (Printed slot bytes ∷ []))) ≡ flat_map (label_lines time) (cond b [] (Printed slot bytes ∷ []))
     of_bytes slot bytes true = refl
@@ -43,11 +43,12 @@ trace_text-shown_by time w (Device device) = by_ready (can_act w device)
     of_deed : (o : Option Deed) → trace_text time (shown_by (done w o).labels) ≡ flat_map (label_lines time) (done w o).labels
     of_deed None = refl
     of_deed (Some deed) = of_answer deed deed.told
+trace_text-carried_out time w (Pass ticks) = refl
 
-    by_ready : (b : Bool) → trace_text time (shown_by (cond b (done w (deed_of w device)) (unmade w)).labels) ≡ flat_map (label_lines time) (cond b (done w (deed_of w device)) (unmade w)).labels
-    by_ready true = of_deed (deed_of w device)
-    by_ready false = refl
-trace_text-shown_by time w (Pass ticks) = refl
+trace_text-shown_by : (time : ℕ) (w : World) (c : Choice) → trace_text time (shown_by (labels w c)) ≡ flat_map (label_lines time) (labels w c)
+unfolding trace_text shown_by
+trace_text-shown_by time w c =
+    of_stepped (λ (s : Stepped). trace_text time (shown_by s.labels) ≡ flat_map (label_lines time) s.labels) w c refl (trace_text-carried_out time w c)
 
 -- so what is told of a step by what it shows is what the mode tells of it
 pub told_text-step : (mode : Mode) (w : World) (c : Choice) (bytes : List ℕ) (telling : Telling) (step : Emit) → telling ≡ telling_of mode w bytes → step ≡ shown_by (labels w c) → told_text telling step ≡ step_text mode (step_of w c)

@@ -1,3 +1,6 @@
+pub mod Accounts
+pub mod Causes
+pub mod Comes
 pub mod Ready
 pub mod Refusals
 pub mod RunText

@@ -1,52 +1,30 @@
 -- What is left to do once the files are read.
-use Rattle.std.specs.Prelude.{◌≡◌, ℕ, ◌≤◌, List, length, Option, None, Some, IfSome, Ok, Err}
+use Rattle.std.specs.Prelude.{◌≡◌, ℕ, ◌<◌, ◌≤◌, List, [], ◌∷◌, ◌++◌, length, take, map, Option, None, Some, unwrap_or, IfSome, Ok, Err, ◌⊎◌}
 use Rattle.tk_base.specs.declared.limits.TheConstants.{FLASH_LIMIT}
 use Rattle.script_text.specs.Settings.{Settings}
 use Rattle.script_text.specs.Reading.{reading}
-use Rattle.image_make.specs.Generator.{soak_flash, soak_script}
 use Rattle.tk_outside.specs.Shelf.{ShelfFacts}
 use Rattle.tk_intake.specs.declared.IntakeError.{IntakeError}
 use Rattle.tk_intake.specs.declared.IntakeError.TheVariants as intake
+use Rattle.image_make.specs.declared.packs.PackFault.TheVariants as packs
+use Rattle.image_make.specs.Packs.{IsPacked, pack_refusal}
 use Rattle.kernel_model.specs.World.{World}
-use Rattle.kernel_model.specs.Run.{round}
 use Rattle.board_core.specs.Opening.{opening}
-use Rattle.board_report.specs.FlashList.{list_text}
 use Rattle.tock_cli.specs.declared.refusal.File.{File}
-use Rattle.tock_cli.specs.declared.refusal.File.TheVariants.{Flash, Script}
+use Rattle.tock_cli.specs.declared.refusal.File.TheVariants.{Flash}
 use Rattle.tock_cli.specs.declared.refusal.Refusal.{Refusal}
-use Rattle.tock_cli.specs.declared.refusal.Refusal.TheVariants.{Usage, Fault, TooLong, Script as BadScript, Memory}
+use Rattle.tock_cli.specs.declared.refusal.Refusal.TheVariants.{Usage, Fault, TooLong, Script as BadScript, Image, Memory}
 use Rattle.tock_cli.specs.declared.prepare.Ready.{Ready}
 use Rattle.tock_cli.specs.declared.prepare.Ready.TheVariants as ready
-use Rattle.tock_cli.specs.declared.run.Mode.{Mode}
-use Rattle.tock_cli.specs.declared.run.Mode.TheVariants.{Soak}
-use Rattle.tock_cli.specs.Refusals.{limit_of}
-use Rattle.tock_cli.specs.Words.{RunWords, Command, Runs, Lists, Soaks, most_turns}
-use Rattle.tock_cli.specs.RunText.{run_text}
+use Rattle.tock_cli.specs.Refusals.{limit_of, pack_refused}
+use Rattle.tock_cli.specs.Words.{Command, Soaks, most_turns}
+use Rattle.tock_cli.specs.Comes.{ByName, Task, Running, Listing, Making, IsTask, IsTaskOf, IsText}
+use Rattle.tock_cli.specs.Causes.{Told}
 
 abbrev pub refusal_of : IntakeError → File → Refusal
 refusal_of intake.Failed file = Fault file
 refusal_of intake.TooLong file = TooLong file
 refusal_of intake.Memory file = Memory
-
--- what is left to do: a run of at most so many steps from a world, told in a mode, or the list of a flash image
-pub data Task : Type 0 where
-  Running : Mode → ℕ → World → Task
-  Listing : List ℕ → Task
-
--- its text
-abbrev pub text_of : Task → List ℕ
-text_of (Running mode n world) = run_text mode n world
-text_of (Listing flash) = list_text flash
-
--- the world that the board shows that it leaves: the last one of a run
-abbrev pub left_by : Task → Option World
-left_by (Running mode n world) = Some (round n world).world
-left_by (Listing flash) = None
-
--- A text is the whole of the file of that name, and within the file's limit.
-pub record IsRead (bytes : List ℕ → Option (List ℕ)) (file : File) (name text : List ℕ) : Type 0 where
-  pub within : length text ≤ limit_of file
-  pub whole : IfSome (bytes name) (λ b. text ≡ b)
 
 -- The opening world of a flash image under a script, which has a reading.
 pub record Opens (flash script : List ℕ) (world : World) : Type 0 where
@@ -54,35 +32,11 @@ pub record Opens (flash script : List ℕ) (world : World) : Type 0 where
   pub said : reading script ≡ Ok settings
   pub opens : world ≡ opening settings flash
 
--- The opening world of a flash file and a script file that were read.
-pub record IsOpening (bytes : List ℕ → Option (List ℕ)) (words : RunWords) (world : World) : Type 0 where
-  pub flash : List ℕ
-  pub is_flash : IsRead bytes Flash words.flash flash
-  pub script : List ℕ
-  pub is_script : IsRead bytes Script words.script script
-  pub opening_of : Opens flash script world
-
--- The task that a command gives, by the bytes under each name. That of `soak` is the run of the files which are
--- generated from its number.
-abbrev pub IsTaskOf : (List ℕ → Option (List ℕ)) → Command → Task → Type 0
-IsTaskOf bytes (Runs words) (Running mode n world) =
-    (mode ≡ words.mode) × (n ≡ words.turns) × IsOpening bytes words world
-IsTaskOf bytes (Runs words) (Listing flash) = ⊥
-IsTaskOf bytes (Lists name) (Running mode n world) = ⊥
-IsTaskOf bytes (Lists name) (Listing flash) = IsRead bytes Flash name flash
-IsTaskOf bytes (Soaks number turns) (Running mode n world) =
-    (mode ≡ Soak) × (n ≡ turns) × Opens (soak_flash number) (soak_script number) world
-IsTaskOf bytes (Soaks number turns) (Listing flash) = ⊥
-
--- words that are no command give none
-abbrev pub IsTask : (List ℕ → Option (List ℕ)) → Option Command → Task → Type 0
-IsTask bytes None task = ⊥
-IsTask bytes (Some command) task = IsTaskOf bytes command task
-
 -- the task of what is ready
 abbrev pub task_of : Ready → Task
 task_of (ready.Run board mode turns) = Running mode turns board
 task_of (ready.List flash) = Listing flash.items
+task_of (ready.Image flash) = Making flash.items
 
 -- what is ready is the task that a command gives, by what the shelf tells
 abbrev pub IsReadyFor : ShelfFacts → Command → Ready → Type 0
@@ -96,10 +50,11 @@ IsReady shelf words ready = IsTask shelf.bytes words (task_of ready)
 abbrev pub IsSoak : ℕ → ℕ → Ready → Type 0
 IsSoak number turns ready = IsTaskOf (λ name. None) (Soaks number turns) (task_of ready)
 
--- No step was made, and the steps to make are within the limit of a board; the image is within its limit.
+-- No step was made, and the steps to make are within the limit of a board; the image of a list is within its limit.
 abbrev pub IsFresh : Ready → Type 0
 IsFresh (ready.Run board mode turns) = (board.clock.steps ≡ 0) × (turns ≤ most_turns)
 IsFresh (ready.List flash) = length flash.items ≤ FLASH_LIMIT
+IsFresh (ready.Image flash) = Unit {0}
 
 -- why there is no board for a script: it has no reading, or there was no memory
 abbrev pub HasNoBoard : List ℕ → Refusal → Type 0
@@ -107,4 +62,40 @@ HasNoBoard script Usage = ⊥
 HasNoBoard script (Fault file) = ⊥
 HasNoBoard script (TooLong file) = ⊥
 HasNoBoard script (BadScript line rule) = reading script ≡ Err (record { line = line; rule = rule })
+HasNoBoard script (Image fault) = ⊥
 HasNoBoard script Memory = Unit {0}
+
+-- why a file was not read
+abbrev pub IsUnread : Told → File → List ℕ → Refusal → Type 0
+IsUnread told file name Usage = ⊥
+IsUnread told file name (Fault other) = (other ≡ file) × told.rose × ¬ told.is_sound name
+IsUnread told file name (TooLong other) = (other ≡ file) × IfSome (told.bytes name) (λ b. limit_of file < length b)
+IsUnread told file name (BadScript line rule) = ⊥
+IsUnread told file name (Image fault) = ⊥
+IsUnread told file name Memory = Unit {0}
+
+-- a file was read, and packed behind so many objects and these bytes, which leads to so many and those
+pub record IsPackedFile (shelf : ShelfFacts) (name : List ℕ) (n : ℕ) (xs : List ℕ) (m : ℕ) (ys : List ℕ) : Type 0 where
+  pub text : List ℕ
+  pub read : IsText shelf.bytes name text
+  pub within : length text ≤ FLASH_LIMIT
+  pub packed : IsPacked n xs text m ys
+  pub few : m ≤ 64
+  pub short : length ys ≤ FLASH_LIMIT
+
+-- a file was read, and is refused behind so many objects and these bytes
+pub record IsUnpacked (bytes : ByName) (name : List ℕ) (n : ℕ) (xs : List ℕ) (refusal : Refusal) : Type 0 where
+  pub text : List ℕ
+  pub read : IsText bytes name text
+  pub within : length text ≤ FLASH_LIMIT
+  pub cause : refusal ≡ pack_refused (unwrap_or (pack_refusal n xs text) packs.Memory)
+
+-- why a file was not packed: it was not read, or is refused
+abbrev pub IsNotPacked : Told → List ℕ → ℕ → List ℕ → Refusal → Type 0
+IsNotPacked told name n xs refusal = IsUnread told Flash name refusal ⊎ IsUnpacked told.bytes name n xs refusal
+
+-- what a shelf keeps over a call
+pub record Keeps {H : Type 0} (tells : H → ShelfFacts) (old new : H) : Type 0 where
+  pub bytes : (tells new).bytes ≡ (tells old).bytes
+  pub sound : (name : List ℕ) → (tells old).is_sound name → (tells new).is_sound name
+  pub count : (tells old).faults ≤ (tells new).faults

@@ -1,21 +1,21 @@
 -- What the program does: each answer with its cause, and what was written.
-use Rattle.std.specs.Prelude.{◌≡◌, ℕ, ◌<◌, ◌≤◌, ◌⊎◌, List, length, String, Option, None, Some, IfSome, IsSome, IsSomeAnd, IsOk, IsErr, ◌↔◌}
+use Rattle.std.specs.Prelude.{◌≡◌, ℕ, ◌⊎◌, List, [], ◌∷◌, ◌++◌, String, Option, None, Some, IfSome, IsSome, ◌↔◌}
 use Rattle.script_text.specs.declared.rule.ScriptRule.{ScriptRule}
-use Rattle.script_text.specs.Reading.{reading}
 use Rattle.tk_outside.specs.Count.{Rose}
 use Rattle.tk_outside.specs.Shelf.{ShelfFacts}
 use Rattle.tk_outside.specs.Sink.{SinkFacts}
 use Rattle.tk_outside.specs.Writes.{WroteAll, WrotePart}
 use Rattle.kernel_model.specs.World.{World}
 use Rattle.tock_cli.specs.declared.refusal.File.{File}
-use Rattle.tock_cli.specs.declared.refusal.File.TheVariants.{Flash, Script as ScriptFile}
+use Rattle.tock_cli.specs.declared.refusal.ImageFault.{ImageFault}
 use Rattle.tock_cli.specs.declared.refusal.Refusal.{Refusal}
-use Rattle.tock_cli.specs.declared.refusal.Refusal.TheVariants.{Usage, Fault, TooLong, Script, Memory}
+use Rattle.tock_cli.specs.declared.refusal.Refusal.TheVariants.{Usage, Fault, TooLong, Script, Image, Memory}
 use Rattle.tock_cli.specs.declared.serve.Outcome.{Outcome}
 use Rattle.tock_cli.specs.declared.serve.Outcome.TheVariants.{Done, Refused, SinkFailed}
-use Rattle.tock_cli.specs.Words.{Command, Runs, Lists, Soaks, command_of, script_of}
-use Rattle.tock_cli.specs.Refusals.{Told, Cause, IsWithin, bytes_in, line_of, limit_of, name_in, status_of, told_by}
-use Rattle.tock_cli.specs.Ready.{Task, IsTask, text_of, left_by}
+use Rattle.tock_cli.specs.Words.{Command, Runs, Lists, Soaks, Packs, Edits, command_of}
+use Rattle.tock_cli.specs.Refusals.{line_of, status_of}
+use Rattle.tock_cli.specs.Comes.{Named, Task, IsTask, files_of, left_by, refused_at, text_of}
+use Rattle.tock_cli.specs.Causes.{Told, Cause, told_by}
 
 -- what a sink was before the call and after it, and what it tells
 pub record Sent : Type 1 where
@@ -39,7 +39,7 @@ abbrev pub SinkRose : Sent → Type 0
 SinkRose sent = Rose (sent.tells sent.old).faults (sent.tells sent.new).faults
 
 -- The command's task was done, its whole text written: the text of the run from the opening world of the files, which
--- are read or generated, or the list of the flash file. The board that a run leaves shows its last world.
+-- are read or generated, the list of the flash file, or an image. The board that a run leaves shows its last world.
 pub record IsDone (told : Told) (sent : Sent) (words : Option Command) (last : Option World) : Type 0 where
   pub task : Task
   pub given : IsTask told.bytes words task
@@ -75,6 +75,11 @@ pub record IsBadScript (told : Told) (sent : Sent) (words : Option Command) : Ty
   pub rule : ScriptRule
   pub refused : IsRefused told sent words (Script line rule)
 
+-- no image was written, for a fault
+pub record IsBadImage (told : Told) (sent : Sent) (words : Option Command) : Type 0 where
+  pub fault : ImageFault
+  pub refused : IsRefused told sent words (Image fault)
+
 -- what each outcome says
 abbrev pub Happens : Told → Sent → Option Command → Option World → Outcome → Type 0
 Happens told sent words last Done = IsDone told sent words last
@@ -98,60 +103,37 @@ TaskIs sent task last Done = All sent (text_of task) × (last ≡ left_by task)
 TaskIs sent task last (Refused refusal) = ⊥
 TaskIs sent task last SinkFailed = Part sent (text_of task) × (last ≡ None)
 
--- Reading a file was not hindered: its name, where the words name it, is sound, or the shelf's count of faults did not
--- rise.
-abbrev pub IsUnhindered : Told → Command → File → Type 0
-IsUnhindered told command file = IfSome (name_in command file) told.is_sound ⊎ ¬ told.rose
+-- Reading a file was not hindered: its name is sound, or the shelf's count of faults did not rise.
+abbrev pub IsUnhindered : Told → List ℕ → Type 0
+IsUnhindered told name = told.is_sound name ⊎ ¬ told.rose
 
 -- the sink's count of faults did not rise
 abbrev pub IsWritten : Sent → Type 0
 IsWritten sent = ¬ SinkRose sent
 
--- a file, where the words name it, is told
-abbrev pub IsTold : Told → Command → File → Type 0
-IsTold told command file = IfSome (name_in command file) (λ name. IsSome (told.bytes name))
-
--- the script, where the words name one, is told, within its limit, and has a reading
-abbrev pub HasReading : Told → Command → Type 0
-HasReading told command =
-    IfSome (script_of command) (λ name. IsSomeAnd (told.bytes name) (λ s. (length s ≤ limit_of ScriptFile)
-    × IsOk (reading s)))
-
 -- an answer is this one, or 7 for want of memory
 abbrev pub IsOrMemory : ℕ → ℕ → Type 0
 IsOrMemory this answer = (answer ≡ this) ⊎ (answer ≡ 7)
 
--- what holds where the flash file is within its limit, nothing hindered the reading of either file, and the sink did not
--- fail
-abbrev pub WhereRead : Told → Sent → Command → Type 0 → Type 0
-WhereRead told sent command Holds =
-    IsWithin told command Flash → IsUnhindered told command Flash → IsUnhindered told command ScriptFile
-    → IsWritten sent → Holds
+-- a command is refused, or goes on
+abbrev pub IsRefusedOr : Option Refusal → ℕ → Type 0 → Type 0
+IsRefusedOr None answer Goes = Goes
+IsRefusedOr (Some refusal) answer Goes = IsOrMemory (status_of refusal) answer
 
--- what holds of the script's bytes, where the words name both files and both are told
-abbrev pub OfScript : Told → Command → (List ℕ → Type 0) → Type 0
-OfScript told command Holds =
-    IfSome (bytes_in told command Flash) (λ f. IfSome (bytes_in told command ScriptFile) Holds)
+-- The files are read one after another, behind others, each of which is told and the reading of it not hindered: the
+-- first for which the command is refused decides the answer, and where there is none it is 0.
+abbrev pub DecidedBy : Told → Command → ℕ → List (List ℕ) → List Named → Type 0
+DecidedBy told command answer before [] = IsOrMemory 0 answer
+DecidedBy told command answer before (f ∷ files) =
+    IfSome (told.bytes f.name) (λ text. IsUnhindered told f.name →
+    IsRefusedOr (refused_at command before f.file text) answer
+    (DecidedBy told command answer (before ++ (text ∷ [])) files))
 
--- The answer is decided by the files, want of memory (7) aside, where nothing outside failed.
-pub record DecidedFor (told : Told) (sent : Sent) (command : Command) (answer : ℕ) : Type 0 where
-  -- a flash file that is too long
-  pub long_flash : IfSome (bytes_in told command Flash) (λ f. limit_of Flash < length f
-      → IsUnhindered told command Flash → IsWritten sent → IsOrMemory 4 answer)
-  -- a script file that is too long
-  pub long_script : WhereRead told sent command
-      (OfScript told command (λ s. limit_of ScriptFile < length s → IsOrMemory 4 answer))
-  -- a script with no reading
-  pub bad_script : WhereRead told sent command
-      (OfScript told command (λ s. length s ≤ limit_of ScriptFile → IsErr (reading s) → IsOrMemory 5 answer))
-  -- sound files, or none: the task is done
-  pub complete : WhereRead told sent command
-      (IsTold told command Flash → HasReading told command → IsOrMemory 0 answer)
-
--- Words that are no command are always answered by 2.
+-- Where nothing outside failed the answer is decided by the files, want of memory (7) aside. Words that are no command
+-- are always answered by 2.
 abbrev pub Decided : Told → Sent → Option Command → ℕ → Type 0
 Decided told sent None answer = IsWritten sent → answer ≡ 2
-Decided told sent (Some command) answer = DecidedFor told sent command answer
+Decided told sent (Some command) answer = IsWritten sent → DecidedBy told command answer [] (files_of command)
 
 -- a command whose run leaves a board
 abbrev pub LeavesBoard : Option Command → Type 0
@@ -159,6 +141,8 @@ LeavesBoard None = ⊥
 LeavesBoard (Some (Runs words)) = Unit {0}
 LeavesBoard (Some (Lists flash)) = ⊥
 LeavesBoard (Some (Soaks number turns)) = Unit {0}
+LeavesBoard (Some (Packs names)) = ⊥
+LeavesBoard (Some (Edits words)) = ⊥
 
 -- What the program does: the answer with its cause, what was written, and the board that is left.
 pub record Answers (told : Told) (sent : Sent) (words : Option Command) (last : Option World) (answer : ℕ) : Type 0 where
@@ -169,6 +153,7 @@ pub record Answers (told : Told) (sent : Sent) (words : Option Command) (last : 
   pub script : answer ≡ 5 → IsBadScript told sent words
   pub sink : answer ≡ 6 → SinkFault told sent words
   pub memory : answer ≡ 7 → IsRefused told sent words Memory
+  pub image : answer ≡ 8 → IsBadImage told sent words
   -- there is no other answer
   pub answers : (outcome : Outcome) × (answer ≡ answer_of outcome)
   -- a board is left exactly at answer 0 of `boot`, `trace` and `soak`

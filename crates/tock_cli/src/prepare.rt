@@ -1,19 +1,21 @@
 //! What is done before any text is written: the words, the files, the script's reading, the board.
-ghost use Rattle.std.specs.Prelude.{◌≡◌, ◌≤◌, length, IfOk, IfErr};
+ghost use Rattle.std.specs.Prelude.{◌≡◌, ◌≤◌, length, IfOk, IfErr, OnOk};
 ghost use Rattle.tk_base.specs.declared.limits.TheConstants.{FLASH_LIMIT, SCRIPT_LIMIT};
+ghost use Rattle.image_make.specs.Outcomes.{Edits};
 ghost use Rattle.tock_cli.specs.declared.refusal.Refusal.TheVariants.{Memory};
-ghost use Rattle.tock_cli.specs.Words.{command_of, runs_of, most_turns, Lists};
-ghost use Rattle.tock_cli.specs.Refusals.{Cause, CauseOf, told_by};
-ghost use Rattle.tock_cli.specs.Ready.{HasNoBoard, IsFresh, IsReady, IsReadyFor, IsSoak, Opens, refusal_of};
+ghost use Rattle.tock_cli.specs.Refusals.{limit_of, pack_refused};
+ghost use Rattle.tock_cli.specs.Words.{command_of, edit_of, edits_of, packs_of, runs_of, most_turns, Lists};
+ghost use Rattle.tock_cli.specs.Comes.{edited_by, IsText};
+ghost use Rattle.tock_cli.specs.Causes.{Cause, CauseOf, told_by};
+ghost use Rattle.tock_cli.specs.Ready.{HasNoBoard, IsFresh, IsReady, IsReadyFor, IsSoak, IsNotPacked, IsPackedFile, IsUnread, Keeps, Opens, refusal_of};
 
-use crate::refusal::{File, Refusal};
+use crate::refusal::{File, ImageFault, Refusal};
 use crate::run::Mode;
-use crate::words::{Command, RunCommand};
+use crate::words::{Command, Edit, EditCommand, RunCommand};
 use board_core::Board;
-use image_make::image_of;
+use image_make::{EditFault, PackFault, image_of, pack_one, rename, set_enabled};
 use script_text::{ScriptError, read_script};
 use std::alloc::Global;
-use tk_base::{FLASH_LIMIT, SCRIPT_LIMIT};
 use tk_intake::{IntakeError, read_whole};
 use tk_outside::Shelf;
 
@@ -31,6 +33,10 @@ pub enum Ready {
     List {
         flash: Vec<u8>,
     },
+    /// A flash image to write.
+    Image {
+        flash: Vec<u8>,
+    },
 }
 
 /// The refusal for a file that was not read.
@@ -41,6 +47,24 @@ fn not_read(error: IntakeError, file: File) -> Refusal
         IntakeError::Failed => Refusal::Fault(file),
         IntakeError::TooLong => Refusal::TooLong(file),
         IntakeError::Memory => Refusal::Memory,
+    }
+}
+
+/// Reads a file that the words name.
+fn read_file<H: Shelf>(
+    alloc: Global,
+    shelf: &mut H,
+    file: File,
+    name: &str,
+) -> Result<Vec<u8>, Refusal>
+    ensures text { IfOk result (λ v. IsText (H.tells shelf.old).bytes name.now v.items) }
+    ensures within { IfOk result (λ v. length v.items ≤ limit_of file) }
+    ensures unread { IfErr result (IsUnread (told_by H.tells shelf.old shelf.new) file name.now) }
+    ensures keeps { Keeps H.tells shelf.old shelf.new }
+{
+    match read_whole(alloc, shelf, name, file.limit()) {
+        Ok(bytes) => Ok(bytes),
+        Err(error) => Err(not_read(error, file)),
     }
 }
 
@@ -71,14 +95,8 @@ fn load_run<H: Shelf>(alloc: Global, words: RunCommand<'_>, shelf: &mut H) -> Re
     ensures fresh { IfOk result IsFresh }
     ensures refused { IfErr result (CauseOf (told_by H.tells shelf.old shelf.new) (runs_of words.entry)) }
 {
-    let flash = match read_whole(alloc, shelf, words.flash, FLASH_LIMIT) {
-        Ok(bytes) => bytes,
-        Err(error) => return Err(not_read(error, File::Flash)),
-    };
-    let script = match read_whole(alloc, shelf, words.script, SCRIPT_LIMIT) {
-        Ok(bytes) => bytes,
-        Err(error) => return Err(not_read(error, File::Script)),
-    };
+    let flash = read_file(alloc, shelf, File::Flash, words.flash)?;
+    let script = read_file(alloc, shelf, File::Script, words.script)?;
     Ok(Ready::Run {
         board: opened(alloc, flash, &script)?,
         mode: words.mode,
@@ -109,15 +127,89 @@ fn load_list<H: Shelf>(alloc: Global, name: &str, shelf: &mut H) -> Result<Ready
     ensures fresh { IfOk result IsFresh }
     ensures refused { IfErr result (CauseOf (told_by H.tells shelf.old shelf.new) (Lists name.now)) }
 {
-    match read_whole(alloc, shelf, name, FLASH_LIMIT) {
-        Ok(flash) => Ok(Ready::List { flash }),
-        Err(error) => Err(not_read(error, File::Flash)),
+    let flash = read_file(alloc, shelf, File::Flash, name)?;
+    Ok(Ready::List { flash })
+}
+
+/// Edits the object of a flash image at an offset.
+fn make_edit(flash: &mut [u8], offset: u32, edit: Edit<'_>) -> Result<(), EditFault>
+    requires { length flash.old ≤ FLASH_LIMIT }
+    ensures { Edits (edited_by (edit_of edit.entry) offset flash.old) flash.old flash.new result }
+{
+    match edit {
+        Edit::Enable { on } => set_enabled(flash, offset, on),
+        Edit::Rename { name } => rename(flash, offset, name.as_bytes()),
     }
 }
 
+/// Reads the flash file, and edits an object of it.
+fn load_edit<H: Shelf>(
+    alloc: Global,
+    words: EditCommand<'_>,
+    shelf: &mut H,
+) -> Result<Ready, Refusal>
+    ensures task { IfOk result (IsReadyFor (H.tells shelf.old) (edits_of words.entry)) }
+    ensures fresh { IfOk result IsFresh }
+    ensures refused { IfErr result (CauseOf (told_by H.tells shelf.old shelf.new) (edits_of words.entry)) }
+{
+    let mut flash = read_file(alloc, shelf, File::Flash, words.flash)?;
+    match make_edit(&mut flash, words.offset, words.edit) {
+        Ok(()) => Ok(Ready::Image { flash }),
+        Err(fault) => Err(Refusal::Image(ImageFault::of_edit(fault))),
+    }
+}
+
+/// The refusal for a file that was not packed.
+fn not_packed(fault: PackFault) -> Refusal
+    ensures { result ≡ pack_refused fault }
+{
+    match fault {
+        PackFault::Objects => Refusal::Image(ImageFault::TooMany),
+        PackFault::Size => Refusal::Image(ImageFault::Size),
+        PackFault::Memory => Refusal::Memory,
+    }
+}
+
+/// Reads a flash file, and packs it behind an image.
+fn pack_file<H: Shelf>(
+    alloc: Global,
+    name: &str,
+    shelf: &mut H,
+    image: &mut Vec<u8>,
+    objects: &mut u32,
+) -> Result<(), Refusal>
+    requires few { objects.old ≤ 64 }
+    requires short { length image.old.items ≤ FLASH_LIMIT }
+    ensures packed { OnOk result (IsPackedFile (H.tells shelf.old) name.now
+        objects.old image.old.items objects.new image.new.items) }
+    ensures refused { IfErr result (IsNotPacked (told_by H.tells shelf.old shelf.new) name.now
+        objects.old image.old.items) }
+    ensures keeps { Keeps H.tells shelf.old shelf.new }
+{
+    let file = read_file(alloc, shelf, File::Flash, name)?;
+    match pack_one(image, &file, objects) {
+        Ok(()) => Ok(()),
+        Err(fault) => Err(not_packed(fault)),
+    }
+}
+
+/// Reads flash files, and packs them one behind another.
+fn load_pack<H: Shelf>(alloc: Global, files: &[String], shelf: &mut H) -> Result<Ready, Refusal>
+    ensures task { IfOk result (IsReadyFor (H.tells shelf.old) (packs_of files.now)) }
+    ensures fresh { IfOk result IsFresh }
+    ensures refused { IfErr result (CauseOf (told_by H.tells shelf.old shelf.new) (packs_of files.now)) }
+{
+    let mut flash = Vec::new(alloc);
+    let mut objects = 0;
+    for name in files {
+        pack_file(alloc, name.as_str(), shelf, &mut flash, &mut objects)?;
+    }
+    Ok(Ready::Image { flash })
+}
+
 /// Does all that comes before any text: the words, the flash file, and for a run the script file, the
-/// script's reading and the board; `soak` has generated files in place of those that the words name. A
-/// refusal names the first cause in this order.
+/// script's reading and the board; `soak` has generated files in place of those that the words name, and
+/// `pack` packs each file before it reads the next one. A refusal names the first cause in this order.
 pub fn prepare<H: Shelf>(alloc: Global, words: &[String], shelf: &mut H) -> Result<Ready, Refusal>
     ensures task { IfOk result (IsReady (H.tells shelf.old) (command_of words.now)) }
     ensures fresh { IfOk result IsFresh }
@@ -126,6 +218,8 @@ pub fn prepare<H: Shelf>(alloc: Global, words: &[String], shelf: &mut H) -> Resu
     match Command::of(words) {
         Some(Command::Run(words)) => load_run(alloc, words, shelf),
         Some(Command::List { flash }) => load_list(alloc, flash, shelf),
+        Some(Command::Pack { files }) => load_pack(alloc, files, shelf),
+        Some(Command::Edit(words)) => load_edit(alloc, words, shelf),
         Some(Command::Soak { number, turns }) => load_soak(alloc, number, turns),
         None => Err(Refusal::Usage),
     }

@@ -1,10 +1,12 @@
 //! Why a command is refused: the answer and the line of each cause.
 ghost use Rattle.std.specs.Prelude.{◌≡◌};
 ghost use Rattle.tk_outside.specs.Writes.{Writes};
-ghost use Rattle.tock_cli.specs.Refusals.{file_text, status_of, line_of};
+ghost use Rattle.tock_cli.specs.Refusals.{edit_refused, file_text, image_fault_text, limit_of, status_of, line_of};
 
+use image_make::EditFault;
 use itoa::Buffer;
 use script_text::ScriptRule;
+use tk_base::{FLASH_LIMIT, SCRIPT_LIMIT};
 use tk_outside::{Failed, Sink, put_all, put_pieces};
 
 /// One of the files that the words name.
@@ -24,6 +26,57 @@ impl File {
             File::Script => b"script",
         }
     }
+
+    /// The greatest number of bytes of the file.
+    pub fn limit(self) -> usize
+        ensures { result ≡ limit_of self }
+    {
+        match self {
+            File::Flash => FLASH_LIMIT,
+            File::Script => SCRIPT_LIMIT,
+        }
+    }
+}
+
+/// Why no image is written: the first of these that holds.
+#[derive(Clone, Copy, Debug, PartialEq, Eq)]
+pub enum ImageFault {
+    /// No object to edit stands at the offset.
+    NoObject,
+    /// The new name is none.
+    BadName,
+    /// The object has no name of the new one's length rounded up to 4.
+    NameLength,
+    /// The files have more than 64 objects.
+    TooMany,
+    /// The files' objects have more than 1,048,576 bytes.
+    Size,
+}
+
+impl ImageFault {
+    /// The fault of an edit that is refused.
+    pub fn of_edit(fault: EditFault) -> ImageFault
+        ensures { result ≡ edit_refused fault }
+    {
+        match fault {
+            EditFault::NoObject => ImageFault::NoObject,
+            EditFault::Name => ImageFault::BadName,
+            EditFault::Length => ImageFault::NameLength,
+        }
+    }
+
+    /// The fault as a line names it.
+    fn word(self) -> &'static [u8]
+        ensures { result.now ≡ image_fault_text self }
+    {
+        match self {
+            ImageFault::NoObject => b"no-object",
+            ImageFault::BadName => b"bad-name",
+            ImageFault::NameLength => b"name-length",
+            ImageFault::TooMany => b"too-many",
+            ImageFault::Size => b"too-long",
+        }
+    }
 }
 
 /// Why a command is refused.
@@ -37,6 +90,8 @@ pub enum Refusal {
     TooLong(File),
     /// The script has no reading: its first bad line, counted from 1, and the first rule that it breaks.
     Script { line: u32, rule: ScriptRule },
+    /// No image is written.
+    Image(ImageFault),
     /// There was no memory.
     Memory,
 }
@@ -52,6 +107,7 @@ impl Refusal {
             Refusal::TooLong(_) => 4,
             Refusal::Script { .. } => 5,
             Refusal::Memory => 7,
+            Refusal::Image(_) => 8,
         }
     }
 
@@ -62,7 +118,7 @@ impl Refusal {
         match self {
             Refusal::Usage => put_all(
                 out,
-                b"usage: tock boot FLASH SCRIPT --turns N | trace FLASH SCRIPT --turns N | list FLASH | soak NUMBER --turns N\n",
+                b"usage: tock boot FLASH SCRIPT --turns N | trace FLASH SCRIPT --turns N | list FLASH | soak NUMBER --turns N | pack FILE .. | enable FLASH OFFSET | disable FLASH OFFSET | rename FLASH OFFSET NAME\n",
             ),
             Refusal::Fault(file) => put_pieces(out, &[b"file ", file.word(), b" fault\n"]),
             Refusal::TooLong(file) => put_pieces(out, &[b"file ", file.word(), b" too long\n"]),
@@ -71,6 +127,7 @@ impl Refusal {
                 let number = digits.format(line).as_bytes();
                 put_pieces(out, &[b"script ", number, b" ", rule.word(), b"\n"])
             }
+            Refusal::Image(fault) => put_pieces(out, &[b"image ", fault.word(), b"\n"]),
             Refusal::Memory => put_all(out, b"memory\n"),
         }
     }

@@ -1,7 +1,8 @@
 //! The whole program over a shelf and a sink.
 ghost use Rattle.std.specs.Prelude.{◌≡◌, None};
+ghost use Rattle.tock_cli.specs.Accounts.{RunIsAccountedFor};
 ghost use Rattle.tock_cli.specs.Words.{command_of};
-ghost use Rattle.tock_cli.specs.Refusals.{told_by};
+ghost use Rattle.tock_cli.specs.Causes.{told_by};
 ghost use Rattle.tock_cli.specs.Ready.{IsFresh, task_of};
 ghost use Rattle.tock_cli.specs.Served.{Happens, RefusalIs, TaskIs, Serves, answer_of, sent_by};
 
@@ -9,14 +10,14 @@ use crate::list::list_out;
 use crate::prepare::{Ready, prepare};
 use crate::refusal::Refusal;
 use crate::run::run_out;
-use board_core::Board;
+use board_core::{Board, runs_from_boot_are_accounted_for};
 use std::alloc::Global;
-use tk_outside::{Shelf, Sink};
+use tk_outside::{Shelf, Sink, put_all};
 
 /// How the program ended.
 #[derive(Clone, Copy, Debug, PartialEq, Eq)]
 enum Outcome {
-    /// The command's run was made or its list was, and the whole text written.
+    /// The command's run was made, or its list or image was, and the whole of it written.
     Done,
     /// The command was refused.
     Refused(Refusal),
@@ -66,6 +67,7 @@ fn finish<K: Sink>(ready: Ready, out: &mut K, last: &mut Option<Board>) -> Outco
             written
         }
         Ready::List { flash } => list_out(&flash, out),
+        Ready::Image { flash } => put_all(out, &flash),
     };
     match written {
         Ok(()) => Outcome::Done,
@@ -95,19 +97,26 @@ fn act<H: Shelf, K: Sink>(
 /// applications of a flash file on the board of a script, and writes what they print and then the report to
 /// `out`; `trace` makes the same run, and writes its system calls and denials beside what is printed; `soak`
 /// runs applications that are generated from a number, and writes how many bytes they print and the sum of
-/// these; `list` writes the list of the objects of a flash file; else it writes one line. What `last` held is
-/// dropped; afterwards it holds a board exactly at answer 0 of `boot`, `trace` and `soak`, and that board
-/// shows the last world of the run.
+/// these; `list` writes the list of the objects of a flash file. Four commands write a flash image and run
+/// nothing: `pack` the objects of 1 to 64 flash files one behind another; `enable`, `disable` and `rename` a
+/// flash file in which the object at an offset is enabled, disabled or has another package name. Else one line
+/// is written. What `last` held is dropped; afterwards it holds a board exactly at answer 0 of `boot`, `trace`
+/// and `soak`, and that board shows the last world of the run.
+///
+/// In the run that is told each byte of a process that changes has its cause, its own permitted act or a buffer that
+/// it then allowed; each access was permitted, and each denial was due and names its address and rule; and the record
+/// of a process is what becomes of it alone, by its own turns and by what devices answer it, whatever others do.
 ///
 /// | Answer | Comes |
 /// |---|---|
-/// | 0 | each file that the words name was read to its end, and the whole text of the run or list was written |
+/// | 0 | each file that the words name was read to its end, and the whole text of the run or list, or the whole image, was written |
 /// | 2 | the words are no command |
 /// | 3 | a file could not be read: the shelf's count of faults rose, and the line names a file that the words name and that is not sound |
 /// | 4 | a file has more bytes than its limit, 1,048,576 for flash, which is read first, and 262,144 for the script |
 /// | 5 | the script has no reading: the line names its first bad line and the first rule that this line breaks |
-/// | 6 | the sink's count of faults rose; a part of the text or line was written that lacks at least one byte |
+/// | 6 | the sink's count of faults rose; a part of the text, image or line was written that lacks at least one byte |
 /// | 7 | there was no memory, before any text |
+/// | 8 | no image is made: the line names the first reason in the order of [`ImageFault`](crate::refusal::ImageFault); the first file that is refused decides |
 pub fn serve<H: Shelf, K: Sink>(
     alloc: Global,
     words: &[String],
@@ -115,7 +124,9 @@ pub fn serve<H: Shelf, K: Sink>(
     out: &mut K,
     last: &mut Option<Board>,
 ) -> u8
-    ensures { Serves H.tells shelf.old shelf.new K.tells out.old out.new words.now last.new result }
+    ensures serves { Serves H.tells shelf.old shelf.new K.tells out.old out.new words.now last.new result }
+    ensures run { RunIsAccountedFor (told_by H.tells shelf.old shelf.new) (command_of words.now) }
 {
+    runs_from_boot_are_accounted_for();
     act(alloc, words, shelf, out, last).answer()
 }

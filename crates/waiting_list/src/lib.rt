@@ -9,8 +9,9 @@ use tk_base::{ProcessId, Slot};
 
 /// A process in a list. Contracts see its id.
 #[derive(Drop)]
-struct Waiting {
-    id: ProcessId,
+pub struct Waiting {
+    /// By its slot, and the life in which it began to wait.
+    pub id: ProcessId,
 }
 
 impl Model for Waiting {
@@ -84,6 +85,13 @@ impl WaitingList {
     {
         let first = self.ids.as_slice().first()?;
         Some(first.id)
+    }
+
+    /// Those that wait, the one that waits longest first.
+    pub fn as_slice(&self) -> &[Waiting]
+        ensures { result.now ≡ self.now }
+    {
+        self.ids.as_slice()
     }
 
     /// Whether none waits.

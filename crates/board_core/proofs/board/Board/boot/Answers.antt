@@ -16,6 +16,8 @@ use Rattle.board_core.specs.Settings.{settings}
 use Rattle.board_core.specs.Boot.{IsFirst, fresh_record, layout_at}
 use Rattle.board_core.specs.Opening.{opening, places, record_at, unplaced_at}
 use Rattle.board_core.specs.Residents.{HasLost, IsSeated}
+use Rattle.board_core.specs.Alone.{OpensAlone}
+use Rattle.board_core.proofs.Alone.{openings_are_alone}
 use Rattle.board_core.proofs.Crews.{all_apart, all_move_in, all_ordered, all_settled, all_stand_apart, few_processes, opening_shown}
 use Rattle.board_core.proofs.Fresh.{driven_first}
 use Rattle.board_core.proofs.board.Board.boot.Goals as goal
@@ -91,8 +93,8 @@ invariant_of-result c =
     nobody_set : (slot : ℕ) → None ≡ Some slot → ⊥
     nobody_set slot e = cc
 
-pub returns : goal.returns
-returns c =
+pub returns-clause-world : goal.returns-clause-world
+returns-clause-world c =
     let crew = c.in_ok-processes.ensures in
     let flash = c.args.flash.items in
     let ram = c.script.inside.ram in
@@ -106,9 +108,12 @@ returns c =
     opening_shown said flash c.in-Ok.home es processes c.unplaced.result c.settings_of.result c.in_ok-drivers.drivers
     (c.in-Ok.ensures ∙ ap (λ (xs : List Footprint). record { flash = flash; owns = map opened xs }) c.deref-4.ensures.value)
     crew.count
-    (at_most_8 (goal.at.returns c).After-deref-4)
+    (at_most_8 (goal.at.returns-clause-world c).After-deref-4)
     (shown ∙ ap (filter_map (record_at script.storage flash)) (c.deref-3.ensures.0 ∙ placed))
     (c.unplaced.ensures ∙ ap (filter_map unplaced_at) (c.deref-5.ensures.0 ∙ placed))
     (c.settings_of.ensures ∙ ap (λ (s : Script). settings s.leds s.start s.storage s.policy) (sym c.script.view_is))
     (subst (λ (s : Script). AreFresh s c.in_ok-drivers.drivers) (sym c.script.view_is) c.in_ok-drivers.ensures)
     ∙ ap (λ (s : _). opening s flash) c.script.view_is
+
+pub returns-clause-alone : goal.returns-clause-alone
+returns-clause-alone c = subst OpensAlone (sym (returns-clause-world c)) (openings_are_alone _ _)

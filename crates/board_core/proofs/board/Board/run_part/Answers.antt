@@ -73,7 +73,7 @@ returns-clause-stretch c =
     let present = c.present_after-present in
     let q = c.turns_at-made.ensures.quiet in
     stretch_shown b board c.in-Some.slot c.turns_at-made.result c.turns_left-left.result present.result.1 present.result.0 c.turns_at-made.new.home c.turns_at-made.new.processes.items q
-    (chosen c) (ap slot_runs (sym q.at.was) ∙ runs_there c) c.used_before-before.result c.used_before-before.ensures.value (omega (arith, left.slice, most)) (omega (arith, left.until, most)) present.ensures.none present.ensures.some
+    (chosen c) (ap slot_runs (sym q.at.was) ∙ runs_there c) c.used_before-before.result c.used_before-before.ensures.value (omega (arith, left.slice, most)) (omega (arith, left.until, most)) (omega (arith, left.limit, most)) present.ensures.none present.ensures.some
     c.from-ticks.result c.args.self.now c.round_is_stretch.ensures.round c.round_is_stretch.ensures.none c.from-ticks.ensures c.self.view_is
 
 pub returns-clause-ends : goal.returns-clause-ends
@@ -85,5 +85,5 @@ returns-clause-ends c e h g =
     let present = c.present_after-present in
     let q = c.turns_at-made.ensures.quiet in
     ends_shown b board c.in-Some.slot c.turns_at-made.result c.turns_left-left.result present.result.1 present.result.0 c.turns_at-made.new.home c.turns_at-made.new.processes.items q
-    (chosen c) (ap slot_runs (sym q.at.was) ∙ runs_there c) c.used_before-before.result c.used_before-before.ensures.value (omega (arith, left.slice, most)) (omega (arith, left.until, most)) present.ensures.none present.ensures.some
+    (chosen c) (ap slot_runs (sym q.at.was) ∙ runs_there c) c.used_before-before.result c.used_before-before.ensures.value (omega (arith, left.slice, most)) (omega (arith, left.until, most)) (omega (arith, left.limit, most)) present.ensures.none present.ensures.some
     c.round_is_stretch.ensures.stays c.from-ticks.result c.args.most c.calm_ahead-self-inside.result c.from-ticks.ensures most (c.is_over.ensures.over e) left.slice c.used_before-before.ensures.within (omega (arith, c.if-self.false)) c.requires left.all g

@@ -17,3 +17,11 @@ returns-clause-most c = c.loop-made.invariant.0
 
 pub returns-clause-stretch : goal.returns-clause-stretch
 returns-clause-stretch c = c.loop-made.invariant.1
+
+pub returns-then-part-clause-accounted : goal.returns-then-part-clause-accounted
+returns-then-part-clause-accounted c =
+    c.steps_are_accounted_for.ensures.stretch (c.loop-made.made + c.run_part-part.result.made) c.args.self.now c.run_part-part.new.self
+    (c.round_is_stretch.ensures.join c.loop-made.made c.run_part-part.result.made (c.loop-made.made + c.run_part-part.result.made) c.args.self.now c.loop-made.self c.run_part-part.new.self refl c.loop-made.invariant.1 c.run_part-part.ensures.stretch)
+
+pub returns-clause-accounted : goal.returns-clause-accounted
+returns-clause-accounted c = c.steps_are_accounted_for.ensures.stretch c.loop-made.made c.args.self.now c.loop-made.self c.loop-made.invariant.1

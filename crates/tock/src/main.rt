@@ -1,24 +1,15 @@
-//! `tock`: runs the applications of a flash image on the board, tells what they print or what they ask of the
-//! kernel, and lists what an image holds.
+//! `tock`: the program.
 #![tactic(auto)]
-
-mod list;
-mod prepare;
-mod refusal;
-mod run;
-mod serve;
-mod tally;
-mod teller;
-mod words;
 
 use std::env;
 use std::io::ErrorKind;
 use std::process::ExitCode;
 use tk_outside::{FileShelf, OutSink};
+use tock_cli::serve::serve;
 
-/// Takes the arguments, and ends with the answer of [`serve::serve`]; 7 where there was no memory for
-/// the arguments. Where one of them is not UTF-8 the words are none at all, and no command has none: so
-/// that command line is answered by 2 and the usage line.
+/// Takes the arguments, and ends with the answer of [`serve`]; 7 where there was no memory for the arguments. Where
+/// one of them is not UTF-8 the words are none at all, and no command has none: so that command line is answered by 2
+/// and the usage line.
 fn main(rt: HostRuntime) -> ExitCode {
     let collected = match env::args(&rt) {
         Ok(arguments) => arguments.collect::<Vec<String>>(rt.alloc()),
@@ -31,5 +22,5 @@ fn main(rt: HostRuntime) -> ExitCode {
     let mut shelf = FileShelf::new(&rt);
     let mut out = OutSink::new(&rt);
     let mut last = None;
-    ExitCode::from(serve::serve(rt.alloc(), &words, &mut shelf, &mut out, &mut last))
+    ExitCode::from(serve(rt.alloc(), &words, &mut shelf, &mut out, &mut last))
 }

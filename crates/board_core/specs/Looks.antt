@@ -1,0 +1,23 @@
+-- What there is to see of a board beside the records: who waits for a device.
+use Rattle.std.specs.Prelude.{◌≡◌, ℕ, true, List, [], Some, slice_get}
+use Rattle.tk_base.specs.declared.process.Dev.{Dev}
+use Rattle.tk_base.specs.declared.process.Dev.TheVariants.{Event, Alarm, Uart, Receive, Random, Store}
+use Rattle.tk_base.specs.declared.process.ProcessId.{ProcessId}
+use Rattle.kernel_model.specs.Record.{Record}
+use Rattle.kernel_model.specs.World.{Devices, World}
+
+-- the slots whose processes wait for a device step, the first one first
+abbrev pub waiting_for : Devices → Dev → List ℕ
+waiting_for d Event = []
+waiting_for d Alarm = []
+waiting_for d Uart = d.writes
+waiting_for d Receive = d.reads
+waiting_for d Random = d.randoms
+waiting_for d Store = d.stores
+
+-- a process that lives in the slot of an id, in the life of the id
+pub record LivesThere (w : World) (id : ProcessId) : Type 0 where
+  pub there : Record
+  pub is_there : slice_get w.records id.slot ≡ Some there
+  pub lives : there.own.lives ≡ true
+  pub life : there.own.life ≡ id.life

@@ -1,0 +1,102 @@
+//! What there is to see of one process on a board, and of those that wait.
+ghost use Rattle.std.specs.Prelude.{◌≡◌, All, map, slice_get};
+ghost use Rattle.std.specs.Option.{option_copied, option_map};
+ghost use Rattle.process_own.specs.Own.{block_of};
+ghost use Rattle.grant_enter.specs.Homes.{living};
+ghost use Rattle.board_core.specs.Looks.{LivesThere, waiting_for};
+
+use crate::board::Board;
+use process_layout::Layout;
+use process_record::Process;
+use tk_base::{Dev, ProcessId, Slot, Upcall};
+use waiting_list::Waiting;
+
+impl Board {
+    /// The process in a slot: its registers, its state, its counts, its last denial and its last refusal. None exactly
+    /// where the slot has no process, as in each of these functions.
+    pub fn process(&self, slot: Slot) -> Option<Process>
+        ensures { result ≡ option_map (λ r. r.process) (slice_get self.now.records slot) }
+    {
+        match self.processes.get(slot.index()) {
+            Some(process) => Some(*process),
+            None => None,
+        }
+    }
+
+    /// Where the memory of the process in a slot lies.
+    pub fn layout(&self, slot: Slot) -> Option<Layout>
+        ensures { result ≡ option_map (λ r. r.own.layout) (slice_get self.now.records slot) }
+    {
+        if slot.index() >= self.processes.len() {
+            return None;
+        }
+        Some(self.home.layout(slot))
+    }
+
+    /// The block of the process in a slot, as it lies in memory: the bytes of its record, and then those of its grants,
+    /// which are its areas one after another. So no byte of it depends on another process, or on who waits where.
+    pub fn block(&self, slot: Slot) -> Option<&[u8]>
+        ensures { option_copied result
+            ≡ option_map (λ r. block_of r.own) (slice_get self.now.records slot) }
+    {
+        if slot.index() >= self.processes.len() {
+            return None;
+        }
+        Some(self.home.block(slot))
+    }
+
+    /// The bytes of storage of the process in a slot.
+    pub fn storage(&self, slot: Slot) -> Option<&[u8]>
+        ensures { option_copied result
+            ≡ option_map (λ r. r.storage) (slice_get self.now.records slot) }
+    {
+        if slot.index() >= self.processes.len() {
+            return None;
+        }
+        Some(self.drivers.stores.bytes(slot))
+    }
+
+    /// The upcalls that wait to be delivered to the process in a slot, the first one first.
+    pub fn pending(&self, slot: Slot) -> Option<&[Upcall]>
+        ensures { option_copied result
+            ≡ option_map (λ r. r.own.pending) (slice_get self.now.records slot) }
+    {
+        if slot.index() >= self.processes.len() {
+            return None;
+        }
+        Some(self.home.pending(slot))
+    }
+
+    /// How many upcalls of the process in a slot were dropped.
+    pub fn dropped(&self, slot: Slot) -> Option<u32>
+        ensures { result ≡ option_map (λ r. r.own.dropped) (slice_get self.now.records slot) }
+    {
+        if slot.index() >= self.processes.len() {
+            return None;
+        }
+        Some(self.home.dropped(slot))
+    }
+
+    /// The process that lives in a slot, by its present life. None exactly where none lives there.
+    pub fn id(&self, slot: Slot) -> Option<ProcessId>
+        ensures { result
+            ≡ living slot (option_map (λ r. r.own) (slice_get self.now.records slot)) }
+    {
+        self.home.id(slot)
+    }
+
+    /// The processes that wait for a device step, the one that waits longest first. Each lives in its slot, in the life
+    /// in which it asked. None waits for input that comes in, nor for the alarm, which each process has for itself.
+    pub fn waiting(&self, device: Dev) -> &[Waiting]
+        ensures slots { map (λ id. id.slot) result.now ≡ waiting_for self.now.devices device }
+        ensures lives { All (LivesThere self.now) result.now }
+    {
+        match device {
+            Dev::Event | Dev::Alarm => &[],
+            Dev::Uart => self.drivers.console.writes.as_slice(),
+            Dev::Receive => self.drivers.console.reads.as_slice(),
+            Dev::Random => self.drivers.random.waiting.as_slice(),
+            Dev::Store => self.drivers.storage.waiting.as_slice(),
+        }
+    }
+}

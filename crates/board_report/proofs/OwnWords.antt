@@ -1,0 +1,53 @@
+-- Each word is read back as its rule.
+use Rattle.std.proofs.Common.{◌≡◌, ℕ, List, [], ◌∷◌, find, Option, Some, option_map, refl, sym, ap, ◌∙◌}
+use Rattle.std.specs.Prelude.{bytes_eq, codes}
+use Rattle.tk_base.specs.declared.access.Rule.{Rule}
+use Rattle.tk_base.specs.declared.access.Rule.TheVariants.{NoRegion, NoExecute, NoWrite, NoRead, Misaligned, Illegal, Breakpoint, UnknownClass}
+use Rattle.tk_base.specs.declared.call.CallRule.{CallRule}
+use Rattle.tk_base.specs.declared.call.CallRule.TheVariants as calls
+use Rattle.board_report.specs.Words.{call_rule_text, rule_text}
+use Rattle.board_report.specs.OwnWords.{RulesHaveWordsOfTheirOwn}
+
+-- the first rule of some whose word it is
+abbrev read_as : {R : Type 0} → (R → List ℕ) → List R → List ℕ → Option R
+read_as text rules word = find (λ rule. bytes_eq (text rule) word) rules
+
+abbrev call_rules : List CallRule
+call_rules = calls.Permission ∷ calls.NoDriver ∷ calls.NoNumber ∷ calls.NoCommand ∷ calls.NoOperation ∷ calls.Outside ∷ calls.Range ∷ calls.NoRoom ∷ calls.Break ∷ calls.Busy ∷ calls.Empty ∷ calls.Nothing ∷ calls.Index ∷ []
+
+abbrev access_rules : List Rule
+access_rules = NoRegion ∷ NoExecute ∷ NoWrite ∷ NoRead ∷ Misaligned ∷ Illegal ∷ Breakpoint ∷ UnknownClass ∷ []
+
+call_read : (rule : CallRule) → read_as call_rule_text call_rules (call_rule_text rule) ≡ Some rule
+call_read calls.Permission = refl
+call_read calls.NoDriver = refl
+call_read calls.NoNumber = refl
+call_read calls.NoCommand = refl
+call_read calls.NoOperation = refl
+call_read calls.Outside = refl
+call_read calls.Range = refl
+call_read calls.NoRoom = refl
+call_read calls.Break = refl
+call_read calls.Busy = refl
+call_read calls.Empty = refl
+call_read calls.Nothing = refl
+call_read calls.Index = refl
+
+access_read : (rule : Rule) → read_as rule_text access_rules (rule_text rule) ≡ Some rule
+access_read NoRegion = refl
+access_read NoExecute = refl
+access_read NoWrite = refl
+access_read NoRead = refl
+access_read Misaligned = refl
+access_read Illegal = refl
+access_read Breakpoint = refl
+access_read UnknownClass = refl
+
+same_some : {X : Type 0} (x y : X) → Some x ≡ Some y → x ≡ y
+same_some x y e = cc
+
+pub rules_have_words_of_their_own : RulesHaveWordsOfTheirOwn
+rules_have_words_of_their_own = record {
+  calls = λ a b same. same_some a b (sym (call_read a) ∙ ap (read_as call_rule_text call_rules) same ∙ call_read b);
+  accesses = λ a b same. same_some a b (sym (access_read a) ∙ ap (read_as rule_text access_rules) same ∙ access_read b);
+}

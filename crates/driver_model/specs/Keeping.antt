@@ -1,0 +1,78 @@
+-- What drivers keep of a process, whatever they do to it: where it lies, the order of its memory, and that ten upcalls wait
+-- at most.
+use Rattle.std.specs.Prelude.{◌≡◌, ◌≤◌, ◌<◌, ℕ, ◌+◌, ◌-◌, IsTrue, List, [], ◌∷◌, length, true}
+use Rattle.grant_values.specs.Drivers.{cost_of}
+use Rattle.grant_areas.specs.Grants.{Grant, shape_of}
+use Rattle.grant_areas.specs.declared.kinds.PairKind.{PairKind}
+use Rattle.process_own.specs.Own.{Own}
+use Rattle.grant_areas.specs.Kinds.{count_of}
+use Rattle.process_own.specs.Handed.{HoldsInPlace, handing, has_place, may_hand}
+use Rattle.process_own.specs.Changes.{IsWhole}
+use Rattle.process_own.specs.Pairs.{HasShape}
+use Rattle.driver_model.specs.Laws.{StaysInPlace}
+use Rattle.driver_model.specs.Services.{OfEachService}
+
+-- how many bytes grants take: what the driver of each costs
+abbrev pub costs : List Grant → ℕ
+costs [] = 0
+costs (g ∷ gs) = cost_of (shape_of g.driver) + costs gs
+
+-- The places of a process's memory stand in their order: the start of the block, the mark below which the break may not
+-- move, the break, and the kernel break, from which on the grants of the drivers that were entered fill the block to its
+-- end (Levy et al., SOSP 2017).
+pub record IsInOrder (own : Own) : Type 0 where
+  pub mark : own.layout.start ≤ own.layout.mark
+  pub brk : own.layout.mark ≤ own.layout.brk
+  pub kernel_break : own.layout.brk ≤ own.layout.kernel_break
+  pub end : own.layout.kernel_break + costs own.grants ≡ own.layout.end
+
+abbrev pub KeepsOrder : Own → Own → Type 0
+KeepsOrder own o = IsInOrder own → IsInOrder o
+
+-- ten upcalls wait at most, and one is dropped only where ten wait
+pub record KeepsLimit (own o : Own) : Type 0 where
+  pub limit : length own.pending ≤ 10 → length o.pending ≤ 10
+  pub room : length own.pending < 10 → o.dropped ≡ own.dropped
+
+-- a pair that is handed leaves where a process lies, its life, that it lives, its break and its dropped upcalls
+abbrev pub HandsInPlace : Own → Own → Type 0
+HandsInPlace own o = o ≡ record own {
+  layout = record own.layout { kernel_break = o.layout.kernel_break; mark = o.layout.mark };
+  ram = o.ram;
+  grants = o.grants;
+  pending = o.pending;
+}
+
+-- So it is after each command, whichever driver takes it, and after each answer of a device. Memory stays in order where
+-- a pair is handed to a driver that has a place.
+pub record DriversKeep : Type 0 where
+  pub places : OfEachService StaysInPlace
+  pub order : OfEachService KeepsOrder
+  pub limit : OfEachService KeepsLimit
+  pub handed : (kind : PairKind) (driver number : ℕ) (pair : ℕ × ℕ) (own : Own) → has_place driver own ≡ true →
+      KeepsOrder own (handing kind driver number pair own)
+  pub handed_places : (kind : PairKind) (driver number : ℕ) (pair : ℕ × ℕ) (own : Own) →
+      HandsInPlace own (handing kind driver number pair own)
+
+-- each buffer that a process has allowed lies where it might be allowed if accessible RAM ended at the mark
+abbrev pub HoldsBelowMark : Own → Type 0
+HoldsBelowMark own = HoldsInPlace (record own { layout = record own.layout { brk = own.layout.mark } })
+
+-- A process's own in order, and whole: its bytes end at the kernel break, where its grants begin; each buffer that it has
+-- allowed lies in accessible flash, or in its RAM below the mark; it has as many pairs as its drivers have numbers.
+pub record IsSettled (own : Own) : Type 0 where
+  pub order : IsInOrder own
+  pub bytes : length own.ram ≡ own.layout.kernel_break - own.layout.start
+  pub buffers : HoldsBelowMark own
+  pub shape : HasShape own
+
+abbrev pub KeepsSettled : Own → Own → Type 0
+KeepsSettled own o = IsSettled own → IsSettled o
+
+-- So it is after each command and each answer, and where a pair is handed that may be. What is settled is whole.
+pub record DriversKeepSettled : Type 0 where
+  pub services : OfEachService KeepsSettled
+  pub handed : (kind : PairKind) (driver number : ℕ) (pair : ℕ × ℕ) (own : Own) → has_place driver own ≡ true →
+      IsTrue (may_hand kind own.layout pair) → number < count_of kind (shape_of driver) →
+      KeepsSettled own (handing kind driver number pair own)
+  pub whole : (own : Own) → IsSettled own → IsWhole own

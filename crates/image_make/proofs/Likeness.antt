@@ -1,0 +1,151 @@
+-- Lists of bytes that are alike but for a range of places.
+use Rattle.std.proofs.Common.{◌≡◌, ℕ, ◌+◌, ◌-◌, ◌*◌, ◌/◌, ◌%◌, ◌<◌, ◌≤◌, nat_lt, nat_le, ◌&&◌, min, cond, ◌⊎◌, inl, inr, List, length, take, drop, slice_index, slice_range, refl, sym, ap, ◌∙◌, arith}
+use Rattle.std.proofs.lemmas.Bool.Decides.{nat_tests}
+use Rattle.std.proofs.lemmas.Bool.{cases_lt}
+use Rattle.std.proofs.lemmas.List.{length-take, length-drop, get_or-take, get_or-drop, get_or_past, ext_get_or}
+use Rattle.tk_base.specs.declared.access.Width.TheVariants.{Half, Word}
+use Rattle.tk_base.specs.Bus.{put, byte_of}
+use Rattle.tk_base.specs.Laws.{AStoreIsPut}
+use Rattle.tbf_headers.specs.Numbers.{half, word}
+
+-- ys is xs but for the bytes from a to b
+pub record IsLike (a b : ℕ) (xs ys : List ℕ) : Type 0 where
+  pub size : length ys ≡ length xs
+  pub below : (k : ℕ) → k < a → slice_index ys k ≡ slice_index xs k
+  pub above : (k : ℕ) → b ≤ k → slice_index ys k ≡ slice_index xs k
+
+pub half_above : (a b : ℕ) (xs ys : List ℕ) (p : ℕ) → IsLike a b xs ys → b ≤ p → half ys p ≡ half xs p
+half_above a b xs ys p l h = cc (l.above p h, l.above (p + 1) (omega arith))
+
+pub half_below : (a b : ℕ) (xs ys : List ℕ) (p : ℕ) → IsLike a b xs ys → p + 2 ≤ a → half ys p ≡ half xs p
+half_below a b xs ys p l h = cc (l.below p (omega arith), l.below (p + 1) (omega arith))
+
+pub word_above : (a b : ℕ) (xs ys : List ℕ) (p : ℕ) → IsLike a b xs ys → b ≤ p → word ys p ≡ word xs p
+word_above a b xs ys p l h =
+    cc (l.above p h, l.above (p + 1) (omega arith), l.above (p + 2) (omega arith), l.above (p + 3) (omega arith))
+
+pub word_below : (a b : ℕ) (xs ys : List ℕ) (p : ℕ) → IsLike a b xs ys → p + 4 ≤ a → word ys p ≡ word xs p
+word_below a b xs ys p l h =
+    cc (l.below p (omega arith), l.below (p + 1) (omega arith), l.below (p + 2) (omega arith), l.below (p + 3) (omega arith))
+
+-- the same bytes in a range are the same range
+pub range_same : (xs ys : List ℕ) (p q : ℕ) → length ys ≡ length xs → ((k : ℕ) → p ≤ k → k < q → slice_index ys k ≡ slice_index xs k) → slice_range ys p q ≡ slice_range xs p q
+range_same xs ys p q size each =
+    let ly : length (slice_range ys p q) ≡ min (q - p) (length ys - p) = length-take (q - p) (drop p ys) ∙ ap (λ n. min (q - p) n) (length-drop p ys) in
+    let lx : length (slice_range xs p q) ≡ min (q - p) (length xs - p) = length-take (q - p) (drop p xs) ∙ ap (λ n. min (q - p) n) (length-drop p xs) in
+    ext_get_or 0 (slice_range ys p q) (slice_range xs p q) (omega arith)
+    (λ i h.
+    get_or-take (q - p) (drop p ys) i 0 (omega arith) ∙ get_or-drop p ys i 0
+    ∙ each (p + i) (omega arith) (omega arith)
+    ∙ sym (get_or-take (q - p) (drop p xs) i 0 (omega arith) ∙ get_or-drop p xs i 0))
+
+pub range_above : (a b : ℕ) (xs ys : List ℕ) (p q : ℕ) → IsLike a b xs ys → b ≤ p → slice_range ys p q ≡ slice_range xs p q
+range_above a b xs ys p q l h = range_same xs ys p q l.size (λ k low high. l.above k (omega arith))
+
+pub range_below : (a b : ℕ) (xs ys : List ℕ) (p q : ℕ) → IsLike a b xs ys → q ≤ a → slice_range ys p q ≡ slice_range xs p q
+range_below a b xs ys p q l h = range_same xs ys p q l.size (λ k low high. l.below k (omega arith))
+
+taken : (n : ℕ) (xs ys : List ℕ) (k : ℕ) → slice_index ys k ≡ slice_index xs k → slice_index (take n ys) k ≡ slice_index (take n xs) k
+taken n xs ys k e =
+    elim (cases_lt k n) [
+      | inl h ↦ get_or-take n ys k 0 h ∙ e ∙ sym (get_or-take n xs k 0 h)
+      | inr h ↦ get_or_past (take n ys) k 0 (omega (arith, length-take n ys)) ∙ sym (get_or_past (take n xs) k 0 (omega (arith, length-take n xs)))
+    ]
+
+-- and so are their fronts
+pub take_like : (n a b : ℕ) (xs ys : List ℕ) → IsLike a b xs ys → IsLike a b (take n xs) (take n ys)
+take_like n a b xs ys l = record {
+  size = length-take n ys ∙ ap (λ m. min n m) l.size ∙ sym (length-take n xs);
+  below = λ k h. taken n xs ys k (l.below k h);
+  above = λ k h. taken n xs ys k (l.above k h);
+}
+
+pub like_join : (a b : ℕ) (xs ys zs : List ℕ) → IsLike a b xs ys → IsLike a b ys zs → IsLike a b xs zs
+like_join a b xs ys zs l m = record {
+  size = m.size ∙ l.size;
+  below = λ k h. m.below k h ∙ l.below k h;
+  above = λ k h. m.above k h ∙ l.above k h;
+}
+
+pub like_wider : (a b c d : ℕ) (xs ys : List ℕ) → c ≤ a → b ≤ d → IsLike a b xs ys → IsLike c d xs ys
+like_wider a b c d xs ys low high l = record {
+  size = l.size;
+  below = λ k h. l.below k (omega arith);
+  above = λ k h. l.above k (omega arith);
+}
+
+outside : (at k v x : ℕ) → (k < at) ⊎ (at + 4 ≤ k) → (cond (nat_le at k && nat_lt k (at + 4)) v x) ≡ x
+outside at k v x h = grind (arith, nat_tests)
+
+inside : (at k v x : ℕ) → at ≤ k → k < at + 4 → (cond (nat_le at k && nat_lt k (at + 4)) v x) ≡ v
+inside at k v x low high = grind (arith, nat_tests)
+
+-- a word that is put changes its own bytes alone
+pub put_like : AStoreIsPut → (xs : List ℕ) (at v : ℕ) → at + 4 ≤ length xs → IsLike at (at + 4) xs (put xs at Word v)
+put_like stores xs at v h =
+    let law = stores xs at Word v h in
+    record {
+      size = law.length;
+      below = λ k low. law.each k ∙ outside at k _ _ (inl low);
+      above = λ k high. law.each k ∙ outside at k _ _ (inr high);
+    }
+
+four : (v : ℕ) → v < 4294967296 → v % 256 + 256 * (v / 256 % 256) + 65536 * (v / 65536 % 256) + 16777216 * (v / 16777216 % 256) ≡ v
+four v h = omega arith
+
+put_byte : AStoreIsPut → (xs : List ℕ) (at v j k : ℕ) → at + 4 ≤ length xs → k ≡ at + j → j < 4 → slice_index (put xs at Word v) k ≡ byte_of v j
+put_byte stores xs at v j k h e small =
+    let law = stores xs at Word v h in
+    law.each k ∙ inside at k _ _ (omega arith) (omega arith) ∙ ap (λ i. byte_of v i) (let d : k - at ≡ j = omega arith in d)
+
+-- it is read back
+pub word_put : AStoreIsPut → (xs : List ℕ) (at v : ℕ) → at + 4 ≤ length xs → v < 4294967296 → word (put xs at Word v) at ≡ v
+word_put stores xs at v h small =
+    let b0 : slice_index (put xs at Word v) at ≡ v % 256 = put_byte stores xs at v 0 at h (omega arith) (omega arith) ∙ (omega arith) in
+    let b1 : slice_index (put xs at Word v) (at + 1) ≡ v / 256 % 256 = put_byte stores xs at v 1 (at + 1) h refl (omega arith) in
+    let b2 : slice_index (put xs at Word v) (at + 2) ≡ v / 65536 % 256 = put_byte stores xs at v 2 (at + 2) h refl (omega arith) in
+    let b3 : slice_index (put xs at Word v) (at + 3) ≡ v / 16777216 % 256 = put_byte stores xs at v 3 (at + 3) h refl (omega arith) in
+    omega (arith, four v small)
+
+outside_half : (at k v x : ℕ) → (k < at) ⊎ (at + 2 ≤ k) → (cond (nat_le at k && nat_lt k (at + 2)) v x) ≡ x
+outside_half at k v x h = grind (arith, nat_tests)
+
+inside_half : (at k v x : ℕ) → at ≤ k → k < at + 2 → (cond (nat_le at k && nat_lt k (at + 2)) v x) ≡ v
+inside_half at k v x low high = grind (arith, nat_tests)
+
+-- the same of two bytes
+pub put_half_like : AStoreIsPut → (xs : List ℕ) (at v : ℕ) → at + 2 ≤ length xs → IsLike at (at + 2) xs (put xs at Half v)
+put_half_like stores xs at v h =
+    let law = stores xs at Half v h in
+    record {
+      size = law.length;
+      below = λ k low. law.each k ∙ outside_half at k _ _ (inl low);
+      above = λ k high. law.each k ∙ outside_half at k _ _ (inr high);
+    }
+
+put_half_byte : AStoreIsPut → (xs : List ℕ) (at v j k : ℕ) → at + 2 ≤ length xs → k ≡ at + j → j < 2 → slice_index (put xs at Half v) k ≡ byte_of v j
+put_half_byte stores xs at v j k h e small =
+    let law = stores xs at Half v h in
+    law.each k ∙ inside_half at k _ _ (omega arith) (omega arith) ∙ ap (λ i. byte_of v i) (let d : k - at ≡ j = omega arith in d)
+
+pub half_put : AStoreIsPut → (xs : List ℕ) (at v : ℕ) → at + 2 ≤ length xs → v < 65536 → half (put xs at Half v) at ≡ v
+half_put stores xs at v h small =
+    let b0 : slice_index (put xs at Half v) at ≡ v % 256 = put_half_byte stores xs at v 0 at h (omega arith) (omega arith) ∙ (omega arith) in
+    let b1 : slice_index (put xs at Half v) (at + 1) ≡ v / 256 % 256 = put_half_byte stores xs at v 1 (at + 1) h refl (omega arith) in
+    omega arith
+
+-- a number in a front
+pub half_take : (n : ℕ) (xs : List ℕ) (p : ℕ) → p + 2 ≤ n → half (take n xs) p ≡ half xs p
+half_take n xs p h = cc (get_or-take n xs p 0 (omega arith), get_or-take n xs (p + 1) 0 (omega arith))
+
+-- a range of a front
+pub range_take : (n : ℕ) (xs : List ℕ) (p q : ℕ) → q ≤ n → n ≤ length xs → slice_range (take n xs) p q ≡ slice_range xs p q
+range_take n xs p q h long =
+    let lt : length (slice_range (take n xs) p q) ≡ min (q - p) (length (take n xs) - p) = length-take (q - p) (drop p (take n xs)) ∙ ap (λ m. min (q - p) m) (length-drop p (take n xs)) in
+    let lx : length (slice_range xs p q) ≡ min (q - p) (length xs - p) = length-take (q - p) (drop p xs) ∙ ap (λ m. min (q - p) m) (length-drop p xs) in
+    let front : length (take n xs) ≡ n = (let l = length-take n xs in omega arith) in
+    ext_get_or 0 (slice_range (take n xs) p q) (slice_range xs p q) (omega arith)
+    (λ i small.
+    get_or-take (q - p) (drop p (take n xs)) i 0 (omega arith) ∙ get_or-drop p (take n xs) i 0
+    ∙ get_or-take n xs (p + i) 0 (omega arith)
+    ∙ sym (get_or-take (q - p) (drop p xs) i 0 (omega arith) ∙ get_or-drop p xs i 0))

@@ -1,0 +1,61 @@
+-- What packing a file behind an image leaves of it, and where it is refused.
+use Rattle.std.specs.Prelude.{◌≡◌, ◌≤◌, ℕ, ◌+◌, ◌%◌, nat_lt, All, if◌then◌else◌, List, [], ◌∷◌, ◌++◌, length, map, Option, Some, None, unwrap_or, Result, Ok, Err}
+use Rattle.tk_base.specs.declared.limits.TheConstants.{FLASH_LIMIT}
+use Rattle.flash_walk.specs.declared.found.Found.{Found}
+use Rattle.flash_walk.specs.Image.{objects}
+use Rattle.image_make.specs.declared.packs.PackFault.{PackFault}
+use Rattle.image_make.specs.declared.packs.PackFault.TheVariants.{Objects, Size, Memory}
+use Rattle.image_make.specs.Images.{covered, packed, moved, but_link}
+
+-- why a file is not packed, behind so many objects and these bytes
+abbrev pub pack_refusal : ℕ → List ℕ → List ℕ → Option PackFault
+pack_refusal count image file =
+    if nat_lt 64 (count + length (objects file)) then Some Objects
+    else (if nat_lt FLASH_LIMIT (length image + covered (objects file)) then Some Size else None)
+
+-- a file is packed, and the objects counted
+pub record IsPacked (n : ℕ) (xs file : List ℕ) (m : ℕ) (ys : List ℕ) : Type 0 where
+  pub free : pack_refusal n xs file ≡ None
+  pub image : ys ≡ xs ++ packed file
+  pub count : m ≡ n + length (objects file)
+
+-- or it is refused, and nothing has changed; where nothing refuses it, for want of memory
+pub record IsRefused (n : ℕ) (xs file : List ℕ) (m : ℕ) (ys : List ℕ) (fault : PackFault) : Type 0 where
+  pub cause : unwrap_or (pack_refusal n xs file) Memory ≡ fault
+  pub image : ys ≡ xs
+  pub count : m ≡ n
+
+-- an image with files packed behind it, one after another; the first that is refused decides
+abbrev pub pack_next : Option PackFault → Result (List ℕ) PackFault → Result (List ℕ) PackFault
+pack_next None rest = rest
+pack_next (Some fault) rest = Err fault
+
+unfoldable pub pack_from : ℕ → List ℕ → List (List ℕ) → Result (List ℕ) PackFault
+pack_from count image [] = Ok image
+pack_from count image (file ∷ files) =
+    pack_next (pack_refusal count image file) (pack_from (count + length (objects file)) (image ++ packed file) files)
+
+-- what packing files gives
+abbrev pub pack : List (List ℕ) → Result (List ℕ) PackFault
+pack files = pack_from 0 [] files
+
+-- the objects of files, one file after another from a distance on
+unfoldable pub one_after_another : ℕ → List (List ℕ) → List Found
+one_after_another distance [] = []
+one_after_another distance (file ∷ files) =
+    map (moved distance file) (objects file) ++ one_after_another (distance + covered (objects file)) files
+
+-- what is packed is walked as the files one after another
+abbrev pub PackIsWalked : Type 0
+PackIsWalked = (files : List (List ℕ)) (image : List ℕ) → pack files ≡ Ok image → objects image ≡ one_after_another 0 files
+
+-- moved by a multiple of 4, an object keeps its verdict, but to or from WrongFlash
+abbrev pub KeepsVerdict : ℕ → List ℕ → Found → Type 0
+KeepsVerdict distance file f = but_link (moved distance file f).verdict ≡ but_link f.verdict
+
+pub record ObjectsMove (file : List ℕ) : Type 0 where
+  pub verdicts : (distance : ℕ) → distance % 4 ≡ 0 → All (KeepsVerdict distance file) (objects file)
+  pub aligned : covered (objects file) % 4 ≡ 0
+
+abbrev pub ObjectsMoveAlike : Type 0
+ObjectsMoveAlike = (file : List ℕ) → length file ≤ FLASH_LIMIT → ObjectsMove file

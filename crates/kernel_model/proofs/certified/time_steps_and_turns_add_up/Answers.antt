@@ -1,0 +1,5 @@
+use Rattle.kernel_model.proofs.Counts.{counts_add_up}
+use Rattle.kernel_model.proofs.certified.time_steps_and_turns_add_up.Goals as goal
+
+pub returns : goal.returns
+returns c = counts_add_up

@@ -1,0 +1,28 @@
+-- What each step of a board answers for.
+use Rattle.std.specs.Prelude.{ℕ, List, All}
+use Rattle.tk_base.specs.declared.process.Choice.{Choice}
+use Rattle.tk_base.specs.declared.process.Choice.TheVariants.{Run}
+use Rattle.kernel_model.specs.World.{World, labels}
+use Rattle.kernel_model.specs.Accesses.{IsGuarded}
+use Rattle.kernel_model.specs.Causes.{AllHaveCauses, AreWhole, EachChangeHasACause}
+use Rattle.kernel_model.specs.Choices.{Throughout}
+use Rattle.kernel_model.specs.Refused.{RefusedChangesLittle}
+use Rattle.kernel_model.specs.Replay.{chosen}
+use Rattle.kernel_model.specs.Shown.{IsShownIn, shown_by}
+use Rattle.kernel_model.specs.Stretch.{IsStretch}
+
+-- Each byte that changes of a process has its cause in what the step tells; each access of a turn was permitted, and each
+-- denial was due, and is shown; a call that was refused changed nothing but its process's reply, and the counts.
+pub record IsAccountedFor (w : World) (choice : Choice) : Type 0 where
+  pub causes : EachChangeHasACause w choice
+  pub guarded : IsGuarded w choice
+  pub shown : All (IsShownIn (shown_by (labels w choice))) (labels w choice)
+  pub refused : RefusedChangesLittle w choice
+
+-- So it is with every step of a world in which the owns are whole; in any world with every turn of a process, with all
+-- turns of a quiet stretch, and with all choices that change no byte without a cause.
+pub record StepsAreAccountedFor : Type 0 where
+  pub any : (w : World) (choice : Choice) → AreWhole w → IsAccountedFor w choice
+  pub turn : (w : World) (slot : ℕ) → IsAccountedFor w (Run slot)
+  pub stretch : (k : ℕ) (w after : World) → IsStretch k w after → Throughout IsAccountedFor w (chosen k w)
+  pub all : (w : World) (choices : List Choice) → AllHaveCauses w choices → Throughout IsAccountedFor w choices

@@ -1,0 +1,129 @@
+-- What changes the bytes of a process: of its own RAM, of its whole block, of its storage (Levy et al., SOSP 2017; TRD
+-- 104, "Yield", "Exit", "Read-Write Allow").
+use Rattle.std.specs.Prelude.{◌≡◌, ◌≢◌, ◌⊎◌, ◌≤◌, ◌<◌, ℕ, ◌+◌, true, false, IsTrue, List, [], ◌∷◌, length, slice_get, slice_index, Option, None, Some}
+use Rattle.std.specs.List.{Any, list_any}
+use Rattle.tk_base.specs.declared.process.Choice.{Choice}
+use Rattle.tk_base.specs.declared.process.Choice.TheVariants.{Run}
+use Rattle.rv32_model.specs.Laws.{stores_at}
+use Rattle.process_own.specs.Own.{Own}
+use Rattle.process_own.specs.Changes.{ChangesAt, IsInside, IsWhole}
+use Rattle.driver_model.specs.Bytes.{input_buffer, stored_buffer, word_buffer}
+use Rattle.driver_model.specs.Storage as storage
+use Rattle.kernel_model.specs.Record.{Record}
+use Rattle.kernel_model.specs.declared.settings.Settings.{Settings}
+use Rattle.kernel_model.specs.Turn.{Event, Turn, Alarmed, Taken, WriteDone, Input, Word, NoWord, Stored, Told, apply, flash_of, turned}
+use Rattle.kernel_model.specs.World.{World, Label, TurnOf, Answered, Printed, after, labels}
+use Rattle.kernel_model.specs.Histories.{ends_life}
+use Rattle.kernel_model.specs.Choices.{Throughout}
+use Rattle.kernel_model.specs.Replay.{chosen, events}
+use Rattle.kernel_model.specs.Stretch.{IsStretch}
+
+-- A cause in a process's own turn, by what the turn told and by the record before and after it: a store that covers the
+-- address; the flag of its yield; that it started again, where the turn told an exit or a denial.
+abbrev pub IsDoneByTurn : Record → Record → Told → ℕ → Type 0
+IsDoneByTurn r s told at =
+    IsTrue (list_any (stores_at at) told.accesses)
+    ⊎ ((told.flag ≡ Some at)
+    ⊎ ((ends_life told ≡ true) × (s.process.restarts ≡ r.process.restarts + 1)))
+
+-- the buffer that a process holds for the device that answers it so; one without bytes, where the answer moves none
+abbrev pub buffer_for : Event → Own → ℕ × ℕ
+buffer_for (Turn time) own = (0, 0)
+buffer_for (Alarmed now) own = (0, 0)
+buffer_for Taken own = (0, 0)
+buffer_for WriteDone own = (0, 0)
+buffer_for (Input bytes) own = input_buffer own
+buffer_for (Word word) own = word_buffer own
+buffer_for NoWord own = (0, 0)
+buffer_for (Stored moved) own = stored_buffer own
+
+-- what is written over a slot's storage where a request is served: from an offset on, these bytes, if any
+abbrev pub served_write : Record → Option (ℕ × List ℕ)
+served_write r = (storage.answered false (flash_of r) r.storage r.own.life r.own).written
+
+-- a place that a write covers
+abbrev pub Covers : Option (ℕ × List ℕ) → ℕ → Type 0
+Covers None k = ⊥
+Covers (Some written) k = (written.0 ≤ k) × (k < written.0 + length written.1)
+
+-- an answer that writes over a place of the storage: a request that was served, not one that failed
+abbrev pub Overwrites : Event → Record → ℕ → Type 0
+Overwrites (Turn time) r k = ⊥
+Overwrites (Alarmed now) r k = ⊥
+Overwrites Taken r k = ⊥
+Overwrites WriteDone r k = ⊥
+Overwrites (Input bytes) r k = ⊥
+Overwrites (Word word) r k = ⊥
+Overwrites NoWord r k = ⊥
+Overwrites (Stored true) r k = Covers (served_write r) k
+Overwrites (Stored false) r k = ⊥
+
+-- A label with a cause of a change of a byte of the process in a slot, of which this is the record before and after the
+-- step: its own turn with such a cause; or an answer to it, inside the buffer that it held before the step for the device.
+abbrev pub IsCause : ℕ → Record → Record → ℕ → Label → Type 0
+IsCause slot r s at (TurnOf other time told) = (other ≡ slot) × IsDoneByTurn r s told at
+IsCause slot r s at (Answered other event) = (other ≡ slot) × IsInside (buffer_for event r.own) at
+IsCause slot r s at (Printed other bytes) = ⊥
+
+-- a label with the cause of a change of a byte of its storage
+abbrev pub IsStorageCause : ℕ → Record → ℕ → Label → Type 0
+IsStorageCause slot r k (TurnOf other time told) = ⊥
+IsStorageCause slot r k (Answered other event) = (other ≡ slot) × Overwrites event r k
+IsStorageCause slot r k (Printed other bytes) = ⊥
+
+-- a byte of the storage is as it was, or there is a cause
+abbrev pub StorageChangesAt : (ℕ → Type 0) → List ℕ → List ℕ → Type 0
+StorageChangesAt Cause bytes after =
+    (k : ℕ) → k < length bytes → (slice_index after k ≡ slice_index bytes k) ⊎ Cause k
+
+-- what a step leaves of the process in a slot, whose record was this one
+pub record ChangeHasACause (w : World) (choice : Choice) (slot : ℕ) (r s : Record) : Type 0 where
+  -- each byte that lies below the kernel break before and after it is as it was, or a label of the step has the cause
+  pub own : ChangesAt (λ at. Any (IsCause slot r s at) (labels w choice)) r.own s.own
+  -- so it is with its storage
+  pub storage : StorageChangesAt (λ k. Any (IsStorageCause slot r k) (labels w choice)) r.storage s.storage
+  -- and where the step is no turn of it and no answer to it, all is as it was, the bytes of its grants too
+  pub others : events slot w choice ≡ [] → s ≡ r
+
+-- of a step, whichever process is looked at
+abbrev pub EachChangeHasACause : World → Choice → Type 0
+EachChangeHasACause w choice =
+    (slot : ℕ) (r s : Record) → slice_get w.records slot ≡ Some r → slice_get (after w choice).records slot ≡ Some s
+    → ChangeHasACause w choice slot r s
+
+-- in a world what is the own of each process is whole
+abbrev pub AreWhole : World → Type 0
+AreWhole w = (slot : ℕ) (r : Record) → slice_get w.records slot ≡ Some r → IsWhole r.own
+
+-- each of some choices, in its turn, changes no byte of a process without a cause
+abbrev pub AllHaveCauses : World → List Choice → Type 0
+AllHaveCauses w choices = Throughout EachChangeHasACause w choices
+
+-- So it is with every step of a world in which the owns are whole; in any world with every turn of a process, and with
+-- all turns of a quiet stretch.
+pub record StepsHaveCauses : Type 0 where
+  pub any : (w : World) (choice : Choice) → AreWhole w → EachChangeHasACause w choice
+  pub turn : (w : World) (slot : ℕ) → EachChangeHasACause w (Run slot)
+  pub stretch : (k : ℕ) (w after : World) → IsStretch k w after → AllHaveCauses w (chosen k w)
+
+-- An answer to a process changes a byte of its own inside the buffer alone that it held for the device, and one of its
+-- storage only where what it writes covers it, if its own is whole.
+pub record AnswerHasCauses (event : Event) (r s : Record) : Type 0 where
+  pub own : ChangesAt (IsInside (buffer_for event r.own)) r.own s.own
+  pub storage : StorageChangesAt (Overwrites event r) r.storage s.storage
+
+abbrev pub AnswersHaveCauses : Type 0
+AnswersHaveCauses =
+    (settings : Settings) (event : Event) (r : Record) → ((time : ℕ) → event ≢ Turn time) → IsWhole r.own
+    → AnswerHasCauses event r (apply settings event r)
+
+-- The turn of a process changes no byte of its own without a cause in it, and no storage; whatever its record is.
+pub record TurnHasCauses (r s : Record) (told : Told) : Type 0 where
+  pub own : ChangesAt (IsDoneByTurn r s told) r.own s.own
+  pub storage : s.storage ≡ r.storage
+
+abbrev pub TurnsHaveCauses : Type 0
+TurnsHaveCauses =
+    (settings : Settings) (time : ℕ) (r : Record) →
+    let t = turned settings time r in
+    TurnHasCauses r t.after t.told

@@ -1,0 +1,38 @@
+-- A run by round robin is one run, whether its steps are made one by one or its choices first; and when it is done.
+use Rattle.std.specs.Prelude.{◌≡◌, ◌≤◌, ◌↔◌, ℕ, ◌+◌, true, false, List, [], length, slice_get, None, IfSome}
+use Rattle.tk_base.specs.declared.limits.TheConstants.{STEP_LIMIT}
+use Rattle.tk_base.specs.declared.process.Choice.{Choice}
+use Rattle.tk_base.specs.declared.process.Dev.{Dev}
+use Rattle.driver_model.specs.Alarm.{alarm_in}
+use Rattle.kernel_model.specs.Record.{Record}
+use Rattle.kernel_model.specs.World.{World, can_act, can_run}
+use Rattle.kernel_model.specs.Run.{next, round}
+use Rattle.kernel_model.specs.Choices.{are_ready, labels_of_all}
+use Rattle.kernel_model.specs.Replay.{after_all, chosen}
+
+-- the run of n steps by round robin leads where its choices lead, and tells what their steps tell
+abbrev pub OneRun : Type 0
+OneRun = (n : ℕ) (w : World) →
+    round n w ≡ record { world = after_all w (chosen n w); labels = labels_of_all w (chosen n w) }
+
+-- each of its choices is ready in its turn, within the limit of steps
+abbrev pub ChosenAreReady : Type 0
+ChosenAreReady = (n : ℕ) (w : World) → w.clock.steps + n ≤ STEP_LIMIT → are_ready w (chosen n w) ≡ true
+
+-- a process has no alarm armed, or has ended
+abbrev pub HasNoAlarm : Record → Type 0
+HasNoAlarm r = r.own.lives ≡ true → alarm_in r.own ≡ None
+
+-- Nothing is left to do: no process is ready and no device is, no bytes are still to come in, no process that lives has
+-- an alarm armed, and no write waits.
+pub record NothingIsLeft (w : World) : Type 0 where
+  pub slots : (slot : ℕ) → can_run (slice_get w.records slot) ≡ false
+  pub devices : (device : Dev) → can_act w device ≡ false
+  pub arrivals : w.devices.arrivals ≡ []
+  pub alarms : (slot : ℕ) → IfSome (slice_get w.records slot) HasNoAlarm
+  pub writes : w.devices.writes ≡ []
+
+-- on a board of at most eight processes the round robin is done, after any choices, exactly where nothing is left to do
+abbrev pub IsDoneWhereNothingIsLeft : Type 0
+IsDoneWhereNothingIsLeft = (w : World) (choices : List Choice) → length w.records ≤ 8 →
+    let v = after_all w choices in (next v ≡ None) ↔ NothingIsLeft v

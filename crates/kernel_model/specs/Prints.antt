@@ -1,0 +1,62 @@
+-- That each printed byte is one of the buffer that its process then held (TRD 104, "Read-Only Allow").
+use Rattle.std.specs.Prelude.{◌≡◌, ◌<◌, ℕ, ◌+◌, true, List, length, slice_get, slice_index, All, None, Some, IfSome, is_some}
+use Rattle.tk_base.specs.declared.access.Access.TheVariants.{Load}
+use Rattle.tk_base.specs.declared.access.Width.TheVariants.{Byte}
+use Rattle.tk_base.specs.declared.process.Choice.{Choice}
+use Rattle.grant_values.specs.declared.console.WaitingWrite.{WaitingWrite}
+use Rattle.grant_areas.specs.declared.kinds.PairKind.TheVariants.{ReadOnly}
+use Rattle.process_own.specs.Handed.{held}
+use Rattle.process_own.specs.Permission.{denied}
+use Rattle.process_own.specs.Served.{bytes_at}
+use Rattle.driver_model.specs.Console.{console, console_writes}
+use Rattle.driver_model.specs.Requests.{request_in}
+use Rattle.kernel_model.specs.Record.{Record}
+use Rattle.kernel_model.specs.Turn.{flash_of}
+use Rattle.kernel_model.specs.World.{World, Label, TurnOf, Answered, Printed, labels}
+use Rattle.kernel_model.specs.Replay.{after_all}
+use Rattle.kernel_model.specs.Wholes.{AllHaveWholeOwns}
+
+-- the read-only buffer 1 that a process holds of the console, and its bytes
+abbrev pub console_buffer : Record → ℕ × ℕ
+console_buffer r = held ReadOnly console 1 r.own
+
+abbrev pub buffer_bytes : Record → List ℕ
+buffer_bytes r = bytes_at (flash_of r) r.own (console_buffer r)
+
+-- Bytes are those of the write of a process that lives and has one waiting: byte k of them is the byte of its buffer at
+-- the offset that was taken so far, and k.
+pub record AreOfItsBuffer (bytes : List ℕ) (r : Record) : Type 0 where
+  pub lives : r.own.lives ≡ true
+  pub write : WaitingWrite
+  pub waits : request_in console_writes r.own ≡ Some write
+  pub each : (k : ℕ) → k < length bytes →
+      (write.taken + k < (console_buffer r).1)
+      × (slice_index bytes k ≡ slice_index (buffer_bytes r) (write.taken + k))
+
+-- what a step prints, it prints of the buffer that the process of that slot held before the step
+abbrev pub PrintsItsBuffer : World → Label → Type 0
+PrintsItsBuffer w (TurnOf slot time told) = Unit {0}
+PrintsItsBuffer w (Answered slot event) = Unit {0}
+PrintsItsBuffer w (Printed slot bytes) =
+    (is_some (slice_get w.records slot) ≡ true) × IfSome (slice_get w.records slot) (AreOfItsBuffer bytes)
+
+-- so it is in each step after any choices; no process that has ended prints anything
+abbrev pub PrintsAreOfBuffers : Type 0
+PrintsAreOfBuffers = (w : World) (choices : List Choice) (choice : Choice) →
+    let v = after_all w choices in All (PrintsItsBuffer v) (labels v choice)
+
+-- a process could load each of so many bytes from a place of its buffer on
+abbrev pub CouldLoad : Record → ℕ → ℕ → Type 0
+CouldLoad r from count = (k : ℕ) → k < count → denied r.own.layout Load ((console_buffer r).0 + (from + k)) Byte ≡ None
+
+-- what a step prints, the process of that slot could load where it stood before the step
+abbrev pub PrintsWhatItCouldLoad : World → Label → Type 0
+PrintsWhatItCouldLoad w (TurnOf slot time told) = Unit {0}
+PrintsWhatItCouldLoad w (Answered slot event) = Unit {0}
+PrintsWhatItCouldLoad w (Printed slot bytes) =
+    IfSome (slice_get w.records slot) (λ r. IfSome (request_in console_writes r.own) (λ write. CouldLoad r write.taken (length bytes)))
+
+-- so it is in each step after any choices, from a world in which what is the processes' own is whole
+abbrev pub PrintsCouldBeLoaded : Type 0
+PrintsCouldBeLoaded = (w : World) (choices : List Choice) (choice : Choice) → AllHaveWholeOwns w →
+    let v = after_all w choices in All (PrintsWhatItCouldLoad v) (labels v choice)

@@ -1,0 +1,34 @@
+-- That the random words which processes are told, and then those that are left, are those of before.
+use Rattle.std.specs.Prelude.{◌≡◌, ℕ, List, [], ◌∷◌, ◌++◌}
+use Rattle.std.specs.List.{flat_map}
+use Rattle.tk_base.specs.declared.process.Choice.{Choice}
+use Rattle.kernel_model.specs.Turn.{Event, Turn, Alarmed, Taken, WriteDone, Input, Word, NoWord, Stored}
+use Rattle.kernel_model.specs.World.{World, Label, TurnOf, Answered, Printed}
+use Rattle.kernel_model.specs.Choices.{labels_of_all}
+use Rattle.kernel_model.specs.Replay.{after_all}
+
+-- the random word that an answer tells, if it tells one
+abbrev pub word_in : Event → List ℕ
+word_in (Turn time) = []
+word_in (Alarmed now) = []
+word_in Taken = []
+word_in WriteDone = []
+word_in (Input bytes) = []
+word_in (Word word) = word ∷ []
+word_in NoWord = []
+word_in (Stored moved) = []
+
+abbrev pub word_told : Label → List ℕ
+word_told (TurnOf slot time told) = []
+word_told (Answered slot event) = word_in event
+word_told (Printed slot bytes) = []
+
+-- all that steps tell, in order, whichever processes they are told
+abbrev pub words_told : List Label → List ℕ
+words_told labels = flat_map word_told labels
+
+-- Whatever choices are made: the words that were left before them are those that processes were told, in that order, and
+-- then those that are left. So no word is drawn twice, and none is passed over.
+abbrev pub WordsAreDrawnInOrder : Type 0
+WordsAreDrawnInOrder = (w : World) (choices : List Choice) →
+    w.devices.words ≡ words_told (labels_of_all w choices) ++ (after_all w choices).devices.words

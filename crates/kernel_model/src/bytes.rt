@@ -1,0 +1,45 @@
+//! Laws of what changes the bytes of processes, each the contract of a function that does nothing.
+ghost use Rattle.kernel_model.specs.Accounts.{StepsAreAccountedFor};
+ghost use Rattle.kernel_model.specs.Causes.{AnswersHaveCauses, StepsHaveCauses, TurnsHaveCauses};
+
+use crate::{each_access_is_permitted, refusals_change_little};
+use driver_model::drivers_write_in_buffers;
+use process_own::only_writes_change_bytes;
+
+/// The turn of a process, whatever its record is, changes a byte below its kernel break only by a store that the turn
+/// lists and that covers it, by the flag of a yield that it tells, or as the process starts again; and nothing of its
+/// storage (Levy et al., SOSP 2017; TRD 104, "Yield", "Exit").
+pub fn turns_have_causes()
+    ensures { TurnsHaveCauses }
+{
+    only_writes_change_bytes();
+    drivers_write_in_buffers();
+}
+
+/// An answer of a device to a process changes a byte below its kernel break inside the read-write buffer alone that the
+/// process held for the device before, and one of its storage only where a request that was served writes over it; if
+/// what is the process's own is whole (TRD 104, "Read-Write Allow").
+pub fn answers_have_causes()
+    ensures { AnswersHaveCauses }
+{
+    drivers_write_in_buffers();
+}
+
+/// So each byte that a step changes of a process has its cause among the labels of the step; and where the step is no
+/// turn of the process and no answer to it, nothing of its record changes.
+pub fn steps_have_causes()
+    ensures { StepsHaveCauses }
+{
+    turns_have_causes();
+    drivers_write_in_buffers();
+}
+
+/// What each step answers for: the cause of each byte that it changes, that its accesses were permitted and its denials
+/// due, and that a refused call changes little.
+pub fn steps_are_accounted_for()
+    ensures { StepsAreAccountedFor }
+{
+    steps_have_causes();
+    each_access_is_permitted();
+    refusals_change_little();
+}
