@@ -1,42 +1,58 @@
-// Writes and reads on the console, Tock's driver 0x1. Each waits until it is done.
+// The console, Tock's driver 0x1: bytes go out on the serial line, and come in.
 
-#ifndef CONSOLE_H
-#define CONSOLE_H
+#ifndef TOCK_CONSOLE_H
+#define TOCK_CONSOLE_H
 
 #include "tock.h"
 
-enum { CONSOLE = 0x1 };
+enum { TOCK_CONSOLE = 0x1 };
 
 // The number of a command, and of the upcall that comes once it is done.
-enum console_request { CONSOLE_WRITE = 1, CONSOLE_READ = 2 };
+enum { TOCK_CONSOLE_WRITE = 1, TOCK_CONSOLE_READ = 2 };
 
 // The number of the buffer that is lent for either.
-enum { CONSOLE_BUFFER = 1 };
+enum { TOCK_CONSOLE_BUFFER = 1 };
 
-// What came of a request: whether its upcall has run, and with which arguments.
-struct completion {
-    bool is_done;
-    uint32_t arguments[3];
-};
-
-// The upcall of every request.
-static void complete(uint32_t first, uint32_t second, uint32_t third, void *application_data)
+// Writes the bytes, waits until they are out, and tells how many were written.
+static inline returncode_t libtocksync_console_write(const uint8_t *buffer, uint32_t length, int *written)
 {
-    struct completion *completion = application_data;
-    completion->is_done = true;
-    completion->arguments[0] = first;
-    completion->arguments[1] = second;
-    completion->arguments[2] = third;
+    struct tock_completion completion;
+    struct tock_request write = {TOCK_CONSOLE, TOCK_CONSOLE_WRITE, length, 0, TOCK_CONSOLE_WRITE};
+    returncode_t code = tock_await_reading(write, TOCK_CONSOLE_BUFFER, buffer, length, &completion);
+    *written = code == RETURNCODE_SUCCESS ? (int)completion.arguments[0] : 0;
+    return code;
 }
 
-// Asks for a write or a read of the buffer that was lent, and waits for its upcall. There is one for each request, so
-// none comes after this has returned. A request that is refused has none, and leaves the completion as it was.
-static inline void await_request(enum console_request request, size_t size, struct completion *completion)
+// Waits for bytes, as many as came in up to the length, and tells how many.
+static inline returncode_t libtocksync_console_read(uint8_t *buffer, uint32_t length, int *read)
 {
-    subscribe(CONSOLE, request, complete, completion);
-    if (is_success(command(CONSOLE, request, size, 0))) {
+    struct tock_completion completion;
+    struct tock_request request = {TOCK_CONSOLE, TOCK_CONSOLE_READ, length, 0, TOCK_CONSOLE_READ};
+    returncode_t code = tock_await_writing(request, TOCK_CONSOLE_BUFFER, buffer, length, &completion);
+    *read = code == RETURNCODE_SUCCESS ? (int)completion.arguments[1] : 0;
+    return code == RETURNCODE_SUCCESS ? (returncode_t)-completion.arguments[0] : code;
+}
+
+// Writes a text that ends with a zero.
+static inline returncode_t console_print(const char *text)
+{
+    uint32_t length = 0;
+    while (text[length] != 0) {
+        length++;
+    }
+    int written;
+    return libtocksync_console_write((const uint8_t *)text, length, &written);
+}
+
+// The next two leave buffer and upcall with the driver, which the next request replaces: a few calls less, for an
+// application that does nothing else with the console.
+
+static inline void console_await(uint32_t request, size_t size, struct tock_completion *completion)
+{
+    subscribe(TOCK_CONSOLE, request, tock_complete, completion);
+    if (tock_is_success(command(TOCK_CONSOLE, request, size, 0))) {
         while (!completion->is_done) {
-            yield_wait();
+            yield();
         }
     }
 }
@@ -44,18 +60,18 @@ static inline void await_request(enum console_request request, size_t size, stru
 // Returns how many bytes were written.
 static inline size_t console_write(const void *bytes, size_t size)
 {
-    struct completion completion = {0};
-    allow_read_only(CONSOLE, CONSOLE_BUFFER, bytes, size);
-    await_request(CONSOLE_WRITE, size, &completion);
+    struct tock_completion completion = {0};
+    allow_readonly(TOCK_CONSOLE, TOCK_CONSOLE_BUFFER, bytes, size);
+    console_await(TOCK_CONSOLE_WRITE, size, &completion);
     return completion.arguments[0];
 }
 
 // Returns how many bytes came in: at least one, and 0 only where nothing can be read.
 static inline size_t console_read(void *bytes, size_t size)
 {
-    struct completion completion = {0};
-    allow_read_write(CONSOLE, CONSOLE_BUFFER, bytes, size);
-    await_request(CONSOLE_READ, size, &completion);
+    struct tock_completion completion = {0};
+    allow_readwrite(TOCK_CONSOLE, TOCK_CONSOLE_BUFFER, bytes, size);
+    console_await(TOCK_CONSOLE_READ, size, &completion);
     return completion.arguments[1];
 }
 

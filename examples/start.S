@@ -4,7 +4,30 @@
         .section .start, "ax"
         .globl _start
 _start:
+#ifndef HAS_VARIABLES
         andi    sp, a3, -16             # the stack grows down from the break; C wants it at a multiple of 16
+#else
+# The stack lies lowest, so that one that grows too large is denied, and the static variables behind it, up to the
+# break. The kernel relocates nothing: all code finds them from gp, which is set by where this process's RAM begins.
+        lui     t0, %hi(stack_size)
+        addi    t0, t0, %lo(stack_size)
+        add     t1, a1, t0              # where the variables begin
+        andi    sp, t1, -16
+        mv      gp, t1                  # __global_pointer$, by application.ld
+        lla     t0, initial_values
+        lla     t2, data_end
+        j       2f
+1:      lw      t3, 0(t0)               # initialised variables get their values,
+        sw      t3, 0(t1)
+        addi    t0, t0, 4
+        addi    t1, t1, 4
+2:      bltu    t1, t2, 1b
+        lla     t2, bss_end
+        j       4f
+3:      sw      zero, 0(t1)             # and the others are cleared
+        addi    t1, t1, 4
+4:      bltu    t1, t2, 3b
+#endif
         call    main
         mv      a1, a0                  # exit-terminate, with what main returned
         li      a0, 0

@@ -11,13 +11,15 @@ from inspect import cleandoc
 
 from images import *
 
+REPOSITORY = os.path.dirname(os.path.dirname(os.path.abspath(__file__)))
+
 DIRECTORY = "a directory"
 
 
 @dataclass
 class Case:
-    """Without a file the name stands for nothing, or for a directory. A word may be text or bytes. A case that the
-    README shows has the files of the repository."""
+    """Without a file the name stands for nothing, or for a directory. A word may be text or bytes. A case that a
+    document shows has the files of the repository."""
     name: str
     shows: str
     words: list
@@ -28,12 +30,16 @@ class Case:
     is_in_readme: bool = False
     # What is written in place of a text.
     image: object = None
+    # A case on the files that stand in examples/, which no document need show.
+    is_kept: bool = False
 
     def output(self):
         return (cleandoc(self.text) + "\n").encode() if self.image is None else self.image
 
     def write_files(self, folder):
         """Puts the case's files into the folder."""
+        if self.is_kept:
+            os.symlink(os.path.join(REPOSITORY, "examples"), os.path.join(folder, "examples"))
         for name, content in (("flash", self.flash), ("script", self.script)):
             path = os.path.join(folder, name)
             if content == DIRECTORY:
@@ -75,8 +81,14 @@ def makes_none(name, shows, command, flash, text, other=None, status=8):
 
 
 def readme(name, shows, command, text):
-    """A run that the README shows, with its command and its text word for word."""
+    """A run that a document shows, with its command and its text word for word."""
     return Case(name, shows, command.split()[1:], 0, text, is_in_readme=True)
+
+
+def kept(name, shows, image, script, text, command="boot", turns=100000):
+    """A run on an image and a script of examples/, with its text word for word."""
+    words = [command, "examples/%s.bin" % image, "examples/%s.script" % script, "--turns", str(turns)]
+    return Case(name, shows, words, 0, text, flash=None, script=None, is_kept=True)
 
 
 def no_command(name, shows, *words):
@@ -1277,7 +1289,7 @@ SOAKS = [
     """),
 ]
 
-# The applications in C, and the README's other runs. Counts, times and addresses of code and stack are the compiler's:
+# The applications in C, and the documents' other runs. Counts, times and addresses of code and stack are the compiler's:
 # they were counted in the disassembly of the images as they are kept. The text of soak 1 was computed by a model of the
 # eight programs and the round robin, apart from the program.
 README = [
@@ -1408,6 +1420,97 @@ README = [
     """),
 ]
 
+# The other applications in C. Their texts were computed by a model of the kernel, the devices and the round robin,
+# apart from the program, over the disassembly of the images as they are kept.
+VICTIMS = "my secret is as it was\n" * 3
+VICTIMS_LINE = "slot 0 victim terminated 0 turns 2044 restarts 0\n"
+
+APPLICATIONS = [
+    kept("blink", "an LED goes on and off by the alarm, a tenth of a second each, and is lit at the end",
+         "blink", "empty", """
+        ==
+        slot 0 blink terminated 0 turns 330 restarts 0
+        leds 1000
+        end done steps 344 time 981
+    """),
+    kept("logger", "what is in storage outlives a restart: an application counts its starts there",
+         "logger", "empty", """
+        start 1
+        start 2
+        start 3
+        ==
+        slot 0 logger terminated 0 turns 4182 restarts 2
+        leds 0000
+        end done steps 4194 time 4182
+    """),
+    kept("random-in-c", "six random bytes, then the four that are left of the script's, and the error that says so",
+         "random", "words", """
+        443322118877
+        ccbbaa99
+        ==
+        slot 0 random terminated 1 turns 1133 restarts 0
+        leds 0000
+        end done steps 1143 time 1141
+    """),
+    kept("permissions", "a header says what its process may ask for: one lights LEDs and may not print, one the reverse",
+         "permissions", "empty", """
+        no LED for me
+        ==
+        slot 0 lamp terminated 11 turns 90 restarts 0
+        slot 1 voice terminated 0 turns 154 restarts 0
+        leds 0100
+        end done steps 247 time 251
+    """),
+    kept("trace-of-permissions-in-c", "what is not permitted is refused by that rule, as if there was no driver",
+         "permissions", "empty", command="trace", text="""
+        @7 0 call 2 00000002 00000001 00000001 00000000 = 00000080 00000001 00000001 00000000
+        @79 0 call 4 00000001 00000001 2000013c 0000000e = 00000002 0000000b 2000013c 0000000e permission
+        @89 0 call 6 00000000 0000000b 2000013c 0000000e
+        @97 1 call 2 00000002 00000001 00000002 00000000 = 00000000 0000000b 00000002 00000000 permission
+        @185 1 call 4 00000001 00000001 2000028c 0000000e = 00000082 00000000 00000000 0000000e
+        @197 1 call 1 00000001 00000001 200001a0 80000be0 = 00000082 00000000 00000000 80000be0
+        @205 1 call 2 00000001 00000001 0000000e 00000000 = 00000080 00000001 0000000e 00000000
+        @206 1 out 6e6f204c454420666f72206d650a
+        @212 1 call 0 00000001 00000001 0000000e 00000000
+        @236 1 call 1 00000001 00000001 00000000 00000000 = 00000082 200001a0 80000be0 00000000
+        @242 1 call 4 00000001 00000001 00000000 00000000 = 00000082 2000028c 0000000e 00000000
+        @250 1 call 6 00000000 00000000 0000000e 00000000
+        ==
+        slot 0 lamp terminated 11 turns 90 restarts 0
+        slot 1 voice terminated 0 turns 154 restarts 0
+        leds 0100
+        end done steps 247 time 251
+    """),
+    kept("crash", "a crash ends no other, and by the policy starts again twice, each time with fresh memory",
+         "crash", "threshold", """
+        step 1
+        step 2
+        step 1
+        step 2
+        step 1
+        step 2
+        ==
+        slot 0 crash faulted store 00000000 no-region turns 702 restarts 2
+        leds 0000
+        end done steps 720 time 708
+    """),
+    kept("victim", "an application that keeps a secret, alone", "victim", "empty",
+         VICTIMS + "==\n" + VICTIMS_LINE + """\
+leds 0000
+end done steps 2059 time 2368
+"""),
+    kept("spied", "beside a spy, whose tries are refused or denied, its text and its turns are the same",
+         "spied", "empty", "refused four times\n" + VICTIMS + "==\n" + VICTIMS_LINE + """\
+slot 1 spy faulted load 80000400 no-region turns 369 restarts 0
+leds 0000
+end done steps 2429 time 2645
+"""),
+]
+
+# What examples/tour runs, in its order.
+TOUR = ["greet", "echo-in-c", "blink", "logger", "random-in-c", "trespass", "applications-in-c", "permissions", "crash",
+        "victim", "spied"]
+
 # What the tool writes of an image is what the builder of objects makes of the changed object.
 BLINK = blink(FOOTERS)
 TWO_NAMES = app(CODE_7, name="blink", elements=[package_name_tlv("other")])
@@ -1486,4 +1589,4 @@ COMMAND_LINES = [
 ]
 
 CASES = RUNS + DENIALS + INSTRUCTIONS + CALLS + SWAPS + YIELDS + ALARMS + CONSOLES + LEDS + RANDOMS + STORAGES + SEVERAL + IMAGES + SCRIPTS + BAD_SCRIPTS + FILES + TRACES + SOAKS
-CASES += MADE + README + COMMAND_LINES
+CASES += MADE + README + APPLICATIONS + COMMAND_LINES

@@ -1,4 +1,4 @@
--- The world that a board shows. Only proofs use this.
+-- The world that a board shows: what a board is to contracts. The invariant beside it is for proofs alone.
 use Rattle.std.specs.Prelude.{◌≡◌, ◌≤◌, ◌*◌, ◌^◌, List, length, map, All}
 use Rattle.std.specs.List.{zip}
 use Rattle.tk_base.specs.declared.limits.TheConstants.{STEP_LIMIT}

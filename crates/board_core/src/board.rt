@@ -443,8 +443,8 @@ impl Board {
     /// ticks, or 4,000,000,000 steps were made; nothing has changed then. Each byte of a process that the step changes,
     /// of its block and of its storage, has its cause among the labels; each access of a turn was permitted, and each
     /// denial was due, and is shown with its address and its rule; a call that was refused changes the process's reply and
-    /// counts alone. The record of each process is the replay of its own turn, or of what the device answers it, and as
-    /// it was where the step is neither.
+    /// counts alone; what is printed was in the read-only buffer that its process then held. The record of each process is
+    /// the replay of its own turn, or of what the device answers it, and as it was where the step is neither.
     #[inline(always)]
     #[tactic(auto, unfolding(kernel_model::specs::World::may_be_made))]
     pub fn step(&mut self, choice: Choice, emit: &mut Emit) -> Result<(), NotReady>
@@ -499,8 +499,9 @@ impl Board {
         next_slot(&ready, self.present, self.used, self.slice)
     }
 
-    /// The next choice of the round robin; None exactly where no process can have a turn and no alarm is armed. It
-    /// may be made while fewer than 4,000,000,000 steps were made.
+    /// The next choice of the round robin; None exactly where no process can have a turn, no device has anything to do,
+    /// no input is still to come in, no write waits and no alarm is armed. It may be made while fewer than 4,000,000,000
+    /// steps were made.
     // Inlined, it saves 4 to 8 machine instructions a turn.
     #[inline(always)]
     pub fn next_choice(&self) -> Option<Choice>

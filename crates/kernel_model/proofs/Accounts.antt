@@ -14,6 +14,7 @@ use Rattle.kernel_model.specs.Accesses.{StepsAreGuarded}
 use Rattle.kernel_model.specs.Accounts.{IsAccountedFor, StepsAreAccountedFor}
 use Rattle.kernel_model.specs.Causes.{EachChangeHasACause, StepsHaveCauses}
 use Rattle.kernel_model.specs.Choices.{Throughout}
+use Rattle.kernel_model.specs.Prints.{PrintsAreOfBuffers}
 use Rattle.kernel_model.specs.Refused.{RefusalsChangeLittle}
 use Rattle.kernel_model.specs.Replay.{chosen}
 
@@ -38,8 +39,8 @@ follows_throughout : (P Q : World → Choice → Type 0) → ((w : World) (choic
 follows_throughout P Q each w [] all = tt
 follows_throughout P Q each w (choice ∷ choices) all = (each w choice all.0, follows_throughout P Q each (after w choice) choices all.1)
 
-pub steps_are_accounted_for : StepsHaveCauses → StepsAreGuarded → RefusalsChangeLittle → StepsAreAccountedFor
-steps_are_accounted_for causes guarded refused = record {
+pub steps_are_accounted_for : StepsHaveCauses → StepsAreGuarded → RefusalsChangeLittle → PrintsAreOfBuffers → StepsAreAccountedFor
+steps_are_accounted_for causes guarded refused prints = record {
   any = λ w choice whole. with_causes w choice (causes.any w choice whole);
   turn = λ w slot. with_causes w (Run slot) (causes.turn w slot);
   stretch = λ k w later is. follows_throughout EachChangeHasACause IsAccountedFor with_causes w (chosen k w) (causes.stretch k w later is);
@@ -47,4 +48,10 @@ steps_are_accounted_for causes guarded refused = record {
 }
   where
     with_causes : (w : World) (choice : Choice) → EachChangeHasACause w choice → IsAccountedFor w choice
-    with_causes w choice one = record { causes = one; guarded = guarded w choice; shown = step_shown w choice; refused = refused w choice }
+    with_causes w choice one = record {
+      causes = one;
+      guarded = guarded w choice;
+      shown = step_shown w choice;
+      refused = refused w choice;
+      prints = prints w [] choice;
+    }

@@ -1,5 +1,5 @@
 -- The cause of each change that a step makes of a process's bytes, among its labels.
-use Rattle.std.proofs.Common.{◌≡◌, ◌⊎◌, inl, inr, ℕ, zero, suc, ◌++◌, ◌==◌, Bool, true, false, cond, List, [], ◌∷◌, slice_get, slice_index, Option, None, Some, IfSome, refl, sym, ap, subst, ◌∙◌, arith, eqb-true, eq-eqb}
+use Rattle.std.proofs.Common.{◌≡◌, ◌⊎◌, inl, inr, ℕ, zero, suc, ◌++◌, ◌==◌, Bool, true, false, List, [], ◌∷◌, slice_get, slice_index, Option, None, Some, IfSome, refl, sym, ap, subst, ◌∙◌, arith, eqb-true, eq-eqb}
 use Rattle.std.proofs.Math.Logic.{⊎_map}
 use Rattle.std.specs.List.{Any}
 use Rattle.std.specs.Prelude.{All}
@@ -8,7 +8,6 @@ use Rattle.std.proofs.lemmas.List.Elements.{All-nil, All-cons, All-head, All-tai
 use Rattle.std.proofs.lemmas.Bool.{false≢true}
 use Rattle.tk_base.specs.declared.process.Choice.{Choice}
 use Rattle.tk_base.specs.declared.process.Choice.TheVariants.{Run, Device, Pass}
-use Rattle.tk_base.specs.declared.process.Dev.{Dev}
 use Rattle.process_own.specs.Changes.{ChangesAt, IsWhole}
 use Rattle.driver_model.specs.Bytes.{AnswersWriteInBuffers}
 use Rattle.kernel_model.specs.Record.{Record}

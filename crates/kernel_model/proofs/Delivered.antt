@@ -1,5 +1,5 @@
 -- A turn that delivers leaves the first upcall that waits in the registers.
-use Rattle.std.proofs.Common.{◌≡◌, ℕ, ◌==◌, ◌&&◌, Bool, true, false, cond, List, [], ◌∷◌, Option, None, Some, slice_get, refl, sym, ap, subst, ◌∙◌}
+use Rattle.std.proofs.Common.{◌≡◌, ℕ, ◌==◌, ◌&&◌, Bool, true, false, cond, List, [], ◌∷◌, Option, Some, slice_get, refl, sym, ap, subst, ◌∙◌}
 use Rattle.std.specs.Prelude.{All, is_none, slice_index}
 use Rattle.std.proofs.lemmas.Bool.{false≢true}
 use Rattle.std.proofs.lemmas.List.Elements.{All-nil, All-cons}
@@ -24,7 +24,7 @@ use Rattle.process_record.specs.Process.{after_call, after_turn, delivered, wait
 use Rattle.kernel_model.specs.Record.{Record, byte_at, instruction, with_effect, with_process}
 use Rattle.kernel_model.specs.declared.settings.Settings.{Settings}
 use Rattle.kernel_model.specs.Calls.{Served, by_class, failure_of, permits, refused_with, served, yield_now, yielding}
-use Rattle.kernel_model.specs.Turn.{Told, Turned, called, calls, counted, delivery, ended, made, surroundings, turn_in, turned}
+use Rattle.kernel_model.specs.Turn.{Told, Turned, calls, counted, delivery, ended, made, surroundings, turn_in, turned}
 use Rattle.kernel_model.specs.World.{World, after}
 use Rattle.kernel_model.specs.Deliveries.{before_delivery, delivers, is_yield_now, is_yielded, told_in}
 use Rattle.kernel_model.proofs.Classes.{allow_ro_in, allow_rw_in, command_in, exit_in, memop_in, of_registers, subscribe_in, yield_in}

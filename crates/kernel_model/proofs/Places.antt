@@ -5,7 +5,7 @@ use Rattle.std.proofs.lemmas.Option.{slice_get_within, slice_get-get_or}
 use Rattle.std.proofs.lemmas.List.{get_or-set_same, length-set}
 use Rattle.kernel_model.specs.Record.{Record}
 use Rattle.kernel_model.specs.Turn.{Turn, Turned, apply, turned}
-use Rattle.kernel_model.specs.World.{Answer, Deed, Stepped, World, after, after_deed, after_turn_of, carried_out, deed_of, done, is_ready, labels, passed, ran, records_after, stepped, told_to, unmade}
+use Rattle.kernel_model.specs.World.{Answer, Deed, Stepped, World, after, after_deed, after_turn_of, carried_out, deed_of, done, is_ready, passed, ran, records_after, stepped, told_to, unmade}
 use Rattle.kernel_model.specs.Laws.{answer_of}
 use Rattle.tk_base.specs.declared.process.Choice.{Choice}
 use Rattle.tk_base.specs.declared.process.Choice.TheVariants.{Run, Device, Pass}

@@ -22,7 +22,7 @@ use Rattle.kernel_model.specs.Record.{Record, byte_at, instruction, with_effect}
 use Rattle.kernel_model.specs.declared.settings.Settings.{Settings}
 use Rattle.kernel_model.specs.Calls.{Served, failure_of, refused_with, served}
 use Rattle.kernel_model.specs.Turn.{Turned, calls, counted, delivery, ended, surroundings, turn_in, turned}
-use Rattle.kernel_model.specs.World.{Devices, Stepped, World, after_turn_of, carried_out, deed_of, ran, routed}
+use Rattle.kernel_model.specs.World.{Stepped, World, after_turn_of, carried_out, deed_of, ran, routed}
 use Rattle.kernel_model.specs.Laws.{RefusedChangesNothingElse}
 use Rattle.kernel_model.specs.Refused.{IfRefused, IsRefused, LeavesRefused, RefusalsChangeLittle, refusal_in}
 use Rattle.kernel_model.proofs.Labels.{done_labels}

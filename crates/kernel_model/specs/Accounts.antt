@@ -6,18 +6,21 @@ use Rattle.kernel_model.specs.World.{World, labels}
 use Rattle.kernel_model.specs.Accesses.{IsGuarded}
 use Rattle.kernel_model.specs.Causes.{AllHaveCauses, AreWhole, EachChangeHasACause}
 use Rattle.kernel_model.specs.Choices.{Throughout}
+use Rattle.kernel_model.specs.Prints.{PrintsItsBuffer}
 use Rattle.kernel_model.specs.Refused.{RefusedChangesLittle}
 use Rattle.kernel_model.specs.Replay.{chosen}
 use Rattle.kernel_model.specs.Shown.{IsShownIn, shown_by}
 use Rattle.kernel_model.specs.Stretch.{IsStretch}
 
 -- Each byte that changes of a process has its cause in what the step tells; each access of a turn was permitted, and each
--- denial was due, and is shown; a call that was refused changed nothing but its process's reply, and the counts.
+-- denial was due, and is shown; a call that was refused changed nothing but its process's reply, and the counts; what was
+-- printed was a process's own, in the buffer that it then held.
 pub record IsAccountedFor (w : World) (choice : Choice) : Type 0 where
   pub causes : EachChangeHasACause w choice
   pub guarded : IsGuarded w choice
   pub shown : All (IsShownIn (shown_by (labels w choice))) (labels w choice)
   pub refused : RefusedChangesLittle w choice
+  pub prints : All (PrintsItsBuffer w) (labels w choice)
 
 -- So it is with every step of a world in which the owns are whole; in any world with every turn of a process, with all
 -- turns of a quiet stretch, and with all choices that change no byte without a cause.

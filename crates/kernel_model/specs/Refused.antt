@@ -1,5 +1,5 @@
 -- What a refused call leaves (TRD 104, "Return Values").
-use Rattle.std.specs.Prelude.{◌≡◌, ℕ, ◌+◌, List, Option, Some, All, option_and_then, slice_get, slice_set}
+use Rattle.std.specs.Prelude.{◌≡◌, ℕ, ◌+◌, Option, Some, All, option_and_then, slice_get, slice_set}
 use Rattle.tk_base.specs.declared.call.CallRule.{CallRule}
 use Rattle.tk_base.specs.declared.process.Choice.{Choice}
 use Rattle.turn_scheduler.specs.RoundRobin.{used_after}

@@ -2,7 +2,7 @@
 ghost use Rattle.kernel_model.specs.Accounts.{StepsAreAccountedFor};
 ghost use Rattle.kernel_model.specs.Causes.{AnswersHaveCauses, StepsHaveCauses, TurnsHaveCauses};
 
-use crate::{each_access_is_permitted, refusals_change_little};
+use crate::{each_access_is_permitted, prints_are_of_buffers, refusals_change_little};
 use driver_model::drivers_write_in_buffers;
 use process_own::only_writes_change_bytes;
 
@@ -35,11 +35,12 @@ pub fn steps_have_causes()
 }
 
 /// What each step answers for: the cause of each byte that it changes, that its accesses were permitted and its denials
-/// due, and that a refused call changes little.
+/// due, that a refused call changes little, and that what it prints was in the buffer that its process then held.
 pub fn steps_are_accounted_for()
     ensures { StepsAreAccountedFor }
 {
     steps_have_causes();
     each_access_is_permitted();
     refusals_change_little();
+    prints_are_of_buffers();
 }
