@@ -45,6 +45,6 @@ xor_behind (suc n) i v h g other l e large =
 pub checksum_of_put : AStoreIsPut → ChecksumOfPut
 checksum_of_put stores h i v other within small =
     let g = put h (4 * i) Word v in
-    let l : IsLike (4 * i) (4 * i + 4) h g = put_like stores h (4 * i) v within in
+    let l : IsLike (4 * i) (4 * i + 4) h g = put_like stores h (4 * i) Word v within in
     ap (λ n. xor_of_words (n / 4) g) l.size
     ∙ xor_behind (length h / 4) i v h g other l (word_put stores h (4 * i) v within small) (omega arith)

@@ -30,7 +30,7 @@ flagged_like : AStoreIsPut → (object : List ℕ) (flags : ℕ) → 16 ≤ leng
 unfolding flagged
 flagged_like stores object flags h =
     let p = put object 8 Word flags in
-    let one : IsLike 8 16 object p = like_wider 8 12 8 16 object p (omega arith) (omega arith) (put_like stores object 8 flags (omega arith)) in
+    let one : IsLike 8 16 object p = like_wider 8 12 8 16 object p (omega arith) (omega arith) (put_like stores object 8 Word flags (omega arith)) in
     let size = one.size in
     like_join 8 16 object p (mended p) one (like_wider 12 16 8 16 p (mended p) (omega arith) (omega arith) (mended_like stores p (omega arith)))
 

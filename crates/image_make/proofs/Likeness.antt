@@ -3,7 +3,9 @@ use Rattle.std.proofs.Common.{◌≡◌, ℕ, ◌+◌, ◌-◌, ◌*◌, ◌/◌
 use Rattle.std.proofs.lemmas.Bool.Decides.{nat_tests}
 use Rattle.std.proofs.lemmas.Bool.{cases_lt}
 use Rattle.std.proofs.lemmas.List.{length-take, length-drop, get_or-take, get_or-drop, get_or_past, ext_get_or}
+use Rattle.tk_base.specs.declared.access.Width.{Width}
 use Rattle.tk_base.specs.declared.access.Width.TheVariants.{Half, Word}
+use Rattle.tk_base.specs.Access.{width_bytes}
 use Rattle.tk_base.specs.Bus.{put, byte_of}
 use Rattle.tk_base.specs.Laws.{AStoreIsPut}
 use Rattle.tbf_headers.specs.Numbers.{half, word}
@@ -74,64 +76,45 @@ like_wider a b c d xs ys low high l = record {
   above = λ k h. l.above k (omega arith);
 }
 
-outside : (at k v x : ℕ) → (k < at) ⊎ (at + 4 ≤ k) → (cond (nat_le at k && nat_lt k (at + 4)) v x) ≡ x
-outside at k v x h = grind (arith, nat_tests)
+outside : (n at k v x : ℕ) → (k < at) ⊎ (at + n ≤ k) → (cond (nat_le at k && nat_lt k (at + n)) v x) ≡ x
+outside n at k v x h = grind (arith, nat_tests)
 
-inside : (at k v x : ℕ) → at ≤ k → k < at + 4 → (cond (nat_le at k && nat_lt k (at + 4)) v x) ≡ v
-inside at k v x low high = grind (arith, nat_tests)
+inside : (n at k v x : ℕ) → at ≤ k → k < at + n → (cond (nat_le at k && nat_lt k (at + n)) v x) ≡ v
+inside n at k v x low high = grind (arith, nat_tests)
 
--- a word that is put changes its own bytes alone
-pub put_like : AStoreIsPut → (xs : List ℕ) (at v : ℕ) → at + 4 ≤ length xs → IsLike at (at + 4) xs (put xs at Word v)
-put_like stores xs at v h =
-    let law = stores xs at Word v h in
+-- a number that is put changes its own bytes alone
+pub put_like : AStoreIsPut → (xs : List ℕ) (at : ℕ) (width : Width) (v : ℕ) → at + width_bytes width ≤ length xs → IsLike at (at + width_bytes width) xs (put xs at width v)
+put_like stores xs at width v h =
+    let law = stores xs at width v h in
     record {
       size = law.length;
-      below = λ k low. law.each k ∙ outside at k _ _ (inl low);
-      above = λ k high. law.each k ∙ outside at k _ _ (inr high);
+      below = λ k low. law.each k ∙ outside (width_bytes width) at k _ _ (inl low);
+      above = λ k high. law.each k ∙ outside (width_bytes width) at k _ _ (inr high);
     }
+
+put_byte : AStoreIsPut → (xs : List ℕ) (at : ℕ) (width : Width) (v j k : ℕ) → at + width_bytes width ≤ length xs → k ≡ at + j → j < width_bytes width → slice_index (put xs at width v) k ≡ byte_of v j
+put_byte stores xs at width v j k h e small =
+    let law = stores xs at width v h in
+    law.each k ∙ inside (width_bytes width) at k _ _ (omega arith) (omega arith)
+    ∙ ap (λ i. byte_of v i) (let d : k - at ≡ j = omega arith in d)
 
 four : (v : ℕ) → v < 4294967296 → v % 256 + 256 * (v / 256 % 256) + 65536 * (v / 65536 % 256) + 16777216 * (v / 16777216 % 256) ≡ v
 four v h = omega arith
 
-put_byte : AStoreIsPut → (xs : List ℕ) (at v j k : ℕ) → at + 4 ≤ length xs → k ≡ at + j → j < 4 → slice_index (put xs at Word v) k ≡ byte_of v j
-put_byte stores xs at v j k h e small =
-    let law = stores xs at Word v h in
-    law.each k ∙ inside at k _ _ (omega arith) (omega arith) ∙ ap (λ i. byte_of v i) (let d : k - at ≡ j = omega arith in d)
-
--- it is read back
+-- a word is read back
 pub word_put : AStoreIsPut → (xs : List ℕ) (at v : ℕ) → at + 4 ≤ length xs → v < 4294967296 → word (put xs at Word v) at ≡ v
 word_put stores xs at v h small =
-    let b0 : slice_index (put xs at Word v) at ≡ v % 256 = put_byte stores xs at v 0 at h (omega arith) (omega arith) ∙ (omega arith) in
-    let b1 : slice_index (put xs at Word v) (at + 1) ≡ v / 256 % 256 = put_byte stores xs at v 1 (at + 1) h refl (omega arith) in
-    let b2 : slice_index (put xs at Word v) (at + 2) ≡ v / 65536 % 256 = put_byte stores xs at v 2 (at + 2) h refl (omega arith) in
-    let b3 : slice_index (put xs at Word v) (at + 3) ≡ v / 16777216 % 256 = put_byte stores xs at v 3 (at + 3) h refl (omega arith) in
+    let b0 : slice_index (put xs at Word v) at ≡ v % 256 = put_byte stores xs at Word v 0 at h (omega arith) (omega arith) ∙ (omega arith) in
+    let b1 : slice_index (put xs at Word v) (at + 1) ≡ v / 256 % 256 = put_byte stores xs at Word v 1 (at + 1) h refl (omega arith) in
+    let b2 : slice_index (put xs at Word v) (at + 2) ≡ v / 65536 % 256 = put_byte stores xs at Word v 2 (at + 2) h refl (omega arith) in
+    let b3 : slice_index (put xs at Word v) (at + 3) ≡ v / 16777216 % 256 = put_byte stores xs at Word v 3 (at + 3) h refl (omega arith) in
     omega (arith, four v small)
 
-outside_half : (at k v x : ℕ) → (k < at) ⊎ (at + 2 ≤ k) → (cond (nat_le at k && nat_lt k (at + 2)) v x) ≡ x
-outside_half at k v x h = grind (arith, nat_tests)
-
-inside_half : (at k v x : ℕ) → at ≤ k → k < at + 2 → (cond (nat_le at k && nat_lt k (at + 2)) v x) ≡ v
-inside_half at k v x low high = grind (arith, nat_tests)
-
--- the same of two bytes
-pub put_half_like : AStoreIsPut → (xs : List ℕ) (at v : ℕ) → at + 2 ≤ length xs → IsLike at (at + 2) xs (put xs at Half v)
-put_half_like stores xs at v h =
-    let law = stores xs at Half v h in
-    record {
-      size = law.length;
-      below = λ k low. law.each k ∙ outside_half at k _ _ (inl low);
-      above = λ k high. law.each k ∙ outside_half at k _ _ (inr high);
-    }
-
-put_half_byte : AStoreIsPut → (xs : List ℕ) (at v j k : ℕ) → at + 2 ≤ length xs → k ≡ at + j → j < 2 → slice_index (put xs at Half v) k ≡ byte_of v j
-put_half_byte stores xs at v j k h e small =
-    let law = stores xs at Half v h in
-    law.each k ∙ inside_half at k _ _ (omega arith) (omega arith) ∙ ap (λ i. byte_of v i) (let d : k - at ≡ j = omega arith in d)
-
+-- and so is a half
 pub half_put : AStoreIsPut → (xs : List ℕ) (at v : ℕ) → at + 2 ≤ length xs → v < 65536 → half (put xs at Half v) at ≡ v
 half_put stores xs at v h small =
-    let b0 : slice_index (put xs at Half v) at ≡ v % 256 = put_half_byte stores xs at v 0 at h (omega arith) (omega arith) ∙ (omega arith) in
-    let b1 : slice_index (put xs at Half v) (at + 1) ≡ v / 256 % 256 = put_half_byte stores xs at v 1 (at + 1) h refl (omega arith) in
+    let b0 : slice_index (put xs at Half v) at ≡ v % 256 = put_byte stores xs at Half v 0 at h (omega arith) (omega arith) ∙ (omega arith) in
+    let b1 : slice_index (put xs at Half v) (at + 1) ≡ v / 256 % 256 = put_byte stores xs at Half v 1 (at + 1) h refl (omega arith) in
     omega arith
 
 -- a number in a front

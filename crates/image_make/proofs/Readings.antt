@@ -4,7 +4,9 @@ use Rattle.std.proofs.lemmas.Bool.Decides.{nat_tests}
 use Rattle.std.proofs.lemmas.Bool.{cases_lt, eq-eqb, ltb-false, cond-false}
 use Rattle.std.proofs.lemmas.Nat.{xor_lt}
 use Rattle.std.proofs.lemmas.List.{length-take, get_or-take, get_or_past}
-use Rattle.tk_base.specs.declared.access.Width.TheVariants.{Half, Word}
+use Rattle.tk_base.specs.declared.access.Width.{Width}
+use Rattle.tk_base.specs.declared.access.Width.TheVariants.{Word}
+use Rattle.tk_base.specs.Access.{width_bytes}
 use Rattle.tk_base.specs.Bus.{put}
 use Rattle.tk_base.specs.Laws.{AStoreIsPut}
 use Rattle.tbf_headers.specs.declared.fault.HeaderFault.{HeaderFault}
@@ -68,12 +70,9 @@ byte_or : (t : Bool) (v w x : ℕ) → v ≡ cond t (w % 256) x → x < 256 → 
 byte_or true v w x e h = omega arith
 byte_or false v w x e h = omega arith
 
-pub put_half_bytes : AStoreIsPut → (xs : List ℕ) (at v : ℕ) → at + 2 ≤ length xs → AreBytes xs → AreBytes (put xs at Half v)
-put_half_bytes stores xs at v h bytes k = let law = stores xs at Half v h in byte_or _ _ _ _ (law.each k) (bytes k)
-
--- bytes with a word put are bytes
-pub put_bytes : AStoreIsPut → (xs : List ℕ) (at v : ℕ) → at + 4 ≤ length xs → AreBytes xs → AreBytes (put xs at Word v)
-put_bytes stores xs at v h bytes k = let law = stores xs at Word v h in byte_or _ _ _ _ (law.each k) (bytes k)
+-- bytes in which a number is put are bytes
+pub put_bytes : AStoreIsPut → (xs : List ℕ) (at : ℕ) (width : Width) (v : ℕ) → at + width_bytes width ≤ length xs → AreBytes xs → AreBytes (put xs at width v)
+put_bytes stores xs at width v h bytes k = let law = stores xs at width v h in byte_or _ _ _ _ (law.each k) (bytes k)
 
 word_below_limit : (h : List ℕ) (at : ℕ) → AreBytes h → word h at < 4294967296
 word_below_limit h at bytes =
@@ -179,13 +178,13 @@ well_like b c l w =
 
 pub mended_like : AStoreIsPut → (p : List ℕ) → 16 ≤ length p → IsLike 12 16 p (mended p)
 unfolding mended
-mended_like stores p h = put_like stores p 12 (checksum (header_of p)) h
+mended_like stores p h = put_like stores p 12 Word (checksum (header_of p)) h
 
 mended_sum : AStoreIsPut → (p : List ℕ) → 16 ≤ length p → AreBytes p → word (mended p) 12 ≡ checksum (header_of (mended p))
 unfolding mended
 mended_sum stores p h bytes =
     word_put stores p 12 (checksum (header_of p)) h (xor_below (length (header_of p) / 4) (header_of p) (take_bytes (half p 2) p bytes))
-    ∙ sym (checksum_like (header_of p) (header_of (put p 12 Word (checksum (header_of p)))) (header_like 12 p (put p 12 Word (checksum (header_of p))) (omega arith) (put_like stores p 12 (checksum (header_of p)) h)))
+    ∙ sym (checksum_like (header_of p) (header_of (put p 12 Word (checksum (header_of p)))) (header_like 12 p (put p 12 Word (checksum (header_of p))) (omega arith) (put_like stores p 12 Word (checksum (header_of p)) h)))
 
 same_flags : (p : List ℕ) → record (meaning_of p) { flags = word p 8 } ≡ meaning_of p
 unfolding meaning_of
@@ -206,6 +205,6 @@ unfolding flagged
 flags_are_read stores object flags m bytes small read =
     let s = sound_where_read object m read in
     let long : 16 ≤ length object = ltb-false _ _ s.0.well.long in
-    let like : IsLike 8 16 object (put object 8 Word flags) = like_wider 8 12 8 16 object (put object 8 Word flags) (omega arith) (omega arith) (put_like stores object 8 flags (omega arith)) in
-    mended_reading stores (put object 8 Word flags) (put_bytes stores object 8 flags (omega arith) bytes) (well_like object (put object 8 Word flags) like s.0.well)
+    let like : IsLike 8 16 object (put object 8 Word flags) = like_wider 8 12 8 16 object (put object 8 Word flags) (omega arith) (omega arith) (put_like stores object 8 Word flags (omega arith)) in
+    mended_reading stores (put object 8 Word flags) (put_bytes stores object 8 Word flags (omega arith) bytes) (well_like object (put object 8 Word flags) like s.0.well)
     ∙ ap Ok (meaning_like object (put object 8 Word flags) like ∙ ap (λ (f : ℕ). record (meaning_of object) { flags = f }) (word_put stores object 8 flags (omega arith) small) ∙ ap (λ (w : Meaning). record w { flags = flags }) s.1)

@@ -15,9 +15,9 @@ use Rattle.tbf_headers.proofs.Places.{places_from-suc, places_from-end, find_pas
 use Rattle.image_make.specs.Edits.{replaced, padded, name_place, renamed}
 use Rattle.image_make.specs.Laws.{AreBytes, NamesAreRead}
 use Rattle.image_make.specs.Outcomes.{IsNamePlace}
-use Rattle.image_make.proofs.Likeness.{IsLike, half_above, half_below, word_below, range_above, range_below, take_like, like_join, like_wider, put_half_like, half_put, half_take, range_take}
+use Rattle.image_make.proofs.Likeness.{IsLike, half_above, half_below, word_below, range_above, range_below, take_like, like_join, like_wider, put_like, half_put, half_take, range_take}
 use Rattle.image_make.proofs.Headers.{option_map_same, find_from, find_like, is_bad_like}
-use Rattle.image_make.proofs.Readings.{IsWell, sized, sizes_same, sound_where_read, mended_reading, meaning_named, take_bytes, put_half_bytes}
+use Rattle.image_make.proofs.Readings.{IsWell, sized, sizes_same, sound_where_read, mended_reading, meaning_named, take_bytes, put_bytes}
 use Rattle.image_make.proofs.Walked.{replaced_like}
 
 -- the rest of the places holds the same in both headers, but for what stands at one place
@@ -296,7 +296,7 @@ named stores object name at bytes letters short w place same =
     let first : at + 4 + length_at h at ≤ length h = fits_from (length h) at (type_at h at) (length_at h at) (half h (at + 4)) (least_length (type_at h at)) (sym (fault_is h at) ∙ good) in
     let fits : at + 4 + rounded_up (length_at (header_of object) at) ≤ length (header_of object) = (let a = where_.aligned in let b = s.aligned in omega arith) in
     let lp = length_padded name in
-    let one : IsLike (at + 2) (at + 4) object p = like_wider (at + 2) (at + 2 + 2) (at + 2) (at + 4) object p (omega arith) (omega arith) (put_half_like stores object (at + 2) (length name) (omega arith)) in
+    let one : IsLike (at + 2) (at + 4) object p = like_wider (at + 2) (at + 2 + 2) (at + 2) (at + 4) object p (omega arith) (omega arith) (put_like stores object (at + 2) Half (length name) (omega arith)) in
     let size_p : length p ≡ length object = one.size in
     let two : IsLike (at + 4) (at + 4 + length (padded name)) p changed = replaced_like p (padded name) (at + 4) (omega arith) in
     let like : IsLike (at + 2) (at + 4 + rounded_up (length_at (header_of object) at)) object changed =
@@ -320,7 +320,7 @@ named stores object name at bytes letters short w place same =
         kind = eqb-true _ _ (find_passes (is_of 3 h) (places h) at place);
         fits = fits;
       };
-      bytes = replaced_bytes p (padded name) (at + 4) (put_half_bytes stores object (at + 2) (length name) (omega arith) bytes) (append_bytes name (replicate (rounded_up (length name) - length name) 0) letters (zero_bytes (rounded_up (length name) - length name)));
+      bytes = replaced_bytes p (padded name) (at + 4) (put_bytes stores object (at + 2) Half (length name) (omega arith) bytes) (append_bytes name (replicate (rounded_up (length name) - length name) 0) letters (zero_bytes (rounded_up (length name) - length name)));
     }
 
 named_well : (object changed name : List ℕ) (at : ℕ) → Named object changed name at → IsWell object → Kept (length (header_of object) - 16) at (header_of object) (header_of changed) 16 → length (header_of changed) ≡ length (header_of object) → IsWell changed
