@@ -1,19 +1,23 @@
 -- What a visit that fires, or stops, an alarm leaves of a process.
-use Rattle.std.proofs.Common.{◌≡◌, ℕ, Bool, true, false, cond, List, [], ◌∷◌, Option, None, Some, Result, Ok, Err, ap, sym, ◌∙◌, subst}
+use Rattle.std.proofs.Common.{◌≡◌, ℕ, Bool, true, false, cond, List, [], ◌∷◌, Option, None, Some, Result, Ok, Err, ap}
+use Rattle.std.proofs.Common.{sym, ◌∙◌, subst}
 use Rattle.tk_base.specs.declared.upcall.Counts.{Counts}
 use Rattle.grant_values.specs.declared.alarm.Alarm.{Alarm}
 use Rattle.grant_values.specs.declared.alarm.Armed.{Armed}
 use Rattle.grant_values.specs.Alarm.{alarm_of, alarm_words}
-use Rattle.process_own.specs.Own.{Own}
-use Rattle.process_own.specs.Served.{kept, scheduled, with_kept}
+use Rattle.process_model.specs.Own.{Own}
+use Rattle.process_model.specs.Served.{kept, own_scheduled, with_kept}
 use Rattle.grant_enter.specs.declared.visit.Stale.{Stale}
 use Rattle.grant_enter.specs.Seen.{Seen}
 use Rattle.grant_enter.specs.Visits.{Visits, is_stale}
-use Rattle.driver_model.specs.Alarm.{answered, armed_in, due_alarm, expiration, fired_if, if_due, with_alarm}
+use Rattle.driver_model.specs.Alarm.{alarm_driver, answered, armed_in, due_alarm, expiration, fired_if, if_due}
+use Rattle.driver_model.specs.Alarm.{with_alarm}
 
 -- what a visitor that fires leaves
 abbrev Fires : {A : Type 0} → ℕ → ℕ → (Alarm → Seen → A → Alarm → Own → Type 0) → Type 0
-Fires now expires leaves = (value : Alarm) (seen : Seen) (answer : _) (value' : Alarm) (own : Own) → leaves value seen answer value' own → (value' ≡ record { armed = None }) × (own ≡ scheduled seen.driver 0 (now ∷ expires ∷ 0 ∷ []) seen.own)
+Fires now expires leaves = (value : Alarm) (seen : Seen) (answer : _) (value' : Alarm) (own : Own)
+    → leaves value seen answer value' own
+    → (value' ≡ record { armed = None }) × (own ≡ own_scheduled seen.driver 0 (now ∷ expires ∷ 0 ∷ []) seen.own)
 
 not_stale : (b : Bool) → b ≡ true → b ≡ false → ⊥
 not_stale b e f = cc
@@ -23,18 +27,26 @@ nothing_due true alarm e = cc
 nothing_due false alarm e = cc
 
 -- where no value is kept no alarm is due
-none_kept : (now : ℕ) (own : Own) (alarm : Armed) → kept 0 own ≡ None → due_alarm now own ≡ Some alarm → ⊥
-none_kept now own alarm none due = nothing_due own.lives alarm (subst (λ (o : Option (List ℕ)). cond own.lives (if_due now (armed_in o)) None ≡ Some alarm) none due)
+none_kept : (now : ℕ) (own : Own) (alarm : Armed) → kept alarm_driver own ≡ None → due_alarm now own ≡ Some alarm → ⊥
+none_kept now own alarm none due =
+    nothing_due own.lives alarm (subst (λ (o : Option (List ℕ)). cond own.lives (if_due now (armed_in o)) None
+    ≡ Some alarm) none due)
 
-pub fires : {A : Type 0} (now expires driver life : ℕ) (counts : Counts) (flash : List ℕ) (alarm : Armed) (old new : Own) (leaves : Alarm → Seen → A → Alarm → Own → Type 0) (r : Result (Option A) Stale) → Fires now expires leaves → driver ≡ 0 → expires ≡ expiration alarm → is_stale life old ≡ false → due_alarm now old ≡ Some alarm → Visits leaves alarm_of alarm_words driver counts life flash old r new → new ≡ answered now old
+pub fires : {A : Type 0} (now expires driver life : ℕ) (counts : Counts) (flash : List ℕ) (alarm : Armed)
+    (old new : Own) (leaves : Alarm → Seen → A → Alarm → Own → Type 0) (r : Result (Option A) Stale)
+    → Fires now expires leaves → driver ≡ 0 → expires ≡ expiration alarm → is_stale life old ≡ false
+    → due_alarm now old ≡ Some alarm → Visits leaves alarm_of alarm_words driver counts life flash old r new
+    → new ≡ answered now old
 unfolding answered
-fires now expires driver life counts flash alarm old new leaves (Ok (Some answer)) says zero expires_is present due visits =
+fires now expires driver life counts flash alarm old new leaves (Ok (Some answer)) says zero expires_is present due
+    visits =
     let v = visits.1 in
     let left = says _ _ _ _ _ v.left in
     v.after
     ∙ ap (λ (d : ℕ). with_kept d (alarm_words v.value) v.own) zero
-    ∙ ap (λ (a : Alarm). with_kept 0 (alarm_words a) v.own) left.0
-    ∙ ap (with_alarm None) (left.1 ∙ ap (λ (d : ℕ). scheduled d 0 (now ∷ expires ∷ 0 ∷ []) old) zero ∙ ap (λ (e : ℕ). scheduled 0 0 (now ∷ e ∷ 0 ∷ []) old) expires_is)
+    ∙ ap (λ (a : Alarm). with_kept alarm_driver (alarm_words a) v.own) left.0
+    ∙ ap (with_alarm None) (left.1 ∙ ap (λ (d : ℕ). own_scheduled d 0 (now ∷ expires ∷ 0 ∷ []) old) zero
+    ∙ ap (λ (e : ℕ). own_scheduled alarm_driver 0 (now ∷ e ∷ 0 ∷ []) old) expires_is)
     ∙ ap (fired_if now old) (sym due)
 fires now expires driver life counts flash alarm old new leaves (Ok None) says zero expires_is present due visits =
     absurd (none_kept now old alarm (subst (λ (d : ℕ). kept d old ≡ None) zero visits.1) due)

@@ -1,20 +1,32 @@
 -- What the alarm answers (Tock's driver 0x0).
-use Rattle.std.specs.Prelude.{◌≡◌, ℕ, [], Option, None, Some, Result}
+use Rattle.std.specs.Prelude.{◌≡◌, ℕ, [], Option, None, Some, Result, Ok, Err}
 use Rattle.tk_base.specs.declared.call.CallRule.{CallRule}
-use Rattle.tk_base.specs.declared.process.ProcessId.{ProcessId}
+use Rattle.tk_base.specs.declared.process.NotReady.{NotReady}
+use Rattle.board_devices.specs.declared.answer.Answer.{Answer}
 use Rattle.syscall_abi.specs.declared.reply.Reply.{Reply}
-use Rattle.process_own.specs.Own.{Own}
+use Rattle.process_model.specs.Own.{Own}
 use Rattle.grant_enter.specs.Homes.{Homes, own_of, ChangesOnly}
 use Rattle.driver_model.specs.Commands.{Commanded}
+use Rattle.driver_model.specs.Replies.{reply_of}
 use Rattle.driver_model.specs.Alarm.{answered, due_slot}
+use Rattle.driver_requests.specs.Answers.{kinds}
 
 -- an answer and what is then the process's own, as what comes of a command; the alarm asks nothing of the board
-abbrev pub commanded : Result Reply CallRule → Own → Commanded
-commanded answer own = record { answer = answer; own = own; acts = [] }
+abbrev pub as_commanded : Result Reply CallRule → Own → Commanded
+as_commanded answer own = record { answer = answer; own = own; acts = [] }
 
--- The lowest slot whose alarm is due got its answer, and nothing else changed; or none is due, and nothing changed.
-abbrev pub Answers : ℕ → Homes → Option ProcessId → Homes → Type 0
-Answers now old None new = (due_slot now old.owns ≡ None) × (new ≡ old)
-Answers now old (Some id) new =
-    (due_slot now old.owns ≡ Some id.slot) × (id.life ≡ (own_of old id.slot).life)
-    × (own_of new id.slot ≡ answered now (own_of old id.slot)) × ChangesOnly id.slot old new
+-- The answer is the command's, as the process gets it, and so is what is then the process's own; it asks nothing of the
+-- board.
+abbrev pub AlarmReplies : Commanded → Reply × Option CallRule → Own → Type 0
+AlarmReplies command answer own = (answer ≡ reply_of command.answer) × (own ≡ command.own) × (command.acts ≡ [])
+
+-- The lowest slot whose alarm is due got its answer, and is told the tick, and nothing else changed; or none is due,
+-- and
+-- nothing changed.
+abbrev pub AlarmAnswers : ℕ → Homes → Result Answer NotReady → Homes → Type 0
+AlarmAnswers now old (Err refusal) new = (due_slot now old.owns ≡ None) × (new ≡ old)
+AlarmAnswers now old (Ok answer) new =
+    (due_slot now old.owns ≡ Some answer.to.slot) × (answer.to.life ≡ (own_of old answer.to.slot).life)
+    × (answer.kind ≡ kinds.alarmed now)
+    × (own_of new answer.to.slot ≡ answered now (own_of old answer.to.slot))
+    × ChangesOnly answer.to.slot old new

@@ -6,7 +6,7 @@ use Rattle.driver_requests.specs.Asking.{IsPresent}
 use Rattle.alarm_capsule.specs.declared.answers.Due.{Due}
 
 -- the process in a slot lives its life there, and its alarm is due
-pub record IsDue (now slot : ℕ) (home : Homes) (due : Due) : Type 0 where
+pub record AlarmIsDue (now slot : ℕ) (home : Homes) (due : Due) : Type 0 where
   pub is_slot : due.id.slot ≡ slot
   pub there : IsPresent home due.id
   pub alarm : due_alarm now (own_of home slot) ≡ Some due.alarm

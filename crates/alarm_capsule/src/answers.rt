@@ -5,14 +5,15 @@ ghost use Rattle.std.specs.Option.{option_map};
 ghost use Rattle.grant_enter.specs.Homes.{own_of, ChangesOnly};
 ghost use Rattle.driver_requests.specs.Asking.{IsPresent};
 ghost use Rattle.driver_model.specs.Alarm.{answered, due_alarm, due_slot, has_due, is_due};
-ghost use Rattle.alarm_capsule.specs.Answers.{Answers};
-ghost use Rattle.alarm_capsule.specs.Due.{IsDue};
+ghost use Rattle.alarm_capsule.specs.Answers.{AlarmAnswers};
+ghost use Rattle.alarm_capsule.specs.Due.{AlarmIsDue};
 
 use crate::commands::expiration;
 use crate::visits::{Fire, alarms};
+use board_devices::{Answer, Kind};
 use grant_enter::Home;
 use grant_values::{Alarm, Armed};
-use tk_base::{ProcessId, Slot};
+use tk_base::{NotReady, ProcessId, SLOT_COUNT, Slot};
 
 /// An alarm that is due, and whose it is.
 #[derive(Clone, Copy)]
@@ -42,7 +43,7 @@ fn due_alarm(home: &Home, id: &ProcessId, now: u32) -> Option<Armed>
 /// The alarm of the process that lives in a slot, where it is due.
 fn due_in(home: &Home, slot: Slot, now: u32) -> Option<Due>
     ensures is { is_some result ≡ has_due now (slice_get home.now.owns slot) }
-    ensures due { IfSome result (IsDue now slot home.now) }
+    ensures due { IfSome result (AlarmIsDue now slot home.now) }
 {
     let id = home.id(slot)?;
     match due_alarm(home, &id, now) {
@@ -55,9 +56,9 @@ fn due_in(home: &Home, slot: Slot, now: u32) -> Option<Due>
 #[tactic(auto, unfolding(driver_model::specs::Alarm::due_slot), using(crate::proofs::Slots::passed))]
 fn first_due(home: &Home, now: u32) -> Option<Due>
     ensures slot { option_map (λ due. due.id.slot) result ≡ due_slot now home.now.owns }
-    ensures due { IfSome result (λ due. IsDue now due.id.slot home.now due) }
+    ensures due { IfSome result (λ due. AlarmIsDue now due.id.slot home.now due) }
 {
-    for slot in 0..Slot::COUNT {
+    for slot in 0..SLOT_COUNT {
         if let Some(due) = due_in(home, Slot::new(slot), now) {
             return Some(due);
         }
@@ -67,7 +68,7 @@ fn first_due(home: &Home, now: u32) -> Option<Due>
 
 /// Fires an alarm that is due.
 fn fire(home: &mut Home, due: &Due, now: u32)
-    requires due { IsDue now due.now.id.slot home.old due.now }
+    requires due { AlarmIsDue now due.now.id.slot home.old due.now }
     requires dropped { (own_of home.old due.now.id.slot).dropped + 1 < 2 ^ 32 }
     ensures own { own_of home.new due.now.id.slot ≡ answered now (own_of home.old due.now.id.slot) }
     ensures rest { ChangesOnly due.now.id.slot home.old home.new }
@@ -79,14 +80,19 @@ fn fire(home: &mut Home, due: &Due, now: u32)
     let _ = alarms().visit(home, due.id, fire);
 }
 
-/// The alarm of the lowest slot whose alarm is due at a tick of the clock fires: it is disarmed, and upcall 0 is
-/// scheduled with that tick and its expiration. The answer is whose alarm it was; None exactly where no
-/// alarm of a process that lives is due. Nothing of another slot changes.
-pub fn answer(home: &mut Home, now: u32) -> Option<ProcessId>
+/// The alarm of the lowest slot whose alarm is due at a tick of the clock fires. The answer is whose it was, and the
+/// tick.
+#[inline(always)]
+pub(crate) fn fire_first(home: &mut Home, now: u32) -> Result<Answer, NotReady>
     requires dropped { All (λ own. own.dropped + 1 < 2 ^ 32) home.old.owns }
-    ensures { Answers now home.old result home.new }
+    ensures { AlarmAnswers now home.old result home.new }
 {
-    let due = first_due(home, now)?;
+    let Some(due) = first_due(home, now) else {
+        return Err(NotReady);
+    };
     fire(home, &due, now);
-    Some(due.id)
+    Ok(Answer {
+        to: due.id,
+        kind: Kind::Alarm(now),
+    })
 }

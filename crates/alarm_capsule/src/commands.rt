@@ -3,7 +3,7 @@ ghost use Rattle.std.specs.Prelude.{◌≡◌, ◌+◌, ◌%◌, ◌<◌, ◌^�
 ghost use Rattle.grant_enter.specs.Homes.{own_of, ChangesOnly};
 ghost use Rattle.driver_requests.specs.Asking.{IsPresent};
 ghost use Rattle.driver_model.specs.Alarm.{alarm_in, arming, command, expiration, stopping};
-ghost use Rattle.alarm_capsule.specs.Answers.{commanded};
+ghost use Rattle.alarm_capsule.specs.Answers.{as_commanded};
 
 use crate::visits::{Arm, Stop, alarms};
 use grant_enter::Home;
@@ -24,7 +24,8 @@ pub(crate) fn expiration(alarm: &Armed) -> u32
 /// Arms an alarm of a process, in place of the one before.
 fn arm(home: &mut Home, id: ProcessId, alarm: Armed) -> Result<Reply, CallRule>
     requires { IsPresent home.old id }
-    ensures answer { commanded result (own_of home.new id.slot) ≡ arming alarm (own_of home.old id.slot) }
+    ensures answer { as_commanded result (own_of home.new id.slot)
+        ≡ arming alarm (own_of home.old id.slot) }
     ensures rest { ChangesOnly id.slot home.old home.new }
 {
     let reply = Reply::SuccessU32(expiration(&alarm));
@@ -46,7 +47,7 @@ fn is_armed(home: &Home, id: &ProcessId) -> bool
 fn stop(home: &mut Home, id: ProcessId) -> Result<Reply, CallRule>
     requires { IsPresent home.old id }
     ensures answer { let own = own_of home.old id.slot in
-        commanded result (own_of home.new id.slot) ≡ stopping (alarm_in own) own }
+        as_commanded result (own_of home.new id.slot) ≡ stopping (alarm_in own) own }
     ensures rest { ChangesOnly id.slot home.old home.new }
 {
     if !is_armed(home, &id) {
@@ -56,14 +57,9 @@ fn stop(home: &mut Home, id: ProcessId) -> Result<Reply, CallRule>
     Ok(Reply::Success)
 }
 
-/// Serves a command of the process of an id to the alarm, at a tick of the clock: the reply, or the rule that
-/// refuses it. 0 asks whether the driver is there; 1 for its ticks a second, 2 for the clock; 3 stops the
-/// alarm, which is refused with [`CallRule::Nothing`] where none is armed; 5 arms it `a2` ticks from now on, and 6
-/// `a3` ticks from the reference `a2` on, with the tick of the expiration in the reply, or refused with
-/// [`CallRule::NoRoom`]. Any other number is refused with [`CallRule::NoCommand`]. Nothing of another process
-/// changes, and nothing at all where it is refused.
+/// A command of the process of an id to the alarm, at a tick of the clock: the reply, or the rule that refuses it.
 #[tactic(auto, unfolding(driver_model::specs::Alarm::command, driver_model::specs::Alarm::commands))]
-pub fn command(
+pub(crate) fn obey(
     home: &mut Home,
     now: u32,
     id: ProcessId,
@@ -72,7 +68,7 @@ pub fn command(
     a3: u32,
 ) -> Result<Reply, CallRule>
     requires { IsPresent home.old id }
-    ensures answer { commanded result (own_of home.new id.slot)
+    ensures answer { as_commanded result (own_of home.new id.slot)
         ≡ command now number a2 a3 (own_of home.old id.slot) }
     ensures rest { ChangesOnly id.slot home.old home.new }
 {

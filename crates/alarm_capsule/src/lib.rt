@@ -3,10 +3,10 @@
 #![tactic(auto)]
 
 mod answers;
+mod capsule;
 mod commands;
 mod next;
 mod visits;
 
-pub use answers::answer;
-pub use commands::command;
+pub use capsule::AlarmCapsule;
 pub use next::next_due;

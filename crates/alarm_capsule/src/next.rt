@@ -2,12 +2,12 @@
 ghost use Rattle.std.specs.Prelude.{◌≡◌, ◌<◌, false, length};
 ghost use Rattle.grant_enter.specs.Homes.{own_of};
 ghost use Rattle.driver_requests.specs.Asking.{IsPresent};
-ghost use Rattle.driver_model.specs.Alarm.{left_in, left_of, nearer, next_left, ticks_left};
+ghost use Rattle.driver_model.specs.Alarm.{ticks_left_in, ticks_left_of, nearer, next_left, ticks_left};
 
 use crate::visits::alarms;
 use grant_enter::Home;
 use grant_values::{Alarm, Armed};
-use tk_base::{ProcessId, Slot};
+use tk_base::{ProcessId, SLOT_COUNT, Slot};
 
 /// How many ticks are left until an alarm becomes due: 0 where it is due.
 fn ticks_left(alarm: &Armed, now: u32) -> u32
@@ -21,7 +21,7 @@ fn ticks_left(alarm: &Armed, now: u32) -> u32
 /// The ticks that are left of the alarm of a process. None exactly where it has none armed.
 fn left_of(home: &Home, id: &ProcessId, now: u32) -> Option<u32>
     requires { IsPresent home.now id.now }
-    ensures { result ≡ left_of now (own_of home.now id.now.slot) }
+    ensures { result ≡ ticks_left_of now (own_of home.now id.now.slot) }
 {
     match alarms().peek(home, *id) {
         Ok(Some(Alarm { armed: Some(alarm) })) => Some(ticks_left(&alarm, now)),
@@ -32,7 +32,7 @@ fn left_of(home: &Home, id: &ProcessId, now: u32) -> Option<u32>
 /// The ticks that are left of the alarm of the process that lives in a slot. None exactly where none lives there,
 /// or it has none armed.
 fn left_in(home: &Home, slot: Slot, now: u32) -> Option<u32>
-    ensures { result ≡ left_in now home.now.owns slot }
+    ensures { result ≡ ticks_left_in now home.now.owns slot }
 {
     let id = home.id(slot)?;
     left_of(home, &id, now)
@@ -56,7 +56,7 @@ pub fn next_due(home: &Home, now: u32) -> Option<u32>
     ensures { result ≡ next_left now home.now.owns }
 {
     let mut least = None;
-    for slot in 0..Slot::COUNT {
+    for slot in 0..SLOT_COUNT {
         least = nearer(least, left_in(home, Slot::new(slot), now));
     }
     least

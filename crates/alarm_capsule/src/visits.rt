@@ -1,15 +1,16 @@
 //! What the alarm does with the value that a process keeps for it.
 ghost use Rattle.std.specs.Prelude.{◌≡◌};
+ghost use Rattle.driver_model.specs.Alarm.{alarm_driver};
 
 use grant_enter::{Entered, Grant, Visit, frames_join};
-use grant_values::{ALARM, Alarm, Armed};
+use grant_values::{Alarm, Armed, Driver};
 
 /// The grants that processes keep for the alarm.
 #[tactic(auto, unfolding(grant_values::specs::Drivers::counts_of, grant_values::specs::Drivers::drivers))]
 pub(crate) fn alarms() -> Grant<Alarm, 1, 0, 0>
-    ensures { result.driver ≡ 0 }
+    ensures { result.driver ≡ alarm_driver }
 {
-    Grant::of(ALARM)
+    Grant::of(Driver::Alarm.number())
 }
 
 /// Arms an alarm, in place of the one before.
@@ -63,14 +64,14 @@ pub(crate) struct Fire {
 
 impl Visit<Alarm> for Fire {
     ghost use Rattle.std.specs.Prelude.{◌≡◌, ◌+◌, ◌<◌, ◌^◌, [], ◌∷◌, None};
-    ghost use Rattle.process_own.specs.Served.{scheduled};
+    ghost use Rattle.process_model.specs.Served.{own_scheduled};
 
     type Answer = ();
 
     ghost asks = { λ fire value seen. (0 < seen.counts.upcalls) × (seen.own.dropped + 1 < 2 ^ 32) };
 
     ghost leaves = { λ fire value seen answer value' own. (value' ≡ record { armed = None })
-        × (own ≡ scheduled seen.driver 0 (fire.now ∷ fire.expiration ∷ 0 ∷ []) seen.own) };
+        × (own ≡ own_scheduled seen.driver 0 (fire.now ∷ fire.expiration ∷ 0 ∷ []) seen.own) };
 
     fn run(self, value: &mut Alarm, entered: &mut Entered<'_>) {
         value.armed = None;

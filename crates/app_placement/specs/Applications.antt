@@ -1,10 +1,11 @@
 -- What the applications of a flash image ask for, by their headers (Tock Binary Format, "Main", "Program" and
 -- "Fixed Addresses").
-use Rattle.std.specs.Prelude.{ℕ, ◌+◌, ◌==◌, Bool, true, false, if◌then◌else◌, List, filter_map, Option, Some, None, option_map, Result, Ok, Err}
+use Rattle.std.specs.Prelude.{ℕ, ◌+◌, ◌==◌, Bool, true, false, if◌then◌else◌, List, filter_map, Option, Some, None}
+use Rattle.std.specs.Prelude.{option_map, Result, Ok, Err}
 use Rattle.tk_base.specs.declared.access.TheConstants.{FLASH_START}
 use Rattle.tbf_headers.specs.declared.fault.HeaderFault.{HeaderFault}
 use Rattle.tbf_headers.specs.declared.program.Main.{Main}
-use Rattle.tbf_headers.specs.Meaning.{Meaning, reading}
+use Rattle.tbf_headers.specs.Meaning.{Meaning, header_reading}
 use Rattle.tbf_headers.specs.Addresses.{accessible_start, accessible_end_of}
 use Rattle.tbf_headers.specs.Objects.{object_at}
 use Rattle.flash_walk.specs.declared.found.Found.{Found}
@@ -33,6 +34,7 @@ abbrev pub application_in : ℕ → Result Meaning HeaderFault → Option Applic
 application_in offset (Err fault) = None
 application_in offset (Ok h) = option_map (application offset h) h.main
 
+-- whether an object is an application that can start
 abbrev pub is_app : Verdict → Bool
 is_app (Bad fault) = false
 is_app Padding = false
@@ -44,7 +46,7 @@ is_app App = true
 -- what an object that was found asks for, if it is an application
 abbrev pub application_of : List ℕ → Found → Option Application
 application_of flash f =
-    if is_app f.verdict then application_in f.offset (reading (object_at flash f.offset f.size)) else None
+    if is_app f.verdict then application_in f.offset (header_reading (object_at flash f.offset f.size)) else None
 
 -- the applications of a flash image, in the order in which they stand there
 abbrev pub applications : List ℕ → List Application

@@ -1,18 +1,19 @@
 -- Where applications are placed in RAM (Levy et al., SOSP 2017: the memory of a process is one block, with its
 -- grants at the end).
-use Rattle.std.specs.Prelude.{◌≡◌, ◌≤◌, ◌<◌, ℕ, ◌+◌, ◌*◌, ◌/◌, ◌%◌, ◌==◌, Bool, false, not, ◌||◌, nat_lt, nat_le, if◌then◌else◌, List, [], ◌∷◌, length, take, count_by, slice_index_or, Option, Some, None, option_map, Result, Ok, Err, is_ok, IfOk}
+use Rattle.std.specs.Prelude.{◌≡◌, ◌≤◌, ◌<◌, ℕ, ◌+◌, ◌*◌, ◌/◌, ◌%◌, ◌==◌, Bool, false, not, ◌||◌, nat_lt, nat_le}
+use Rattle.std.specs.Prelude.{if◌then◌else◌, List, [], ◌∷◌, length, take, count_by, slice_index_or, Option, Some, None}
+use Rattle.std.specs.Prelude.{option_map, Result, Ok, Err, is_ok, IfOk}
 use Rattle.tk_base.specs.declared.access.TheConstants.{FLASH_START, RAM_START}
-use Rattle.tk_base.specs.declared.process.TheConstants.Slot.{COUNT}
+use Rattle.tk_base.specs.declared.limits.TheConstants.{SLOT_COUNT}
 use Rattle.tk_base.specs.declared.process.PlaceFault.{PlaceFault}
 use Rattle.tk_base.specs.declared.process.PlaceFault.TheVariants.{NoSlot, FixedTaken, NoRoom}
-use Rattle.process_layout.specs.Extents.{Extents, extents_at_start}
+use Rattle.process_layout.specs.LayoutView.{LayoutView, extents_at_start}
 use Rattle.flash_walk.specs.Image.{size_at, object_bytes, verdict_of}
 use Rattle.flash_walk.specs.declared.found.Verdict.TheVariants.{App}
-use Rattle.tbf_headers.specs.Meaning.{reading}
+use Rattle.tbf_headers.specs.Meaning.{header_reading}
 use Rattle.app_placement.specs.Applications.{application_in}
 use Rattle.app_placement.specs.declared.application.Application.{Application}
 use Rattle.app_placement.specs.declared.placed.Filled.{Filled}
-use Rattle.app_placement.specs.declared.placed.Place.{Place}
 use Rattle.app_placement.specs.declared.placed.Placed.{Placed}
 
 -- the length of a block: minimum RAM and 768 bytes, rounded up to a multiple of 1024
@@ -25,28 +26,32 @@ block_start last_end None = last_end
 block_start last_end (Some fixed) = fixed
 
 -- the fixed RAM start is no multiple of 8, or lies below the last end
-abbrev pub is_taken : ℕ → Option ℕ → Bool
-is_taken last_end None = false
-is_taken last_end (Some fixed) = not (fixed % 8 == 0) || nat_lt fixed last_end
+abbrev pub is_start_taken : ℕ → Option ℕ → Bool
+is_start_taken last_end None = false
+is_start_taken last_end (Some fixed) = not (fixed % 8 == 0) || nat_lt fixed last_end
 
 -- the memory of an application whose block starts at an address, as it is at the application's start
-abbrev pub extents : Application → ℕ → Extents
+abbrev pub extents : Application → ℕ → LayoutView
 extents app start =
     extents_at_start app.flash_from app.flash_to start (start + block_length app.minimum_ram) app.minimum_ram
+
+-- where an application is placed: its slot, and the memory that it has there
+abbrev pub Place : Type 0
+Place = ℕ × LayoutView
 
 -- an application's place in so many bytes of RAM, or the first cause for which it has none
 unfoldable pub place_of : ℕ → Filled → Application → Result Place PlaceFault
 place_of ram filled app =
     let start = block_start filled.last_end app.fixed_start in
-    if nat_le COUNT filled.count then Err NoSlot
-    else (if is_taken filled.last_end app.fixed_start then Err FixedTaken
+    if nat_le SLOT_COUNT filled.count then Err NoSlot
+    else (if is_start_taken filled.last_end app.fixed_start then Err FixedTaken
     else (if nat_lt (RAM_START + ram) (start + block_length app.minimum_ram) then Err NoRoom
-    else Ok (record { slot = filled.count; layout = extents app start })))
+    else Ok (filled.count, extents app start)))
 
 -- an application that is placed takes a slot and its block; one that is not leaves all as it was
 abbrev pub filled_after : Filled → Result Place PlaceFault → Filled
 filled_after filled (Err fault) = filled
-filled_after filled (Ok place) = record { last_end = place.layout.end; count = filled.count + 1 }
+filled_after filled (Ok place) = record { last_end = place.1.end; count = filled.count + 1 }
 
 -- the places of applications, one after another
 unfoldable pub places_from : ℕ → Filled → List Application → List Placed
@@ -61,11 +66,11 @@ placements ram apps = places_from ram (record { last_end = RAM_START; count = 0 
 
 -- the block of an application that is placed lies in RAM
 abbrev pub LiesInRam : ℕ → Placed → Type 0
-LiesInRam ram p = IfOk p.place (λ q. (RAM_START ≤ q.layout.start) × (q.layout.end ≤ RAM_START + ram))
+LiesInRam ram p = IfOk p.place (λ q. (RAM_START ≤ q.1.start) × (q.1.end ≤ RAM_START + ram))
 
 -- of two that are placed the first has the lower slot, and its block ends before the other's starts
 abbrev pub LiesBefore : Placed → Placed → Type 0
-LiesBefore p q = IfOk p.place (λ a. IfOk q.place (λ b. (a.slot < b.slot) × (a.layout.end ≤ b.layout.start)))
+LiesBefore p q = IfOk p.place (λ a. IfOk q.place (λ b. (a.0 < b.0) × (a.1.end ≤ b.1.start)))
 
 -- accessible flash lies in the object of a size at an offset, and is made of whole words
 pub record IsAccessible (offset size from to : ℕ) : Type 0 where
@@ -78,23 +83,23 @@ pub record IsAccessible (offset size from to : ℕ) : Type 0 where
 -- the accessible flash of an application that is placed lies in its object, which lies in flash, below RAM
 abbrev pub LiesInFlash : List ℕ → Placed → Type 0
 LiesInFlash flash p =
-    IfOk p.place (λ q. IsAccessible p.offset (size_at flash p.offset) q.layout.flash_start q.layout.flash_end
-    × (p.offset + size_at flash p.offset ≤ length flash) × (q.layout.flash_end ≤ RAM_START))
+    IfOk p.place (λ q. IsAccessible p.offset (size_at flash p.offset) q.1.flash_start q.1.flash_end
+    × (p.offset + size_at flash p.offset ≤ length flash) × (q.1.flash_end ≤ RAM_START))
 
 -- the object at an offset is an application
 abbrev pub IsApp : List ℕ → ℕ → Type 0
-IsApp flash offset = verdict_of (FLASH_START + offset) (reading (object_bytes flash offset)) ≡ App
+IsApp flash offset = verdict_of (FLASH_START + offset) (header_reading (object_bytes flash offset)) ≡ App
 
 -- the memory that the application at an offset asks for, from its block's start on
-abbrev pub asked_extents : List ℕ → ℕ → ℕ → Option Extents
+abbrev pub asked_extents : List ℕ → ℕ → ℕ → Option LayoutView
 asked_extents flash offset start =
-    option_map (λ app. extents app start) (application_in offset (reading (object_bytes flash offset)))
+    option_map (λ app. extents app start) (application_in offset (header_reading (object_bytes flash offset)))
 
 -- the object of each is an application, and the memory of one that is placed is what its header asks for, from
 -- its block's start on
 abbrev pub IsLaidOut : List ℕ → Placed → Type 0
 IsLaidOut flash p =
-    IsApp flash p.offset × IfOk p.place (λ q. asked_extents flash p.offset q.layout.start ≡ Some q.layout)
+    IsApp flash p.offset × IfOk p.place (λ q. asked_extents flash p.offset q.1.start ≡ Some q.1)
 
 abbrev pub is_placed : Placed → Bool
 is_placed p = is_ok p.place
@@ -103,4 +108,4 @@ is_placed p = is_ok p.place
 abbrev pub AreNumbered : List Placed → Type 0
 AreNumbered places =
     (k : ℕ) (d : Placed) → k < length places
-    → IfOk (slice_index_or places k d).place (λ q. q.slot ≡ count_by is_placed (take k places))
+    → IfOk (slice_index_or places k d).place (λ q. q.0 ≡ count_by is_placed (take k places))

@@ -48,7 +48,8 @@ fn application_from(offset: u32, app: &AppHeader<'_>) -> Application
     requires whole { app.now.header.total_size % 4 ≡ 0 }
     requires app { app_verdict (FLASH_START + offset) (shown app.now.header) app.now.main ≡ App }
     ensures application { result ≡ application offset (shown app.now.header) app.now.main }
-    ensures accessible { IsAccessible offset app.now.header.total_size result.flash_from result.flash_to }
+    ensures accessible { IsAccessible offset app.now.header.total_size
+        result.flash_from result.flash_to }
 {
     let object = FLASH_START + offset;
     let from = app.accessible_start(object);

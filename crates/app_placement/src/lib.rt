@@ -7,5 +7,5 @@ mod placed;
 mod placing;
 
 pub use application::Application;
-pub use placed::{Filled, Place, Placed};
+pub use placed::{Filled, Placed};
 pub use placing::place;

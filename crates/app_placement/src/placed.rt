@@ -2,19 +2,13 @@
 use process_layout::Layout;
 use tk_base::{Addr, PlaceFault, Slot};
 
-/// The slot of an application, and where its memory lies.
-#[derive(Clone, Copy, Debug, PartialEq, Eq)]
-pub struct Place {
-    pub slot: Slot,
-    pub layout: Layout,
-}
-
 /// An application with its place, or why it has none.
 #[derive(Clone, Copy, Debug, PartialEq, Eq)]
 pub struct Placed {
     /// Where its object begins, in bytes from the start of flash.
     pub offset: u32,
-    pub place: Result<Place, PlaceFault>,
+    /// The slot, and where its memory lies.
+    pub place: Result<(Slot, Layout), PlaceFault>,
 }
 
 impl Default for Placed {

@@ -1,15 +1,18 @@
 //! Where each application is placed.
 ghost use Rattle.std.specs.Prelude.{◌≡◌, ◌+◌, ◌%◌, ◌≤◌, ◌<◌, length, count_by, All, AllPairs};
+ghost use Rattle.tk_base.specs.declared.limits.TheConstants.{SLOT_COUNT};
 ghost use Rattle.flash_walk.specs.Image.{objects};
 ghost use Rattle.app_placement.specs.Applications.{applications};
-ghost use Rattle.app_placement.specs.Placement.{block_length, block_start, is_taken, place_of, filled_after, placements, LiesInRam, LiesBefore, LiesInFlash, IsLaidOut, AreNumbered, is_placed};
+ghost use Rattle.app_placement.specs.Placement.{block_length, block_start, is_start_taken, place_of, filled_after, placements, LiesInRam, LiesBefore, LiesInFlash, IsLaidOut, AreNumbered, is_placed};
 
 use crate::application::{Application, application_at};
-use crate::placed::{Filled, Place, Placed};
+use crate::placed::{Filled, Placed};
 use arrayvec::ArrayVec;
 use flash_walk::{Found, objects_are_found};
 use process_layout::Layout;
-use tk_base::{Addr, FLASH_LIMIT, PlaceFault, RAM_LIMIT, RAM_START, Slot};
+use tk_base::{
+    Addr, FLASH_LIMIT, OBJECT_LIMIT, PlaceFault, RAM_LIMIT, RAM_START, SLOT_COUNT, Slot,
+};
 
 /// The length of a block of RAM, in bytes: the minimum RAM and 768 bytes, rounded up to a multiple
 /// of 1024.
@@ -21,7 +24,7 @@ fn block_length_of(minimum_ram: u32) -> u64
 
 /// Whether a fixed RAM start is no multiple of 8, or lies below the last end.
 fn is_taken_by(last_end: Addr, fixed_start: Option<Addr>) -> bool
-    ensures { result ≡ is_taken last_end fixed_start }
+    ensures { result ≡ is_start_taken last_end fixed_start }
 {
     match fixed_start {
         None => false,
@@ -41,7 +44,7 @@ fn block_start_of(last_end: Addr, fixed_start: Option<Addr>) -> Addr
 
 /// The place of the next application, or the first cause for which it has none.
 #[tactic(auto, unfolding(crate::specs::Placement::place_of))]
-fn next_place(ram: u32, filled: &Filled, app: &Application) -> Result<Place, PlaceFault>
+fn next_place(ram: u32, filled: &Filled, app: &Application) -> Result<(Slot, Layout), PlaceFault>
     requires ram { ram ≤ RAM_LIMIT }
     requires aligned { filled.now.last_end % 4 ≡ 0 }
     requires flash { app.now.flash_from ≤ app.now.flash_to }
@@ -49,7 +52,7 @@ fn next_place(ram: u32, filled: &Filled, app: &Application) -> Result<Place, Pla
 {
     let start = block_start_of(filled.last_end, app.fixed_start);
     let end = u64::from(start) + block_length_of(app.minimum_ram);
-    if filled.count >= Slot::COUNT {
+    if filled.count >= SLOT_COUNT {
         return Err(PlaceFault::NoSlot);
     }
     if is_taken_by(filled.last_end, app.fixed_start) {
@@ -59,33 +62,32 @@ fn next_place(ram: u32, filled: &Filled, app: &Application) -> Result<Place, Pla
         return Err(PlaceFault::NoRoom);
     }
     let (from, to) = (app.flash_from, app.flash_to);
-    Ok(Place {
-        slot: Slot::new(filled.count),
-        layout: Layout::for_start(from, to, start, end as u32, app.minimum_ram),
-    })
+    let layout = Layout::for_start(from, to, start, end as u32, app.minimum_ram);
+    Ok((Slot::new(filled.count), layout))
 }
 
 /// How far RAM and the slots are filled after an application was placed or was not.
-fn next_filled(filled: &Filled, place: &Result<Place, PlaceFault>) -> Filled
-    requires { filled.now.count ≤ Slot.COUNT }
+fn next_filled(filled: &Filled, place: &Result<(Slot, Layout), PlaceFault>) -> Filled
+    requires { filled.now.count ≤ SLOT_COUNT }
     ensures { result ≡ filled_after filled.now place.now }
 {
     match place {
         Err(_) => *filled,
         Ok(place) => Filled {
-            last_end: place.layout.end,
+            last_end: place.1.end,
             count: filled.count + 1,
         },
     }
 }
 
 /// Places the applications of a flash image in RAM of this size, in bytes, in the order in which
-/// they stand in flash (Levy et al., SOSP 2017: each process has one block of RAM). `found` is what the walk over the flash image finds.
+/// they stand in flash (Levy et al., SOSP 2017: each process has one block of RAM). `found` is what
+/// the walk over the flash image finds.
 ///
-/// An application is not placed where eight are placed already; where it is linked for a RAM
+/// An application is not placed where each slot is taken already; where it is linked for a RAM
 /// start that is no multiple of 8 or lies below the end of the last block; or where its block
 /// would pass the end of RAM. The first of these causes is told. It then takes no slot and no RAM.
-pub fn place(found: &[Found], flash: &[u8], ram: u32) -> ArrayVec<Placed, 64>
+pub fn place(found: &[Found], flash: &[u8], ram: u32) -> ArrayVec<Placed, OBJECT_LIMIT>
     requires found { found.now ≡ objects flash.now }
     requires flash { length flash.now ≤ FLASH_LIMIT }
     requires ram { ram ≤ RAM_LIMIT }
@@ -97,7 +99,7 @@ pub fn place(found: &[Found], flash: &[u8], ram: u32) -> ArrayVec<Placed, 64>
     // Each layout is the one for its object, and the slots are taken in order.
     ensures layouts { All (IsLaidOut flash.now) result.items }
     ensures slots { AreNumbered result.items }
-    ensures few { count_by is_placed result.items ≤ Slot.COUNT }
+    ensures few { count_by is_placed result.items ≤ SLOT_COUNT }
 {
     objects_are_found();
     let mut placed = ArrayVec::new();

@@ -1,72 +1,90 @@
 -- Bytes that come in, as a step of the board.
-use Rattle.std.proofs.Common.{◌≡◌, ℕ, ◌+◌, ◌<◌, ◌≤◌, Bool, true, if◌then◌else◌, List, [], ◌∷◌, drop, length, Option, None, Some, refl, sym, ap, ap₂, ◌∙◌, arith}
+use Rattle.std.proofs.Common.{◌≡◌, ℕ, ◌+◌, ◌<◌, ◌≤◌, true, List, [], ◌∷◌, drop, length, Option, None, Some, refl, sym}
+use Rattle.std.proofs.Common.{ap, ap₂, ◌∙◌, arith}
 use Rattle.std.proofs.lemmas.Bool.{false≢true}
 use Rattle.std.proofs.lemmas.List.Elements.{All-weaker}
-use Rattle.tk_base.specs.declared.limits.TheConstants.{STEP_LIMIT}
+use Rattle.tk_base.specs.declared.limits.TheConstants.{SENDING_LIMIT, STEP_LIMIT}
 use Rattle.tk_base.specs.declared.process.Choice.TheVariants.{Device}
 use Rattle.tk_base.specs.declared.process.Dev.TheVariants as dev
-use Rattle.board_devices.specs.Arriving.{is_time, with_first}
+use Rattle.board_devices.specs.Arriving.{is_time, with_first_arrived}
 use Rattle.board_devices.specs.SerialLine.{SerialLine}
-use Rattle.script_text.specs.Settings.{Event}
+use Rattle.script_text.specs.Settings.{ScriptEvent}
 use Rattle.process_record.specs.Emit.{nothing}
 use Rattle.kernel_model.specs.Shown.{shown_by}
-use Rattle.kernel_model.specs.World.{Deed, Devices, arrived, carried_out, deed_of, done}
+use Rattle.kernel_model.specs.World.{DeviceStep, Devices, arrived, carried_out, device_step_of, done}
 use Rattle.board_core.specs.declared.board.Board.TheInside.{Inside}
 use Rattle.board_core.specs.declared.drivers.Drivers.{Drivers}
 use Rattle.board_core.specs.Calm.{IsCalm}
 use Rattle.board_core.specs.Driven.{devices_of}
-use Rattle.board_core.specs.Residents.{HasLost, IsSeated}
+use Rattle.board_core.specs.Residents.{HasLost, IsResident}
 use Rattle.board_core.specs.Shows.{IsBoard, residents, world_of}
 use Rattle.board_core.proofs.Changes.{a_step_later, with_step}
 use Rattle.board_core.proofs.Turns.{rests_seated}
 
 -- some are left, where it is their time
-pub some_left : (time : ℕ) (events : List Event) → is_time time events ≡ true → 0 < length events
+pub some_left : (time : ℕ) (events : List ScriptEvent) → is_time time events ≡ true → 0 < length events
 some_left time [] e = absurd (false≢true e)
 some_left time (event ∷ events) e = omega arith
 
 -- what the serial line keeps
-line_keeps : (events : List Event) (line : SerialLine) → ((with_first events line).ticks ≡ line.ticks) × ((with_first events line).free ≡ line.free)
+line_keeps : (events : List ScriptEvent) (line : SerialLine)
+    → ((with_first_arrived events line).ticks ≡ line.ticks) × ((with_first_arrived events line).free ≡ line.free)
 line_keeps [] line = (refl, refl)
 line_keeps (event ∷ events) line = (refl, refl)
 
-arrived_deed : (d : Devices) (events : List Event) (time : ℕ) → is_time time events ≡ true → arrived d events ≡ Some (record { told = None; printed = []; devices = record d { line = with_first events d.line; arrivals = drop 1 events } })
+arrived_deed : (d : Devices) (events : List ScriptEvent) (time : ℕ) → is_time time events ≡ true
+    → arrived d events
+    ≡ Some (record {
+      told = None;
+      printed = [];
+      devices =
+          record d { line = with_first_arrived events d.line; arrivals = drop 1 events };
+    })
 arrived_deed d [] time e = absurd (false≢true e)
 arrived_deed d (event ∷ events) time e = refl
 
-module _ (b : Inside) (events : List Event) (line : SerialLine) (may : is_time b.moment.time b.drivers.arrivals ≡ true) (left : events ≡ drop 1 b.drivers.arrivals) (with : line ≡ with_first b.drivers.arrivals b.drivers.uart) where
+module _ (b : Inside) (events : List ScriptEvent) (line : SerialLine)
+    (may : is_time b.moment.time b.drivers.arrivals ≡ true) (left : events ≡ drop 1 b.drivers.arrivals)
+    (with : line ≡ with_first_arrived b.drivers.arrivals b.drivers.uart) where
   abbrev pub drivers_then : Drivers
   drivers_then = record b.drivers { arrivals = events; uart = line }
 
-  deed_is : deed_of (world_of b) dev.Event ≡ Some (record { told = None; printed = []; devices = devices_of drivers_then })
+  deed_is : device_step_of (world_of b) dev.Event
+      ≡ Some (record { told = None; printed = []; devices = devices_of drivers_then })
   deed_is =
       arrived_deed (devices_of b.drivers) b.drivers.arrivals b.moment.time may
-      ∙ ap₂ (λ (l : SerialLine) (es : List Event). Some (deed_with (record (devices_of b.drivers) { line = l; arrivals = es }))) (sym with) (sym left)
+      ∙ ap₂ (λ (l : SerialLine) (es : List ScriptEvent). Some
+      (deed_with (record (devices_of b.drivers) { line = l; arrivals = es }))) (sym with) (sym left)
     where
-      deed_with : Devices → Deed
+      deed_with : Devices → DeviceStep
       deed_with devices = record { told = None; printed = []; devices = devices }
 
   -- the world after they came in
-  pub world_arrived : with_step b (world_of b).records (devices_of drivers_then) (a_step_later b.moment) b.present b.used ≡ (carried_out (world_of b) (Device dev.Event)).after
+  pub world_arrived : with_step b (world_of b).records (devices_of drivers_then) (a_step_later b.moment) b.present
+      b.used ≡ (carried_out (world_of b) (Device dev.Event)).after
   unfolding carried_out
   world_arrived =
       let w = world_of b in
-      sym (ap (λ (o : Option Deed). (done w o).after) deed_is)
+      sym (ap (λ (o : Option DeviceStep). (done w o).after) deed_is)
 
   -- nothing is shown
   pub arrived_shown : nothing ≡ shown_by (carried_out (world_of b) (Device dev.Event)).labels
   unfolding carried_out shown_by
   arrived_shown =
       let w = world_of b in
-      sym (ap (λ (o : Option Deed). shown_by (done w o).labels) deed_is)
+      sym (ap (λ (o : Option DeviceStep). shown_by (done w o).labels) deed_is)
 
-  pub soon : b.drivers.uart.free ≤ b.moment.time + 64000 → line.free ≤ b.moment.time + 64000
+  pub soon : b.drivers.uart.free ≤ b.moment.time + SENDING_LIMIT → line.free ≤ b.moment.time + SENDING_LIMIT
   soon h = omega (arith, ap (λ (l : SerialLine). l.free) with, (line_keeps b.drivers.arrivals b.drivers.uart).1, h)
 
-  pub arrived_board : IsBoard b → (calm : ℕ) → b.moment.steps < STEP_LIMIT → IsCalm b.moment.settings.start b.moment.time calm b.home.owns drivers_then → IsBoard (record b { drivers = drivers_then; moment = a_step_later b.moment; calm = calm })
+  pub arrived_board : IsBoard b → (calm : ℕ) → b.moment.steps < STEP_LIMIT
+      → IsCalm b.moment.settings.start b.moment.time calm b.home.owns drivers_then
+      → IsBoard (record b { drivers = drivers_then; moment = a_step_later b.moment; calm = calm })
   arrived_board h calm below quiet = record {
-    seated = All-weaker (IsSeated b.home.flash b.moment.steps) (IsSeated b.home.flash (b.moment.steps + 1)) (rests_seated b.home.flash b.moment.steps) (residents b) h.seated;
-    lost = All-weaker (HasLost b.moment.steps) (HasLost (b.moment.steps + 1)) (λ o l. omega (arith, l)) b.home.owns h.lost;
+    seated = All-weaker (IsResident b.home.flash b.moment.steps) (IsResident b.home.flash (b.moment.steps + 1))
+        (rests_seated b.home.flash b.moment.steps) (residents b) h.seated;
+    lost = All-weaker (HasLost b.moment.steps) (HasLost (b.moment.steps + 1)) (λ o l. omega (arith, l)) b.home.owns
+        h.lost;
     owns = h.owns;
     few = h.few;
     guard = h.guard;
@@ -79,7 +97,12 @@ module _ (b : Inside) (events : List Event) (line : SerialLine) (may : is_time b
       leds = h.driven.leds;
       size = h.driven.size;
       slots = h.driven.slots;
-      ticks = omega (arith, ap (λ (l : SerialLine). l.ticks) with, (line_keeps b.drivers.arrivals b.drivers.uart).0, h.driven.ticks);
+      ticks = omega (
+        arith,
+        ap (λ (l : SerialLine). l.ticks) with,
+        (line_keeps b.drivers.arrivals b.drivers.uart).0,
+        h.driven.ticks,
+      );
       free = soon h.driven.free;
     };
     served = omega (arith, h.served);

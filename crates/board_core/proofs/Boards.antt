@@ -1,5 +1,7 @@
 -- What a board shows.
-use Rattle.std.proofs.Common.{◌≡◌, ℕ, zero, suc, ◌+◌, ◌-◌, ◌^◌, ◌<◌, ◌≤◌, Bool, true, false, List, [], ◌∷◌, ◌++◌, length, map, take, slice_get, slice_index_or, nat_lt, ◌&&◌, Option, None, Some, IfSome, IsTrue, refl, sym, ap, ap₂, subst, ◌∙◌, add-one, arith}
+use Rattle.std.proofs.Common.{◌≡◌, ℕ, zero, suc, ◌+◌, ◌-◌, ◌^◌, ◌<◌, ◌≤◌, Bool, true, false, List, [], ◌∷◌, ◌++◌}
+use Rattle.std.proofs.Common.{length, map, take, slice_get, slice_index_or, nat_lt, ◌&&◌, Option, None, Some, IfSome}
+use Rattle.std.proofs.Common.{IsTrue, refl, sym, ap, ap₂, subst, ◌∙◌, add-one, arith}
 use Rattle.std.specs.List.{zip}
 use Rattle.std.specs.Option.{option_map, option_or}
 use Rattle.std.proofs.lemmas.Bool.Decides.{nat_tests}
@@ -12,15 +14,15 @@ use Rattle.tk_base.specs.declared.process.Choice.TheVariants.{Run, Device, Pass}
 use Rattle.tk_base.specs.declared.process.Choice.{Choice}
 use Rattle.turn_scheduler.specs.Situation.{Situation}
 use Rattle.turn_scheduler.specs.RoundRobin.{IsNextAhead, choice, next_slot, ready_device}
-use Rattle.process_own.specs.Handed.{HoldsInPlace}
-use Rattle.process_own.specs.Own.{Own}
+use Rattle.process_model.specs.Handed.{HoldsInPlace}
+use Rattle.process_model.specs.Own.{Own}
 use Rattle.process_record.specs.Name.{name_of}
 use Rattle.kernel_calls.specs.Own.{object_in}
 use Rattle.process_record.specs.declared.process.Process.{Process}
 use Rattle.process_record.specs.declared.summary.SlotLine.{SlotLine}
 use Rattle.process_record.specs.declared.summary.Summary.{Summary}
-use Rattle.process_record.specs.declared.summary.Unplaced.{Unplaced}
-use Rattle.driver_model.specs.Leds.{bits_of}
+use Rattle.process_record.specs.Summary.{Unplaced}
+use Rattle.driver_model.specs.Leds.{led_bits}
 use Rattle.grant_enter.specs.Homes.{Homes, IsInPlace, nobody, own_of}
 use Rattle.kernel_model.specs.Record.{Record}
 use Rattle.kernel_model.specs.Turn.{may_turn}
@@ -28,20 +30,25 @@ use Rattle.kernel_model.specs.World.{World, is_ready, may_be_made, can_run}
 use Rattle.kernel_model.specs.Causes.{AreWhole}
 use Rattle.kernel_model.specs.Laws.{NextIsReady, NextLiesAhead}
 use Rattle.kernel_model.specs.Run.{next, next_time, ready_devices, ready_slots, situation_of}
-use Rattle.kernel_model.specs.Shown.{summary_of, line_of}
+use Rattle.kernel_model.specs.Shown.{summary_of, slot_line_of}
 use Rattle.board_core.specs.declared.board.Board.TheInside.{Inside}
-use Rattle.board_core.specs.Residents.{Resident, record_of, resident_turns, slot_turns, line_in}
+use Rattle.board_core.specs.Residents.{Resident, record_of, resident_turns, can_turn_in, line_in}
 use Rattle.board_core.specs.Shows.{IsBoard, world_of, residents}
 use Rattle.board_core.proofs.Records.{beside_get, reads_shown}
 use Rattle.board_core.proofs.Pairs.{zip-get, get_or-zip, length-firsts}
 
 -- each process has storage
 pub has_storage : (b : Inside) → IsBoard b → length (residents b) ≤ length b.drivers.stores.slots
-has_storage b board = omega (arith, board.few, board.driven.slots, length-firsts b.processes.items b.home.owns board.owns)
+has_storage b board =
+    omega (arith, board.few, board.driven.slots, length-firsts b.processes.items b.home.owns board.owns)
 
 -- what each process has as its own
-pub owns_shown : (flash : List ℕ) (processes : List Process) (owns : List Own) (slots : List (List ℕ)) → length owns ≡ length processes → length (zip processes owns) ≤ length slots → map (λ (r : Record). r.own) (map (record_of flash) (zip (zip processes owns) slots)) ≡ owns
-owns_shown flash processes owns slots n stored = reads_shown (λ (r : Record). r.own) (λ (r : Resident). r.1) flash (zip processes owns) slots stored (λ p. refl) ∙ seconds processes owns n
+pub owns_shown : (flash : List ℕ) (processes : List Process) (owns : List Own) (slots : List (List ℕ))
+    → length owns ≡ length processes → length (zip processes owns) ≤ length slots
+    → map (λ (r : Record). r.own) (map (record_of flash) (zip (zip processes owns) slots)) ≡ owns
+owns_shown flash processes owns slots n stored =
+    reads_shown (λ (r : Record). r.own) (λ (r : Resident). r.1) flash (zip processes owns) slots stored (λ p. refl)
+    ∙ seconds processes owns n
   where
     seconds : (ps : List Process) (os : List Own) → length os ≡ length ps → map (λ (r : Resident). r.1) (zip ps os) ≡ os
     seconds [] [] n = refl
@@ -50,82 +57,148 @@ owns_shown flash processes owns slots n stored = reads_shown (λ (r : Record). r
     seconds (p ∷ ps) (o ∷ os) n = ap (λ (xs : List Own). o ∷ xs) (seconds ps os (omega (arith, n)))
 
 -- what is the own of each process is whole, as it is in the home
-pub shown_whole : (b : Inside) → IsBoard b → ((slot : ℕ) → slot < length b.home.owns → HoldsInPlace (own_of b.home slot)) → ((slot : ℕ) → slot < length b.home.owns → IsInPlace (own_of b.home slot)) → AreWhole (world_of b)
+pub shown_whole : (b : Inside) → IsBoard b
+    → ((slot : ℕ) → slot < length b.home.owns → HoldsInPlace (own_of b.home slot))
+    → ((slot : ℕ) → slot < length b.home.owns → IsInPlace (own_of b.home slot)) → AreWhole (world_of b)
 shown_whole b board holds lies slot r is =
     let there : slice_get b.home.owns slot ≡ Some r.own
-    = ap (λ (owns : List Own). slice_get owns slot) (sym (owns_shown b.home.flash b.processes.items b.home.owns b.drivers.stores.slots board.owns (has_storage b board)))
+    = ap (λ (owns : List Own). slice_get owns slot)
+    (sym (owns_shown b.home.flash b.processes.items b.home.owns b.drivers.stores.slots board.owns
+    (has_storage b board)))
     ∙ slice_get-map (λ (x : Record). x.own) (world_of b).records slot ∙ ap (option_map (λ (x : Record). x.own)) is in
     let within = slice_get_within b.home.owns slot r.own there in
     let same : own_of b.home slot ≡ r.own = get_or_from_slice_get b.home.owns slot r.own nobody there in
-    record { bytes = subst (λ (o : Own). length o.ram ≡ o.layout.kernel_break - o.layout.start) same (lies slot within).ram; buffers = subst HoldsInPlace same (holds slot within) }
+    record {
+      bytes =
+          subst (λ (o : Own). length o.ram ≡ o.layout.kernel_break - o.layout.start) same (lies slot within).ram;
+      buffers = subst HoldsInPlace same (holds slot within);
+    }
 
 -- which slots are ready
 ready_slots_shown : (b : Inside) → IsBoard b → ready_slots (world_of b) ≡ map resident_turns (residents b)
-ready_slots_shown b board = reads_shown may_turn resident_turns b.home.flash (residents b) b.drivers.stores.slots (has_storage b board) (λ p. refl)
+ready_slots_shown b board =
+    reads_shown may_turn resident_turns b.home.flash (residents b) b.drivers.stores.slots (has_storage b board)
+    (λ p. refl)
 
 -- the status of the world that a board shows
-pub status_shown : (b : Inside) (ready devices : List Bool) (nearest : Option ℕ) → IsBoard b → ready ≡ map resident_turns (residents b) → devices ≡ ready_devices (world_of b) → nearest ≡ next_time (world_of b) → ◌≡◌ {A = Situation} (record { ready = ready; devices = devices; next = nearest; time = b.moment.time; present = b.present; used = b.used; slice = b.slice }) (situation_of (world_of b))
+pub status_shown : (b : Inside) (ready devices : List Bool) (nearest : Option ℕ) → IsBoard b
+    → ready ≡ map resident_turns (residents b) → devices ≡ ready_devices (world_of b) → nearest ≡ next_time (world_of b)
+    → ◌≡◌ {A = Situation} (record (situation_of (world_of b)) { ready = ready; devices = devices; next = nearest })
+    (situation_of (world_of b))
 status_shown b ready devices nearest board e f g =
-    ap (λ (xs : List Bool). record { ready = xs; devices = devices; next = nearest; time = b.moment.time; present = b.present; used = b.used; slice = b.slice }) (e ∙ sym (ready_slots_shown b board))
-    ∙ ap₂ (λ (xs : List Bool) (at : Option ℕ). record { ready = ready_slots (world_of b); devices = xs; next = at; time = b.moment.time; present = b.present; used = b.used; slice = b.slice }) f g
+    let s = situation_of (world_of b) in
+    ap (λ (xs : List Bool). record s { ready = xs; devices = devices; next = nearest })
+    (e ∙ sym (ready_slots_shown b board))
+    ∙ ap₂ (λ (xs : List Bool) (at : Option ℕ). record s { devices = xs; next = at }) f g
 
 -- its summary
-pub summary_shown : (b : Inside) (lines : ArrayVec SlotLine) (unplaced : ArrayVec Unplaced) (leds : ℕ) → IsBoard b → lines.items ≡ map (line_in b.home.flash) (residents b) → unplaced.items ≡ b.unplaced.items → leds ≡ bits_of b.drivers.leds → ◌≡◌ {A = Summary} (record { slots = lines; unplaced = unplaced; leds = leds; led_count = b.moment.settings.leds; steps = b.moment.steps; time = b.moment.time }) (summary_of (world_of b))
+pub summary_shown : (b : Inside) (lines : ArrayVec SlotLine) (unplaced : ArrayVec Unplaced) (leds : ℕ) → IsBoard b
+    → lines.items ≡ map (line_in b.home.flash) (residents b) → unplaced.items ≡ b.unplaced.items
+    → leds ≡ led_bits b.drivers.leds
+    → ◌≡◌ {A = Summary} (record {
+      slots = lines;
+      unplaced = unplaced;
+      leds = leds;
+      led_count =
+          b.moment.settings.leds;
+      steps = b.moment.steps;
+      time = b.moment.time;
+    }) (summary_of (world_of b))
 unfolding summary_of
 summary_shown b lines unplaced leds board e f lit =
-    ap (λ (xs : List SlotLine). record { slots = record { items = xs }; unplaced = unplaced; leds = leds; led_count = b.moment.settings.leds; steps = b.moment.steps; time = b.moment.time }) (e ∙ sym (reads_shown line_of (line_in b.home.flash) b.home.flash (residents b) b.drivers.stores.slots (has_storage b board) (λ p. refl)))
-    ∙ ap₂ (λ (xs : List Unplaced) (bits : ℕ). record { slots = record { items = map line_of (world_of b).records }; unplaced = record { items = xs }; leds = bits; led_count = b.moment.settings.leds; steps = b.moment.steps; time = b.moment.time }) f lit
+    let s = summary_of (world_of b) in
+    ap (λ (xs : List SlotLine). record s { slots = record { items = xs }; unplaced = unplaced; leds = leds })
+    (e ∙ sym (reads_shown slot_line_of (line_in b.home.flash) b.home.flash (residents b) b.drivers.stores.slots
+    (has_storage b board) (λ p. refl)))
+    ∙ ap₂ (λ (xs : List Unplaced) (bits : ℕ). record s { unplaced = record { items = xs }; leds = bits }) f lit
 
 -- the line that was made of a slot
-pub line_is : (home : Homes) (ps : List Process) (p : Process) (slot known : ℕ) (flash name : List ℕ) (dropped : ℕ) → p ≡ slice_index_or ps slot p → name ≡ name_of (object_in flash p.object) → flash ≡ home.flash → known ≡ slot → dropped ≡ (own_of home known).dropped → record { name = record { items = name }; state = p.state; denial = p.denial; turns = p.turns; restarts = p.restarts; dropped = dropped } ≡ line_in home.flash (slice_index_or ps slot p, slice_index_or home.owns slot nobody)
+pub line_is : (home : Homes) (ps : List Process) (p : Process) (slot known : ℕ) (flash name : List ℕ) (dropped : ℕ)
+    → p ≡ slice_index_or ps slot p → name ≡ name_of (object_in flash p.object) → flash ≡ home.flash → known ≡ slot
+    → dropped ≡ (own_of home known).dropped
+    → record {
+      name = record { items = name };
+      state = p.state;
+      denial = p.denial;
+      turns = p.turns;
+      restarts =
+          p.restarts;
+      dropped = dropped;
+    }
+    ≡ line_in home.flash (slice_index_or ps slot p, slice_index_or home.owns slot nobody)
 line_is home ps p slot known flash name dropped at named here is count =
-    let title : name ≡ name_of (object_in home.flash p.object) = named ∙ ap (λ (f : List ℕ). name_of (object_in f p.object)) here in
-    let counted : dropped ≡ (slice_index_or home.owns slot nobody).dropped = count ∙ ap (λ (k : ℕ). (own_of home k).dropped) is in
-    ap (λ (n : List ℕ). record { name = record { items = n }; state = p.state; denial = p.denial; turns = p.turns; restarts = p.restarts; dropped = dropped }) title
-    ∙ ap (λ (d : ℕ). record { name = record { items = name_of (object_in home.flash p.object) }; state = p.state; denial = p.denial; turns = p.turns; restarts = p.restarts; dropped = d }) counted
+    let title : name ≡ name_of (object_in home.flash p.object) =
+    named ∙ ap (λ (f : List ℕ). name_of (object_in f p.object)) here in
+    let counted : dropped ≡ (slice_index_or home.owns slot nobody).dropped =
+    count ∙ ap (λ (k : ℕ). (own_of home k).dropped) is in
+    let line = line_in home.flash (p, slice_index_or home.owns slot nobody) in
+    ap (λ (n : List ℕ). record line { name = record { items = n }; dropped = dropped }) title
+    ∙ ap (λ (d : ℕ). record line { dropped = d }) counted
     ∙ ap (λ (q : Process). line_in home.flash (q, slice_index_or home.owns slot nobody)) at
 
 -- whether the process of a slot can have a turn, by its place
-pub turns_at : (home : Homes) (ps : List Process) (p : Process) (slot known : ℕ) (answer : Bool) → p ≡ slice_index_or ps slot p → answer ≡ resident_turns (p, own_of home known) → known ≡ slot → answer ≡ resident_turns (slice_index_or ps slot p, slice_index_or home.owns slot nobody)
-turns_at home ps p slot known answer at e is = e ∙ ap (λ (k : ℕ). resident_turns (p, own_of home k)) is ∙ ap (λ (q : Process). resident_turns (q, slice_index_or home.owns slot nobody)) at
+pub turns_at : (home : Homes) (ps : List Process) (p : Process) (slot known : ℕ) (answer : Bool)
+    → p ≡ slice_index_or ps slot p → answer ≡ resident_turns (p, own_of home known) → known ≡ slot
+    → answer ≡ resident_turns (slice_index_or ps slot p, slice_index_or home.owns slot nobody)
+turns_at home ps p slot known answer at e is =
+    e ∙ ap (λ (k : ℕ). resident_turns (p, own_of home k)) is
+    ∙ ap (λ (q : Process). resident_turns (q, slice_index_or home.owns slot nobody)) at
 
 -- one more that is read of each resident
-pub lines_more : {X : Type 0} (f : Resident → X) (ps : List Process) (owns : List Own) (i : ℕ) (d : Process) (line : X) (lines more : List X) → length owns ≡ length ps → i < length ps → line ≡ f (slice_index_or ps i d, slice_index_or owns i nobody) → lines ≡ map f (take i (zip ps owns)) → more ≡ lines ++ line ∷ [] → more ≡ map f (take (i + 1) (zip ps owns))
+pub lines_more : {X : Type 0} (f : Resident → X) (ps : List Process) (owns : List Own) (i : ℕ) (d : Process) (line : X)
+    (lines more : List X) → length owns ≡ length ps → i < length ps
+    → line ≡ f (slice_index_or ps i d, slice_index_or owns i nobody) → lines ≡ map f (take i (zip ps owns))
+    → more ≡ lines ++ line ∷ [] → more ≡ map f (take (i + 1) (zip ps owns))
 lines_more f ps owns i d line lines more n h is so pushed =
     let zs = zip ps owns in
     let p = slice_index_or ps i d in
     let read : p ≡ slice_index_or ps i p = sym (get_or_from_slice_get ps i p p (slice_get-get_or ps i d h)) in
-    let at : slice_index_or zs i (p, nobody) ≡ (p, slice_index_or owns i nobody) = get_or-zip ps owns i p nobody n ∙ ap (λ (x : Process). (x, slice_index_or owns i nobody)) (sym read) in
-    let longer : take (i + 1) zs ≡ take i zs ++ slice_index_or zs i (p, nobody) ∷ [] = ap (λ (k : ℕ). take k zs) (add-one i) ∙ take-suc zs i (p, nobody) (omega (arith, h, length-firsts ps owns n)) in
+    let at : slice_index_or zs i (p, nobody) ≡ (p, slice_index_or owns i nobody) =
+    get_or-zip ps owns i p nobody n ∙ ap (λ (x : Process). (x, slice_index_or owns i nobody)) (sym read) in
+    let longer : take (i + 1) zs ≡ take i zs ++ slice_index_or zs i (p, nobody) ∷ [] =
+    ap (λ (k : ℕ). take k zs) (add-one i) ∙ take-suc zs i (p, nobody) (omega (arith, h, length-firsts ps owns n)) in
     pushed ∙ ap (λ xs. xs ++ line ∷ []) so ∙ ap (λ x. map f (take i zs) ++ x ∷ []) (is ∙ sym (ap f at))
     ∙ sym (map-append f (take i zs) (slice_index_or zs i (p, nobody) ∷ [])) ∙ sym (ap (map f) longer)
 
 -- all of them
-pub lines_all : {X : Type 0} (f : Resident → X) (ps : List Process) (owns : List Own) (i : ℕ) (lines : List X) → length owns ≡ length ps → length ps ≤ i → lines ≡ map f (take i (zip ps owns)) → lines ≡ map f (zip ps owns)
-lines_all f ps owns i lines n h so = so ∙ ap (map f) (take_all i (zip ps owns) (omega (arith, h, length-firsts ps owns n)))
+pub lines_all : {X : Type 0} (f : Resident → X) (ps : List Process) (owns : List Own) (i : ℕ) (lines : List X)
+    → length owns ≡ length ps → length ps ≤ i → lines ≡ map f (take i (zip ps owns)) → lines ≡ map f (zip ps owns)
+lines_all f ps owns i lines n h so =
+    so ∙ ap (map f) (take_all i (zip ps owns) (omega (arith, h, length-firsts ps owns n)))
 
 -- whether a slot can run, by the residents
-pub ready_shown : (b : Inside) (slot : ℕ) → IsBoard b → is_ready (world_of b) (Run slot) ≡ (nat_lt b.moment.steps STEP_LIMIT && slot_turns (slice_get (residents b) slot))
+pub ready_shown : (b : Inside) (slot : ℕ) → IsBoard b
+    → is_ready (world_of b) (Run slot)
+    ≡ (nat_lt b.moment.steps STEP_LIMIT && can_turn_in (slice_get (residents b) slot))
 unfolding may_be_made
 ready_shown b slot board =
     let slots = b.drivers.stores.slots in
     ap (λ (c : Bool). nat_lt b.moment.steps STEP_LIMIT && c)
-    (ap can_run (slice_get-map (record_of b.home.flash) (zip (residents b) slots) slot ∙ ap (option_map (record_of b.home.flash)) (beside_get (residents b) slots slot (has_storage b board)))
+    (ap can_run (slice_get-map (record_of b.home.flash) (zip (residents b) slots) slot
+    ∙ ap (option_map (record_of b.home.flash)) (beside_get (residents b) slots slot (has_storage b board)))
     ∙ of_resident (slice_index_or slots slot []) (slice_get (residents b) slot))
   where
-    of_resident : (storage : List ℕ) (o : Option Resident) → can_run (option_map (record_of b.home.flash) (option_map (λ (r : Resident). (r, storage)) o)) ≡ slot_turns o
+    of_resident : (storage : List ℕ) (o : Option Resident)
+        → can_run (option_map (record_of b.home.flash) (option_map (λ (r : Resident). (r, storage)) o)) ≡ can_turn_in o
     of_resident storage None = refl
     of_resident storage (Some r) = refl
 
 -- the resident of a slot that was looked at
-pub slot_found : (home : Homes) (processes : List Process) (slot index : ℕ) (process : Process) → length home.owns ≡ length processes → index ≡ slot → true ≡ nat_lt index (length processes) → process ≡ slice_index_or processes index process → slice_get (zip processes home.owns) slot ≡ Some (process, own_of home slot)
+pub slot_found : (home : Homes) (processes : List Process) (slot index : ℕ) (process : Process)
+    → length home.owns ≡ length processes → index ≡ slot → true ≡ nat_lt index (length processes)
+    → process ≡ slice_index_or processes index process
+    → slice_get (zip processes home.owns) slot ≡ Some (process, own_of home slot)
 slot_found home processes slot index process n i lt e =
     let h : slot < length processes = let l : index < length processes = grind (arith, nat_tests) in omega arith in
-    let here : slice_get processes slot ≡ Some process = slice_get-get_or processes slot process h ∙ ap Some (ap (λ (k : ℕ). slice_index_or processes k process) (sym i) ∙ sym e) in
-    zip-get processes home.owns slot process (own_of home slot) here (slice_get-get_or home.owns slot nobody (omega (arith, n)))
+    let here : slice_get processes slot ≡ Some process =
+    slice_get-get_or processes slot process h
+    ∙ ap Some (ap (λ (k : ℕ). slice_index_or processes k process) (sym i) ∙ sym e) in
+    zip-get processes home.owns slot process (own_of home slot) here
+    (slice_get-get_or home.owns slot nobody (omega (arith, n)))
 
 -- and one where there is none
-pub slot_missing : (home : Homes) (processes : List Process) (slot index : ℕ) → length home.owns ≡ length processes → index ≡ slot → false ≡ nat_lt index (length processes) → slice_get (zip processes home.owns) slot ≡ None
+pub slot_missing : (home : Homes) (processes : List Process) (slot index : ℕ) → length home.owns ≡ length processes
+    → index ≡ slot → false ≡ nat_lt index (length processes) → slice_get (zip processes home.owns) slot ≡ None
 slot_missing home processes slot index n i lt =
     let h : length processes ≤ slot = let l : length processes ≤ index = grind (arith, nat_tests) in omega arith in
     past (zip processes home.owns) slot (omega (arith, h, length-firsts processes home.owns n))
@@ -135,16 +208,10 @@ slot_missing home processes slot index n i lt =
     past (x ∷ xs) zero h = absurd (omega arith)
     past (x ∷ xs) (suc k) h = past xs k (omega arith)
 
--- at the limit of steps nothing is ready
-pub limit_reached : (b : Inside) (slot : ℕ) → IsBoard b → STEP_LIMIT ≤ b.moment.steps → false ≡ is_ready (world_of b) (Run slot)
-limit_reached b slot board h = sym (ready_shown b slot board ∙ at_limit (slot_turns (slice_get (residents b) slot)))
-  where
-    at_limit : (c : Bool) → (nat_lt b.moment.steps STEP_LIMIT && c) ≡ false
-    at_limit c = grind (arith, nat_tests)
-
--- below it the process decides
-pub below_limit : (b : Inside) (slot : ℕ) → IsBoard b → b.moment.steps < STEP_LIMIT → slot_turns (slice_get (residents b) slot) ≡ is_ready (world_of b) (Run slot)
-below_limit b slot board h = sym (ready_shown b slot board ∙ under (slot_turns (slice_get (residents b) slot)))
+-- below the limit of steps the process decides
+pub below_limit : (b : Inside) (slot : ℕ) → IsBoard b → b.moment.steps < STEP_LIMIT
+    → can_turn_in (slice_get (residents b) slot) ≡ is_ready (world_of b) (Run slot)
+below_limit b slot board h = sym (ready_shown b slot board ∙ under (can_turn_in (slice_get (residents b) slot)))
   where
     under : (c : Bool) → (nat_lt b.moment.steps STEP_LIMIT && c) ≡ c
     under c = grind (arith, nat_tests)
@@ -154,39 +221,52 @@ both true c e = (refl, e)
 both false c e = cc
 
 -- a slot that is ready is one of the table's
-pub ready_within : (b : Inside) (slot : ℕ) → IsBoard b → is_ready (world_of b) (Run slot) ≡ true → (b.moment.steps < STEP_LIMIT) × (slot < length b.processes.items)
+pub ready_within : (b : Inside) (slot : ℕ) → IsBoard b → is_ready (world_of b) (Run slot) ≡ true
+    → (b.moment.steps < STEP_LIMIT) × (slot < length b.processes.items)
 ready_within b slot board e =
-    let t = both (nat_lt b.moment.steps STEP_LIMIT) (slot_turns (slice_get (residents b) slot)) (sym (ready_shown b slot board) ∙ e) in
+    let t = both (nat_lt b.moment.steps STEP_LIMIT) (can_turn_in (slice_get (residents b) slot))
+    (sym (ready_shown b slot board) ∙ e) in
     let within : slot < length (residents b) = resident (slice_get (residents b) slot) refl t.1 in
     (below t.0, omega (arith, within, length-firsts b.processes.items b.home.owns board.owns))
   where
     below : nat_lt b.moment.steps STEP_LIMIT ≡ true → b.moment.steps < STEP_LIMIT
     below h = grind (arith, nat_tests)
 
-    resident : (o : Option Resident) → slice_get (residents b) slot ≡ o → slot_turns o ≡ true → slot < length (residents b)
+    resident : (o : Option Resident) → slice_get (residents b) slot ≡ o → can_turn_in o ≡ true
+        → slot < length (residents b)
     resident None f h = cc
     resident (Some s) f h = slice_get_within (residents b) slot s f
 
 -- where no device step is ready, the slot that has the next turn is the next choice
-pub next_in_calm : (b : Inside) (ready : List Bool) (o : Option ℕ) → IsBoard b → ready ≡ map resident_turns (residents b) → ready_devices (world_of b) ≡ false ∷ false ∷ false ∷ false ∷ false ∷ false ∷ [] → o ≡ next_slot ready b.present b.used b.slice → IfSome o (λ slot. Some (Run slot) ≡ next (world_of b))
+pub next_in_calm : (b : Inside) (ready : List Bool) (o : Option ℕ) → IsBoard b
+    → ready ≡ map resident_turns (residents b)
+    → ready_devices (world_of b) ≡ false ∷ false ∷ false ∷ false ∷ false ∷ false ∷ []
+    → o ≡ next_slot ready b.present b.used b.slice → IfSome o (λ slot. Some (Run slot) ≡ next (world_of b))
 unfolding next choice ready_device
 next_in_calm b ready None board r calm is = tt
 next_in_calm b ready (Some slot) board r calm is =
     let passes : Option Choice = option_map (λ at. Pass (at - b.moment.time)) (next_time (world_of b)) in
-    sym (ap (λ (ds : List Bool). option_or (option_map Device (ready_device ds)) (option_or (option_map Run (next_slot (ready_slots (world_of b)) b.present b.used b.slice)) passes)) calm
-    ∙ ap (λ (xs : List Bool). option_or (option_map Run (next_slot xs b.present b.used b.slice)) passes) (ready_slots_shown b board ∙ sym r)
+    sym (ap (λ (ds : List Bool). option_or (option_map Device (ready_device ds))
+    (option_or (option_map Run (next_slot (ready_slots (world_of b)) b.present b.used b.slice)) passes)) calm
+    ∙ ap (λ (xs : List Bool). option_or (option_map Run (next_slot xs b.present b.used b.slice)) passes)
+    (ready_slots_shown b board ∙ sym r)
     ∙ ap (λ (q : Option ℕ). option_or (option_map Run q) passes) (sym is))
 
 -- and that choice may be made
-pub next_may : (w : World) (o : Option Choice) → NextIsReady → o ≡ next w → IfSome o (λ choice. w.clock.steps < STEP_LIMIT → IsTrue (is_ready w choice))
+pub next_may : (w : World) (o : Option Choice) → NextIsReady → o ≡ next w
+    → IfSome o (λ choice. w.clock.steps < STEP_LIMIT → IsTrue (is_ready w choice))
 next_may w None law e = tt
 next_may w (Some choice) law e = law w choice (sym e)
 
 -- the nearest time that a status tells lies ahead
-pub next_ahead : (s : Situation) (w : World) → s ≡ situation_of w → IfSome s.next (λ at. at - s.time < 2 ^ 32) → NextLiesAhead → IsNextAhead s
+pub next_ahead : (s : Situation) (w : World) → s ≡ situation_of w → IfSome s.next (λ at. at - s.time < 2 ^ 32)
+    → NextLiesAhead → IsNextAhead s
 next_ahead s w e near law none at is =
-    let none_ready : ready_device (ready_devices w) ≡ None = ap (λ (x : Situation). ready_device x.devices) (sym e) ∙ none in
-    let later : IfSome s.next (λ n. w.clock.time < n) = subst (λ (o : Option ℕ). IfSome o (λ n. w.clock.time < n)) (ap (λ (x : Situation). x.next) (sym e)) (law w none_ready) in
+    let none_ready : ready_device (ready_devices w) ≡ None =
+    ap (λ (x : Situation). ready_device x.devices) (sym e) ∙ none in
+    let later : IfSome s.next (λ n. w.clock.time < n) =
+    subst (λ (o : Option ℕ). IfSome o (λ n. w.clock.time < n)) (ap (λ (x : Situation). x.next) (sym e))
+    (law w none_ready) in
     let ahead : w.clock.time < at = subst (λ (o : Option ℕ). IfSome o (λ n. w.clock.time < n)) is later in
     let same : s.time ≡ w.clock.time = ap (λ (x : Situation). x.time) e in
     (omega (arith, ahead, same), subst (λ (o : Option ℕ). IfSome o (λ n. n - s.time < 2 ^ 32)) is near)

@@ -1,15 +1,17 @@
 -- What a step changes of a board: its records, its world, and what always holds of it.
-use Rattle.std.proofs.Common.{◌≡◌, ℕ, ◌+◌, ◌≤◌, List, [], length, map, slice_get, slice_set, slice_index_or, All, Option, Some, sym, ap, subst, ◌∙◌, arith}
+use Rattle.std.proofs.Common.{◌≡◌, ℕ, ◌+◌, ◌≤◌, List, [], length, map, slice_get, slice_set, slice_index_or, All}
+use Rattle.std.proofs.Common.{Option, Some, sym, ap, subst, ◌∙◌, arith}
 use Rattle.std.specs.List.{zip}
 use Rattle.std.specs.Option.{option_map}
 use Rattle.std.proofs.lemmas.List.{length-set, map-set, set-get_or}
 use Rattle.std.proofs.lemmas.List.Elements.{All-set, All-weaker}
 use Rattle.std.proofs.lemmas.Option.{slice_get-map}
+use Rattle.tk_base.specs.declared.limits.TheConstants.{SLOT_COUNT}
 use Rattle.arrayvec.specs.ArrayVec.{ArrayVec}
 use Rattle.tk_base.specs.declared.access.Denial.{Denial}
 use Rattle.tk_base.specs.declared.process.Choice.TheVariants.{Run}
 use Rattle.turn_scheduler.specs.RoundRobin.{used_after}
-use Rattle.process_own.specs.Own.{Own}
+use Rattle.process_model.specs.Own.{Own}
 use Rattle.process_record.specs.declared.emit.CallMade.{CallMade}
 use Rattle.process_record.specs.declared.emit.Emit.{Emit}
 use Rattle.process_record.specs.declared.process.Process.{Process}
@@ -23,7 +25,7 @@ use Rattle.board_core.specs.declared.drivers.Drivers.{Drivers}
 use Rattle.board_core.specs.declared.moment.Moment.{Moment}
 use Rattle.board_core.specs.declared.turn.Shown.{Shown}
 use Rattle.board_core.specs.Driven.{devices_of}
-use Rattle.board_core.specs.Residents.{Resident, record_of, id_of, ChangesAt, TurnsAt, IsSeated}
+use Rattle.board_core.specs.Residents.{Resident, record_of, id_of, ChangesSlot, TurnsAt, IsResident}
 use Rattle.board_core.specs.Settings.{pace}
 use Rattle.board_core.specs.Shows.{world_of, residents}
 use Rattle.board_core.proofs.Turns.{rests_seated_on}
@@ -36,15 +38,24 @@ abbrev pub bytes_of : List (List ℕ) → ℕ → List ℕ
 bytes_of slots slot = slice_index_or slots slot []
 
 -- the record of a slot
-pub record_found : (flash : List ℕ) (processes : List Process) (owns : List Own) (slots : List (List ℕ)) (slot : ℕ) (process : Process) (own : Own) → slice_get processes slot ≡ Some process → slice_get owns slot ≡ Some own → length (zip processes owns) ≤ length slots → slice_get (map (record_of flash) (zip (zip processes owns) slots)) slot ≡ Some (record_of flash ((process, own), bytes_of slots slot))
+pub record_found : (flash : List ℕ) (processes : List Process) (owns : List Own) (slots : List (List ℕ)) (slot : ℕ)
+    (process : Process) (own : Own) → slice_get processes slot ≡ Some process → slice_get owns slot ≡ Some own
+    → length (zip processes owns) ≤ length slots
+    → slice_get (map (record_of flash) (zip (zip processes owns) slots)) slot
+    ≡ Some (record_of flash ((process, own), bytes_of slots slot))
 record_found flash processes owns slots slot process own was own_was h =
     slice_get-map (record_of flash) (zip (zip processes owns) slots) slot
-    ∙ ap (option_map (record_of flash)) (beside_get (zip processes owns) slots slot h ∙ ap (option_map (λ (r : Resident). (r, bytes_of slots slot))) (zip-get processes owns slot process own was own_was))
+    ∙ ap (option_map (record_of flash)) (beside_get (zip processes owns) slots slot h
+    ∙ ap (option_map (λ (r : Resident). (r, bytes_of slots slot)))
+    (zip-get processes owns slot process own was own_was))
 
-module _ (i : ℕ) (home home_after : Homes) (old new : List Process) (t : ChangesAt i home home_after old new) where
+module _ (i : ℕ) (home home_after : Homes) (old new : List Process) (t : ChangesSlot i home home_after old new) where
   -- the residents after the change
   residents_after : zip new home_after.owns ≡ slice_set (zip old home.owns) i t.after
-  residents_after = ap (λ (h : Homes). zip new h.owns) t.own_is ∙ ap (λ (xs : List Process). zip xs (slice_set home.owns i t.after.1)) t.is ∙ zip-set old home.owns i t.after.0 t.after.1
+  residents_after =
+      ap (λ (h : Homes). zip new h.owns) t.own_is
+      ∙ ap (λ (xs : List Process). zip xs (slice_set home.owns i t.after.1)) t.is
+      ∙ zip-set old home.owns i t.after.0 t.after.1
 
   pub resident_was : slice_get (zip old home.owns) i ≡ Some t.before
   resident_was = zip-get old home.owns i t.before.0 t.before.1 t.was t.own_was
@@ -53,11 +64,15 @@ module _ (i : ℕ) (home home_after : Homes) (old new : List Process) (t : Chang
   flash_is = ap (λ (h : Homes). h.flash) t.own_is
 
   -- the record before it
-  pub found : (slots : List (List ℕ)) → length (zip old home.owns) ≤ length slots → slice_get (map (record_of home.flash) (zip (zip old home.owns) slots)) i ≡ Some (record_of home.flash (t.before, bytes_of slots i))
+  pub found : (slots : List (List ℕ)) → length (zip old home.owns) ≤ length slots
+      → slice_get (map (record_of home.flash) (zip (zip old home.owns) slots)) i
+      ≡ Some (record_of home.flash (t.before, bytes_of slots i))
   found slots h = record_found home.flash old home.owns slots i t.before.0 t.before.1 t.was t.own_was h
 
   -- the records after it, where those bytes are then in its storage
-  pub changed_records : (slots : List (List ℕ)) (bytes : List ℕ) → map (record_of home_after.flash) (zip (zip new home_after.owns) (slice_set slots i bytes)) ≡ slice_set (map (record_of home.flash) (zip (zip old home.owns) slots)) i (record_of home.flash (t.after, bytes))
+  pub changed_records : (slots : List (List ℕ)) (bytes : List ℕ)
+      → map (record_of home_after.flash) (zip (zip new home_after.owns) (slice_set slots i bytes))
+      ≡ slice_set (map (record_of home.flash) (zip (zip old home.owns) slots)) i (record_of home.flash (t.after, bytes))
   changed_records slots bytes =
       ap (λ (f : List ℕ). map (record_of f) (zip (zip new home_after.owns) (slice_set slots i bytes))) flash_is
       ∙ ap (λ (rs : List Resident). map (record_of home.flash) (zip rs (slice_set slots i bytes))) residents_after
@@ -65,17 +80,28 @@ module _ (i : ℕ) (home home_after : Homes) (old new : List Process) (t : Chang
       ∙ map-set (record_of home.flash) (zip (zip old home.owns) slots) i (t.after, bytes)
 
   -- and where its storage is as before
-  pub kept_records : (slots : List (List ℕ)) → map (record_of home_after.flash) (zip (zip new home_after.owns) slots) ≡ slice_set (map (record_of home.flash) (zip (zip old home.owns) slots)) i (record_of home.flash (t.after, bytes_of slots i))
-  kept_records slots = ap (λ (s : List (List ℕ)). map (record_of home_after.flash) (zip (zip new home_after.owns) s)) (sym (set-get_or slots i [])) ∙ changed_records slots (bytes_of slots i)
+  pub kept_records : (slots : List (List ℕ))
+      → map (record_of home_after.flash) (zip (zip new home_after.owns) slots)
+      ≡ slice_set (map (record_of home.flash) (zip (zip old home.owns) slots)) i
+      (record_of home.flash (t.after, bytes_of slots i))
+  kept_records slots =
+      ap (λ (s : List (List ℕ)). map (record_of home_after.flash) (zip (zip new home_after.owns) s))
+      (sym (set-get_or slots i [])) ∙ changed_records slots (bytes_of slots i)
 
   -- the processes after it, some steps later, so one step later
-  pub still_seated_on : (steps more : ℕ) → IsSeated home.flash (steps + more) t.after → All (IsSeated home.flash steps) (zip old home.owns) → All (IsSeated home_after.flash (steps + more)) (zip new home_after.owns)
+  pub still_seated_on : (steps more : ℕ) → IsResident home.flash (steps + more) t.after
+      → All (IsResident home.flash steps) (zip old home.owns)
+      → All (IsResident home_after.flash (steps + more)) (zip new home_after.owns)
   still_seated_on steps more seated h =
-      subst (λ (f : List ℕ). All (IsSeated f (steps + more)) (zip new home_after.owns)) (sym flash_is)
-      (subst (λ (xs : List Resident). All (IsSeated home.flash (steps + more)) xs) (sym residents_after)
-      (All-set (IsSeated home.flash (steps + more)) (zip old home.owns) i t.after seated (All-weaker (IsSeated home.flash steps) (IsSeated home.flash (steps + more)) (rests_seated_on home.flash steps more) (zip old home.owns) h)))
+      subst (λ (f : List ℕ). All (IsResident f (steps + more)) (zip new home_after.owns)) (sym flash_is)
+      (subst (λ (xs : List Resident). All (IsResident home.flash (steps + more)) xs) (sym residents_after)
+      (All-set (IsResident home.flash (steps + more)) (zip old home.owns) i t.after seated
+      (All-weaker (IsResident home.flash steps) (IsResident home.flash (steps + more))
+      (rests_seated_on home.flash steps more) (zip old home.owns) h)))
 
-  pub still_seated : (steps : ℕ) → IsSeated home.flash (steps + 1) t.after → All (IsSeated home.flash steps) (zip old home.owns) → All (IsSeated home_after.flash (steps + 1)) (zip new home_after.owns)
+  pub still_seated : (steps : ℕ) → IsResident home.flash (steps + 1) t.after
+      → All (IsResident home.flash steps) (zip old home.owns)
+      → All (IsResident home_after.flash (steps + 1)) (zip new home_after.owns)
   still_seated steps seated h = still_seated_on steps 1 seated h
 
   pub as_many : length old ≡ length new
@@ -85,7 +111,8 @@ module _ (i : ℕ) (home home_after : Homes) (old new : List Process) (t : Chang
   as_many_owns = ap (λ (h : Homes). length h.owns) t.own_is ∙ length-set home.owns i t.after.1
 
 -- there are no more residents than slots have storage
-pub beside : (processes : List Process) (owns : List Own) (slots : List (List ℕ)) → length owns ≡ length processes → length processes ≤ 8 → length slots ≡ 8 → length (zip processes owns) ≤ length slots
+pub beside : (processes : List Process) (owns : List Own) (slots : List (List ℕ)) → length owns ≡ length processes
+    → length processes ≤ SLOT_COUNT → length slots ≡ SLOT_COUNT → length (zip processes owns) ≤ length slots
 beside processes owns slots n few eight = omega (arith, length-firsts processes owns n, few, eight)
 
 -- the world of a board, with what a step changes
@@ -108,7 +135,9 @@ turn_later m = record m { time = m.time + 1; steps = m.steps + 1 }
 abbrev pub a_step_later : Moment → Moment
 a_step_later m = record m { steps = m.steps + 1 }
 
-module _ (b : Inside) (slot : ℕ) (home : Homes) (processes : List Process) (shown : Shown) (d : Drivers) (t : TurnsAt b.moment slot b.home home b.processes.items processes shown b.drivers d) (few : length (residents b) ≤ length b.drivers.stores.slots) where
+module _ (b : Inside) (slot : ℕ) (home : Homes) (processes : List Process) (shown : Shown) (d : Drivers)
+    (t : TurnsAt b.moment slot b.home home b.processes.items processes shown b.drivers d)
+    (few : length (residents b) ≤ length b.drivers.stores.slots) where
   -- the record before the turn, and the turn
   abbrev pub before_turn : Record
   before_turn = record_of b.home.flash (t.at.before, bytes_of b.drivers.stores.slots slot)
@@ -120,26 +149,51 @@ module _ (b : Inside) (slot : ℕ) (home : Homes) (processes : List Process) (sh
   turn_found = found slot b.home home b.processes.items processes t.at b.drivers.stores.slots few
 
   -- the world after the turn
-  pub world_after : (used : ℕ) → used ≡ used_after b.present b.used b.slice slot → with_step b (map (record_of home.flash) (zip (zip processes home.owns) d.stores.slots)) (devices_of d) (turn_later b.moment) (Some slot) used ≡ (carried_out (world_of b) (Run slot)).after
+  pub world_after : (used : ℕ) → used ≡ used_after b.present b.used b.slice slot
+      → with_step b (map (record_of home.flash) (zip (zip processes home.owns) d.stores.slots)) (devices_of d)
+      (turn_later b.moment) (Some slot) used ≡ (carried_out (world_of b) (Run slot)).after
   unfolding carried_out
   world_after used u =
       let m = turn_later b.moment in
       let does = t.turns (bytes_of b.drivers.stores.slots slot) in
-      let records : map (record_of home.flash) (zip (zip processes home.owns) d.stores.slots) ≡ slice_set (world_of b).records slot turn_made.after =
+      let records : map (record_of home.flash) (zip (zip processes home.owns) d.stores.slots)
+      ≡ slice_set (world_of b).records slot turn_made.after =
       ap (λ (s : _). map (record_of home.flash) (zip (zip processes home.owns) s.slots)) does.2.bytes
       ∙ kept_records slot b.home home b.processes.items processes t.at b.drivers.stores.slots
       ∙ ap (slice_set (world_of b).records slot) (sym does.0) in
       ap (λ (rs : List Record). with_step b rs (devices_of d) m (Some slot) used) records
-      ∙ ap (λ (ds : Devices). with_step b (slice_set (world_of b).records slot turn_made.after) ds m (Some slot) used) (drives_shown (id_of slot t.at.before.1) turn_made.acts b.drivers d does.2)
-      ∙ ap (λ (n : ℕ). with_step b (slice_set (world_of b).records slot turn_made.after) (routed slot turn_made.acts (devices_of b.drivers)) m (Some slot) n) u
+      ∙ ap (λ (ds : Devices). with_step b (slice_set (world_of b).records slot turn_made.after) ds m (Some slot) used)
+      (drives_shown (id_of slot t.at.before.1) turn_made.acts b.drivers d does.2)
+      ∙ ap (λ (n : ℕ). with_step b (slice_set (world_of b).records slot turn_made.after)
+      (routed slot turn_made.acts (devices_of b.drivers)) m (Some slot) n) u
       ∙ sym (ap (λ (o : Option Record). (ran (world_of b) slot o).after) turn_found)
 
   -- what the turn shows
-  pub turn_shown : (printed : ArrayVec ℕ) → printed.items ≡ [] → ◌≡◌ {A = Emit} (record { printed = printed; slot = Some slot; made = shown.call; denial = shown.denial }) (shown_by (carried_out (world_of b) (Run slot)).labels)
+  pub turn_shown : (printed : ArrayVec ℕ) → printed.items ≡ []
+      → ◌≡◌ {A = Emit} (record { printed = printed; slot = Some slot; made = shown.call; denial = shown.denial })
+      (shown_by (carried_out (world_of b) (Run slot)).labels)
   unfolding carried_out shown_by
   turn_shown printed p =
       let shows = (t.turns (bytes_of b.drivers.stores.slots slot)).1 in
-      ap (λ (xs : List ℕ). record { printed = record { items = xs }; slot = Some slot; made = shown.call; denial = shown.denial }) p
-      ∙ ap (λ (c : Option CallMade). record { printed = record { items = [] }; slot = Some slot; made = c; denial = shown.denial }) (sym shows.call)
-      ∙ ap (λ (d : Option Denial). record { printed = record { items = [] }; slot = Some slot; made = turn_made.told.call; denial = d }) (sym shows.denial)
+      ap (λ (xs : List ℕ). record {
+        printed = record { items = xs };
+        slot = Some slot;
+        made = shown.call;
+        denial =
+            shown.denial;
+      }) p
+      ∙ ap (λ (c : Option CallMade). record {
+        printed = record { items = [] };
+        slot = Some slot;
+        made = c;
+        denial =
+            shown.denial;
+      }) (sym shows.call)
+      ∙ ap (λ (d : Option Denial). record {
+        printed = record { items = [] };
+        slot = Some slot;
+        made =
+            turn_made.told.call;
+        denial = d;
+      }) (sym shows.denial)
       ∙ sym (ap (λ (o : Option Record). shown_by (ran (world_of b) slot o).labels) turn_found)

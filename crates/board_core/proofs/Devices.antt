@@ -1,5 +1,7 @@
 -- Device steps of a board.
-use Rattle.std.proofs.Common.{◌≡◌, ℕ, zero, suc, ◌+◌, ◌==◌, ◌<◌, ◌≤◌, Bool, true, false, cond, ◌&&◌, nat_lt, if◌then◌else◌, List, [], ◌∷◌, ◌++◌, length, map, slice_get, slice_set, slice_index_or, All, Option, None, Some, Ok, Err, IsTrue, refl, sym, ap, subst, ◌∙◌, arith}
+use Rattle.std.proofs.Common.{◌≡◌, ℕ, zero, suc, ◌+◌, ◌==◌, ◌<◌, ◌≤◌, Bool, true, false, cond, ◌&&◌, nat_lt}
+use Rattle.std.proofs.Common.{if◌then◌else◌, List, [], ◌∷◌, ◌++◌, length, map, slice_get, slice_set, slice_index_or}
+use Rattle.std.proofs.Common.{All, Option, None, Some, Ok, Err, IsTrue, refl, sym, ap, subst, ◌∙◌, arith}
 use Rattle.std.specs.List.{zip}
 use Rattle.std.proofs.lemmas.Bool.{false≢true}
 use Rattle.std.proofs.lemmas.Bool.Decides.{nat_tests}
@@ -13,8 +15,8 @@ use Rattle.tk_base.specs.declared.process.Choice.TheVariants.{Device}
 use Rattle.tk_base.specs.declared.process.Dev.{Dev}
 use Rattle.tk_base.specs.declared.process.ProcessId.{ProcessId}
 use Rattle.board_memory.specs.Registers.{Protect}
-use Rattle.process_layout.specs.Extents.{Extents}
-use Rattle.process_own.specs.Own.{Own}
+use Rattle.process_layout.specs.LayoutView.{LayoutView}
+use Rattle.process_model.specs.Own.{Own}
 use Rattle.process_record.specs.Emit.{nothing}
 use Rattle.process_record.specs.declared.emit.Emit.{Emit}
 use Rattle.process_record.specs.declared.process.Process.{Process}
@@ -23,32 +25,34 @@ use Rattle.driver_model.specs.Commands.{Leaves, is_same}
 use Rattle.driver_model.specs.Console.{console_reads, console_writes}
 use Rattle.driver_model.specs.Lines.{IsWithin, has_waiting}
 use Rattle.driver_model.specs.Random.{randoms}
-use Rattle.driver_model.specs.Requests.{Desk}
+use Rattle.driver_model.specs.Requests.{RequestKind}
 use Rattle.driver_model.specs.Storage.{storages}
-use Rattle.waiting_list.specs.Waiting.{without}
-use Rattle.driver_requests.specs.Waiting.{waiting_still}
+use Rattle.driver_requests.specs.Waiting.{waiting_still, without}
 use Rattle.grant_enter.specs.Homes.{Homes, ChangesOnly, nobody, own_of}
 use Rattle.kernel_model.specs.Record.{Record}
 use Rattle.kernel_model.specs.Turn.{Event}
-use Rattle.kernel_model.specs.World.{Answer, Answered, Deed, Printed, Stepped, World, can_act, carried_out, deed_of, done, is_ready, may_be_made, printing, records_after, told_to}
+use Rattle.kernel_model.specs.World.{Answer, Answered, DeviceStep, Printed, Stepped, World, can_act, carried_out, done}
+use Rattle.kernel_model.specs.World.{is_ready, may_be_made, printing, records_after, told_to}
 use Rattle.kernel_model.specs.Shown.{shown_by}
 use Rattle.board_core.specs.declared.board.Board.TheInside.{Inside}
 use Rattle.board_core.specs.declared.drivers.Drivers.{Drivers}
-use Rattle.board_core.specs.declared.guard.Guard.{Guard}
+use Rattle.board_core.specs.declared.guard.ActivePmp.{ActivePmp}
 use Rattle.board_core.specs.Calm.{IsCalm}
-use Rattle.board_core.specs.Driven.{AreDriven, IsLine, devices_of, line_of}
+use Rattle.board_core.specs.Driven.{AreDriven, IsQueueOf, devices_of, ids_waiting_in}
 use Rattle.board_core.specs.Guards.{GuardsOnly}
-use Rattle.board_core.specs.Makes.{Makes, shown_printed}
-use Rattle.board_core.specs.Residents.{ChangesAt, HasLost, IsSeated, Resident, record_of}
+use Rattle.board_core.specs.Makes.{MakesStep, shown_printed}
+use Rattle.board_core.specs.Residents.{ChangesSlot, HasLost, IsResident, Resident, record_of}
 use Rattle.board_core.specs.Shows.{IsBoard, world_of, residents}
-use Rattle.board_core.specs.Tells.{Told}
+use Rattle.board_core.specs.Tells.{DeviceTold}
 use Rattle.board_core.proofs.Pairs.{zip-get}
 use Rattle.board_core.proofs.Lines.{line_after}
-use Rattle.board_core.proofs.Changes.{a_step_later, as_many_owns, beside, bytes_of, changed_records, found, still_seated, with_step}
+use Rattle.board_core.proofs.Changes.{a_step_later, as_many_owns, beside, bytes_of, changed_records, found}
+use Rattle.board_core.proofs.Changes.{still_seated, with_step}
 use Rattle.board_core.proofs.Ready.{is_carried_out}
 
 -- what a slot's process has lost
-pub lost_there : (steps : ℕ) (home : Homes) (slot : ℕ) → All (HasLost steps) home.owns → (own_of home slot).dropped ≤ steps
+pub lost_there : (steps : ℕ) (home : Homes) (slot : ℕ) → All (HasLost steps) home.owns
+    → (own_of home slot).dropped ≤ steps
 lost_there steps home slot lost = of_each home.owns slot lost
   where
     past : (owns : List Own) (k : ℕ) → length owns ≤ k → (slice_index_or owns k nobody).dropped ≡ 0
@@ -64,40 +68,53 @@ lost_there steps home slot lost = of_each home.owns slot lost
         by_place false e = let h : length owns ≤ k = grind (arith, nat_tests) in omega (arith, past owns k h)
 
 -- each slot's layout stays, so whom the registers protect they protect still
-pub still_guards : (guard : Guard) (home home_after : Homes) (slot : ℕ) → ChangesOnly slot home home_after → (own_of home_after slot).layout ≡ (own_of home slot).layout → GuardsOnly guard home → GuardsOnly guard home_after
+pub still_guards : (guard : ActivePmp) (home home_after : Homes) (slot : ℕ) → ChangesOnly slot home home_after
+    → (own_of home_after slot).layout ≡ (own_of home slot).layout → GuardsOnly guard home → GuardsOnly guard home_after
 still_guards guard home home_after slot only same guards = record {
   protects = λ s is. subst (Protect guard.pmp) (sym (layout_of s)) (guards.protects s is);
 }
   where
     layouts : map (λ (o : Own). o.layout) home_after.owns ≡ map (λ (o : Own). o.layout) home.owns
-    layouts = ap (λ (h : Homes). map (λ (o : Own). o.layout) h.owns) only ∙ map-set_same (λ (o : Own). o.layout) home.owns slot (own_of home_after slot) nobody same
+    layouts = ap (λ (h : Homes). map (λ (o : Own). o.layout) h.owns) only
+        ∙ map-set_same (λ (o : Own). o.layout) home.owns slot (own_of home_after slot) nobody same
 
-    in_place : (h : Homes) (s : ℕ) → (own_of h s).layout ≡ slice_index_or (map (λ (o : Own). o.layout) h.owns) s nobody.layout
+    in_place : (h : Homes) (s : ℕ)
+        → (own_of h s).layout ≡ slice_index_or (map (λ (o : Own). o.layout) h.owns) s nobody.layout
     in_place h s = of_each h.owns s
       where
-        of_each : (owns : List Own) (k : ℕ) → (slice_index_or owns k nobody).layout ≡ slice_index_or (map (λ (o : Own). o.layout) owns) k nobody.layout
+        of_each : (owns : List Own) (k : ℕ)
+            → (slice_index_or owns k nobody).layout ≡ slice_index_or (map (λ (o : Own). o.layout) owns) k nobody.layout
         of_each [] k = refl
         of_each (o ∷ owns) zero = refl
         of_each (o ∷ owns) (suc k) = of_each owns k
 
     layout_of : (s : ℕ) → (own_of home_after s).layout ≡ (own_of home s).layout
-    layout_of s = in_place home_after s ∙ ap (λ (es : List Extents). slice_index_or es s nobody.layout) layouts ∙ sym (in_place home s)
+    layout_of s = in_place home_after s ∙ ap (λ (es : List LayoutView). slice_index_or es s nobody.layout) layouts
+        ∙ sym (in_place home s)
 
-pub lost_where : (steps : ℕ) (owns : List Own) (slot : ℕ) (own : Own) → slice_get owns slot ≡ Some own → All (HasLost steps) owns → own.dropped ≤ steps
+pub lost_where : (steps : ℕ) (owns : List Own) (slot : ℕ) (own : Own) → slice_get owns slot ≡ Some own
+    → All (HasLost steps) owns → own.dropped ≤ steps
 lost_where steps owns slot own was lost =
-    subst (HasLost steps) (get_or_from_slice_get owns slot own own was) (lost slot own (slice_get_within owns slot own was))
+    subst (HasLost steps) (get_or_from_slice_get owns slot own own was)
+    (lost slot own (slice_get_within owns slot own was))
 
 -- each process lost at most as many upcalls more as steps were made, so one more in a step
-pub still_lost_on : (steps more slot : ℕ) (home home_after : Homes) (own : Own) → home_after ≡ record home { owns = slice_set home.owns slot own } → own.dropped ≤ steps + more → All (HasLost steps) home.owns → All (HasLost (steps + more)) home_after.owns
+pub still_lost_on : (steps more slot : ℕ) (home home_after : Homes) (own : Own)
+    → home_after ≡ record home { owns = slice_set home.owns slot own } → own.dropped ≤ steps + more
+    → All (HasLost steps) home.owns → All (HasLost (steps + more)) home_after.owns
 still_lost_on steps more slot home home_after own only few lost =
     subst (λ (h : Homes). All (HasLost (steps + more)) h.owns) (sym only)
-    (All-set (HasLost (steps + more)) home.owns slot own few (All-weaker (HasLost steps) (HasLost (steps + more)) (λ o h. omega (arith, h)) home.owns lost))
+    (All-set (HasLost (steps + more)) home.owns slot own few
+    (All-weaker (HasLost steps) (HasLost (steps + more)) (λ o h. omega (arith, h)) home.owns lost))
 
-pub still_lost : (steps slot : ℕ) (home home_after : Homes) (own : Own) → home_after ≡ record home { owns = slice_set home.owns slot own } → own.dropped ≤ steps + 1 → All (HasLost steps) home.owns → All (HasLost (steps + 1)) home_after.owns
+pub still_lost : (steps slot : ℕ) (home home_after : Homes) (own : Own)
+    → home_after ≡ record home { owns = slice_set home.owns slot own } → own.dropped ≤ steps + 1
+    → All (HasLost steps) home.owns → All (HasLost (steps + 1)) home_after.owns
 still_lost steps slot home home_after own only few lost = still_lost_on steps 1 slot home home_after own only few lost
 
 -- a device that may act is ready, below the limit of steps
-pub may_act : (w : World) (device : Dev) → w.clock.steps < STEP_LIMIT → can_act w device ≡ true → IsTrue (is_ready w (Device device))
+pub may_act : (w : World) (device : Dev) → w.clock.steps < STEP_LIMIT → can_act w device ≡ true
+    → IsTrue (is_ready w (Device device))
 unfolding may_be_made
 may_act w device below e = subst (λ (c : Bool). IsTrue (nat_lt w.clock.steps STEP_LIMIT && c)) (sym e) under
   where
@@ -111,7 +128,8 @@ found_at (x ∷ xs) zero h = (x, refl)
 found_at (x ∷ xs) (suc i) h = found_at xs i (omega (arith, h))
 
 -- a step that printed bytes shows them
-printed_shown : (slot : ℕ) (event : Event) (bytes : List ℕ) → shown_printed slot bytes ≡ shown_by (Answered slot event ∷ printing slot bytes)
+printed_shown : (slot : ℕ) (event : Event) (bytes : List ℕ)
+    → shown_printed slot bytes ≡ shown_by (Answered slot event ∷ printing slot bytes)
 unfolding shown_by
 printed_shown slot event [] = refl
 printed_shown slot event (byte ∷ bytes) = by_length (length (byte ∷ bytes) == 0) refl
@@ -123,47 +141,65 @@ printed_shown slot event (byte ∷ bytes) = by_length (length (byte ∷ bytes) =
     none_is : (length (byte ∷ bytes) == 0) ≡ false
     none_is = grind (arith, nat_tests)
 
-    by_length : (b : Bool) → (length (byte ∷ bytes) == 0) ≡ b → shown_printed slot (byte ∷ bytes) ≡ shown_by (Answered slot event ∷ printing slot (byte ∷ bytes))
+    by_length : (b : Bool) → (length (byte ∷ bytes) == 0) ≡ b
+        → shown_printed slot (byte ∷ bytes) ≡ shown_by (Answered slot event ∷ printing slot (byte ∷ bytes))
     by_length true e = absurd (false≢true (sym none_is ∙ e))
     by_length false e =
-        ap (λ (c : Bool). record nothing { slot = if c then None else Some slot; printed = record { items = byte ∷ bytes } }) e
-        ∙ ap (λ (xs : List ℕ). record nothing { slot = Some slot; printed = record { items = xs } }) (append_none (byte ∷ bytes))
-        ∙ sym (ap (λ (c : Bool). shown_by (Answered slot event ∷ (if c then [] else Printed slot (byte ∷ bytes) ∷ []))) e)
+        ap (λ (c : Bool). record nothing {
+          slot = if c then None else Some slot;
+          printed =
+              record { items = byte ∷ bytes };
+        }) e
+        ∙ ap (λ (xs : List ℕ). record nothing { slot = Some slot; printed = record { items = xs } })
+        (append_none (byte ∷ bytes))
+        ∙ sym (ap (λ (c : Bool). shown_by (Answered slot event ∷ (if c then [] else Printed slot (byte ∷ bytes) ∷ [])))
+        e)
 
 -- A list is that of those with a request, after an answer to one of them.
-left_line : {R : Type 0} (desk : Desk R) (left : Bool) (ids ids' : List ProcessId) (owns : List Own) (slot : ℕ) (own o : Own)
-    → ((x y : List ProcessId) → cond (is_same desk.line desk.line) x y ≡ x) → ((x y : Bool) → cond (is_same desk.line desk.line) x y ≡ x)
-    → IsLine desk ids owns → slice_get owns slot ≡ Some own
-    → has_waiting desk o ≡ (if left then false else has_waiting desk own) → o.life ≡ own.life
+left_line : {R : Type 0} (request_kind : RequestKind R) (left : Bool) (ids ids' : List ProcessId) (owns : List Own)
+    (slot : ℕ) (own o : Own)
+    → ((x y : List ProcessId) → cond (is_same request_kind.line request_kind.line) x y ≡ x)
+    → ((x y : Bool) → cond (is_same request_kind.line request_kind.line) x y ≡ x)
+    → IsQueueOf request_kind ids owns → slice_get owns slot ≡ Some own
+    → has_waiting request_kind o ≡ (if left then false else has_waiting request_kind own) → o.life ≡ own.life
     → ids' ≡ waiting_still left slot ids
-    → IsLine desk ids' (slice_set owns slot o)
-left_line desk true ids ids' owns slot own o is is_b line was waits life e =
-    subst (λ (xs : List ProcessId). IsLine desk xs (slice_set owns slot o)) (is (without slot ids) ids ∙ sym e)
-    (line_after desk ids owns slot own o (Leaves desk.line ∷ []) line was (waits ∙ sym (is_b false (has_waiting desk own))) (λ w. life))
-left_line desk false ids ids' owns slot own o is is_b line was waits life e =
-    subst (λ (xs : List ProcessId). IsLine desk xs (slice_set owns slot o)) (sym e)
-    (line_after desk ids owns slot own o [] line was waits (λ w. life))
+    → IsQueueOf request_kind ids' (slice_set owns slot o)
+left_line request_kind true ids ids' owns slot own o is is_b line was waits life e =
+    subst (λ (xs : List ProcessId). IsQueueOf request_kind xs (slice_set owns slot o))
+    (is (without slot ids) ids ∙ sym e)
+    (line_after request_kind ids owns slot own o (Leaves request_kind.line ∷ []) line was
+    (waits ∙ sym (is_b false (has_waiting request_kind own))) (λ w. life))
+left_line request_kind false ids ids' owns slot own o is is_b line was waits life e =
+    subst (λ (xs : List ProcessId). IsQueueOf request_kind xs (slice_set owns slot o)) (sym e)
+    (line_after request_kind ids owns slot own o [] line was waits (λ w. life))
 
 -- a process that remains is seated a step later
-remains_seated : (flash : List ℕ) (steps : ℕ) (process : Process) (own o : Own) → Remains own o → IsSeated flash steps (process, own) → IsSeated flash (steps + 1) (process, o)
-remains_seated flash steps process own o rest s = subst (λ (x : Own). IsSeated flash (steps + 1) (process, x)) (sym rest) (record {
-  own = record { object = s.own.object; object_is = s.own.object_is; lives = s.own.lives; life = s.own.life };
-  turns = omega (arith, s.turns);
-  restarts = omega (arith, s.restarts);
-})
+remains_seated : (flash : List ℕ) (steps : ℕ) (process : Process) (own o : Own) → Remains own o
+    → IsResident flash steps (process, own) → IsResident flash (steps + 1) (process, o)
+remains_seated flash steps process own o rest s =
+    subst (λ (x : Own). IsResident flash (steps + 1) (process, x)) (sym rest) (record {
+      own = record { object = s.own.object; object_is = s.own.object_is; lives = s.own.lives };
+      turns = omega (arith, s.turns);
+      restarts = omega (arith, s.restarts);
+      life = omega (arith, s.life);
+    })
 
 -- the process in a slot is seated
-pub seated_there : (flash : List ℕ) (n : ℕ) (ps : List Process) (owns : List Own) (slot : ℕ) (r : Resident) → slice_get ps slot ≡ Some r.0 → slice_get owns slot ≡ Some r.1 → All (IsSeated flash n) (zip ps owns) → IsSeated flash n r
+pub seated_there : (flash : List ℕ) (n : ℕ) (ps : List Process) (owns : List Own) (slot : ℕ) (r : Resident)
+    → slice_get ps slot ≡ Some r.0 → slice_get owns slot ≡ Some r.1 → All (IsResident flash n) (zip ps owns)
+    → IsResident flash n r
 seated_there flash n ps owns slot r was own_was all =
     let pair : slice_get (zip ps owns) slot ≡ Some (r.0, r.1) = zip-get ps owns slot r.0 r.1 was own_was in
-    subst (IsSeated flash n) (get_or_from_slice_get (zip ps owns) slot r r pair) (all slot r (slice_get_within (zip ps owns) slot r pair))
+    subst (IsResident flash n) (get_or_from_slice_get (zip ps owns) slot r r pair)
+    (all slot r (slice_get_within (zip ps owns) slot r pair))
 
-module _ (b : Inside) (device : Dev) (slot : ℕ) (printed : List ℕ) (home : Homes) (d : Drivers) (t : Told b device slot printed home d) (h : IsBoard b) where
+module _ (b : Inside) (device : Dev) (slot : ℕ) (printed : List ℕ) (home : Homes) (d : Drivers)
+    (t : DeviceTold b device slot printed home d) (h : IsBoard b) where
   own_was : slice_get b.home.owns slot ≡ Some (own_of b.home slot)
   own_was = slice_get-get_or b.home.owns slot nobody t.there
 
   -- the change of its process
-  pub told_at : ChangesAt slot b.home home b.processes.items b.processes.items
+  pub told_at : ChangesSlot slot b.home home b.processes.items b.processes.items
   told_at = record {
     before = (t.process, own_of b.home slot);
     after = (t.process, own_of home slot);
@@ -179,24 +215,30 @@ module _ (b : Inside) (device : Dev) (slot : ℕ) (printed : List ℕ) (home : H
   few : length (residents b) ≤ length b.drivers.stores.slots
   few = beside b.processes.items b.home.owns b.drivers.stores.slots h.owns h.few h.driven.slots
 
-  told_found : slice_get (world_of b).records slot ≡ Some (record_of b.home.flash ((t.process, own_of b.home slot), bytes_of b.drivers.stores.slots slot))
+  told_found : slice_get (world_of b).records slot
+      ≡ Some (record_of b.home.flash ((t.process, own_of b.home slot), bytes_of b.drivers.stores.slots slot))
   unfolding told_at
   told_found = found slot b.home home b.processes.items b.processes.items told_at b.drivers.stores.slots few
 
   -- the world after it
-  pub world_told : with_step b (map (record_of home.flash) (zip (zip b.processes.items home.owns) d.stores.slots)) (devices_of d) (a_step_later b.moment) b.present b.used ≡ (carried_out (world_of b) (Device device)).after
+  pub world_told : with_step b (map (record_of home.flash) (zip (zip b.processes.items home.owns) d.stores.slots))
+      (devices_of d) (a_step_later b.moment) b.present b.used ≡ (carried_out (world_of b) (Device device)).after
   unfolding carried_out told_at
   world_told =
       let w = world_of b in
       let answer : Answer = record { slot = slot; event = t.serves.event } in
-      let deed : Deed = record { told = Some answer; printed = printed; devices = devices_of d } in
-      let changed : map (record_of home.flash) (zip (zip b.processes.items home.owns) d.stores.slots) ≡ slice_set w.records slot (record_of b.home.flash ((t.process, own_of home slot), t.serves.bytes)) =
-      ap (λ (s : List (List ℕ)). map (record_of home.flash) (zip (zip b.processes.items home.owns) s)) t.serves.stores.slots
-      ∙ changed_records slot b.home home b.processes.items b.processes.items told_at b.drivers.stores.slots t.serves.bytes in
-      let records : map (record_of home.flash) (zip (zip b.processes.items home.owns) d.stores.slots) ≡ records_after w (Some answer) =
+      let deed : DeviceStep = record { told = Some answer; printed = printed; devices = devices_of d } in
+      let changed : map (record_of home.flash) (zip (zip b.processes.items home.owns) d.stores.slots)
+      ≡ slice_set w.records slot (record_of b.home.flash ((t.process, own_of home slot), t.serves.bytes)) =
+      ap (λ (s : List (List ℕ)). map (record_of home.flash) (zip (zip b.processes.items home.owns) s))
+      t.serves.stores.slots
+      ∙ changed_records slot b.home home b.processes.items b.processes.items told_at b.drivers.stores.slots
+      t.serves.bytes in
+      let records : map (record_of home.flash) (zip (zip b.processes.items home.owns) d.stores.slots)
+      ≡ records_after w (Some answer) =
       changed ∙ ap (slice_set w.records slot) (sym t.serves.tells) ∙ sym (ap (told_to w answer) told_found) in
       ap (λ (rs : List Record). with_step b rs (devices_of d) (a_step_later b.moment) b.present b.used) records
-      ∙ sym (ap (λ (o : Option Deed). (done w o).after) t.serves.deed)
+      ∙ sym (ap (λ (o : Option DeviceStep). (done w o).after) t.serves.deed)
 
   -- what it shows
   pub told_shown : shown_printed slot printed ≡ shown_by (carried_out (world_of b) (Device device)).labels
@@ -204,7 +246,7 @@ module _ (b : Inside) (device : Dev) (slot : ℕ) (printed : List ℕ) (home : H
   told_shown =
       let w = world_of b in
       printed_shown slot t.serves.event printed
-      ∙ sym (ap (λ (o : Option Deed). shown_by (done w o).labels) t.serves.deed)
+      ∙ sym (ap (λ (o : Option DeviceStep). shown_by (done w o).labels) t.serves.deed)
 
   -- it may be made below the limit of steps
   pub may_tell : b.moment.steps < STEP_LIMIT → IsTrue (is_ready (world_of b) (Device device))
@@ -217,13 +259,17 @@ module _ (b : Inside) (device : Dev) (slot : ℕ) (printed : List ℕ) (home : H
   own_life = ap (λ (o : Own). o.life) t.serves.follows.rest
 
   -- who waits in a line has a request there then, and no other
-  told_line : {R : Type 0} (desk : Desk R)
-      → ((x y : List ProcessId) → cond (is_same desk.line desk.line) x y ≡ x) → ((x y : Bool) → cond (is_same desk.line desk.line) x y ≡ x)
-      → IsLine desk (line_of b.drivers desk.line) b.home.owns
-      → has_waiting desk (own_of home slot) ≡ (if t.serves.left desk.line then false else has_waiting desk (own_of b.home slot))
-      → IsLine desk (line_of d desk.line) (slice_set b.home.owns slot (own_of home slot))
-  told_line desk is is_b line waits =
-      left_line desk (t.serves.left desk.line) (line_of b.drivers desk.line) (line_of d desk.line) b.home.owns slot (own_of b.home slot) (own_of home slot) is is_b line own_was waits own_life (t.serves.lines desk.line)
+  told_line : {R : Type 0} (request_kind : RequestKind R)
+      → ((x y : List ProcessId) → cond (is_same request_kind.line request_kind.line) x y ≡ x)
+      → ((x y : Bool) → cond (is_same request_kind.line request_kind.line) x y ≡ x)
+      → IsQueueOf request_kind (ids_waiting_in b.drivers request_kind.line) b.home.owns
+      → has_waiting request_kind (own_of home slot)
+      ≡ (if t.serves.left request_kind.line then false else has_waiting request_kind (own_of b.home slot))
+      → IsQueueOf request_kind (ids_waiting_in d request_kind.line) (slice_set b.home.owns slot (own_of home slot))
+  told_line request_kind is is_b line waits =
+      left_line request_kind (t.serves.left request_kind.line) (ids_waiting_in b.drivers request_kind.line)
+      (ids_waiting_in d request_kind.line) b.home.owns slot (own_of b.home slot) (own_of home slot) is is_b line
+      own_was waits own_life (t.serves.lines request_kind.line)
 
   told_driven : AreDriven b.moment.settings b.moment.time home.owns d
   told_driven = subst (λ (owns : List Own). AreDriven b.moment.settings b.moment.time owns d) (sym told_owns) (record {
@@ -231,7 +277,8 @@ module _ (b : Inside) (device : Dev) (slot : ℕ) (printed : List ℕ) (home : H
     reads = told_line console_reads (λ x y. refl) (λ x y. refl) h.driven.reads t.serves.follows.lines.reads;
     randoms = told_line randoms (λ x y. refl) (λ x y. refl) h.driven.randoms t.serves.follows.lines.randoms;
     stores = told_line storages (λ x y. refl) (λ x y. refl) h.driven.stores t.serves.follows.lines.stores;
-    within = All-set (IsWithin b.moment.settings.storage) b.home.owns slot (own_of home slot) (t.serves.follows.within b.moment.settings.storage (h.driven.within slot nobody t.there)) h.driven.within;
+    within = All-set (IsWithin b.moment.settings.storage) b.home.owns slot (own_of home slot)
+        (t.serves.follows.within b.moment.settings.storage (h.driven.within slot nobody t.there)) h.driven.within;
     leds = t.serves.leds ∙ h.driven.leds;
     size = t.serves.stores.size ∙ h.driven.size;
     slots = ap length t.serves.stores.slots ∙ length-set b.drivers.stores.slots slot t.serves.bytes ∙ h.driven.slots;
@@ -240,11 +287,17 @@ module _ (b : Inside) (device : Dev) (slot : ℕ) (printed : List ℕ) (home : H
   })
 
   -- what always holds of a board holds then
-  pub told_board : (calm : ℕ) → b.moment.steps < STEP_LIMIT → IsCalm b.moment.settings.start b.moment.time calm home.owns d → IsBoard (record b { home = home; drivers = d; moment = a_step_later b.moment; calm = calm })
+  pub told_board : (calm : ℕ) → b.moment.steps < STEP_LIMIT
+      → IsCalm b.moment.settings.start b.moment.time calm home.owns d
+      → IsBoard (record b { home = home; drivers = d; moment = a_step_later b.moment; calm = calm })
   unfolding told_at
   told_board calm below quiet = record {
-    seated = still_seated slot b.home home b.processes.items b.processes.items told_at b.moment.steps (remains_seated b.home.flash b.moment.steps t.process (own_of b.home slot) (own_of home slot) t.serves.follows.rest (seated_there b.home.flash b.moment.steps b.processes.items b.home.owns slot (t.process, own_of b.home slot) t.was own_was h.seated)) h.seated;
-    lost = still_lost b.moment.steps slot b.home home (own_of home slot) t.only (omega (arith, t.serves.follows.dropped.not_more, lost_there b.moment.steps b.home slot h.lost)) h.lost;
+    seated = still_seated slot b.home home b.processes.items b.processes.items told_at b.moment.steps
+        (remains_seated b.home.flash b.moment.steps t.process (own_of b.home slot) (own_of home slot)
+        t.serves.follows.rest (seated_there b.home.flash b.moment.steps b.processes.items b.home.owns slot
+        (t.process, own_of b.home slot) t.was own_was h.seated)) h.seated;
+    lost = still_lost b.moment.steps slot b.home home (own_of home slot) t.only
+        (omega (arith, t.serves.follows.dropped.not_more, lost_there b.moment.steps b.home slot h.lost)) h.lost;
     owns = as_many_owns slot b.home home b.processes.items b.processes.items told_at ∙ h.owns;
     few = h.few;
     guard = still_guards b.guard b.home home slot t.only (ap (λ (o : Own). o.layout) t.serves.follows.rest) h.guard;
@@ -258,35 +311,39 @@ module _ (b : Inside) (device : Dev) (slot : ℕ) (printed : List ℕ) (home : H
   }
 
 -- a choice that is not ready is refused
-pub unready : (w : World) (choice : Choice) → is_ready w choice ≡ false → (◌≡◌ {A = Bool} false true → IsTrue (is_ready w choice)) × (IsTrue (is_ready w choice) → ◌≡◌ {A = Bool} false true)
-unready w choice not_ready = (λ e. absurd (false≢true e), λ h. absurd (false≢true (sym not_ready ∙ true_is (is_ready w choice) h)))
+pub unready : (w : World) (choice : Choice) → is_ready w choice ≡ false
+    → (◌≡◌ {A = Bool} false true → IsTrue (is_ready w choice))
+    × (IsTrue (is_ready w choice) → ◌≡◌ {A = Bool} false true)
+unready w choice not_ready =
+    (λ e. absurd (false≢true e), λ h. absurd (false≢true (sym not_ready ∙ true_is (is_ready w choice) h)))
   where
     true_is : (b : Bool) → IsTrue b → b ≡ true
     true_is true h = refl
     true_is false h = cc
 
 -- and one that is ready is made
-pub ready_now : (w : World) (choice : Choice) → IsTrue (is_ready w choice) → (◌≡◌ {A = Bool} true true → IsTrue (is_ready w choice)) × (IsTrue (is_ready w choice) → ◌≡◌ {A = Bool} true true)
+pub ready_now : (w : World) (choice : Choice) → IsTrue (is_ready w choice)
+    → (◌≡◌ {A = Bool} true true → IsTrue (is_ready w choice)) × (IsTrue (is_ready w choice) → ◌≡◌ {A = Bool} true true)
 ready_now w choice is = (λ e. is, λ h. refl)
 
--- at the limit of steps nothing is
-pub over_limit : (w : World) (choice : Choice) → STEP_LIMIT ≤ w.clock.steps → is_ready w choice ≡ false
-over_limit w choice h = at_limit (may_be_made w choice)
-  where
-    at_limit : (c : Bool) → (nat_lt w.clock.steps STEP_LIMIT && c) ≡ false
-    at_limit c = grind (arith, nat_tests)
+-- a board that shows a world below the limit of steps is below it
+pub below_shown : (b : Inside) (w : World) → world_of b ≡ w → w.clock.steps < STEP_LIMIT → b.moment.steps < STEP_LIMIT
+below_shown b w is h = subst (λ (x : World). x.clock.steps < STEP_LIMIT) (sym is) h
 
 -- a choice that may not be made, in a world that a board shows, is refused
-pub refused_so : (u v w : World) (choice : Choice) (emit : Emit) → v ≡ u → u ≡ w → is_ready u choice ≡ false → Makes choice w v emit emit (Err (record {}))
+pub refused_so : (u v w : World) (choice : Choice) (emit : Emit) → v ≡ u → u ≡ w → is_ready u choice ≡ false
+    → MakesStep choice w v emit emit (Err (record {}))
 refused_so u v w choice emit stays is not_ready =
-    subst (λ (x : World). Makes choice x v emit emit (Err (record {}))) is
+    subst (λ (x : World). MakesStep choice x v emit emit (Err (record {}))) is
     (record { ready = unready u choice not_ready; ok = tt; shown = tt; refused = (stays, refl) })
 
 -- and one that may is made
-pub made_so : (v w v' : World) (choice : Choice) (emit emit' : Emit) → v ≡ w → IsTrue (is_ready v choice) → v' ≡ (carried_out v choice).after → emit' ≡ shown_by (carried_out v choice).labels → Makes choice w v' emit emit' (Ok tt)
+pub made_so : (v w v' : World) (choice : Choice) (emit emit' : Emit) → v ≡ w → IsTrue (is_ready v choice)
+    → v' ≡ (carried_out v choice).after → emit' ≡ shown_by (carried_out v choice).labels
+    → MakesStep choice w v' emit emit' (Ok tt)
 made_so v w v' choice emit emit' is ready made shown =
     let steps = is_carried_out v choice ready in
-    subst (λ (x : World). Makes choice x v' emit emit' (Ok tt)) is (record {
+    subst (λ (x : World). MakesStep choice x v' emit emit' (Ok tt)) is (record {
       ready = ready_now v choice ready;
       ok = made ∙ sym (ap (λ (s : Stepped). s.after) steps);
       shown = shown ∙ sym (ap (λ (s : Stepped). shown_by s.labels) steps);
@@ -296,7 +353,8 @@ made_so v w v' choice emit emit' is ready made shown =
 -- a device that may not act is not ready
 pub not_acting : (w : World) (device : Dev) → can_act w device ≡ false → is_ready w (Device device) ≡ false
 unfolding may_be_made
-not_acting w device e = ap (λ (c : Bool). nat_lt w.clock.steps STEP_LIMIT && c) e ∙ never (nat_lt w.clock.steps STEP_LIMIT)
+not_acting w device e =
+    ap (λ (c : Bool). nat_lt w.clock.steps STEP_LIMIT && c) e ∙ never (nat_lt w.clock.steps STEP_LIMIT)
   where
     never : (c : Bool) → (c && false) ≡ false
     never true = refl

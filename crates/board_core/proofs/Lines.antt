@@ -1,19 +1,19 @@
 -- Who waits, after what a turn or a device's step asks.
-use Rattle.std.proofs.Common.{◌≡◌, ◌≢◌, ◌<◌, ℕ, ◌==◌, ◌||◌, Bool, true, false, not, cond, List, [], ◌∷◌, ◌++◌, length, slice_get, slice_set, slice_index_or, Some, refl, sym, ap, subst, ◌∙◌, arith, eqb-true}
+use Rattle.std.proofs.Common.{◌≡◌, ◌≢◌, ◌<◌, ℕ, ◌==◌, ◌||◌, Bool, true, false, not, cond, List, [], ◌∷◌, ◌++◌, length}
+use Rattle.std.proofs.Common.{slice_get, slice_set, slice_index_or, Some, refl, sym, ap, subst, ◌∙◌, arith, eqb-true}
 use Rattle.std.specs.List.{AllByRecursion}
 use Rattle.std.proofs.lemmas.Bool.{false≢true}
 use Rattle.std.proofs.lemmas.Bool.Decides.{nat_tests}
 use Rattle.std.proofs.lemmas.List.{get_or-set_same, get_or-set_other, length-set}
 use Rattle.std.proofs.lemmas.Option.{slice_get_within, get_or_from_slice_get}
 use Rattle.tk_base.specs.declared.process.ProcessId.{ProcessId}
-use Rattle.process_own.specs.Own.{Own}
-use Rattle.driver_model.specs.Commands.{Act, Waits, Leaves, Lights, Line, is_same}
+use Rattle.process_model.specs.Own.{Own}
+use Rattle.driver_model.specs.Commands.{BoardRequest, Waits, Leaves, Lights, QueueName, is_same}
 use Rattle.driver_model.specs.Lines.{has_waiting, waits_after, waits_by}
-use Rattle.driver_model.specs.Requests.{Desk}
-use Rattle.driver_requests.specs.Waiting.{after_act, waiting_after}
-use Rattle.waiting_list.specs.Waiting.{waits, without}
+use Rattle.driver_model.specs.Requests.{RequestKind}
+use Rattle.driver_requests.specs.Waiting.{after_act, queue_after, waits, without}
 use Rattle.grant_enter.specs.Homes.{nobody}
-use Rattle.board_core.specs.Driven.{IsLine, IsThere}
+use Rattle.board_core.specs.Driven.{IsQueueOf, IsThere}
 
 same_number : (n : ℕ) → (n == n) ≡ true
 same_number n = grind (arith, nat_tests)
@@ -26,11 +26,13 @@ none_or true = refl
 none_or false = refl
 
 -- one more that waits
-waits_more : (slot : ℕ) (ids : List ProcessId) (id : ProcessId) → waits slot (ids ++ id ∷ []) ≡ (waits slot ids || (id.slot == slot))
+waits_more : (slot : ℕ) (ids : List ProcessId) (id : ProcessId)
+    → waits slot (ids ++ id ∷ []) ≡ (waits slot ids || (id.slot == slot))
 waits_more slot [] id = none_or (id.slot == slot)
 waits_more slot (x ∷ ids) id = by_first (x.slot == slot) (waits_more slot ids id)
   where
-    by_first : (b : Bool) → waits slot (ids ++ id ∷ []) ≡ (waits slot ids || (id.slot == slot)) → (b || waits slot (ids ++ id ∷ [])) ≡ ((b || waits slot ids) || (id.slot == slot))
+    by_first : (b : Bool) → waits slot (ids ++ id ∷ []) ≡ (waits slot ids || (id.slot == slot))
+        → (b || waits slot (ids ++ id ∷ [])) ≡ ((b || waits slot ids) || (id.slot == slot))
     by_first true e = refl
     by_first false e = e
 
@@ -39,15 +41,18 @@ waits_less_itself : (slot : ℕ) (ids : List ProcessId) → waits slot (without 
 waits_less_itself slot [] = refl
 waits_less_itself slot (x ∷ ids) = by_first (x.slot == slot) refl (waits_less_itself slot ids)
   where
-    by_first : (b : Bool) → (x.slot == slot) ≡ b → waits slot (without slot ids) ≡ false → waits slot (cond (not b) (x ∷ without slot ids) (without slot ids)) ≡ false
+    by_first : (b : Bool) → (x.slot == slot) ≡ b → waits slot (without slot ids) ≡ false
+        → waits slot (cond (not b) (x ∷ without slot ids) (without slot ids)) ≡ false
     by_first true e later = later
     by_first false e later = ap (λ (c : Bool). c || waits slot (without slot ids)) e ∙ later
 
-waits_less_other : (slot other : ℕ) (ids : List ProcessId) → other ≢ slot → waits other (without slot ids) ≡ waits other ids
+waits_less_other : (slot other : ℕ) (ids : List ProcessId) → other ≢ slot
+    → waits other (without slot ids) ≡ waits other ids
 waits_less_other slot other [] apart = refl
 waits_less_other slot other (x ∷ ids) apart = by_first (x.slot == slot) refl (waits_less_other slot other ids apart)
   where
-    by_first : (b : Bool) → (x.slot == slot) ≡ b → waits other (without slot ids) ≡ waits other ids → waits other (cond (not b) (x ∷ without slot ids) (without slot ids)) ≡ ((x.slot == other) || waits other ids)
+    by_first : (b : Bool) → (x.slot == slot) ≡ b → waits other (without slot ids) ≡ waits other ids
+        → waits other (cond (not b) (x ∷ without slot ids) (without slot ids)) ≡ ((x.slot == other) || waits other ids)
     by_first true e later =
         let same : x.slot ≡ slot = eqb-true x.slot slot e in
         let no_other : (x.slot == other) ≡ false = other_number x.slot other (λ is. apart (sym is ∙ same)) in
@@ -59,11 +64,13 @@ or_true true = refl
 or_true false = refl
 
 -- whether its process waits after an act, and whether another one does
-own_by_act : (here : Line) (id : ProcessId) (ids : List ProcessId) (act : Act) → waits id.slot (after_act here id ids act) ≡ waits_by here act (waits id.slot ids)
+own_by_act : (here : QueueName) (id : ProcessId) (ids : List ProcessId) (act : BoardRequest)
+    → waits id.slot (after_act here id ids act) ≡ waits_by here act (waits id.slot ids)
 own_by_act here id ids (Waits line) = by_line (is_same line here)
   where
     by_line : (b : Bool) → waits id.slot (cond b (ids ++ id ∷ []) ids) ≡ cond b true (waits id.slot ids)
-    by_line true = waits_more id.slot ids id ∙ ap (λ (c : Bool). waits id.slot ids || c) (same_number id.slot) ∙ or_true (waits id.slot ids)
+    by_line true = waits_more id.slot ids id ∙ ap (λ (c : Bool). waits id.slot ids || c) (same_number id.slot)
+        ∙ or_true (waits id.slot ids)
     by_line false = refl
 own_by_act here id ids (Leaves line) = by_line (is_same line here)
   where
@@ -72,11 +79,14 @@ own_by_act here id ids (Leaves line) = by_line (is_same line here)
     by_line false = refl
 own_by_act here id ids (Lights led switch) = refl
 
-other_by_act : (here : Line) (id : ProcessId) (other : ℕ) (ids : List ProcessId) (act : Act) → other ≢ id.slot → waits other (after_act here id ids act) ≡ waits other ids
+other_by_act : (here : QueueName) (id : ProcessId) (other : ℕ) (ids : List ProcessId) (act : BoardRequest)
+    → other ≢ id.slot → waits other (after_act here id ids act) ≡ waits other ids
 other_by_act here id other ids (Waits line) apart = by_line (is_same line here)
   where
     by_line : (b : Bool) → waits other (cond b (ids ++ id ∷ []) ids) ≡ waits other ids
-    by_line true = waits_more other ids id ∙ ap (λ (c : Bool). waits other ids || c) (other_number id.slot other (λ is. apart (sym is))) ∙ none_or (waits other ids)
+    by_line true = waits_more other ids id
+        ∙ ap (λ (c : Bool). waits other ids || c) (other_number id.slot other (λ is. apart (sym is)))
+        ∙ none_or (waits other ids)
     by_line false = refl
 other_by_act here id other ids (Leaves line) apart = by_line (is_same line here)
   where
@@ -85,28 +95,37 @@ other_by_act here id other ids (Leaves line) apart = by_line (is_same line here)
     by_line false = refl
 other_by_act here id other ids (Lights led switch) apart = refl
 
-own_after : (here : Line) (id : ProcessId) (ids : List ProcessId) (acts : List Act) → waits id.slot (waiting_after here id ids acts) ≡ waits_after here (waits id.slot ids) acts
+own_after : (here : QueueName) (id : ProcessId) (ids : List ProcessId) (acts : List BoardRequest)
+    → waits id.slot (queue_after here id ids acts) ≡ waits_after here (waits id.slot ids) acts
 own_after here id ids [] = refl
-own_after here id ids (act ∷ acts) = own_after here id (after_act here id ids act) acts ∙ ap (λ (b : Bool). waits_after here b acts) (own_by_act here id ids act)
+own_after here id ids (act ∷ acts) =
+    own_after here id (after_act here id ids act) acts
+    ∙ ap (λ (b : Bool). waits_after here b acts) (own_by_act here id ids act)
 
-other_after : (here : Line) (id : ProcessId) (other : ℕ) (ids : List ProcessId) (acts : List Act) → other ≢ id.slot → waits other (waiting_after here id ids acts) ≡ waits other ids
+other_after : (here : QueueName) (id : ProcessId) (other : ℕ) (ids : List ProcessId) (acts : List BoardRequest)
+    → other ≢ id.slot → waits other (queue_after here id ids acts) ≡ waits other ids
 other_after here id other ids [] apart = refl
-other_after here id other ids (act ∷ acts) apart = other_after here id other (after_act here id ids act) acts apart ∙ other_by_act here id other ids act apart
+other_after here id other ids (act ∷ acts) apart =
+    other_after here id other (after_act here id ids act) acts apart ∙ other_by_act here id other ids act apart
 
 -- each of those that wait is one that did, or the process itself
-all_more : (P : ProcessId → Type 0) (ids : List ProcessId) (id : ProcessId) → P id → AllByRecursion P ids → AllByRecursion P (ids ++ id ∷ [])
+all_more : (P : ProcessId → Type 0) (ids : List ProcessId) (id : ProcessId) → P id → AllByRecursion P ids
+    → AllByRecursion P (ids ++ id ∷ [])
 all_more P [] id p all = (p, tt)
 all_more P (x ∷ ids) id p all = (all.0, all_more P ids id p all.1)
 
-all_less : (P : ProcessId → Type 0) (slot : ℕ) (ids : List ProcessId) → AllByRecursion P ids → AllByRecursion P (without slot ids)
+all_less : (P : ProcessId → Type 0) (slot : ℕ) (ids : List ProcessId) → AllByRecursion P ids
+    → AllByRecursion P (without slot ids)
 all_less P slot [] all = tt
 all_less P slot (x ∷ ids) all = by_first (not (x.slot == slot)) (all_less P slot ids all.1)
   where
-    by_first : (b : Bool) → AllByRecursion P (without slot ids) → AllByRecursion P (cond b (x ∷ without slot ids) (without slot ids))
+    by_first : (b : Bool) → AllByRecursion P (without slot ids)
+        → AllByRecursion P (cond b (x ∷ without slot ids) (without slot ids))
     by_first true later = (all.0, later)
     by_first false later = later
 
-all_by_act : (P : ProcessId → Type 0) (here : Line) (id : ProcessId) (ids : List ProcessId) (act : Act) → P id → AllByRecursion P ids → AllByRecursion P (after_act here id ids act)
+all_by_act : (P : ProcessId → Type 0) (here : QueueName) (id : ProcessId) (ids : List ProcessId) (act : BoardRequest)
+    → P id → AllByRecursion P ids → AllByRecursion P (after_act here id ids act)
 all_by_act P here id ids (Waits line) p all = by_line (is_same line here)
   where
     by_line : (b : Bool) → AllByRecursion P (cond b (ids ++ id ∷ []) ids)
@@ -119,15 +138,22 @@ all_by_act P here id ids (Leaves line) p all = by_line (is_same line here)
     by_line false = all
 all_by_act P here id ids (Lights led switch) p all = all
 
-all_after : (P : ProcessId → Type 0) (here : Line) (id : ProcessId) (ids : List ProcessId) (acts : List Act) → P id → AllByRecursion P ids → AllByRecursion P (waiting_after here id ids acts)
+all_after : (P : ProcessId → Type 0) (here : QueueName) (id : ProcessId) (ids : List ProcessId)
+    (acts : List BoardRequest) → P id → AllByRecursion P ids → AllByRecursion P (queue_after here id ids acts)
 all_after P here id ids [] p all = all
-all_after P here id ids (act ∷ acts) p all = all_after P here id (after_act here id ids act) acts p (all_by_act P here id ids act p all)
+all_after P here id ids (act ∷ acts) p all =
+    all_after P here id (after_act here id ids act) acts p (all_by_act P here id ids act p all)
 
 -- Who waits is there still, where what is the own of one slot's process changed: it keeps its life, or does not wait.
-still_there : (owns : List Own) (slot : ℕ) (own o : Own) (ids : List ProcessId) → slice_get owns slot ≡ Some own → (waits slot ids ≡ true → o.life ≡ own.life) → AllByRecursion (IsThere owns) ids → AllByRecursion (IsThere (slice_set owns slot o)) ids
+still_there : (owns : List Own) (slot : ℕ) (own o : Own) (ids : List ProcessId) → slice_get owns slot ≡ Some own
+    → (waits slot ids ≡ true → o.life ≡ own.life) → AllByRecursion (IsThere owns) ids
+    → AllByRecursion (IsThere (slice_set owns slot o)) ids
 still_there owns slot own o [] was life all = tt
-still_there owns slot own o (id ∷ ids) was life all =
-    (by_slot (id.slot == slot) refl, still_there owns slot own o ids was (λ later. life (ap (λ (b : Bool). (id.slot == slot) || b) later ∙ or_true (id.slot == slot))) all.1)
+still_there owns slot own o (id ∷ ids) was life all = (
+  by_slot (id.slot == slot) refl,
+  still_there owns slot own o ids was (λ later.
+      life (ap (λ (b : Bool). (id.slot == slot) || b) later ∙ or_true (id.slot == slot))) all.1,
+)
   where
     within : slot < length owns
     within = slice_get_within owns slot own was
@@ -139,19 +165,31 @@ still_there owns slot own o (id ∷ ids) was life all =
     by_slot true e =
         let same : id.slot ≡ slot = eqb-true id.slot slot e in
         let kept : o.life ≡ own.life = life (ap (λ (b : Bool). b || waits slot ids) e) in
-        let before : own.life ≡ id.life = ap (λ (x : Own). x.life) (sym (get_or_from_slice_get owns slot own nobody was)) ∙ ap (λ (k : ℕ). (slice_index_or owns k nobody).life) (sym same) ∙ all.0.1 in
-        (omega (arith, all.0.0, long), ap (λ (k : ℕ). (slice_index_or (slice_set owns slot o) k nobody).life) same ∙ ap (λ (x : Own). x.life) (get_or-set_same owns slot o nobody within) ∙ kept ∙ before)
+        let before : own.life ≡ id.life =
+        ap (λ (x : Own). x.life) (sym (get_or_from_slice_get owns slot own nobody was))
+        ∙ ap (λ (k : ℕ). (slice_index_or owns k nobody).life) (sym same) ∙ all.0.1 in (
+          omega (arith, all.0.0, long),
+          ap (λ (k : ℕ). (slice_index_or (slice_set owns slot o) k nobody).life) same
+              ∙ ap (λ (x : Own). x.life) (get_or-set_same owns slot o nobody within) ∙ kept ∙ before,
+        )
     by_slot false e =
-        let apart : id.slot ≢ slot = λ is. false≢true (sym e ∙ ap (λ (k : ℕ). k == slot) is ∙ same_number slot) in
-        (omega (arith, all.0.0, long), ap (λ (x : Own). x.life) (get_or-set_other owns slot id.slot o nobody apart) ∙ all.0.1)
+        let apart : id.slot ≢ slot = λ is. false≢true (sym e ∙ ap (λ (k : ℕ). k == slot) is ∙ same_number slot) in (
+          omega (arith, all.0.0, long),
+          ap (λ (x : Own). x.life) (get_or-set_other owns slot id.slot o nobody apart)
+              ∙ all.0.1,
+        )
 
 -- Those that wait are those with a request, after a change of one slot's process and what it asks.
-pub line_after : {R : Type 0} (desk : Desk R) (ids : List ProcessId) (owns : List Own) (slot : ℕ) (own o : Own) (acts : List Act)
-    → IsLine desk ids owns → slice_get owns slot ≡ Some own
-    → has_waiting desk o ≡ waits_after desk.line (has_waiting desk own) acts → (has_waiting desk o ≡ true → o.life ≡ own.life)
-    → IsLine desk (waiting_after desk.line (record { slot = slot; life = own.life }) ids acts) (slice_set owns slot o)
-line_after desk ids owns slot own o acts line was follows life = record {
-  there = still_there owns slot own o ids' was (λ waiting. life (sym own_waits ∙ waiting)) (all_after (IsThere owns) desk.line id ids acts is_there line.there);
+pub line_after : {R : Type 0} (request_kind : RequestKind R) (ids : List ProcessId) (owns : List Own) (slot : ℕ)
+    (own o : Own) (acts : List BoardRequest)
+    → IsQueueOf request_kind ids owns → slice_get owns slot ≡ Some own
+    → has_waiting request_kind o ≡ waits_after request_kind.line (has_waiting request_kind own) acts
+    → (has_waiting request_kind o ≡ true → o.life ≡ own.life)
+    → IsQueueOf request_kind (queue_after request_kind.line (record { slot = slot; life = own.life }) ids acts)
+    (slice_set owns slot o)
+line_after request_kind ids owns slot own o acts line was follows life = record {
+  there = still_there owns slot own o ids' was (λ waiting. life (sym own_waits ∙ waiting))
+      (all_after (IsThere owns) request_kind.line id ids acts is_there line.there);
   each = λ s h. by_slot (s == slot) refl h;
 }
   where
@@ -159,7 +197,7 @@ line_after desk ids owns slot own o acts line was follows life = record {
     id = record { slot = slot; life = own.life }
 
     ids' : List ProcessId
-    ids' = waiting_after desk.line id ids acts
+    ids' = queue_after request_kind.line id ids acts
 
     within : slot < length owns
     within = slice_get_within owns slot own was
@@ -170,14 +208,19 @@ line_after desk ids owns slot own o acts line was follows life = record {
     is_there : IsThere owns id
     is_there = (within, ap (λ (x : Own). x.life) here)
 
-    own_waits : waits slot ids' ≡ has_waiting desk o
-    own_waits = own_after desk.line id ids acts ∙ ap (λ (b : Bool). waits_after desk.line b acts) (line.each slot within ∙ ap (has_waiting desk) here) ∙ sym follows
+    own_waits : waits slot ids' ≡ has_waiting request_kind o
+    own_waits = own_after request_kind.line id ids acts
+        ∙ ap (λ (b : Bool). waits_after request_kind.line b acts)
+        (line.each slot within ∙ ap (has_waiting request_kind) here) ∙ sym follows
 
-    by_slot : {s : ℕ} (b : Bool) → (s == slot) ≡ b → s < length (slice_set owns slot o) → waits s ids' ≡ has_waiting desk (slice_index_or (slice_set owns slot o) s nobody)
+    by_slot : {s : ℕ} (b : Bool) → (s == slot) ≡ b → s < length (slice_set owns slot o)
+        → waits s ids' ≡ has_waiting request_kind (slice_index_or (slice_set owns slot o) s nobody)
     by_slot {s = s} true e h =
         let same : s ≡ slot = eqb-true s slot e in
-        subst (λ (k : ℕ). waits k ids' ≡ has_waiting desk (slice_index_or (slice_set owns slot o) k nobody)) (sym same)
-        (own_waits ∙ ap (has_waiting desk) (sym (get_or-set_same owns slot o nobody within)))
+        subst (λ (k : ℕ). waits k ids' ≡ has_waiting request_kind (slice_index_or (slice_set owns slot o) k nobody))
+        (sym same)
+        (own_waits ∙ ap (has_waiting request_kind) (sym (get_or-set_same owns slot o nobody within)))
     by_slot {s = s} false e h =
         let apart : s ≢ slot = λ is. false≢true (sym e ∙ ap (λ (k : ℕ). k == slot) is ∙ same_number slot) in
-        other_after desk.line id s ids acts apart ∙ line.each s (omega (arith, h, length-set owns slot o)) ∙ ap (has_waiting desk) (sym (get_or-set_other owns slot s o nobody apart))
+        other_after request_kind.line id s ids acts apart ∙ line.each s (omega (arith, h, length-set owns slot o))
+        ∙ ap (has_waiting request_kind) (sym (get_or-set_other owns slot s o nobody apart))

@@ -1,5 +1,7 @@
 -- What is seen of one process on a board is what its record has.
-use Rattle.std.proofs.Common.{◌≡◌, ℕ, ◌≤◌, ◌<◌, List, length, slice_get, slice_index_or, Option, None, Some, refl, sym, ap, ◌∙◌, zero, suc, [], ◌∷◌, Bool, true, false, cond, ◌||◌, ◌==◌, nat_lt, is_some, eq-eqb, arith}
+use Rattle.std.proofs.Common.{◌≡◌, ℕ, ◌≤◌, ◌<◌, List, length, slice_get, slice_index_or, Option, None, Some, refl, sym}
+use Rattle.std.proofs.Common.{ap, ◌∙◌, zero, suc, [], ◌∷◌, Bool, true, false, cond, ◌||◌, ◌==◌, nat_lt, is_some, eq-eqb}
+use Rattle.std.proofs.Common.{arith}
 use Rattle.std.specs.List.{AllByRecursion, zip}
 use Rattle.std.specs.Prelude.{All}
 use Rattle.std.proofs.lemmas.Bool.{false≢true}
@@ -15,11 +17,11 @@ use Rattle.board_core.specs.declared.board.Board.TheInside.{Inside}
 use Rattle.board_core.specs.Residents.{Resident, record_of}
 use Rattle.board_core.specs.Shows.{IsBoard, residents, world_of}
 use Rattle.tk_base.specs.declared.process.ProcessId.{ProcessId}
-use Rattle.waiting_list.specs.Waiting.{waits}
-use Rattle.process_own.specs.Own.{Own}
+use Rattle.driver_requests.specs.Waiting.{waits}
+use Rattle.process_model.specs.Own.{Own}
 use Rattle.driver_model.specs.Lines.{has_waiting}
-use Rattle.driver_model.specs.Requests.{Desk, request_in}
-use Rattle.board_core.specs.Driven.{IsLine, IsThere}
+use Rattle.driver_model.specs.Requests.{RequestKind, request_in}
+use Rattle.board_core.specs.Driven.{IsQueueOf, IsThere}
 use Rattle.board_core.specs.Looks.{LivesThere}
 use Rattle.board_core.proofs.Boards.{has_storage, owns_shown}
 use Rattle.board_core.proofs.Pairs.{length-firsts, zip-get}
@@ -28,19 +30,25 @@ use Rattle.board_core.proofs.Records.{beside_get}
 module _ (b : Inside) (board : IsBoard b) (slot : ℕ) where
   -- the record in a slot, by what is kept for the slot
   looked : (o : Option Resident) → slice_get (residents b) slot ≡ o
-      → slice_get (world_of b).records slot ≡ option_map (λ (r : Resident). record_of b.home.flash (r, slot_bytes b.drivers.stores slot)) o
+      → slice_get (world_of b).records slot
+      ≡ option_map (λ (r : Resident). record_of b.home.flash (r, slot_bytes b.drivers.stores slot)) o
   looked o is =
       slice_get-map (record_of b.home.flash) (zip (residents b) b.drivers.stores.slots) slot
-      ∙ ap (option_map (record_of b.home.flash)) (beside_get (residents b) b.drivers.stores.slots slot (has_storage b board) ∙ ap (option_map (λ (r : Resident). (r, slot_bytes b.drivers.stores slot))) is)
+      ∙ ap (option_map (record_of b.home.flash))
+      (beside_get (residents b) b.drivers.stores.slots slot (has_storage b board)
+      ∙ ap (option_map (λ (r : Resident). (r, slot_bytes b.drivers.stores slot))) is)
       ∙ joined o
     where
-      joined : (o : Option Resident) → option_map (record_of b.home.flash) (option_map (λ (r : Resident). (r, slot_bytes b.drivers.stores slot)) o) ≡ option_map (λ (r : Resident). record_of b.home.flash (r, slot_bytes b.drivers.stores slot)) o
+      joined : (o : Option Resident)
+          → option_map (record_of b.home.flash) (option_map (λ (r : Resident). (r, slot_bytes b.drivers.stores slot)) o)
+          ≡ option_map (λ (r : Resident). record_of b.home.flash (r, slot_bytes b.drivers.stores slot)) o
       joined None = refl
       joined (Some r) = refl
 
   -- a slot that has a process
   pub there : (p : Process) → slice_get b.processes.items slot ≡ Some p
-      → slice_get (world_of b).records slot ≡ Some (record_of b.home.flash ((p, own_of b.home slot), slot_bytes b.drivers.stores slot))
+      → slice_get (world_of b).records slot
+      ≡ Some (record_of b.home.flash ((p, own_of b.home slot), slot_bytes b.drivers.stores slot))
   there p is =
       let within : slot < length b.processes.items = slice_get_within b.processes.items slot p is in
       looked (Some (p, own_of b.home slot)) (zip-get b.processes.items b.home.owns slot p (own_of b.home slot) is
@@ -48,7 +56,8 @@ module _ (b : Inside) (board : IsBoard b) (slot : ℕ) where
 
   -- one without a process
   pub missing : length b.processes.items ≤ slot → slice_get (world_of b).records slot ≡ None
-  missing h = looked None (past (residents b) slot (omega (arith, h, length-firsts b.processes.items b.home.owns board.owns)))
+  missing h = looked None (past (residents b) slot
+      (omega (arith, h, length-firsts b.processes.items b.home.owns board.owns)))
     where
       past : (xs : List Resident) (k : ℕ) → length xs ≤ k → slice_get xs k ≡ None
       past [] k h = refl
@@ -61,7 +70,8 @@ module _ (b : Inside) (board : IsBoard b) (slot : ℕ) where
     read_missing h = ap (option_map read) (sym (missing h))
 
     pub read_there : (x : X) → slot < length b.processes.items
-        → ((p : Process) → slice_get b.processes.items slot ≡ Some p → x ≡ read (record_of b.home.flash ((p, own_of b.home slot), slot_bytes b.drivers.stores slot)))
+        → ((p : Process) → slice_get b.processes.items slot ≡ Some p
+        → x ≡ read (record_of b.home.flash ((p, own_of b.home slot), slot_bytes b.drivers.stores slot)))
         → Some x ≡ option_map read (slice_get (world_of b).records slot)
     read_there x within is =
         let found = some_at b.processes.items slot within in
@@ -79,30 +89,37 @@ module _ (b : Inside) (board : IsBoard b) (slot : ℕ) where
     process_there p lt is =
         let within : index < length processes = grind (arith, nat_tests) in
         let here : slice_get processes index ≡ Some p = slice_get-get_or processes index p within ∙ ap Some (sym is) in
-        let shown = there p (ap (λ (ps : List Process). slice_get ps slot) (sym same) ∙ ap (slice_get processes) (sym at) ∙ here) in
+        let shown = there p (ap (λ (ps : List Process). slice_get ps slot) (sym same)
+        ∙ ap (slice_get processes) (sym at) ∙ here) in
         ap (option_map (λ (r : Record). r.process)) (sym shown)
 
-    pub process_missing : false ≡ nat_lt index (length processes) → None ≡ option_map (λ (r : Record). r.process) (slice_get (world_of b).records slot)
+    pub process_missing : false ≡ nat_lt index (length processes)
+        → None ≡ option_map (λ (r : Record). r.process) (slice_get (world_of b).records slot)
     process_missing lt =
         let past : length processes ≤ index = grind (arith, nat_tests) in
         read_missing (λ (r : Record). r.process) (omega (arith, past, at, ap length same))
 
 module _ (b : Inside) (board : IsBoard b) where
   -- what is the own of the process in a slot, if there is one
-  pub own_read : (slot : ℕ) → slice_get b.home.owns slot ≡ option_map (λ (r : Record). r.own) (slice_get (world_of b).records slot)
+  pub own_read : (slot : ℕ)
+      → slice_get b.home.owns slot ≡ option_map (λ (r : Record). r.own) (slice_get (world_of b).records slot)
   own_read slot =
-      ap (λ (owns : List Own). slice_get owns slot) (sym (owns_shown b.home.flash b.processes.items b.home.owns b.drivers.stores.slots board.owns (has_storage b board)))
+      ap (λ (owns : List Own). slice_get owns slot)
+      (sym (owns_shown b.home.flash b.processes.items b.home.owns b.drivers.stores.slots board.owns
+      (has_storage b board)))
       ∙ slice_get-map (λ (r : Record). r.own) (world_of b).records slot
 
   -- one that waits lives
-  waits_lives : {R : Type 0} (desk : Desk R) (own : Own) → has_waiting desk own ≡ true → own.lives ≡ true
-  waits_lives desk own = by_life own.lives
+  waits_lives : {R : Type 0} (request_kind : RequestKind R) (own : Own) → has_waiting request_kind own ≡ true
+      → own.lives ≡ true
+  waits_lives request_kind own = by_life own.lives
     where
-      by_life : (b : Bool) → is_some (cond b (request_in desk own) None) ≡ true → b ≡ true
+      by_life : (b : Bool) → is_some (cond b (request_in request_kind own) None) ≡ true → b ≡ true
       by_life true e = refl
       by_life false e = absurd (false≢true e)
 
-  lives_so : (id : ProcessId) (own : Own) → slice_get b.home.owns id.slot ≡ Some own → own.lives ≡ true → own.life ≡ id.life → LivesThere (world_of b) id
+  lives_so : (id : ProcessId) (own : Own) → slice_get b.home.owns id.slot ≡ Some own → own.lives ≡ true
+      → own.life ≡ id.life → LivesThere (world_of b) id
   lives_so id own is lives life = by_record (slice_get (world_of b).records id.slot) refl
     where
       by_record : (o : Option Record) → slice_get (world_of b).records id.slot ≡ o → LivesThere (world_of b) id
@@ -111,22 +128,37 @@ module _ (b : Inside) (board : IsBoard b) where
           no_own : ◌≡◌ {A = Option Own} (Some own) None → ⊥
           no_own e = cc
       by_record (Some r) e =
-          let both : ◌≡◌ {A = Option Own} (Some own) (Some r.own) = sym is ∙ own_read id.slot ∙ ap (option_map (λ (x : Record). x.own)) e in
+          let both : ◌≡◌ {A = Option Own} (Some own) (Some r.own) =
+          sym is ∙ own_read id.slot ∙ ap (option_map (λ (x : Record). x.own)) e in
           let same : own ≡ r.own = cc in
-          record { there = r; is_there = e; lives = ap (λ (o : Own). o.lives) (sym same) ∙ lives; life = ap (λ (o : Own). o.life) (sym same) ∙ life }
+          record {
+            there = r;
+            is_there = e;
+            lives = ap (λ (o : Own). o.lives) (sym same) ∙ lives;
+            life =
+                ap (λ (o : Own). o.life) (sym same) ∙ life;
+          }
 
   -- so do all that wait in a line
-  pub line_lives : {R : Type 0} (desk : Desk R) (ids : List ProcessId) → IsLine desk ids b.home.owns → All (LivesThere (world_of b)) ids
-  line_lives desk ids line = each ids line.there (λ id waits_there. waits_there)
+  pub line_lives : {R : Type 0} (request_kind : RequestKind R) (ids : List ProcessId)
+      → IsQueueOf request_kind ids b.home.owns → All (LivesThere (world_of b)) ids
+  line_lives request_kind ids line = each ids line.there (λ id waits_there. waits_there)
     where
-      each : (rest : List ProcessId) → AllByRecursion (IsThere b.home.owns) rest → ((id : ProcessId) → waits id.slot rest ≡ true → waits id.slot ids ≡ true) → All (LivesThere (world_of b)) rest
+      each : (rest : List ProcessId) → AllByRecursion (IsThere b.home.owns) rest
+          → ((id : ProcessId) → waits id.slot rest ≡ true → waits id.slot ids ≡ true)
+          → All (LivesThere (world_of b)) rest
       each [] there within = All-nil (LivesThere (world_of b))
       each (id ∷ rest) there within =
-          let at : slice_get b.home.owns id.slot ≡ Some (slice_index_or b.home.owns id.slot nobody) = slice_get-get_or b.home.owns id.slot nobody there.0.0 in
-          let waits_so : waits id.slot ids ≡ true = within id (ap (λ (t : Bool). t || waits id.slot rest) (eq-eqb id.slot id.slot refl)) in
+          let at : slice_get b.home.owns id.slot ≡ Some (slice_index_or b.home.owns id.slot nobody) =
+          slice_get-get_or b.home.owns id.slot nobody there.0.0 in
+          let waits_so : waits id.slot ids ≡ true =
+          within id (ap (λ (t : Bool). t || waits id.slot rest) (eq-eqb id.slot id.slot refl)) in
           All-cons (LivesThere (world_of b)) id rest
-          (lives_so id (slice_index_or b.home.owns id.slot nobody) at (waits_lives desk (slice_index_or b.home.owns id.slot nobody) (sym (line.each id.slot there.0.0) ∙ waits_so)) there.0.1)
-          (each rest there.1 (λ x later. within x (ap (λ (t : Bool). (id.slot == x.slot) || t) later ∙ or_true (id.slot == x.slot))))
+          (lives_so id (slice_index_or b.home.owns id.slot nobody) at
+          (waits_lives request_kind (slice_index_or b.home.owns id.slot nobody)
+          (sym (line.each id.slot there.0.0) ∙ waits_so)) there.0.1)
+          (each rest there.1 (λ x later.
+          within x (ap (λ (t : Bool). (id.slot == x.slot) || t) later ∙ or_true (id.slot == x.slot))))
         where
           or_true : (b : Bool) → (b || true) ≡ true
           or_true true = refl

@@ -1,21 +1,25 @@
 -- What drivers read of flash for a process is its own.
-use Rattle.std.proofs.Common.{◌≡◌, ℕ, ◌==◌, Bool, true, false, min, if◌then◌else◌, List, [], drop, length, take, Option, None, Some, option_map, unwrap_or, refl, ap}
-use Rattle.grant_areas.specs.declared.kinds.PairKind.TheVariants.{ReadOnly}
+use Rattle.std.proofs.Common.{◌≡◌, ℕ, ◌==◌, Bool, true, false, min, if◌then◌else◌, List, [], drop, length, take, Option}
+use Rattle.std.proofs.Common.{None, Some, option_map, unwrap_or, refl, ap}
+use Rattle.grant_model.specs.declared.kinds.PairKind.TheVariants.{ReadOnly}
 use Rattle.grant_values.specs.declared.console.WaitingWrite.{WaitingWrite}
 use Rattle.grant_values.specs.declared.storage.StorageKind.{StorageKind}
 use Rattle.grant_values.specs.declared.storage.StorageKind.TheVariants.{Read, Write}
 use Rattle.grant_values.specs.declared.storage.StorageRequest.{StorageRequest}
-use Rattle.process_own.specs.Flash.{HasObject, ReadsOwnFlash, only_object}
-use Rattle.process_own.specs.Handed.{HoldsInPlace, held}
-use Rattle.process_own.specs.Own.{Own}
-use Rattle.process_own.specs.Served.{bytes_at}
+use Rattle.process_model.specs.Flash.{HasObject, ReadsOwnFlash, only_object}
+use Rattle.process_model.specs.Handed.{HoldsInPlace, held}
+use Rattle.process_model.specs.Own.{Own}
+use Rattle.process_model.specs.Served.{bytes_at}
 use Rattle.driver_model.specs.Console.{console, console_writes, portion, sent, taken, unsent, write_done}
 use Rattle.driver_model.specs.Requests.{waiting_of}
 use Rattle.driver_model.specs.Storage as storage
-use Rattle.driver_model.specs.Storage.{Served, answer_of, answered, completing, moving, served, storages, unanswered}
+use Rattle.driver_model.specs.Storage.{StorageServed, storage_answer_of, answered, completing, moving, storage_served}
+use Rattle.driver_model.specs.Storage.{storages, unanswered}
 
 -- what of a write is printed
-pub sent_of_own : (flash : List ℕ) (life : ℕ) (own : Own) → ReadsOwnFlash → HasObject (length flash) own.object own.layout → HoldsInPlace own → sent flash life own ≡ sent (only_object own.object flash) life own
+pub sent_of_own : (flash : List ℕ) (life : ℕ) (own : Own) → ReadsOwnFlash
+    → HasObject (length flash) own.object own.layout → HoldsInPlace own
+    → sent flash life own ≡ sent (only_object own.object flash) life own
 unfolding sent
 sent_of_own flash life own law lies holds =
     ap (λ (bytes : List ℕ). unwrap_or (option_map (λ (write : WaitingWrite).
@@ -25,18 +29,33 @@ sent_of_own flash life own law lies holds =
     (law flash own (held ReadOnly console 1 own) lies (holds.read_only console 1))
 
 -- what is written over its storage
-moved_of_own : (kind : StorageKind) (flash bytes : List ℕ) (request : StorageRequest) (own : Own) → bytes_at flash own (held ReadOnly storage.storage 0 own) ≡ bytes_at (only_object own.object flash) own (held ReadOnly storage.storage 0 own) → moving kind flash bytes request own ≡ moving kind (only_object own.object flash) bytes request own
+moved_of_own : (kind : StorageKind) (flash bytes : List ℕ) (request : StorageRequest) (own : Own)
+    → bytes_at flash own (held ReadOnly storage.storage 0 own)
+    ≡ bytes_at (only_object own.object flash) own (held ReadOnly storage.storage 0 own)
+    → moving kind flash bytes request own ≡ moving kind (only_object own.object flash) bytes request own
 moved_of_own Read flash bytes request own same = refl
 moved_of_own Write flash bytes request own same =
-    ap (λ (buffer : List ℕ). let count = min request.length (length buffer) in record { own = completing Write count 0 own; written = Some (request.offset, take count buffer) }) same
+    ap (λ (buffer : List ℕ). let count = min request.length (length buffer) in
+    record { own = completing Write count 0 own; written = Some (request.offset, take count buffer) }) same
 
-pub answered_of_own : (fault : Bool) (flash bytes : List ℕ) (life : ℕ) (own : Own) → ReadsOwnFlash → HasObject (length flash) own.object own.layout → HoldsInPlace own → answered fault flash bytes life own ≡ answered fault (only_object own.object flash) bytes life own
+pub answered_of_own : (fault : Bool) (flash bytes : List ℕ) (life : ℕ) (own : Own) → ReadsOwnFlash
+    → HasObject (length flash) own.object own.layout → HoldsInPlace own
+    → answered fault flash bytes life own ≡ answered fault (only_object own.object flash) bytes life own
 unfolding answered
 answered_of_own fault flash bytes life own law lies holds = by_request (waiting_of storages life own)
   where
-    same : (request : StorageRequest) → moving request.kind flash bytes request own ≡ moving request.kind (only_object own.object flash) bytes request own
-    same request = moved_of_own request.kind flash bytes request own (law flash own (held ReadOnly storage.storage 0 own) lies (holds.read_only storage.storage 0))
+    same : (request : StorageRequest)
+        → moving request.kind flash bytes request own
+        ≡ moving request.kind (only_object own.object flash) bytes request own
+    same request = moved_of_own request.kind flash bytes request own
+        (law flash own (held ReadOnly storage.storage 0 own) lies (holds.read_only storage.storage 0))
 
-    by_request : (o : Option StorageRequest) → unwrap_or (option_map (λ (request : StorageRequest). answer_of (served fault flash bytes request own)) o) (unanswered own) ≡ unwrap_or (option_map (λ (request : StorageRequest). answer_of (served fault (only_object own.object flash) bytes request own)) o) (unanswered own)
+    by_request : (o : Option StorageRequest)
+        → unwrap_or (option_map (λ (request : StorageRequest). storage_answer_of
+        (storage_served fault flash bytes request own)) o) (unanswered own)
+        ≡ unwrap_or (option_map (λ (request : StorageRequest). storage_answer_of
+        (storage_served fault (only_object own.object flash) bytes request own)) o) (unanswered own)
     by_request None = refl
-    by_request (Some request) = ap (λ (m : Served). answer_of (if fault then record { own = completing request.kind 0 1 own; written = None } else m)) (same request)
+    by_request (Some request) =
+        ap (λ (m : StorageServed). storage_answer_of
+        (if fault then record { own = completing request.kind 0 1 own; written = None } else m)) (same request)

@@ -1,5 +1,7 @@
 -- Choices from outside, one after another.
-use Rattle.std.proofs.Common.{◌≡◌, ℕ, suc, ◌+◌, ◌<◌, ◌≤◌, Bool, true, false, ◌&&◌, List, [], ◌∷◌, ◌++◌, take, length, slice_get, slice_index_or, Option, Some, IfSome, refl, sym, ap, subst, ◌∙◌, arith, append_assoc, append-nil, length-append}
+use Rattle.std.proofs.Common.{◌≡◌, ℕ, suc, ◌+◌, ◌<◌, ◌≤◌, Bool, true, false, ◌&&◌, List, [], ◌∷◌, ◌++◌, take, length}
+use Rattle.std.proofs.Common.{slice_get, slice_index_or, Option, Some, IfSome, refl, sym, ap, subst, ◌∙◌, arith}
+use Rattle.std.proofs.Common.{append_assoc, append-nil, length-append}
 use Rattle.std.specs.Option.{option_map}
 use Rattle.std.proofs.lemmas.Option.{slice_get-get_or}
 use Rattle.std.proofs.KnownBytes.{Appends-trans}
@@ -21,31 +23,38 @@ use Rattle.kernel_model.specs.Shown.{shown_by}
 use Rattle.kernel_model.specs.Replay.{RecordIsReplay, after_all, history, replay}
 use Rattle.kernel_model.specs.Choices.{Throughout, are_ready, labels_of_all, printed_by_all}
 use Rattle.board_core.specs.Alone.{IsFirstAlone, first_alone}
-use Rattle.board_core.specs.Plays.{FailedAfter, Made, PlayedAll, StoppedAt}
+use Rattle.board_core.specs.Plays.{FailedAfter, ChoicesMade, PlayedAll, StoppedAt}
 
 -- a choice more, after others
 after-more : (w : World) (cs : List Choice) (c : Choice) → after_all w (cs ++ c ∷ []) ≡ after (after_all w cs) c
 after-more w [] c = refl
 after-more w (d ∷ cs) c = after-more (after w d) cs c
 
-ready-more : (w : World) (cs : List Choice) (c : Choice) → are_ready w cs ≡ true → is_ready (after_all w cs) c ≡ true → are_ready w (cs ++ c ∷ []) ≡ true
+ready-more : (w : World) (cs : List Choice) (c : Choice) → are_ready w cs ≡ true → is_ready (after_all w cs) c ≡ true
+    → are_ready w (cs ++ c ∷ []) ≡ true
 ready-more w [] c e r = ap (λ (b : Bool). b && true) r
 ready-more w (d ∷ cs) c e r = by_first (is_ready w d) e (λ f. ready-more (after w d) cs c f r)
   where
-    by_first : (b : Bool) → (b && are_ready (after w d) cs) ≡ true → (are_ready (after w d) cs ≡ true → are_ready (after w d) (cs ++ c ∷ []) ≡ true) → (b && are_ready (after w d) (cs ++ c ∷ [])) ≡ true
+    by_first : (b : Bool) → (b && are_ready (after w d) cs) ≡ true
+        → (are_ready (after w d) cs ≡ true → are_ready (after w d) (cs ++ c ∷ []) ≡ true)
+        → (b && are_ready (after w d) (cs ++ c ∷ [])) ≡ true
     by_first true f later = later f
     by_first false f later = f
 
-labels-more : (w : World) (cs : List Choice) (c : Choice) → labels_of_all w (cs ++ c ∷ []) ≡ labels_of_all w cs ++ labels (after_all w cs) c
+labels-more : (w : World) (cs : List Choice) (c : Choice)
+    → labels_of_all w (cs ++ c ∷ []) ≡ labels_of_all w cs ++ labels (after_all w cs) c
 labels-more w [] c = append-nil (labels w c)
 labels-more w (d ∷ cs) c =
     ap (λ (ls : List Label). labels w d ++ ls) (labels-more (after w d) cs c)
     ∙ sym (append_assoc (labels w d) (labels_of_all (after w d) cs) (labels (after_all (after w d) cs) c))
 
-printed-more : (w : World) (cs : List Choice) (c : Choice) → printed_by_all w (cs ++ c ∷ []) ≡ printed_by_all w cs ++ printed (labels (after_all w cs) c)
-printed-more w cs c = ap printed (labels-more w cs c) ∙ flat_map-append printed_by (labels_of_all w cs) (labels (after_all w cs) c)
+printed-more : (w : World) (cs : List Choice) (c : Choice)
+    → printed_by_all w (cs ++ c ∷ []) ≡ printed_by_all w cs ++ printed (labels (after_all w cs) c)
+printed-more w cs c =
+    ap printed (labels-more w cs c) ∙ flat_map-append printed_by (labels_of_all w cs) (labels (after_all w cs) c)
 
-throughout-more : (w : World) (cs : List Choice) (c : Choice) → Throughout IsAccountedFor w cs → IsAccountedFor (after_all w cs) c → Throughout IsAccountedFor w (cs ++ c ∷ [])
+throughout-more : (w : World) (cs : List Choice) (c : Choice) → Throughout IsAccountedFor w cs
+    → IsAccountedFor (after_all w cs) c → Throughout IsAccountedFor w (cs ++ c ∷ [])
 throughout-more w [] c all one = (one, tt)
 throughout-more w (d ∷ cs) c all one = (all.0, throughout-more (after w d) cs c all.1 one)
 
@@ -58,7 +67,8 @@ shown-printed (Answered slot event ∷ ls) = shown-printed ls
 shown-printed (Printed slot bytes ∷ ls) = ap (λ (xs : List ℕ). bytes ++ xs) (shown-printed ls)
 
 -- what choices that were made lead to, of each process by itself
-made_of : (old new : World) (cs : List Choice) → RecordIsReplay → are_ready old cs ≡ true → new ≡ after_all old cs → Throughout IsAccountedFor old cs → Made old new cs
+made_of : (old new : World) (cs : List Choice) → RecordIsReplay → are_ready old cs ≡ true → new ≡ after_all old cs
+    → Throughout IsAccountedFor old cs → ChoicesMade old new cs
 made_of old new cs law ready world accounted =
     record {
       ready = ready;
@@ -67,16 +77,20 @@ made_of old new cs law ready world accounted =
       accounted = accounted;
       same = λ other others slot place settings first histories.
           law other others place
-          ∙ ap (λ (s : Settings). option_map (replay s (history place other others)) (slice_get other.records place)) settings
+          ∙ ap (λ (s : Settings). option_map (replay s (history place other others)) (slice_get other.records place))
+          settings
           ∙ ap (λ (h : List Event). option_map (replay old.settings h) (slice_get other.records place)) histories
           ∙ ap (option_map (replay old.settings (history slot old cs))) first
           ∙ sym (replayed slot);
       alone = λ opens slot r is.
-          let first : Some r ≡ first_alone old.settings.storage r.object r.process.object.address r.own.layout.start = subst (λ (o : Option Record). IfSome o (IsFirstAlone old.settings.storage)) is (opens slot) in
+          let first : Some r ≡ first_alone old.settings.storage r.object r.process.object.address r.own.layout.start =
+          subst (λ (o : Option Record). IfSome o (IsFirstAlone old.settings.storage)) is (opens slot) in
           replayed slot ∙ ap (option_map (replay old.settings (history slot old cs))) (is ∙ first);
     }
   where
-    replayed : (slot : ℕ) → slice_get new.records slot ≡ option_map (replay old.settings (history slot old cs)) (slice_get old.records slot)
+    replayed : (slot : ℕ)
+        → slice_get new.records slot
+        ≡ option_map (replay old.settings (history slot old cs)) (slice_get old.records slot)
     replayed slot = ap (λ (w : World). slice_get w.records slot) world ∙ law old cs slot
 
 number : (i : ℕ) → suc i ≡ i + 1
@@ -87,50 +101,65 @@ rose_later : (a b c : ℕ) → a ≤ b → Rose b c → Rose a c
 rose_later a b c kept rose = omega arith
 
 -- i choices of a list were made, and all that they printed was written
-pub record PlaysOn {K : Type 0} (tells : K → SinkFacts) (old new : World) (choices : List Choice) (i : ℕ) (out now : K) : Type 0 where
+pub record PlaysOn {K : Type 0} (tells : K → SinkFacts) (old new : World) (choices : List Choice) (i : ℕ)
+    (out now : K) : Type 0 where
   pub ready : are_ready old (take i choices) ≡ true
   pub world : new ≡ after_all old (take i choices)
   pub accounted : Throughout IsAccountedFor old (take i choices)
   pub wrote : WroteAll tells out now (printed_by_all old (take i choices))
 
-pub begins : {K : Type 0} (tells : K → SinkFacts) (old : World) (choices : List Choice) (out : K) → WritesCompose tells → PlaysOn tells old old choices 0 out out
+pub begins : {K : Type 0} (tells : K → SinkFacts) (old : World) (choices : List Choice) (out : K) → WritesCompose tells
+    → PlaysOn tells old old choices 0 out out
 begins tells old choices out law = record { ready = refl; world = refl; accounted = tt; wrote = law.wrote_nothing out }
 
-module _ {K : Type 0} {tells : K → SinkFacts} {old new : World} {choices : List Choice} {i : ℕ} {out now : K} (p : PlaysOn tells old new choices i out now) where
+module _ {K : Type 0} {tells : K → SinkFacts} {old new : World} {choices : List Choice} {i : ℕ} {out now : K}
+    (p : PlaysOn tells old new choices i out now) where
   -- what was made is known of each process
-  made : RecordIsReplay → Made old new (take i choices)
+  made : RecordIsReplay → ChoicesMade old new (take i choices)
   made law = made_of old new (take i choices) law p.ready p.world p.accounted
 
   module _ (c : Choice) (h : i < length choices) (is : slice_index_or choices i c ≡ c) where
     one_longer : take (i + 1) choices ≡ take i choices ++ c ∷ []
     one_longer = take_more choices i c h ∙ ap (λ (x : Choice). take i choices ++ x ∷ []) is
 
-    bytes : (step : Emit) → step ≡ shown_by (labels new c) → printed_by_all old (take (i + 1) choices) ≡ printed_by_all old (take i choices) ++ step.printed.items
+    bytes : (step : Emit) → step ≡ shown_by (labels new c)
+        → printed_by_all old (take (i + 1) choices) ≡ printed_by_all old (take i choices) ++ step.printed.items
     bytes step s =
         ap (printed_by_all old) one_longer ∙ printed-more old (take i choices) c
         ∙ ap (λ (w : World). printed_by_all old (take i choices) ++ printed (labels w c)) (sym p.world)
-        ∙ ap (λ (xs : List ℕ). printed_by_all old (take i choices) ++ xs) (sym (ap (λ (x : Emit). x.printed.items) s ∙ shown-printed (labels new c)))
+        ∙ ap (λ (xs : List ℕ). printed_by_all old (take i choices) ++ xs)
+        (sym (ap (λ (x : Emit). x.printed.items) s ∙ shown-printed (labels new c)))
 
     -- one more was made
-    steps : (then : World) → is_ready new c ≡ true → then ≡ after new c → (are_ready old (take (i + 1) choices) ≡ true) × (then ≡ after_all old (take (i + 1) choices))
+    steps : (then : World) → is_ready new c ≡ true → then ≡ after new c
+        → (are_ready old (take (i + 1) choices) ≡ true) × (then ≡ after_all old (take (i + 1) choices))
     steps then r e = (
-      ap (are_ready old) one_longer ∙ ready-more old (take i choices) c p.ready (ap (λ (w : World). is_ready w c) (sym p.world) ∙ r),
-      e ∙ ap (λ (w : World). after w c) p.world ∙ sym (after-more old (take i choices) c) ∙ ap (after_all old) (sym one_longer),
+      ap (are_ready old) one_longer
+          ∙ ready-more old (take i choices) c p.ready (ap (λ (w : World). is_ready w c) (sym p.world) ∙ r),
+      e ∙ ap (λ (w : World). after w c) p.world ∙ sym (after-more old (take i choices) c)
+          ∙ ap (after_all old) (sym one_longer),
     )
 
     accounted_then : IsAccountedFor new c → Throughout IsAccountedFor old (take (i + 1) choices)
-    accounted_then one = subst (Throughout IsAccountedFor old) (sym one_longer) (throughout-more old (take i choices) c p.accounted (subst (λ (w : World). IsAccountedFor w c) p.world one))
+    accounted_then one =
+        subst (Throughout IsAccountedFor old) (sym one_longer)
+        (throughout-more old (take i choices) c p.accounted (subst (λ (w : World). IsAccountedFor w c) p.world one))
 
-    pub plays_on : WritesCompose tells → (then : World) (later : K) (step : Emit) → is_ready new c ≡ true → then ≡ after new c → step ≡ shown_by (labels new c) → IsAccountedFor new c → WroteAll tells now later step.printed.items → PlaysOn tells old then choices (i + 1) out later
+    pub plays_on : WritesCompose tells → (then : World) (later : K) (step : Emit) → is_ready new c ≡ true
+        → then ≡ after new c → step ≡ shown_by (labels new c) → IsAccountedFor new c
+        → WroteAll tells now later step.printed.items → PlaysOn tells old then choices (i + 1) out later
     plays_on law then later step r e s one w = record {
       ready = (steps then r e).0;
       world = (steps then r e).1;
       accounted = accounted_then one;
-      wrote = subst (λ (text : List ℕ). WroteAll tells out later text) (sym (bytes step s)) (law.all_then_all p.wrote w);
+      wrote = subst (λ (text : List ℕ). WroteAll tells out later text) (sym (bytes step s))
+          (law.all_then_all p.wrote w);
     }
 
     -- the sink failed after it
-    pub failed : WritesCompose tells → RecordIsReplay → (then : World) (later : K) (step : Emit) → is_ready new c ≡ true → then ≡ after new c → step ≡ shown_by (labels new c) → IsAccountedFor new c → WrotePart tells now later step.printed.items → FailedAfter tells old then choices out later
+    pub failed : WritesCompose tells → RecordIsReplay → (then : World) (later : K) (step : Emit) → is_ready new c ≡ true
+        → then ≡ after new c → step ≡ shown_by (labels new c) → IsAccountedFor new c
+        → WrotePart tells now later step.printed.items → FailedAfter tells old then choices out later
     failed law each then later step r e s one w = record {
       before = i;
       within = h;
@@ -141,10 +170,12 @@ module _ {K : Type 0} {tells : K → SinkFacts} {old new : World} {choices : Lis
       wrote = record {
         front = printed_by_all old (take i choices) ++ w.front;
         missing = w.missing;
-        parts = ap (λ (k : ℕ). printed_by_all old (take k choices)) (number i) ∙ bytes step s ∙ ap (λ (xs : List ℕ). printed_by_all old (take i choices) ++ xs) w.parts
+        parts = ap (λ (k : ℕ). printed_by_all old (take k choices)) (number i) ∙ bytes step s
+            ∙ ap (λ (xs : List ℕ). printed_by_all old (take i choices) ++ xs) w.parts
             ∙ sym (append_assoc (printed_by_all old (take i choices)) w.front w.missing);
         lacks = w.lacks;
-        appended = Appends-trans (tells out).written (tells now).written (tells later).written (printed_by_all old (take i choices)) w.front p.wrote.appended w.appended;
+        appended = Appends-trans (tells out).written (tells now).written (tells later).written
+            (printed_by_all old (take i choices)) w.front p.wrote.appended w.appended;
         count = omega (arith, p.wrote.count, w.count);
         rose = rose_later (tells out).faults (tells now).faults (tells later).faults p.wrote.count w.rose;
       };
@@ -166,6 +197,6 @@ module _ {K : Type 0} {tells : K → SinkFacts} {old new : World} {choices : Lis
   whole each h =
       let all : take i choices ≡ choices = take_all i choices h in
       record {
-        made = subst (λ (cs : List Choice). Made old new cs) all (made each);
+        made = subst (λ (cs : List Choice). ChoicesMade old new cs) all (made each);
         wrote = subst (λ (cs : List Choice). WroteAll tells out now (printed_by_all old cs)) all p.wrote;
       }

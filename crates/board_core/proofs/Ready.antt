@@ -1,9 +1,10 @@
 -- Which device steps of a board are ready, and when the next one becomes so.
-use Rattle.std.proofs.Common.{◌≡◌, ℕ, ◌+◌, Bool, true, false, cond, List, [], ◌∷◌, is_some, Ok, IsTrue, refl, sym, ap, ◌∙◌}
+use Rattle.std.proofs.Common.{◌≡◌, ℕ, ◌+◌, Bool, true, false, cond, List, [], ◌∷◌, is_some, Ok, IsTrue, refl, sym, ap}
+use Rattle.std.proofs.Common.{◌∙◌}
 use Rattle.std.specs.Option.{option_map}
-use Rattle.board_devices.specs.Arriving.{next_time as arrival_time}
+use Rattle.board_devices.specs.Arriving.{first_arrival_time as arrival_time}
 use Rattle.board_devices.specs.Clock.{clock_at}
-use Rattle.process_own.specs.Own.{Own}
+use Rattle.process_model.specs.Own.{Own}
 use Rattle.driver_model.specs.Alarm.{nearer, next_left}
 use Rattle.tk_base.specs.declared.process.Choice.{Choice}
 use Rattle.tk_base.specs.declared.process.Choice.TheVariants.{Pass}
@@ -17,36 +18,48 @@ use Rattle.board_core.specs.Calm.{IsCalmAt}
 use Rattle.board_core.specs.declared.drivers.Drivers.{Drivers}
 use Rattle.board_core.specs.declared.moment.Moment.{Moment}
 use Rattle.board_core.specs.Driven.{devices_of}
-use Rattle.board_core.specs.Makes.{Makes, ready_in}
+use Rattle.board_core.specs.Makes.{MakesStep, ready_in}
 use Rattle.board_core.specs.Shows.{IsBoard, world_of}
 use Rattle.board_core.proofs.Boards.{has_storage, owns_shown}
 
-six : {event alarm uart receive random store e a u v r s : Bool} → event ≡ e → alarm ≡ a → uart ≡ u → receive ≡ v → random ≡ r → store ≡ s → event ∷ alarm ∷ uart ∷ receive ∷ random ∷ store ∷ [] ≡ e ∷ a ∷ u ∷ v ∷ r ∷ s ∷ []
+six : {event alarm uart receive random store e a u v r s : Bool} → event ≡ e → alarm ≡ a → uart ≡ u → receive ≡ v
+    → random ≡ r → store ≡ s → event ∷ alarm ∷ uart ∷ receive ∷ random ∷ store ∷ [] ≡ e ∷ a ∷ u ∷ v ∷ r ∷ s ∷ []
 six f g h i j k = cc
 
 -- where it is calm no device step is ready
-pub calm_ready : (m : Moment) (owns : List Own) (d : Drivers) → IsCalmAt m.settings.start m.time owns d → ready_in m owns d ≡ false ∷ false ∷ false ∷ false ∷ false ∷ false ∷ []
-calm_ready m owns d calm = six calm.sends.event (ap is_some calm.alarm) calm.sends.uart calm.serves.receive calm.serves.random calm.serves.store
+pub calm_ready : (m : Moment) (owns : List Own) (d : Drivers) → IsCalmAt m.settings.start m.time owns d
+    → ready_in m owns d ≡ false ∷ false ∷ false ∷ false ∷ false ∷ false ∷ []
+calm_ready m owns d calm =
+    six calm.sends.event (ap is_some calm.alarm) calm.sends.uart calm.serves.receive calm.serves.random
+    calm.serves.store
 
 module _ (b : Inside) (board : IsBoard b) where
   -- what the owns of the world that a board shows are
   pub owns_in_world : owns_in (world_of b) ≡ b.home.owns
-  owns_in_world = owns_shown b.home.flash b.processes.items b.home.owns b.drivers.stores.slots board.owns (has_storage b board)
+  owns_in_world =
+      owns_shown b.home.flash b.processes.items b.home.owns b.drivers.stores.slots board.owns (has_storage b board)
 
   -- the nearest time at which a device step becomes ready by itself
-  pub next_shown : nearer (arrival_time b.drivers.arrivals) (nearer (option_map (λ n. b.moment.time + n) (next_left (clock_at b.moment.settings.start b.moment.time) b.home.owns)) (sending_time (devices_of b.drivers))) ≡ next_time (world_of b)
-  next_shown = ap (λ (owns : List Own). nearer (arrival_time b.drivers.arrivals) (nearer (option_map (λ n. b.moment.time + n) (next_left (clock_at b.moment.settings.start b.moment.time) owns)) (sending_time (devices_of b.drivers)))) (sym owns_in_world)
+  pub next_shown : nearer (arrival_time b.drivers.arrivals)
+      (nearer (option_map (λ n. b.moment.time + n)
+      (next_left (clock_at b.moment.settings.start b.moment.time) b.home.owns)) (sending_time (devices_of b.drivers)))
+      ≡ next_time (world_of b)
+  next_shown = ap (λ (owns : List Own). nearer (arrival_time b.drivers.arrivals)
+      (nearer (option_map (λ n. b.moment.time + n) (next_left (clock_at b.moment.settings.start b.moment.time) owns))
+      (sending_time (devices_of b.drivers)))) (sym owns_in_world)
 
   -- which device steps are ready
   pub devices_shown : ready_in b.moment b.home.owns b.drivers ≡ ready_devices (world_of b)
   devices_shown = ap (λ (owns : List Own). ready_in b.moment owns b.drivers) (sym owns_in_world)
 
   -- as long as it is calm no device step is ready
-  pub calm_shown : IsCalmAt b.moment.settings.start b.moment.time b.home.owns b.drivers → ready_devices (world_of b) ≡ false ∷ false ∷ false ∷ false ∷ false ∷ false ∷ []
+  pub calm_shown : IsCalmAt b.moment.settings.start b.moment.time b.home.owns b.drivers
+      → ready_devices (world_of b) ≡ false ∷ false ∷ false ∷ false ∷ false ∷ false ∷ []
   calm_shown calm = sym devices_shown ∙ calm_ready b.moment b.home.owns b.drivers calm
 
 -- a choice that is ready is made
-pub is_carried_out : (w : World) (choice : Choice) → IsTrue (is_ready w choice) → stepped w choice ≡ carried_out w choice
+pub is_carried_out : (w : World) (choice : Choice) → IsTrue (is_ready w choice)
+    → stepped w choice ≡ carried_out w choice
 unfolding stepped
 is_carried_out w choice ready = by_ready (is_ready w choice) ready
   where
@@ -55,14 +68,21 @@ is_carried_out w choice ready = by_ready (is_ready w choice) ready
     by_ready false h = absurd (cc)
 
 -- the world after so many ticks
-pub passes : (b : Inside) (w : World) (ticks n : ℕ) (before after_it : Emit) → world_of b ≡ w → n ≡ ticks → IsTrue (is_ready w (Pass ticks)) → after_it ≡ nothing → Makes (Pass ticks) w (world_of (record b { moment = record b.moment { time = b.moment.time + n; steps = b.moment.steps + 1 } })) before after_it (Ok tt)
+pub passes : (b : Inside) (w : World) (ticks n : ℕ) (before after_it : Emit) → world_of b ≡ w → n ≡ ticks
+    → IsTrue (is_ready w (Pass ticks)) → after_it ≡ nothing
+    → MakesStep (Pass ticks) w (world_of
+    (record b { moment = record b.moment { time = b.moment.time + n; steps = b.moment.steps + 1 } })) before after_it
+    (Ok tt)
 unfolding carried_out shown_by
 passes b w ticks n before after_it view is ready hidden =
     let steps = is_carried_out w (Pass ticks) ready in
     record {
       ready = (λ e. ready, λ h. refl);
       ok =
-          ap (λ (k : ℕ). world_of (record b { moment = record b.moment { time = b.moment.time + k; steps = b.moment.steps + 1 } })) is
+          ap (λ (k : ℕ). world_of (record b {
+            moment =
+                record b.moment { time = b.moment.time + k; steps = b.moment.steps + 1 };
+          })) is
           ∙ ap (λ (x : World). (carried_out x (Pass ticks)).after) view ∙ sym (ap (λ (s : Stepped). s.after) steps);
       shown = hidden ∙ sym (ap (λ (s : Stepped). shown_by s.labels) steps);
       refused = tt;

@@ -1,5 +1,8 @@
 -- What each device tells the process that it serves, as a step of the board.
-use Rattle.std.proofs.Common.{◌≡◌, ℕ, zero, suc, ◌+◌, ◌*◌, ◌^◌, ◌==◌, ◌<◌, ◌≤◌, Bool, true, false, not, ◌&&◌, nat_le, if◌then◌else◌, List, [], ◌∷◌, drop, take, length, slice_get, slice_set, Option, None, Some, is_none, is_some, IfNone, unwrap_or, refl, sym, ap, ap₂, subst, ◌∙◌, arith}
+use Rattle.std.proofs.Common.{◌≡◌, ℕ, zero, suc, ◌+◌, ◌*◌, ◌^◌, ◌==◌, ◌<◌, ◌≤◌, Bool, true, false, not, ◌&&◌, nat_le}
+use Rattle.std.proofs.Common.{if◌then◌else◌, List, [], ◌∷◌, drop, take, length, slice_get, slice_set, Option, None}
+use Rattle.std.proofs.Common.{Some, Result, Ok, Err, is_ok, is_none, is_some, OnErr, unwrap_or, refl, sym, ap, ap₂}
+use Rattle.std.proofs.Common.{subst, ◌∙◌, arith}
 use Rattle.std.specs.List.{AllByRecursion}
 use Rattle.std.specs.Option.{option_map}
 use Rattle.std.proofs.lemmas.Bool.{false≢true}
@@ -7,25 +10,30 @@ use Rattle.std.proofs.lemmas.Bool.Decides.{nat_tests}
 use Rattle.std.proofs.lemmas.List.{set-get_or}
 use Rattle.std.proofs.lemmas.Nat.{mul-le}
 use Rattle.std.proofs.lemmas.Option.{slice_get-get_or}
+use Rattle.tk_base.specs.declared.limits.TheConstants.{BYTE_TICKS_LIMIT, PRINT_LIMIT, SENDING_LIMIT}
 use Rattle.arrayvec.specs.ArrayVec.{ArrayVec}
 use Rattle.tk_base.specs.declared.process.Dev.{Dev}
 use Rattle.tk_base.specs.declared.process.Dev.TheVariants.{Alarm, Uart, Receive, Random, Store}
 use Rattle.tk_base.specs.declared.process.ProcessId.{ProcessId}
+use Rattle.board_devices.specs.declared.answer.Answer.{Answer}
+use Rattle.tk_base.specs.declared.process.NotReady.{NotReady}
 use Rattle.board_devices.specs.Clock.{clock_at}
 use Rattle.board_devices.specs.SerialLine.{SerialLine}
-use Rattle.board_devices.specs.Storage.{Storage, is_fault}
+use Rattle.board_devices.specs.Storage.{StoredSlots, is_fault}
 use Rattle.tk_outside.specs.Count.{counted}
-use Rattle.process_own.specs.Flash.{HasObject, ReadsOwnFlash, only_object}
-use Rattle.process_own.specs.Handed.{HoldsInPlace, held}
-use Rattle.process_own.specs.Served.{bytes_at}
-use Rattle.grant_areas.specs.declared.kinds.PairKind.TheVariants.{ReadOnly}
+use Rattle.process_model.specs.Flash.{HasObject, ReadsOwnFlash, only_object}
+use Rattle.process_model.specs.Handed.{HoldsInPlace, held}
+use Rattle.process_model.specs.Served.{bytes_at}
+use Rattle.grant_model.specs.declared.kinds.PairKind.TheVariants.{ReadOnly}
 use Rattle.grant_values.specs.declared.console.WaitingWrite.{WaitingWrite}
-use Rattle.process_own.specs.Own.{Own}
+use Rattle.process_model.specs.Own.{Own}
 use Rattle.process_record.specs.declared.process.Process.{Process}
-use Rattle.driver_model.specs.Answers.{EventsTellSteps, drawn_word, LinesFollowAnswers, left_by}
-use Rattle.driver_model.specs.Commands.{Line, Writes, Reads, Randoms, Stores}
-use Rattle.driver_model.specs.Console.{Received, Sent, console, console_writes, free_after, input, next_bytes, portion, received, sending, sent, taken, unsent, write_done}
+use Rattle.driver_model.specs.Answers.{EventsTellSteps, drawn_word, LinesFollowAnswers, queue_left_by}
+use Rattle.driver_model.specs.Commands.{QueueName, Writes, Reads, Randoms, Stores}
+use Rattle.driver_model.specs.Console.{Received, Sent, console, console_writes, free_after, input, next_bytes, portion}
+use Rattle.driver_model.specs.Console.{received, sending, sent, taken, unsent, write_done}
 use Rattle.driver_model.specs.Requests.{waiting_of}
+use Rattle.driver_model.specs.Told.{drawn_told, received_told, sent_told, stored_told}
 use Rattle.driver_model.specs.Alarm.{answered, due_slot}
 use Rattle.driver_model.specs.Laws.{DueSlotIsThere}
 use Rattle.driver_model.specs.Random as random
@@ -33,33 +41,37 @@ use Rattle.driver_model.specs.Storage as storage
 use Rattle.alarm_capsule.specs.Answers as alarm_capsule
 use Rattle.random_capsule.specs.Answers.{answer_to as random_to}
 use Rattle.storage_capsule.specs.Answers.{answer_to as storage_to}
-use Rattle.storage_capsule.specs.Serving.{after_count, fails_next, stored}
+use Rattle.storage_capsule.specs.Serving.{after_count, store_fails_next, storage_after}
 use Rattle.grant_values.specs.declared.storage.StorageRequest.{StorageRequest}
-use Rattle.driver_requests.specs.Answers.{Answered, Answers}
+use Rattle.driver_requests.specs.Answers.{Answered, AnswersFirst, kinds}
 use Rattle.driver_requests.specs.Waiting.{waiting_still}
-use Rattle.console_capsule.specs.Answers.{cannot_give, cannot_send, received_by, sending_at, sent_by}
+use Rattle.console_capsule.specs.Answers.{cannot_give, cannot_send, received_by, sending_at, written_by}
 use Rattle.console_capsule.specs.declared.capsule.ConsoleCapsule.{ConsoleCapsule}
 use Rattle.random_capsule.specs.declared.capsule.RandomCapsule.{RandomCapsule}
 use Rattle.storage_capsule.specs.declared.capsule.StorageCapsule.{StorageCapsule}
 use Rattle.grant_enter.specs.Homes.{Homes, ChangesOnly, nobody, own_of}
 use Rattle.kernel_model.specs.declared.settings.Settings.{Settings}
-use Rattle.kernel_model.specs.Record.{Record, with_own}
-use Rattle.kernel_model.specs.Turn.{Event, Alarmed, Taken, WriteDone, Input, Word, NoWord, Stored, apply, flash_of, written_over}
-use Rattle.kernel_model.specs.World.{Deed, Devices, World, alarmed, can_act, drawing, drawn, first_of, is_waited_for, left_of, owns_in, receiving, storing, transmitting}
+use Rattle.kernel_model.specs.Record.{Record, record_with_own}
+use Rattle.kernel_model.specs.Turn.{Event, Alarmed, Taken, WriteDone, Input, Word, NoWord, Stored, apply, flash_of}
+use Rattle.kernel_model.specs.Turn.{written_over}
+use Rattle.kernel_model.specs.World.{DeviceStep, Devices, World, alarmed, can_act, random_step, word_event}
+use Rattle.kernel_model.specs.World.{first_waiting, is_waited_for, queue_after_answer, owns_in, receive_step, storing}
+use Rattle.kernel_model.specs.World.{transmitting}
 use Rattle.board_core.specs.declared.board.Board.TheInside.{Inside}
 use Rattle.board_core.specs.declared.drivers.Drivers.{Drivers}
-use Rattle.board_core.specs.Driven.{IsThere, devices_of, line_of, slots_of}
-use Rattle.board_core.specs.Residents.{IsSeated, record_of}
+use Rattle.board_core.specs.Driven.{IsThere, devices_of, ids_waiting_in, slots_of}
+use Rattle.board_core.specs.Residents.{IsResident, record_of}
 use Rattle.board_core.specs.Shows.{IsBoard, world_of}
 use Rattle.board_core.proofs.Changes.{beside, bytes_of, record_found}
-use Rattle.board_core.specs.Tells.{Acted, HoldsFor, IsFreeSoon, Serves, Told}
+use Rattle.board_core.specs.Tells.{Acted, HoldsFor, IsFreeSoon, DeviceServes, DeviceTold}
 use Rattle.board_core.proofs.Devices.{found_at, seated_there}
 use Rattle.board_core.proofs.OwnFlash.{answered_of_own, sent_of_own}
 use Rattle.board_core.proofs.Ready.{owns_in_world}
 use Rattle.board_core.proofs.Routing.{slots_without}
 
 -- what holds of all that wait holds of the first
-pub first_is : (P : ProcessId → Type 0) (ids : List ProcessId) (id : ProcessId) → slice_get ids 0 ≡ Some id → AllByRecursion P ids → P id
+pub first_is : (P : ProcessId → Type 0) (ids : List ProcessId) (id : ProcessId) → slice_get ids 0 ≡ Some id
+    → AllByRecursion P ids → P id
 first_is P [] id e all = cc
 first_is P (x ∷ ids) id e all = subst P (the_one x id e) all.0
   where
@@ -67,18 +79,22 @@ first_is P (x ∷ ids) id e all = subst P (the_one x id e) all.0
     the_one x y e = cc
 
 -- those that wait after an answer, as the world has them
-slots_left : (completed : Bool) (slot : ℕ) (ids : List ProcessId) → slots_of (waiting_still completed slot ids) ≡ left_of completed slot (slots_of ids)
+slots_left : (completed : Bool) (slot : ℕ) (ids : List ProcessId)
+    → slots_of (waiting_still completed slot ids) ≡ queue_after_answer completed slot (slots_of ids)
 slots_left true slot ids = slots_without slot ids
 slots_left false slot ids = refl
 
 -- the deed of a device for the first of those that wait, by those that wait afterwards
-first_deed : (deed : World → ℕ → Record → Deed) (w : World) (ids : List ProcessId) (id : ProcessId) (r : Record) (completed : Bool) (shown : List ℕ → Deed)
-    → slice_get ids 0 ≡ Some id → slice_get w.records id.slot ≡ Some r → deed w id.slot r ≡ shown (left_of completed id.slot (slots_of ids))
-    → first_of deed w (slots_of ids) ≡ Some (shown (slots_of (waiting_still completed id.slot ids)))
+first_deed : (deed : World → ℕ → Record → DeviceStep) (w : World) (ids : List ProcessId) (id : ProcessId) (r : Record)
+    (completed : Bool) (shown : List ℕ → DeviceStep)
+    → slice_get ids 0 ≡ Some id → slice_get w.records id.slot ≡ Some r
+    → deed w id.slot r ≡ shown (queue_after_answer completed id.slot (slots_of ids))
+    → first_waiting deed w (slots_of ids) ≡ Some (shown (slots_of (waiting_still completed id.slot ids)))
 first_deed deed w [] id r completed shown e f does = cc
 first_deed deed w (x ∷ ids) id r completed shown e f does =
     let same : x ≡ id = the_one x id e in
-    ap (λ (y : ProcessId). option_map (deed w y.slot) (slice_get w.records y.slot)) same ∙ ap (option_map (deed w id.slot)) f
+    ap (λ (y : ProcessId). option_map (deed w y.slot) (slice_get w.records y.slot)) same
+    ∙ ap (option_map (deed w id.slot)) f
     ∙ ap Some (does ∙ ap shown (sym (slots_left completed id.slot (x ∷ ids))))
   where
     the_one : (x y : ProcessId) → Some x ≡ Some y → x ≡ y
@@ -89,21 +105,26 @@ counted_next : (n : ℕ) → n < 2 ^ 32 → counted n ≡ n + 1
 counted_next n h = omega (arith, h)
 
 -- the UART can send, and can give what came in
-pub can_send : (ids : List ProcessId) (line : SerialLine) (time : ℕ) → (is_waited_for (slots_of ids) && nat_le line.free time) ≡ not (cannot_send ids line time)
+pub can_send : (ids : List ProcessId) (line : SerialLine) (time : ℕ)
+    → (is_waited_for (slots_of ids) && nat_le line.free time) ≡ not (cannot_send ids line time)
 can_send [] line time = refl
 can_send (id ∷ ids) line time = grind (arith, nat_tests)
 
-pub can_give : (ids : List ProcessId) (line : SerialLine) → (is_waited_for (slots_of ids) && not (length line.ring == 0)) ≡ not (cannot_give ids line)
+pub can_give : (ids : List ProcessId) (line : SerialLine)
+    → (is_waited_for (slots_of ids) && not (length line.ring == 0)) ≡ not (cannot_give ids line)
 can_give [] line = refl
 can_give (id ∷ ids) line = grind (arith, nat_tests)
 
 -- some wait exactly where one was answered
-waited_for : {D : Type 0} (answer_to : ProcessId → Answered D) (ids : List ProcessId) (x : D) (old : Homes) (o : Option ProcessId) (ids' : List ProcessId) (y : D) (new : Homes)
-    → IfNone o (ids ≡ []) → Answers answer_to ids x old o ids' y new → is_waited_for (slots_of ids) ≡ not (is_none o)
-waited_for answer_to ids x old None ids' y new none answers = ap (λ (xs : List ProcessId). is_waited_for (slots_of xs)) none
-waited_for answer_to ids x old (Some id) ids' y new none answers = some_wait ids id answers.0
+waited_for : {D : Type 0} (answer_to : ProcessId → Answered D) (ids : List ProcessId) (x : D) (old : Homes)
+    (o : Result Answer NotReady) (ids' : List ProcessId) (y : D) (new : Homes)
+    → OnErr o (ids ≡ []) → AnswersFirst answer_to ids x old o ids' y new → is_waited_for (slots_of ids) ≡ is_ok o
+waited_for answer_to ids x old (Err refusal) ids' y new none answers =
+    ap (λ (xs : List ProcessId). is_waited_for (slots_of xs)) none
+waited_for answer_to ids x old (Ok answer) ids' y new none answers = some_wait ids answer.to answers.0
   where
-    some_wait : (ids : List ProcessId) (id : ProcessId) → slice_get ids 0 ≡ Some id → is_waited_for (slots_of ids) ≡ true
+    some_wait : (ids : List ProcessId) (id : ProcessId) → slice_get ids 0 ≡ Some id
+        → is_waited_for (slots_of ids) ≡ true
     some_wait [] id e = cc
     some_wait (x ∷ ids) id e = grind (arith, nat_tests)
 
@@ -123,19 +144,24 @@ module _ (b : Inside) (h : IsBoard b) (id : ProcessId) (is_there : IsThere b.hom
   abbrev pub its_record : Record
   its_record = record_of b.home.flash ((its_process, own_of b.home id.slot), bytes_of b.drivers.stores.slots id.slot)
 
-  pub its_seat : IsSeated b.home.flash b.moment.steps (its_process, own_of b.home id.slot)
+  pub its_seat : IsResident b.home.flash b.moment.steps (its_process, own_of b.home id.slot)
   unfolding its_process
-  its_seat = seated_there b.home.flash b.moment.steps b.processes.items b.home.owns id.slot (its_process, own_of b.home id.slot) process_there.1 own_was h.seated
+  its_seat = seated_there b.home.flash b.moment.steps b.processes.items b.home.owns id.slot
+      (its_process, own_of b.home id.slot) process_there.1 own_was h.seated
 
   pub its_process_was : slice_get b.processes.items id.slot ≡ Some its_process
   unfolding its_process
   its_process_was = process_there.1
 
   pub its_object : HasObject (length b.home.flash) (own_of b.home id.slot).object (own_of b.home id.slot).layout
-  its_object = subst (λ (o : _). HasObject (length b.home.flash) o (own_of b.home id.slot).layout) (sym its_seat.own.object_is) its_seat.own.object.lies
+  its_object = subst (λ (o : _). HasObject (length b.home.flash) o (own_of b.home id.slot).layout)
+      (sym its_seat.own.object_is) its_seat.own.object.lies
 
   pub its_record_was : slice_get (world_of b).records id.slot ≡ Some its_record
-  its_record_was = record_found b.home.flash b.processes.items b.home.owns b.drivers.stores.slots id.slot its_process (own_of b.home id.slot) its_process_was own_was (beside b.processes.items b.home.owns b.drivers.stores.slots h.owns h.few h.driven.slots)
+  its_record_was =
+      record_found b.home.flash b.processes.items b.home.owns b.drivers.stores.slots id.slot its_process
+      (own_of b.home id.slot) its_process_was own_was
+      (beside b.processes.items b.home.owns b.drivers.stores.slots h.owns h.few h.driven.slots)
 
   -- a device that does not serve the serial line leaves it as it is
   uart_stays : IsFreeSoon b.moment.time b.drivers.uart b.drivers.uart
@@ -148,14 +174,14 @@ module _ (b : Inside) (h : IsBoard b) (id : ProcessId) (is_there : IsThere b.hom
   -- what a device did for a process is what it told it
   told_by : (device : Dev) (printed : List ℕ) (o : Own) (home : Homes) (d : Drivers)
       → ChangesOnly id.slot b.home home → own_of home id.slot ≡ o → can_act (world_of b) device ≡ true
-      → Serves b its_process device id.slot printed o d → Told b device id.slot printed home d
+      → DeviceServes b its_process device id.slot printed o d → DeviceTold b device id.slot printed home d
   told_by device printed o home d only is may serves = record {
     process = its_process;
     was = its_process_was;
     there = is_there.0;
     only = only;
     may = may;
-    serves = subst (λ (x : Own). Serves b its_process device id.slot printed x d) (sym is) serves;
+    serves = subst (λ (x : Own). DeviceServes b its_process device id.slot printed x d) (sym is) serves;
   }
 
 -- each buffer that a process holds may be lent
@@ -163,71 +189,89 @@ abbrev Lent : Homes → Type 0
 Lent home = (slot : ℕ) → slot < length home.owns → HoldsInPlace (own_of home slot)
 
 -- whoever waits is there
-waiters_there : (b : Inside) → IsBoard b → (here : Line) → AllByRecursion (IsThere b.home.owns) (line_of b.drivers here)
+waiters_there : (b : Inside) → IsBoard b → (here : QueueName)
+    → AllByRecursion (IsThere b.home.owns) (ids_waiting_in b.drivers here)
 waiters_there b h Writes = h.driven.writes.there
 waiters_there b h Reads = h.driven.reads.there
 waiters_there b h Randoms = h.driven.randoms.there
 waiters_there b h Stores = h.driven.stores.there
 
--- A device that answers the first of a line: what its answer to a process comes to; the drivers by who waits in the line
+-- A device that answers the first of a line: what its answer to a process comes to; the drivers by who waits in the
+-- line
 -- and by the device afterwards, and what was printed then.
 record Answering (D : Type 0) : Type 0 where
   device : Dev
-  here : Line
+  here : QueueName
   answer_to : ProcessId → Answered D
   after : List ProcessId → D → Drivers
   prints : D → List ℕ
 
 -- what such a device does for a process by an answer, where it is the first
-abbrev ServesFirst : {D : Type 0} (b : Inside) (h : IsBoard b) (id : ProcessId) → IsThere b.home.owns id → Answering D → Answered D → Type 0
-ServesFirst b h id there is a = Serves b (its_process b h id there) is.device id.slot (is.prints a.device) a.own (is.after (waiting_still a.completed id.slot (line_of b.drivers is.here)) a.device)
+abbrev ServesFirst : {D : Type 0} (b : Inside) (h : IsBoard b) (id : ProcessId) → IsThere b.home.owns id → Answering D
+    → Answered D → Type 0
+ServesFirst b h id there is a =
+    DeviceServes b (its_process b h id there) is.device id.slot (is.prints a.device) a.own
+    (is.after (waiting_still a.completed id.slot (ids_waiting_in b.drivers is.here)) a.device)
 
 -- and that it does it for whoever is the first
 abbrev ServesWhoeverIsFirst : {D : Type 0} (b : Inside) → IsBoard b → Answering D → Type 0
-ServesWhoeverIsFirst b h is = (id : ProcessId) (there : IsThere b.home.owns id) → slice_get (line_of b.drivers is.here) 0 ≡ Some id → ServesFirst b h id there is (is.answer_to id)
+ServesWhoeverIsFirst b h is = (id : ProcessId) (there : IsThere b.home.owns id)
+    → slice_get (ids_waiting_in b.drivers is.here) 0 ≡ Some id → ServesFirst b h id there is (is.answer_to id)
 
 -- So it does where it is to act: it serves the first, or may not act, and then nothing changes.
 acts_on : {D : Type 0} (b : Inside) (h : IsBoard b) (is : Answering D) (x : D)
-    → is.after (line_of b.drivers is.here) x ≡ b.drivers → ServesWhoeverIsFirst b h is
-    → (o : Option ProcessId) (home : Homes) (ids : List ProcessId) (y : D)
-    → can_act (world_of b) is.device ≡ not (is_none o) → Answers is.answer_to (line_of b.drivers is.here) x b.home o ids y home
+    → is.after (ids_waiting_in b.drivers is.here) x ≡ b.drivers → ServesWhoeverIsFirst b h is
+    → (o : Result Answer NotReady) (home : Homes) (ids : List ProcessId) (y : D)
+    → can_act (world_of b) is.device ≡ is_ok o
+    → AnswersFirst is.answer_to (ids_waiting_in b.drivers is.here) x b.home o ids y home
     → Acted b is.device o (is.prints y) home (is.after ids y)
-acts_on b h is x before serves None home ids y may answers = (may, answers.2, ap₂ is.after answers.0 answers.1 ∙ before)
-acts_on b h is x before serves (Some id) home ids y may answers =
-    let there : IsThere b.home.owns id = first_is (IsThere b.home.owns) (line_of b.drivers is.here) id answers.0 (waiters_there b h is.here) in
+acts_on b h is x before serves (Err refusal) home ids y may answers =
+    (may, answers.2, ap₂ is.after answers.0 answers.1 ∙ before)
+acts_on b h is x before serves (Ok answer) home ids y may answers =
+    let id : ProcessId = answer.to in
+    let there : IsThere b.home.owns id =
+    first_is (IsThere b.home.owns) (ids_waiting_in b.drivers is.here) id answers.0 (waiters_there b h is.here) in
     let a = is.answer_to id in
-    told_by b h id there is.device (is.prints y) a.own home (is.after ids y) answers.4 answers.1 may
-    (subst (λ (xs : List ProcessId). Serves b (its_process b h id there) is.device id.slot (is.prints y) a.own (is.after xs y)) (sym answers.3)
-    (subst (λ (z : _). Serves b (its_process b h id there) is.device id.slot (is.prints z) a.own (is.after (waiting_still a.completed id.slot (line_of b.drivers is.here)) z)) (sym answers.2)
+    told_by b h id there is.device (is.prints y) a.own home (is.after ids y) answers.5 answers.2 may
+    (subst (λ (xs : List ProcessId). DeviceServes b (its_process b h id there) is.device id.slot (is.prints y) a.own
+    (is.after xs y)) (sym answers.4)
+    (subst (λ (z : _). DeviceServes b (its_process b h id there) is.device id.slot (is.prints z) a.own
+    (is.after (waiting_still a.completed id.slot (ids_waiting_in b.drivers is.here)) z)) (sym answers.3)
     (serves id there answers.0)))
 
 -- what a device does that tells a process something
-abbrev telling : ℕ → Event → List ℕ → Devices → Deed
-telling slot event printed devices = record { told = Some (record { slot = slot; event = event }); printed = printed; devices = devices }
+abbrev telling : ℕ → Event → List ℕ → Devices → DeviceStep
+telling slot event printed devices =
+    record { told = Some (record { slot = slot; event = event }); printed = printed; devices = devices }
 
 -- what is then its own, as an event tells
-sent_applied : (settings : Settings) (done : Bool) (r : Record) (own : Own) → own ≡ (if done then write_done r.own else taken r.own) → apply settings (if done then WriteDone else Taken) r ≡ with_own r own
+sent_applied : (settings : Settings) (done : Bool) (r : Record) (own : Own)
+    → own ≡ (if done then write_done r.own else taken r.own)
+    → apply settings (if done then WriteDone else Taken) r ≡ record_with_own r own
 unfolding apply
-sent_applied settings true r o e = ap (with_own r) (sym e)
-sent_applied settings false r o e = ap (with_own r) (sym e)
+sent_applied settings true r o e = ap (record_with_own r) (sym e)
+sent_applied settings false r o e = ap (record_with_own r) (sym e)
 
 -- the UART is free soon after it took some bytes
-free_soon : (time ticks free : ℕ) (printed : List ℕ) → ticks ≤ 1000 → length printed ≤ 64 → free ≤ time + 64000 → free_after time ticks printed free ≤ time + 64000
+free_soon : (time ticks free : ℕ) (printed : List ℕ) → ticks ≤ BYTE_TICKS_LIMIT → length printed ≤ PRINT_LIMIT
+    → free ≤ time + SENDING_LIMIT → free_after time ticks printed free ≤ time + SENDING_LIMIT
 free_soon time ticks free printed few short soon = by_length (length printed == 0)
   where
-    sending : length printed * ticks ≤ 64000
-    sending = mul-le (length printed) ticks 64 1000 short few
+    sending : length printed * ticks ≤ SENDING_LIMIT
+    sending = mul-le (length printed) ticks PRINT_LIMIT BYTE_TICKS_LIMIT short few
 
-    by_length : (b : Bool) → (if b then free else time + length printed * ticks) ≤ time + 64000
+    by_length : (b : Bool) → (if b then free else time + length printed * ticks) ≤ time + SENDING_LIMIT
     by_length true = soon
     by_length false = omega (arith, sending)
 
 -- one step of a write, which is finished or has bytes left
 abbrev portioned : List ℕ → Own → Bool → WaitingWrite → Sent
-portioned flash own finished write = if finished then record { own = write_done own; printed = []; completed = true } else record { own = taken own; printed = next_bytes flash write own; completed = false }
+portioned flash own finished write =
+    if finished then record { own = write_done own; printed = []; completed = true }
+    else record { own = taken own; printed = next_bytes flash write own; completed = false }
 
--- it takes at most 64 bytes
-sent_few : (flash : List ℕ) (life : ℕ) (own : Own) → length (sent flash life own).printed ≤ 64
+-- it takes so many bytes at most
+sent_few : (flash : List ℕ) (life : ℕ) (own : Own) → length (sent flash life own).printed ≤ PRINT_LIMIT
 unfolding sent
 sent_few flash life own = by_write (waiting_of console_writes life own)
   where
@@ -236,11 +280,18 @@ sent_few flash life own = by_write (waiting_of console_writes life own)
     take_few (suc n) [] = omega arith
     take_few (suc n) (x ∷ xs) = omega (arith, take_few n xs)
 
-    by_portion : (finished : Bool) (write : WaitingWrite) → length (portioned flash own finished write).printed ≤ 64
+    by_portion : (finished : Bool) (write : WaitingWrite)
+        → length (portioned flash own finished write).printed ≤ PRINT_LIMIT
     by_portion true write = omega arith
-    by_portion false write = omega (arith, take_few (portion write own) (drop write.taken (bytes_at flash own (held ReadOnly console 1 own))))
+    by_portion false write =
+        omega (
+          arith,
+          take_few (portion write own)
+              (drop write.taken (bytes_at flash own (held ReadOnly console 1 own))),
+        )
 
-    by_write : (o : Option WaitingWrite) → length (unwrap_or (option_map (sending flash own) o) (unsent own)).printed ≤ 64
+    by_write : (o : Option WaitingWrite)
+        → length (unwrap_or (option_map (sending flash own) o) (unsent own)).printed ≤ PRINT_LIMIT
     by_write None = omega arith
     by_write (Some write) = by_portion (portion write own == 0) write
 
@@ -249,12 +300,18 @@ abbrev sends : Inside → Answering (ArrayVec ℕ)
 sends b = record {
   device = Uart;
   here = Writes;
-  answer_to = sent_by b.home;
-  after = λ ids printed. record b.drivers { console = record { writes = ids; reads = b.drivers.console.reads }; uart = sending_at b.moment.time printed.items b.drivers.uart };
+  answer_to = written_by b.home;
+  after = λ ids printed.
+      record b.drivers {
+        console = record { writes = ids; reads = b.drivers.console.reads };
+        uart =
+            sending_at b.moment.time printed.items b.drivers.uart;
+      };
   prints = λ printed. printed.items;
 }
 
-serves_sent : (b : Inside) (h : IsBoard b) → LinesFollowAnswers → EventsTellSteps → ReadsOwnFlash → Lent b.home → ServesWhoeverIsFirst b h (sends b)
+serves_sent : (b : Inside) (h : IsBoard b) → LinesFollowAnswers → EventsTellSteps → ReadsOwnFlash → Lent b.home
+    → ServesWhoeverIsFirst b h (sends b)
 serves_sent b h lines events law lent id is_there first =
     let own : Own = own_of b.home id.slot in
     let r : Record = its_record b h id is_there in
@@ -263,25 +320,43 @@ serves_sent b h lines events law lent id is_there first =
     ap (λ (life : ℕ). sent b.home.flash life own) (sym is_there.1)
     ∙ sent_of_own b.home.flash own.life own law (its_object b h id is_there) (lent id.slot is_there.0)
     ∙ ap (λ (o : _). sent (only_object o b.home.flash) own.life own) (its_seat b h id is_there).own.object_is in
-    subst (λ (x : Sent). ServesFirst b h id is_there (sends b) (record { own = x.own; device = record { items = x.printed }; completed = x.completed })) (sym same)
+    subst (λ (x : Sent). ServesFirst b h id is_there (sends b)
     (record {
-      left = left_by Writes s.completed;
+      kind = sent_told kinds x;
+      own = x.own;
+      device = record { items = x.printed };
+      completed =
+          x.completed;
+    })) (sym same)
+    (record {
+      left = queue_left_by Writes s.completed;
       follows = lines.writes (flash_of r) own.life own;
       lines = elim [ Writes ↦ refl | Reads ↦ refl | Randoms ↦ refl | Stores ↦ refl ];
       leds = refl;
-      uart = record { ticks = refl; free = free_soon b.moment.time b.drivers.uart.ticks b.drivers.uart.free s.printed h.driven.ticks (sent_few (flash_of r) own.life own) h.driven.free };
+      uart = record {
+        ticks = refl;
+        free =
+            free_soon b.moment.time b.drivers.uart.ticks b.drivers.uart.free s.printed h.driven.ticks
+            (sent_few (flash_of r) own.life own) h.driven.free;
+      };
       bytes = bytes_of b.drivers.stores.slots id.slot;
       stores = stores_stay b h id is_there;
       event = if s.completed then WriteDone else Taken;
       deed = first_deed transmitting (world_of b) b.drivers.console.writes id r s.completed
-          (λ (slots : List ℕ). telling id.slot (if s.completed then WriteDone else Taken) s.printed (record (devices_of b.drivers) { writes = slots; line = sending_at b.moment.time s.printed b.drivers.uart }))
+          (λ (slots : List ℕ). telling id.slot (if s.completed then WriteDone else Taken) s.printed
+          (record (devices_of b.drivers) {
+            writes = slots;
+            line =
+                sending_at b.moment.time s.printed b.drivers.uart;
+          }))
           first (its_record_was b h id is_there) refl;
       tells = sent_applied b.moment.settings s.completed r s.own (events.writes (flash_of r) own);
     })
 
-input_applied : (settings : Settings) (bytes : List ℕ) (r : Record) (o : Own) → o ≡ input bytes r.own → apply settings (Input bytes) r ≡ with_own r o
+input_applied : (settings : Settings) (bytes : List ℕ) (r : Record) (o : Own) → o ≡ input bytes r.own
+    → apply settings (Input bytes) r ≡ record_with_own r o
 unfolding apply
-input_applied settings bytes r o e = ap (with_own r) (sym e)
+input_applied settings bytes r o e = ap (record_with_own r) (sym e)
 
 -- the UART, as bytes that came in go to a read
 abbrev receives : Inside → Answering SerialLine
@@ -289,19 +364,29 @@ receives b = record {
   device = Receive;
   here = Reads;
   answer_to = received_by b.drivers.uart b.home;
-  after = λ ids line. record b.drivers { console = record { writes = b.drivers.console.writes; reads = ids }; uart = line };
+  after = λ ids line.
+      record b.drivers { console = record { writes = b.drivers.console.writes; reads = ids }; uart = line };
   prints = λ line. [];
 }
 
-serves_received : (b : Inside) (h : IsBoard b) → LinesFollowAnswers → EventsTellSteps → ServesWhoeverIsFirst b h (receives b)
+serves_received : (b : Inside) (h : IsBoard b) → LinesFollowAnswers → EventsTellSteps
+    → ServesWhoeverIsFirst b h (receives b)
 serves_received b h lines events id is_there first =
     let own : Own = own_of b.home id.slot in
     let r : Record = its_record b h id is_there in
     let ring : List ℕ = b.drivers.uart.ring in
     let s : Received = received ring own.life own in
-    subst (λ (life : ℕ). let x = received ring life own in ServesFirst b h id is_there (receives b) (record { own = x.own; device = record b.drivers.uart { ring = drop (length x.moved) ring }; completed = x.completed })) is_there.1
+    subst (λ (life : ℕ). let x = received ring life own in
+    ServesFirst b h id is_there (receives b)
     (record {
-      left = left_by Reads s.completed;
+      kind = received_told kinds x;
+      own = x.own;
+      device =
+          record b.drivers.uart { ring = drop (length x.moved) ring };
+      completed = x.completed;
+    })) is_there.1
+    (record {
+      left = queue_left_by Reads s.completed;
       follows = lines.reads ring own.life own;
       lines = elim [ Writes ↦ refl | Reads ↦ refl | Randoms ↦ refl | Stores ↦ refl ];
       leds = refl;
@@ -309,21 +394,29 @@ serves_received b h lines events id is_there first =
       bytes = bytes_of b.drivers.stores.slots id.slot;
       stores = stores_stay b h id is_there;
       event = Input s.moved;
-      deed = first_deed receiving (world_of b) b.drivers.console.reads id r s.completed
-          (λ (slots : List ℕ). telling id.slot (Input s.moved) [] (record (devices_of b.drivers) { reads = slots; line = record b.drivers.uart { ring = drop (length s.moved) ring } }))
+      deed = first_deed receive_step (world_of b) b.drivers.console.reads id r s.completed
+          (λ (slots : List ℕ). telling id.slot (Input s.moved) []
+          (record (devices_of b.drivers) {
+            reads = slots;
+            line =
+                record b.drivers.uart { ring = drop (length s.moved) ring };
+          }))
           first (its_record_was b h id is_there) refl;
       tells = input_applied b.moment.settings s.moved r s.own (events.reads ring own);
     })
 
 -- what a process has as its own once a word was drawn for it, or none
-drawn_applied : (settings : Settings) (words rest : List ℕ) (r : Record) (o : Own) → o ≡ (random.answered (drawn_word words rest) r.own.life r.own).own → apply settings (drawn words rest) r ≡ with_own r o
+drawn_applied : (settings : Settings) (words rest : List ℕ) (r : Record) (o : Own)
+    → o ≡ (random.answered (drawn_word words rest) r.own.life r.own).own
+    → apply settings (word_event words rest) r ≡ record_with_own r o
 unfolding apply
-drawn_applied settings [] rest r o e = ap (with_own r) (sym e)
+drawn_applied settings [] rest r o e = ap (record_with_own r) (sym e)
 drawn_applied settings (word ∷ words) rest r o e = by_length (length rest == length words) e
   where
-    by_length : (c : Bool) → o ≡ (random.answered (if c then word ∷ [] else []) r.own.life r.own).own → apply settings (if c then Word word else NoWord) r ≡ with_own r o
-    by_length true e = ap (with_own r) (sym e)
-    by_length false e = ap (with_own r) (sym e)
+    by_length : (c : Bool) → o ≡ (random.answered (if c then word ∷ [] else []) r.own.life r.own).own
+        → apply settings (if c then Word word else NoWord) r ≡ record_with_own r o
+    by_length true e = ap (record_with_own r) (sym e)
+    by_length false e = ap (record_with_own r) (sym e)
 
 -- the source of random bytes, as it answers a request
 abbrev draws : Inside → Answering (List ℕ)
@@ -340,57 +433,72 @@ serves_drawn b h lines events id is_there first =
     let own : Own = own_of b.home id.slot in
     let r : Record = its_record b h id is_there in
     let words : List ℕ = b.drivers.words in
-    let s : random.Answered = random.answered words own.life own in
-    subst (λ (life : ℕ). let x = random.answered words life own in ServesFirst b h id is_there (draws b) (record { own = x.own; device = x.words; completed = x.completed })) is_there.1
+    let s : random.RandomAnswered = random.answered words own.life own in
+    subst (λ (life : ℕ). let x = random.answered words life own in
+    ServesFirst b h id is_there (draws b)
+    (record { kind = drawn_told kinds words x.words; own = x.own; device = x.words; completed = x.completed }))
+    is_there.1
     (record {
-      left = left_by Randoms s.completed;
+      left = queue_left_by Randoms s.completed;
       follows = lines.randoms words own.life own;
       lines = elim [ Writes ↦ refl | Reads ↦ refl | Randoms ↦ refl | Stores ↦ refl ];
       leds = refl;
       uart = uart_stays b h id is_there;
       bytes = bytes_of b.drivers.stores.slots id.slot;
       stores = stores_stay b h id is_there;
-      event = drawn words s.words;
-      deed = first_deed drawing (world_of b) b.drivers.random.waiting id r s.completed
-          (λ (slots : List ℕ). telling id.slot (drawn words s.words) [] (record (devices_of b.drivers) { randoms = slots; words = s.words }))
+      event = word_event words s.words;
+      deed = first_deed random_step (world_of b) b.drivers.random.waiting id r s.completed
+          (λ (slots : List ℕ). telling id.slot (word_event words s.words) []
+          (record (devices_of b.drivers) { randoms = slots; words = s.words }))
           first (its_record_was b h id is_there) refl;
       tells = drawn_applied b.moment.settings words s.words r s.own (events.randoms words own);
     })
 
 -- the answer to a request, if there is one
-abbrev answer_to : Bool → List ℕ → List ℕ → Own → Option StorageRequest → storage.Answered
-answer_to fault flash bytes own o = unwrap_or (option_map (λ (request : StorageRequest). storage.answer_of (storage.served fault flash bytes request own)) o) (storage.unanswered own)
+abbrev answer_to : Bool → List ℕ → List ℕ → Own → Option StorageRequest → storage.StorageAnswered
+answer_to fault flash bytes own o =
+    unwrap_or (option_map (λ (request : StorageRequest). storage.storage_answer_of
+    (storage.storage_served fault flash bytes request own)) o) (storage.unanswered own)
 
 -- nothing is written for a request that did not complete
-not_written : (fault : Bool) (flash bytes : List ℕ) (life : ℕ) (own : Own) → let a = storage.answered fault flash bytes life own in a.completed ≡ false → a.written ≡ None
+not_written : (fault : Bool) (flash bytes : List ℕ) (life : ℕ) (own : Own)
+    → let a = storage.answered fault flash bytes life own in a.completed ≡ false → a.written ≡ None
 unfolding storage.answered
 not_written fault flash bytes life own e = by_request (waiting_of storage.storages life own) e
   where
-    by_request : (o : Option StorageRequest) → (answer_to fault flash bytes own o).completed ≡ false → (answer_to fault flash bytes own o).written ≡ None
+    by_request : (o : Option StorageRequest) → (answer_to fault flash bytes own o).completed ≡ false
+        → (answer_to fault flash bytes own o).written ≡ None
     by_request None e = refl
     by_request (Some request) e = absurd (false≢true (sym e))
 
 -- the bytes of the slots after an answer
-slots_after : (s : Storage) (slot : ℕ) (completed : Bool) (written : Option (ℕ × List ℕ)) → (completed ≡ false → written ≡ None) → (if completed then stored slot written (after_count s) else s).slots ≡ slice_set s.slots slot (written_over (bytes_of s.slots slot) written)
+slots_after : (s : StoredSlots) (slot : ℕ) (completed : Bool) (written : Option (ℕ × List ℕ))
+    → (completed ≡ false → written ≡ None)
+    → (if completed then storage_after slot written (after_count s) else s).slots
+    ≡ slice_set s.slots slot (written_over (bytes_of s.slots slot) written)
 slots_after s slot true None none = sym (set-get_or s.slots slot [])
 slots_after s slot true (Some written) none = refl
-slots_after s slot false written none = sym (ap (λ (w : Option (ℕ × List ℕ)). slice_set s.slots slot (written_over (bytes_of s.slots slot) w)) (none refl) ∙ set-get_or s.slots slot [])
+slots_after s slot false written none =
+    sym (ap (λ (w : Option (ℕ × List ℕ)). slice_set s.slots slot (written_over (bytes_of s.slots slot) w)) (none refl)
+    ∙ set-get_or s.slots slot [])
 
 -- what else the storage has
-kept_beside : (s : Storage) (slot : ℕ) (completed : Bool) (written : Option (ℕ × List ℕ)) → s.served < 2 ^ 32 →
-    let s' : Storage = if completed then stored slot written (after_count s) else s in
+kept_beside : (s : StoredSlots) (slot : ℕ) (completed : Bool) (written : Option (ℕ × List ℕ)) → s.served < 2 ^ 32 →
+    let s' : StoredSlots = if completed then storage_after slot written (after_count s) else s in
     (s'.size ≡ s.size) × (s'.faults ≡ s.faults) × (s'.served ≡ (if completed then s.served + 1 else s.served))
 kept_beside s slot true None few = (refl, refl, counted_next s.served few)
 kept_beside s slot true (Some written) few = (refl, refl, counted_next s.served few)
 kept_beside s slot false written few = (refl, refl, refl)
 
-stored_applied : (settings : Settings) (fails : Bool) (r : Record) → let a = storage.answered fails (flash_of r) r.storage r.own.life r.own in apply settings (Stored (not fails)) r ≡ record r { own = a.own; storage = written_over r.storage a.written }
+stored_applied : (settings : Settings) (fails : Bool) (r : Record)
+    → let a = storage.answered fails (flash_of r) r.storage r.own.life r.own in
+    apply settings (Stored (not fails)) r ≡ record r { own = a.own; storage = written_over r.storage a.written }
 unfolding apply
 stored_applied settings true r = refl
 stored_applied settings false r = refl
 
 -- the storage, as it serves a request
-abbrev stores : Inside → Answering Storage
+abbrev stores : Inside → Answering StoredSlots
 stores b = record {
   device = Store;
   here = Stores;
@@ -399,36 +507,63 @@ stores b = record {
   prints = λ s. [];
 }
 
-serves_stored : (b : Inside) (h : IsBoard b) → LinesFollowAnswers → ReadsOwnFlash → Lent b.home → ServesWhoeverIsFirst b h (stores b)
+serves_stored : (b : Inside) (h : IsBoard b) → LinesFollowAnswers → ReadsOwnFlash → Lent b.home
+    → ServesWhoeverIsFirst b h (stores b)
 serves_stored b h lines law lent id is_there first =
     let own : Own = own_of b.home id.slot in
     let r : Record = its_record b h id is_there in
-    let s : Storage = b.drivers.stores in
+    let s : StoredSlots = b.drivers.stores in
     let few : s.served < 2 ^ 32 = omega (arith, h.served, h.steps) in
     let fails : Bool = is_fault s.faults (s.served + 1) in
     let bytes : List ℕ = bytes_of s.slots id.slot in
-    let a : storage.Answered = storage.answered fails (flash_of r) bytes own.life own in
-    let same : storage.answered (fails_next s) b.home.flash bytes id.life own ≡ a =
+    let a : storage.StorageAnswered = storage.answered fails (flash_of r) bytes own.life own in
+    let same : storage.answered (store_fails_next s) b.home.flash bytes id.life own ≡ a =
     ap (λ (n : ℕ). storage.answered (is_fault s.faults n) b.home.flash bytes id.life own) (counted_next s.served few)
     ∙ ap (λ (life : ℕ). storage.answered fails b.home.flash bytes life own) (sym is_there.1)
     ∙ answered_of_own fails b.home.flash bytes own.life own law (its_object b h id is_there) (lent id.slot is_there.0)
-    ∙ ap (λ (o : _). storage.answered fails (only_object o b.home.flash) bytes own.life own) (its_seat b h id is_there).own.object_is in
-    let s' : Storage = if a.completed then stored id.slot a.written (after_count s) else s in
+    ∙ ap (λ (o : _). storage.answered fails (only_object o b.home.flash) bytes own.life own)
+    (its_seat b h id is_there).own.object_is in
+    let s' : StoredSlots = if a.completed then storage_after id.slot a.written (after_count s) else s in
     let kept = kept_beside s id.slot a.completed a.written few in
-    subst (λ (x : storage.Answered). ServesFirst b h id is_there (stores b) (record { own = x.own; device = if x.completed then stored id.slot x.written (after_count s) else s; completed = x.completed })) (sym same)
+    subst (λ (x : storage.StorageAnswered). ServesFirst b h id is_there (stores b)
     (record {
-      left = left_by Stores a.completed;
+      kind = stored_told kinds (store_fails_next s);
+      own = x.own;
+      device =
+          if x.completed then storage_after id.slot x.written (after_count s) else s;
+      completed = x.completed;
+    }))
+    (sym same)
+    (record {
+      left = queue_left_by Stores a.completed;
       follows = lines.stores fails (flash_of r) bytes own.life own;
       lines = elim [ Writes ↦ refl | Reads ↦ refl | Randoms ↦ refl | Stores ↦ refl ];
       leds = refl;
       uart = uart_stays b h id is_there;
       bytes = written_over bytes a.written;
-      stores = record { size = kept.0; counts = at_most_one a.completed s.served s'.served kept.2; slots = slots_after s id.slot a.completed a.written (not_written fails (flash_of r) bytes own.life own) };
+      stores = record {
+        size = kept.0;
+        counts = at_most_one a.completed s.served s'.served kept.2;
+        slots =
+            slots_after s id.slot a.completed a.written (not_written fails (flash_of r) bytes own.life own);
+      };
       event = Stored (not fails);
       deed = first_deed storing (world_of b) b.drivers.storage.waiting id r a.completed
-          (λ (slots : List ℕ). telling id.slot (Stored (not fails)) [] (record (devices_of b.drivers) { stores = slots; served = if a.completed then s.served + 1 else s.served }))
+          (λ (slots : List ℕ). telling id.slot (Stored (not fails)) []
+          (record (devices_of b.drivers) {
+            stores = slots;
+            served =
+                if a.completed then s.served + 1 else s.served;
+          }))
           first (its_record_was b h id is_there) refl
-          ∙ ap Some (ap₂ (λ (n : ℕ) (faults : List ℕ). telling id.slot (Stored (not fails)) [] (record (devices_of b.drivers) { stores = slots_of (waiting_still a.completed id.slot b.drivers.storage.waiting); served = n; faults = faults })) (sym kept.2) (sym kept.1));
+          ∙ ap Some (ap₂ (λ (n : ℕ) (faults : List ℕ). telling id.slot (Stored (not fails)) []
+          (record (devices_of b.drivers) {
+            stores =
+                slots_of (waiting_still a.completed id.slot b.drivers.storage.waiting);
+            served = n;
+            faults = faults;
+          }))
+          (sym kept.2) (sym kept.1));
       tells = stored_applied b.moment.settings fails r;
     })
   where
@@ -436,14 +571,16 @@ serves_stored b h lines law lent id is_there first =
     at_most_one true n m e = omega (arith, e)
     at_most_one false n m e = omega (arith, e)
 
-alarm_applied : (settings : Settings) (now : ℕ) (r : Record) → apply settings (Alarmed now) r ≡ with_own r (answered now r.own)
+alarm_applied : (settings : Settings) (now : ℕ) (r : Record)
+    → apply settings (Alarmed now) r ≡ record_with_own r (answered now r.own)
 unfolding apply
 alarm_applied settings now r = refl
 
 -- the alarm of the lowest slot whose alarm is due fired
-serves_alarmed : (b : Inside) (h : IsBoard b) (id : ProcessId) (is_there : IsThere b.home.owns id) → let now = clock_at b.moment.settings.start b.moment.time in
+serves_alarmed : (b : Inside) (h : IsBoard b) (id : ProcessId) (is_there : IsThere b.home.owns id)
+    → let now = clock_at b.moment.settings.start b.moment.time in
     LinesFollowAnswers → due_slot now (owns_in (world_of b)) ≡ Some id.slot
-    → Serves b (its_process b h id is_there) Alarm id.slot [] (answered now (own_of b.home id.slot)) b.drivers
+    → DeviceServes b (its_process b h id is_there) Alarm id.slot [] (answered now (own_of b.home id.slot)) b.drivers
 serves_alarmed b h id is_there lines due =
     let now : ℕ = clock_at b.moment.settings.start b.moment.time in
     record {
@@ -460,72 +597,94 @@ serves_alarmed b h id is_there lines due =
     }
 
 -- what a device did, by which device it is
-pub acted_by : (b : Inside) (device is : Dev) (o : Option ProcessId) (printed : List ℕ) (home : Homes) (d : Drivers) → device ≡ is → Acted b is o printed home d → Acted b device o printed home d
+pub acted_by : (b : Inside) (device is : Dev) (o : Result Answer NotReady) (printed : List ℕ) (home : Homes)
+    (d : Drivers) → device ≡ is → Acted b is o printed home d → Acted b device o printed home d
 acted_by b device is o printed home d e acted = subst (λ (x : Dev). Acted b x o printed home d) (sym e) acted
 
 -- nothing was printed
-acted_silent : (b : Inside) (device : Dev) (o : Option ProcessId) (home : Homes) (d : Drivers) (printed : List ℕ) → printed ≡ [] → Acted b device o [] home d → Acted b device o printed home d
-acted_silent b device o home d printed empty acted = subst (λ (xs : List ℕ). Acted b device o xs home d) (sym empty) acted
+acted_silent : (b : Inside) (device : Dev) (o : Result Answer NotReady) (home : Homes) (d : Drivers) (printed : List ℕ)
+    → printed ≡ [] → Acted b device o [] home d → Acted b device o printed home d
+acted_silent b device o home d printed empty acted =
+    subst (λ (xs : List ℕ). Acted b device o xs home d) (sym empty) acted
 
 -- What each device does where it is to act: it serves the first of those that wait, or may not act, and then nothing
 -- changes.
-pub acts_alarmed : (b : Inside) (h : IsBoard b) (o : Option ProcessId) (home : Homes)
+pub acts_alarmed : (b : Inside) (h : IsBoard b) (o : Result Answer NotReady) (home : Homes)
     → LinesFollowAnswers → DueSlotIsThere
-    → alarm_capsule.Answers (clock_at b.moment.settings.start b.moment.time) b.home o home
+    → alarm_capsule.AlarmAnswers (clock_at b.moment.settings.start b.moment.time) b.home o home
     → (printed : List ℕ) → printed ≡ [] → Acted b Alarm o printed home b.drivers
-acts_alarmed b h None home lines law answers printed empty = (
+acts_alarmed b h (Err refusal) home lines law answers printed empty = (
   ap is_some (ap (due_slot (clock_at b.moment.settings.start b.moment.time)) (owns_in_world b h) ∙ answers.0),
   answers.1,
   refl,
 )
-acts_alarmed b h (Some id) home lines law answers printed empty =
+acts_alarmed b h (Ok answer) home lines law answers printed empty =
+    let id : ProcessId = answer.to in
     let now : ℕ = clock_at b.moment.settings.start b.moment.time in
     let there : IsThere b.home.owns id = (law now id.slot b.home.owns answers.0, sym answers.1) in
     let due : due_slot now (owns_in (world_of b)) ≡ Some id.slot = ap (due_slot now) (owns_in_world b h) ∙ answers.0 in
-    acted_silent b Alarm (Some id) home b.drivers printed empty
-    (told_by b h id there Alarm [] (answered now (own_of b.home id.slot)) home b.drivers answers.3 answers.2 (ap is_some due) (serves_alarmed b h id there lines due))
+    acted_silent b Alarm (Ok answer) home b.drivers printed empty
+    (told_by b h id there Alarm [] (answered now (own_of b.home id.slot)) home b.drivers answers.4 answers.3
+    (ap is_some due) (serves_alarmed b h id there lines due))
 
-pub acts_sent : (b : Inside) (h : IsBoard b) (o : Option ProcessId) (home : Homes) (capsule : ConsoleCapsule) (line : SerialLine) (printed : ArrayVec ℕ)
+pub acts_sent : (b : Inside) (h : IsBoard b) (o : Result Answer NotReady) (home : Homes) (capsule : ConsoleCapsule)
+    (line : SerialLine) (printed : ArrayVec ℕ)
     → LinesFollowAnswers → EventsTellSteps → ReadsOwnFlash → Lent b.home → (before : ArrayVec ℕ) → before.items ≡ []
-    → is_none o ≡ cannot_send b.drivers.console.writes b.drivers.uart b.moment.time
-    → Answers (sent_by b.home) b.drivers.console.writes before b.home o capsule.writes printed home
+    → is_ok o ≡ not (cannot_send b.drivers.console.writes b.drivers.uart b.moment.time)
+    → AnswersFirst (written_by b.home) b.drivers.console.writes before b.home o capsule.writes printed home
     → line ≡ sending_at b.moment.time printed.items b.drivers.uart
     → capsule.reads ≡ b.drivers.console.reads
     → Acted b Uart o printed.items home (record b.drivers { console = capsule; uart = line })
 acts_sent b h o home capsule line printed lines events law lent before empty can answers uart reads =
-    subst (λ (xs : List ProcessId). Acted b Uart o printed.items home (record b.drivers { console = record { writes = capsule.writes; reads = xs }; uart = line })) (sym reads)
-    (subst (λ (l : SerialLine). Acted b Uart o printed.items home (record b.drivers { console = record { writes = capsule.writes; reads = b.drivers.console.reads }; uart = l })) (sym uart)
-    (acts_on b h (sends b) before (ap (λ (xs : List ℕ). record b.drivers { uart = sending_at b.moment.time xs b.drivers.uart }) empty) (serves_sent b h lines events law lent)
-    o home capsule.writes printed (can_send b.drivers.console.writes b.drivers.uart b.moment.time ∙ ap not (sym can)) answers))
+    subst (λ (xs : List ProcessId). Acted b Uart o printed.items home
+    (record b.drivers { console = record { writes = capsule.writes; reads = xs }; uart = line })) (sym reads)
+    (subst (λ (l : SerialLine). Acted b Uart o printed.items home
+    (record b.drivers { console = record { writes = capsule.writes; reads = b.drivers.console.reads }; uart = l }))
+    (sym uart)
+    (acts_on b h (sends b) before (ap (λ (xs : List ℕ). record b.drivers
+    { uart = sending_at b.moment.time xs b.drivers.uart }) empty) (serves_sent b h lines events law lent)
+    o home capsule.writes printed (can_send b.drivers.console.writes b.drivers.uart b.moment.time ∙ sym can) answers))
 
-pub acts_received : (b : Inside) (h : IsBoard b) (o : Option ProcessId) (home : Homes) (capsule : ConsoleCapsule) (line : SerialLine)
+pub acts_received : (b : Inside) (h : IsBoard b) (o : Result Answer NotReady) (home : Homes) (capsule : ConsoleCapsule)
+    (line : SerialLine)
     → LinesFollowAnswers → EventsTellSteps
-    → is_none o ≡ cannot_give b.drivers.console.reads b.drivers.uart
-    → Answers (received_by b.drivers.uart b.home) b.drivers.console.reads b.drivers.uart b.home o capsule.reads line home
+    → is_ok o ≡ not (cannot_give b.drivers.console.reads b.drivers.uart)
+    → AnswersFirst (received_by b.drivers.uart b.home) b.drivers.console.reads b.drivers.uart b.home o capsule.reads
+    line home
     → capsule.writes ≡ b.drivers.console.writes
-    → (printed : List ℕ) → printed ≡ [] → Acted b Receive o printed home (record b.drivers { console = capsule; uart = line })
+    → (printed : List ℕ) → printed ≡ []
+    → Acted b Receive o printed home (record b.drivers { console = capsule; uart = line })
 acts_received b h o home capsule line lines events can answers writes printed empty =
     acted_silent b Receive o home _ printed empty
-    (subst (λ (xs : List ProcessId). Acted b Receive o [] home (record b.drivers { console = record { writes = xs; reads = capsule.reads }; uart = line })) (sym writes)
+    (subst (λ (xs : List ProcessId). Acted b Receive o [] home
+    (record b.drivers { console = record { writes = xs; reads = capsule.reads }; uart = line })) (sym writes)
     (acts_on b h (receives b) b.drivers.uart refl (serves_received b h lines events)
-    o home capsule.reads line (can_give b.drivers.console.reads b.drivers.uart ∙ ap not (sym can)) answers))
+    o home capsule.reads line (can_give b.drivers.console.reads b.drivers.uart ∙ sym can) answers))
 
-pub acts_drawn : (b : Inside) (h : IsBoard b) (o : Option ProcessId) (home : Homes) (capsule : RandomCapsule) (words : List ℕ)
+pub acts_drawn : (b : Inside) (h : IsBoard b) (o : Result Answer NotReady) (home : Homes) (capsule : RandomCapsule)
+    (words : List ℕ)
     → LinesFollowAnswers → EventsTellSteps
-    → IfNone o (b.drivers.random.waiting ≡ [])
-    → Answers (random_to b.drivers.words b.home) b.drivers.random.waiting b.drivers.words b.home o capsule.waiting words home
-    → (printed : List ℕ) → printed ≡ [] → Acted b Random o printed home (record b.drivers { random = capsule; words = words })
+    → OnErr o (b.drivers.random.waiting ≡ [])
+    → AnswersFirst (random_to b.drivers.words b.home) b.drivers.random.waiting b.drivers.words b.home o capsule.waiting
+    words home
+    → (printed : List ℕ) → printed ≡ []
+    → Acted b Random o printed home (record b.drivers { random = capsule; words = words })
 acts_drawn b h o home capsule words lines events none answers printed empty =
     acted_silent b Random o home _ printed empty
     (acts_on b h (draws b) b.drivers.words refl (serves_drawn b h lines events)
-    o home capsule.waiting words (waited_for (random_to b.drivers.words b.home) b.drivers.random.waiting b.drivers.words b.home o capsule.waiting words home none answers) answers)
+    o home capsule.waiting words (waited_for (random_to b.drivers.words b.home) b.drivers.random.waiting b.drivers.words
+    b.home o capsule.waiting words home none answers) answers)
 
-pub acts_stored : (b : Inside) (h : IsBoard b) (o : Option ProcessId) (home : Homes) (capsule : StorageCapsule) (bytes : Storage)
+pub acts_stored : (b : Inside) (h : IsBoard b) (o : Result Answer NotReady) (home : Homes) (capsule : StorageCapsule)
+    (bytes : StoredSlots)
     → LinesFollowAnswers → ReadsOwnFlash → Lent b.home
-    → IfNone o (b.drivers.storage.waiting ≡ [])
-    → Answers (storage_to b.drivers.stores b.home) b.drivers.storage.waiting b.drivers.stores b.home o capsule.waiting bytes home
-    → (printed : List ℕ) → printed ≡ [] → Acted b Store o printed home (record b.drivers { storage = capsule; stores = bytes })
+    → OnErr o (b.drivers.storage.waiting ≡ [])
+    → AnswersFirst (storage_to b.drivers.stores b.home) b.drivers.storage.waiting b.drivers.stores b.home o
+    capsule.waiting bytes home
+    → (printed : List ℕ) → printed ≡ []
+    → Acted b Store o printed home (record b.drivers { storage = capsule; stores = bytes })
 acts_stored b h o home capsule bytes lines law lent none answers printed empty =
     acted_silent b Store o home _ printed empty
     (acts_on b h (stores b) b.drivers.stores refl (serves_stored b h lines law lent)
-    o home capsule.waiting bytes (waited_for (storage_to b.drivers.stores b.home) b.drivers.storage.waiting b.drivers.stores b.home o capsule.waiting bytes home none answers) answers)
+    o home capsule.waiting bytes (waited_for (storage_to b.drivers.stores b.home) b.drivers.storage.waiting
+    b.drivers.stores b.home o capsule.waiting bytes home none answers) answers)

@@ -1,22 +1,23 @@
 -- Quiet turns of a process, and what they leave of a board.
-use Rattle.std.proofs.Common.{◌≡◌, ℕ, zero, suc, ◌+◌, ◌-◌, ◌<◌, ◌≤◌, Bool, true, false, List, [], ◌∷◌, length, map, slice_get, slice_set, All, Option, None, Some, refl, sym, ap, ap₂, subst, ◌∙◌, arith}
+use Rattle.std.proofs.Common.{◌≡◌, ℕ, zero, suc, ◌+◌, ◌-◌, ◌<◌, ◌≤◌, Bool, true, false, List, [], ◌∷◌, length, map}
+use Rattle.std.proofs.Common.{slice_get, slice_set, All, Option, None, Some, refl, sym, ap, ap₂, subst, ◌∙◌, arith}
 use Rattle.tk_base.specs.Regs.{Registers}
 use Rattle.rv32_model.specs.declared.turn_end.TurnEnd.TheVariants.{Went}
-use Rattle.process_own.specs.Own.{Own}
-use Rattle.process_own.specs.Instruction.{with_write}
+use Rattle.process_model.specs.Own.{Own}
+use Rattle.process_model.specs.Instruction.{with_write}
 use Rattle.process_record.specs.Process.{after_turn}
 use Rattle.process_record.specs.declared.process.Process.{Process}
 use Rattle.grant_enter.specs.Homes.{IsStopped, MakesAll}
 use Rattle.kernel_calls.specs.Own.{IsOwnObject, record_in}
 use Rattle.kernel_model.specs.Record.{Record, byte_at, instruction}
-use Rattle.kernel_model.specs.Stretch.{AllGo, after_instructions, executed}
+use Rattle.kernel_model.specs.Stretch.{AllGo, after_instructions, instruction_made}
 use Rattle.std.specs.Prelude.{IfSome}
 use Rattle.std.specs.List.{zip}
 use Rattle.std.specs.Option.{option_map, option_or}
 use Rattle.std.proofs.lemmas.List.{get_or-set_same, length-set, map-set, set-get_or}
 use Rattle.std.proofs.lemmas.List.Elements.{All-set}
 use Rattle.std.proofs.lemmas.Option.{get_or_from_slice_get, slice_get-get_or, slice_get-map, slice_get_within}
-use Rattle.tk_base.specs.declared.limits.TheConstants.{STEP_LIMIT}
+use Rattle.tk_base.specs.declared.limits.TheConstants.{SLOT_COUNT, STEP_LIMIT}
 use Rattle.tk_base.specs.declared.process.ProcessId.{ProcessId}
 use Rattle.tk_base.specs.declared.process.Choice.{Choice}
 use Rattle.tk_base.specs.declared.process.Choice.TheVariants.{Run, Device, Pass}
@@ -27,25 +28,27 @@ use Rattle.process_record.specs.declared.process.State.TheVariants.{Running, Yie
 use Rattle.driver_model.specs.Console.{console_reads, console_writes}
 use Rattle.driver_model.specs.Lines.{IsWithin}
 use Rattle.driver_model.specs.Random.{randoms}
-use Rattle.driver_model.specs.Requests.{Desk}
+use Rattle.driver_model.specs.Requests.{RequestKind}
 use Rattle.driver_model.specs.Storage.{storages}
 use Rattle.grant_enter.specs.Homes.{Homes, nobody}
 use Rattle.kernel_model.specs.declared.settings.Settings.{Settings}
 use Rattle.kernel_model.specs.Laws.{NextLiesAhead}
 use Rattle.kernel_model.specs.Run.{next, next_time as world_next_time, ready_devices, ready_slots}
-use Rattle.kernel_model.specs.Stretch.{GoesOn, IsStretch, NoneActs, NoneIsStretch, PresentStaysOn, RoundIsStretch, after_stretch, at_turn}
+use Rattle.kernel_model.specs.Stretch.{GoesOn, IsStretch, NoneActs, NoneIsStretch, PresentStaysOn, RoundIsStretch}
+use Rattle.kernel_model.specs.Stretch.{after_stretch, at_turn}
 use Rattle.kernel_model.specs.World.{World, owns_in}
 use Rattle.board_core.specs.Calm.{HasCome, IsCalm, ServesNobody, coming}
 use Rattle.board_core.specs.declared.board.Board.TheInside.{Inside}
 use Rattle.board_core.specs.declared.drivers.Drivers.{Drivers}
 use Rattle.board_core.specs.declared.moment.Moment.{Moment}
-use Rattle.board_core.specs.Driven.{AreDriven, IsLine, devices_of}
+use Rattle.board_core.specs.Driven.{AreDriven, IsQueueOf, devices_of}
 use Rattle.board_core.specs.Makes.{ready_in}
 use Rattle.board_core.specs.Shows.{IsBoard, residents, world_of}
-use Rattle.board_core.specs.Residents.{HasLost, IsSeated, Resident, record_of}
+use Rattle.board_core.specs.Residents.{HasLost, IsResident, Resident, record_of}
 use Rattle.board_core.specs.Stretches.{QuietAt, Quietly, is_running, slot_runs}
 use Rattle.board_core.proofs.Calm.{kept_calm, later_calm}
-use Rattle.board_core.proofs.Changes.{as_many, as_many_owns, beside, bytes_of, found, kept_records, still_seated_on, with_step}
+use Rattle.board_core.proofs.Changes.{as_many, as_many_owns, beside, bytes_of, found, kept_records, still_seated_on}
+use Rattle.board_core.proofs.Changes.{with_step}
 use Rattle.board_core.proofs.Devices.{lost_where, still_lost_on}
 use Rattle.board_core.proofs.Lines.{line_after}
 use Rattle.board_core.proofs.Pairs.{get-firsts}
@@ -54,10 +57,11 @@ use Rattle.board_core.proofs.Ready.{calm_ready, devices_shown, next_shown, owns_
 use Rattle.board_core.proofs.Sight.{sees_record}
 
 -- instructions change nothing of what is the process's own but its RAM
-pub own_after : (j : ℕ) (r : Record) → (after_instructions j r).own ≡ record r.own { ram = (after_instructions j r).own.ram }
+pub own_after : (j : ℕ) (r : Record)
+    → (after_instructions j r).own ≡ record r.own { ram = (after_instructions j r).own.ram }
 unfolding after_instructions
 own_after zero r = refl
-own_after (suc j) r = own_after j (executed r)
+own_after (suc j) r = own_after j (instruction_made r)
 
 -- a process after so many instructions, which left it these registers
 abbrev pub later_process : Process → ℕ → Registers → Process
@@ -70,16 +74,20 @@ one_then : (n k : ℕ) → n + 1 + k ≡ n + suc k
 one_then n k = omega arith
 
 -- instructions that each went are those of the record, and lead it to what they left
-pub record Follows (k : ℕ) (flash : List ℕ) (p : Process) (own own' : Own) (later : Registers) (storage : List ℕ) : Type 0 where
+pub record Follows (k : ℕ) (flash : List ℕ) (p : Process) (own own' : Own) (later : Registers) (storage : List ℕ) : Type
+    0 where
   pub go : AllGo k (record_in flash p own storage)
-  pub leads : record_in flash (later_process p k later) own' storage ≡ after_instructions k (record_in flash p own storage)
+  pub leads : record_in flash (later_process p k later) own' storage
+      ≡ after_instructions k (record_in flash p own storage)
 
-first_and_rest : (k : ℕ) (r : Record) → (instruction r).end ≡ Went → AllGo k (executed r) → AllGo (suc k) r
+first_and_rest : (k : ℕ) (r : Record) → (instruction r).end ≡ Went → AllGo k (instruction_made r) → AllGo (suc k) r
 unfolding after_instructions
 first_and_rest k r first rest zero h = first
 first_and_rest k r first rest (suc j) h = rest j (omega (arith, h))
 
-pub follows : (k : ℕ) (flash : List ℕ) (p : Process) (own own' : Own) (later : Registers) (storage : List ℕ) → IsOwnObject flash p.object own.layout → MakesAll k flash own p.regs own' later → Follows k flash p own own' later storage
+pub follows : (k : ℕ) (flash : List ℕ) (p : Process) (own own' : Own) (later : Registers) (storage : List ℕ)
+    → IsOwnObject flash p.object own.layout → MakesAll k flash own p.regs own' later
+    → Follows k flash p own own' later storage
 unfolding MakesAll after_instructions
 follows zero flash p own own' later storage object m = record {
   go = λ j h. absurd (omega (arith, h));
@@ -91,53 +99,71 @@ follows (suc k) flash p own own' later storage object m =
     let r = record_in flash p own storage in
     let t = instruction r in
     let made = m.1 (byte_at (record_in flash p own [])) (sees_record flash (p, own) object m.0) in
-    let rest = follows k flash (record (after_turn p) { regs = t.regs }) (with_write own t) own' later storage object made.1 in
+    let rest = follows k flash (record (after_turn p) { regs = t.regs }) (with_write own t) own' later storage object
+    made.1 in
     record {
       go = first_and_rest k r made.0 rest.go;
-      leads = ap (λ (n : ℕ). record_in flash (record p { regs = later; turns = n }) own' storage) (sym (one_then p.turns k)) ∙ rest.leads;
+      leads = ap (λ (n : ℕ). record_in flash (record p { regs = later; turns = n }) own' storage)
+          (sym (one_then p.turns k)) ∙ rest.leads;
     }
 
 -- what is then its own is what it was but for its RAM
-pub left_own : (k : ℕ) (flash : List ℕ) (p : Process) (own own' : Own) (later : Registers) → IsOwnObject flash p.object own.layout → MakesAll k flash own p.regs own' later → own' ≡ record own { ram = own'.ram }
+pub left_own : (k : ℕ) (flash : List ℕ) (p : Process) (own own' : Own) (later : Registers)
+    → IsOwnObject flash p.object own.layout → MakesAll k flash own p.regs own' later
+    → own' ≡ record own { ram = own'.ram }
 left_own k flash p own own' later object m =
     let led = (follows k flash p own own' later [] object m).leads in
     let after : own' ≡ (after_instructions k (record_in flash p own [])).own = ap (λ (r : Record). r.own) led in
     after ∙ own_after k (record_in flash p own []) ∙ ap (λ (o : Own). record own { ram = o.ram }) (sym after)
 
 -- so a process is as it is to be, so many steps later
-pub later_seated : (flash : List ℕ) (steps k : ℕ) (p : Process) (own own' : Own) (later : Registers) → own' ≡ record own { ram = own'.ram } → IsSeated flash steps (p, own) → IsSeated flash (steps + k) (later_process p k later, own')
+pub later_seated : (flash : List ℕ) (steps k : ℕ) (p : Process) (own own' : Own) (later : Registers)
+    → own' ≡ record own { ram = own'.ram } → IsResident flash steps (p, own)
+    → IsResident flash (steps + k) (later_process p k later, own')
 later_seated flash steps k p own own' later same s =
-    subst (λ (o : Own). IsSeated flash (steps + k) (later_process p k later, o)) (sym same) (record {
-      own = record { object = s.own.object; object_is = s.own.object_is; lives = s.own.lives; life = s.own.life };
+    subst (λ (o : Own). IsResident flash (steps + k) (later_process p k later, o)) (sym same) (record {
+      own = record { object = s.own.object; object_is = s.own.object_is; lives = s.own.lives };
       turns = omega (arith, s.turns);
       restarts = omega (arith, s.restarts);
+      life = omega (arith, s.life);
     })
 
 -- and its turns are quiet ones
-pub quietly : (k most : ℕ) (flash : List ℕ) (p : Process) (own own' : Own) (later : Registers) → IsOwnObject flash p.object own.layout → MakesAll k flash own p.regs own' later → (k < most → IsStopped flash own' later) → Quietly k most flash (p, own) (later_process p k later, own')
+pub quietly : (k most : ℕ) (flash : List ℕ) (p : Process) (own own' : Own) (later : Registers)
+    → IsOwnObject flash p.object own.layout → MakesAll k flash own p.regs own' later
+    → (k < most → IsStopped flash own' later) → Quietly k most flash (p, own) (later_process p k later, own')
 quietly k most flash p own own' later object m stops = record {
   go = λ storage. (follows k flash p own own' later storage object m).go;
   leads = λ storage. (follows k flash p own own' later storage object m).leads;
   stops = λ fewer storage.
       let stopped = stops fewer in
-      let there : IsOwnObject flash p.object own'.layout = subst (λ (o : Own). IsOwnObject flash p.object o.layout) (sym (left_own k flash p own own' later object m)) object in
-      stopped.1 (byte_at (record_in flash (later_process p k later) own' [])) (sees_record flash (later_process p k later, own') there stopped.0);
+      let there : IsOwnObject flash p.object own'.layout =
+      subst (λ (o : Own). IsOwnObject flash p.object o.layout) (sym (left_own k flash p own own' later object m))
+      object in
+      stopped.1 (byte_at (record_in flash (later_process p k later) own' []))
+      (sees_record flash (later_process p k later, own') there stopped.0);
 }
 
 -- quiet turns of the process in a slot leave what is its own, but for its RAM
-pub kept_own : (k most : ℕ) (flash : List ℕ) (old new : Resident) → Quietly k most flash old new → new.1 ≡ record old.1 { ram = new.1.ram }
+pub kept_own : (k most : ℕ) (flash : List ℕ) (old new : Resident) → Quietly k most flash old new
+    → new.1 ≡ record old.1 { ram = new.1.ram }
 kept_own k most flash old new q =
-    let after : new.1 ≡ (after_instructions k (record_of flash (old, []))).own = ap (λ (r : Record). r.own) (q.leads []) in
+    let after : new.1 ≡ (after_instructions k (record_of flash (old, []))).own =
+    ap (λ (r : Record). r.own) (q.leads []) in
     after ∙ own_after k (record_of flash (old, [])) ∙ ap (λ (o : Own). record old.1 { ram = o.ram }) (sym after)
 
 -- drivers of which nothing is asked, and who waits, while a process's RAM changes and time passes
-pub ram_driven : (settings : Settings) (time later slot : ℕ) (owns : List Own) (d : Drivers) (own : Own) (ram : List ℕ) → slice_get owns slot ≡ Some own → time ≤ later → AreDriven settings time owns d → AreDriven settings later (slice_set owns slot (record own { ram = ram })) d
+pub ram_driven : (settings : Settings) (time later slot : ℕ) (owns : List Own) (d : Drivers) (own : Own) (ram : List ℕ)
+    → slice_get owns slot ≡ Some own → time ≤ later → AreDriven settings time owns d
+    → AreDriven settings later (slice_set owns slot (record own { ram = ram })) d
 ram_driven settings time later slot owns d own ram was passes h = record {
   writes = line_is console_writes d.console.writes h.writes;
   reads = line_is console_reads d.console.reads h.reads;
   randoms = line_is randoms d.random.waiting h.randoms;
   stores = line_is storages d.storage.waiting h.stores;
-  within = All-set (IsWithin settings.storage) owns slot (record own { ram = ram }) (subst (IsWithin settings.storage) (get_or_from_slice_get owns slot own nobody was) (h.within slot nobody (slice_get_within owns slot own was))) h.within;
+  within = All-set (IsWithin settings.storage) owns slot (record own { ram = ram })
+      (subst (IsWithin settings.storage) (get_or_from_slice_get owns slot own nobody was)
+      (h.within slot nobody (slice_get_within owns slot own was))) h.within;
   leds = h.leds;
   size = h.size;
   slots = h.slots;
@@ -145,11 +171,14 @@ ram_driven settings time later slot owns d own ram was passes h = record {
   free = omega (arith, h.free, passes);
 }
   where
-    line_is : {R : Type 0} (desk : Desk R) (ids : List ProcessId) → IsLine desk ids owns → IsLine desk ids (slice_set owns slot (record own { ram = ram }))
-    line_is desk ids line = line_after desk ids owns slot own (record own { ram = ram }) [] line was refl (λ waiting. refl)
+    line_is : {R : Type 0} (request_kind : RequestKind R) (ids : List ProcessId) → IsQueueOf request_kind ids owns
+        → IsQueueOf request_kind ids (slice_set owns slot (record own { ram = ram }))
+    line_is request_kind ids line =
+        line_after request_kind ids owns slot own (record own { ram = ram }) [] line was refl (λ waiting. refl)
 
 -- the first three, and the last three, of six that are not ready
-served_by_none : (a b c d e f : Bool) → ready_device (a ∷ b ∷ c ∷ d ∷ e ∷ f ∷ []) ≡ None → (d ≡ false) × (e ≡ false) × (f ≡ false)
+served_by_none : (a b c d e f : Bool) → ready_device (a ∷ b ∷ c ∷ d ∷ e ∷ f ∷ []) ≡ None
+    → (d ≡ false) × (e ≡ false) × (f ≡ false)
 unfolding ready_device
 served_by_none true b c d e f none = cc
 served_by_none false true c d e f none = cc
@@ -165,10 +194,10 @@ turns_later k m = record m { time = m.time + k; steps = m.steps + k }
 
 -- what always holds of a board, after so many turns that left these processes and what is their own
 pub record StillHolds (b : Inside) (k : ℕ) (home : Homes) (processes : List Process) : Type 0 where
-  pub seated : All (IsSeated home.flash (b.moment.steps + k)) (zip processes home.owns)
+  pub seated : All (IsResident home.flash (b.moment.steps + k)) (zip processes home.owns)
   pub lost : All (HasLost (b.moment.steps + k)) home.owns
   pub owns : length home.owns ≡ length processes
-  pub few : length processes ≤ 8
+  pub few : length processes ≤ SLOT_COUNT
   pub driven : AreDriven b.moment.settings (b.moment.time + k) home.owns b.drivers
   pub calm : IsCalm b.moment.settings.start (b.moment.time + k) b.calm home.owns b.drivers
 
@@ -185,19 +214,26 @@ unfolding next choice
 chosen_in_calm w slot f = by_device (ready_device (ready_devices w)) refl f
   where
     others : Option Choice
-    others = option_or (option_map Run (next_slot (ready_slots w) w.present.slot w.present.used w.pace.slice)) (option_map (λ at. Pass (at - w.clock.time)) (world_next_time w))
+    others = option_or (option_map Run (next_slot (ready_slots w) w.present.slot w.present.used w.pace.slice))
+        (option_map (λ at. Pass (at - w.clock.time)) (world_next_time w))
 
-    by_device : (o : Option Dev) → ready_device (ready_devices w) ≡ o → option_or (option_map Device o) others ≡ Some (Run slot) → ready_device (ready_devices w) ≡ None
+    by_device : (o : Option Dev) → ready_device (ready_devices w) ≡ o
+        → option_or (option_map Device o) others ≡ Some (Run slot) → ready_device (ready_devices w) ≡ None
     by_device None e h = e
     by_device (Some device) e h = cc
 
 -- and it is the one that the scheduler says
-chosen_slot : (w : World) (slot : ℕ) → next w ≡ Some (Run slot) → next_slot (ready_slots w) w.present.slot w.present.used w.pace.slice ≡ Some slot
+chosen_slot : (w : World) (slot : ℕ) → next w ≡ Some (Run slot)
+    → next_slot (ready_slots w) w.present.slot w.present.used w.pace.slice ≡ Some slot
 unfolding next choice
-chosen_slot w slot f = by_both (ready_device (ready_devices w)) (next_slot (ready_slots w) w.present.slot w.present.used w.pace.slice) (world_next_time w) refl f
+chosen_slot w slot f =
+    by_both (ready_device (ready_devices w)) (next_slot (ready_slots w) w.present.slot w.present.used w.pace.slice)
+    (world_next_time w) refl f
   where
-    by_both : (o : Option Dev) (q at : Option ℕ) → next_slot (ready_slots w) w.present.slot w.present.used w.pace.slice ≡ q
-        → option_or (option_map Device o) (option_or (option_map Run q) (option_map (λ n. Pass (n - w.clock.time)) at)) ≡ Some (Run slot)
+    by_both : (o : Option Dev) (q at : Option ℕ)
+        → next_slot (ready_slots w) w.present.slot w.present.used w.pace.slice ≡ q
+        → option_or (option_map Device o) (option_or (option_map Run q) (option_map (λ n. Pass (n - w.clock.time)) at))
+        ≡ Some (Run slot)
         → next_slot (ready_slots w) w.present.slot w.present.used w.pace.slice ≡ Some slot
     by_both (Some device) q at e h = cc
     by_both None (Some other) at e h = let same : other ≡ slot = cc in e ∙ ap Some same
@@ -208,7 +244,7 @@ chosen_slot w slot f = by_both (ready_device (ready_devices w)) (next_slot (read
 still_runs : (j : ℕ) (r : Record) → (after_instructions j r).process.state ≡ r.process.state
 unfolding after_instructions
 still_runs zero r = refl
-still_runs (suc j) r = still_runs j (executed r)
+still_runs (suc j) r = still_runs j (instruction_made r)
 
 module _ (b : Inside) (board : IsBoard b) where
   -- a board of which nobody is served at once, and no device step is to come by now, does not have one that is ready
@@ -216,29 +252,41 @@ module _ (b : Inside) (board : IsBoard b) where
       → (ServesNobody b.drivers → HasCome b.moment.time (coming b.moment b.home.owns b.drivers)) → ⊥
   nothing_comes none law comes =
       let idle = served_by_none _ _ _ _ _ _ (ap ready_device (devices_shown b board) ∙ none) in
-      not_both _ (sym (next_shown b board)) (law (world_of b) none) (comes (record { receive = idle.0; random = idle.1; store = idle.2 }))
+      not_both _ (sym (next_shown b board)) (law (world_of b) none)
+      (comes (record { receive = idle.0; random = idle.1; store = idle.2 }))
     where
-      not_both : (at : Option ℕ) → world_next_time (world_of b) ≡ at → IfSome (world_next_time (world_of b)) (λ n. b.moment.time < n) → HasCome b.moment.time at → ⊥
+      not_both : (at : Option ℕ) → world_next_time (world_of b) ≡ at
+          → IfSome (world_next_time (world_of b)) (λ n. b.moment.time < n) → HasCome b.moment.time at → ⊥
       not_both None e ahead come = come
-      not_both (Some n) e ahead come = let later : b.moment.time < n = subst (λ (o : Option ℕ). IfSome o (λ n. b.moment.time < n)) e ahead in omega (arith, later, come)
+      not_both (Some n) e ahead come = let later : b.moment.time < n =
+          subst (λ (o : Option ℕ). IfSome o (λ n. b.moment.time < n)) e ahead in omega (arith, later, come)
 
   -- the process of the record in a slot
-  process_there : (slot : ℕ) → option_map (λ (r : Record). r.process) (slice_get (world_of b).records slot) ≡ slice_get b.processes.items slot
+  process_there : (slot : ℕ)
+      → option_map (λ (r : Record). r.process) (slice_get (world_of b).records slot) ≡ slice_get b.processes.items slot
   process_there slot =
       sym (slice_get-map (λ (r : Record). r.process) (world_of b).records slot)
-      ∙ ap (λ (ps : List Process). slice_get ps slot) (reads_shown (λ (r : Record). r.process) (λ (r : Resident). r.0) b.home.flash (residents b) b.drivers.stores.slots (beside b.processes.items b.home.owns b.drivers.stores.slots board.owns board.few board.driven.slots) (λ p. refl))
+      ∙ ap (λ (ps : List Process). slice_get ps slot)
+      (reads_shown (λ (r : Record). r.process) (λ (r : Resident). r.0) b.home.flash (residents b)
+      b.drivers.stores.slots (beside b.processes.items b.home.owns b.drivers.stores.slots board.owns board.few
+      board.driven.slots) (λ p. refl))
       ∙ slice_get-map (λ (r : Resident). r.0) (residents b) slot
       ∙ sym (get-firsts b.processes.items b.home.owns slot board.owns)
 
   -- where the process that has the next turn does not run, no stretch goes on
-  pub rests_there : (slot : ℕ) → next (world_of b) ≡ Some (Run slot) → slot_runs (slice_get b.processes.items slot) ≡ false → GoesOn (world_of b) → ⊥
+  pub rests_there : (slot : ℕ) → next (world_of b) ≡ Some (Run slot)
+      → slot_runs (slice_get b.processes.items slot) ≡ false → GoesOn (world_of b) → ⊥
   rests_there slot f rests g =
       let at : slot ≡ g.slot = same_slot slot g.slot (sym f ∙ g.chosen) in
-      let there : slice_get b.processes.items slot ≡ Some g.before.process = sym (process_there slot) ∙ ap (λ (n : ℕ). option_map (λ (r : Record). r.process) (slice_get (world_of b).records n)) at ∙ ap (option_map (λ (r : Record). r.process)) g.is_there in
+      let there : slice_get b.processes.items slot ≡ Some g.before.process =
+      sym (process_there slot)
+      ∙ ap (λ (n : ℕ). option_map (λ (r : Record). r.process) (slice_get (world_of b).records n)) at
+      ∙ ap (option_map (λ (r : Record). r.process)) g.is_there in
       let runs : slot_runs (slice_get b.processes.items slot) ≡ true = ap slot_runs there ∙ ap is_running g.runs in
       cc
 
-  module _ (slot k most used : ℕ) (present : Option ℕ) (home : Homes) (processes : List Process) (q : QuietAt k most b.moment slot b.home home b.processes.items processes) where
+  module _ (slot k most used : ℕ) (present : Option ℕ) (home : Homes) (processes : List Process)
+      (q : QuietAt k most b.moment slot b.home home b.processes.items processes) where
     few : length (residents b) ≤ length b.drivers.stores.slots
     few = beside b.processes.items b.home.owns b.drivers.stores.slots board.owns board.few board.driven.slots
 
@@ -256,8 +304,11 @@ module _ (b : Inside) (board : IsBoard b) where
     was_there = found slot b.home home b.processes.items processes q.at b.drivers.stores.slots few
 
     -- what is each process's own on the way
-    owns_then : (j : ℕ) → owns_in (after_stretch j (world_of b) slot (after_instructions j before)) ≡ slice_set b.home.owns slot (after_instructions j before).own
-    owns_then j = map-set (λ (r : Record). r.own) (world_of b).records slot (after_instructions j before) ∙ ap (λ (owns : List Own). slice_set owns slot (after_instructions j before).own) (owns_in_world b board)
+    owns_then : (j : ℕ)
+        → owns_in (after_stretch j (world_of b) slot (after_instructions j before))
+        ≡ slice_set b.home.owns slot (after_instructions j before).own
+    owns_then j = map-set (λ (r : Record). r.own) (world_of b).records slot (after_instructions j before)
+        ∙ ap (λ (owns : List Own). slice_set owns slot (after_instructions j before).own) (owns_in_world b board)
 
     -- on the way no device step is ready
     none_acts : b.moment.time + k ≤ b.calm → NoneActs k (world_of b) slot before
@@ -265,12 +316,18 @@ module _ (b : Inside) (board : IsBoard b) where
     none_acts until j h =
         let then = (after_instructions j before).own in
         let m = turns_later j b.moment in
-        let calm = kept_calm m.settings.start b.moment.time b.calm slot b.home.owns b.drivers q.at.before.1 then q.at.own_was (ap (λ (o : Own). o.grants) (own_after j before)) (ap (λ (o : Own). o.lives) (own_after j before)) board.calm m.time (omega arith) (omega (arith, h, until)) in
-        ap ready_device (ap (λ (owns : List Own). ready_in m owns b.drivers) (owns_then j) ∙ calm_ready m (slice_set b.home.owns slot then) b.drivers calm)
+        let calm = kept_calm m.settings.start b.moment.time b.calm slot b.home.owns b.drivers q.at.before.1
+        then q.at.own_was (ap (λ (o : Own). o.grants) (own_after j before))
+        (ap (λ (o : Own). o.lives) (own_after j before)) board.calm m.time (omega arith)
+        (omega (arith, h, until)) in
+        ap ready_device (ap (λ (owns : List Own). ready_in m owns b.drivers) (owns_then j)
+        ∙ calm_ready m (slice_set b.home.owns slot then) b.drivers calm)
 
     -- the world after the turns, which took so many ticks
     abbrev world_after_ticks : ℕ → World
-    world_after_ticks ticks = with_step b (map (record_of home.flash) (zip (zip processes home.owns) b.drivers.stores.slots)) (devices_of b.drivers) (turns_later ticks b.moment) present used
+    world_after_ticks ticks =
+        with_step b (map (record_of home.flash) (zip (zip processes home.owns) b.drivers.stores.slots))
+        (devices_of b.drivers) (turns_later ticks b.moment) present used
 
     abbrev world_then : World
     world_then = world_after_ticks k
@@ -289,49 +346,74 @@ module _ (b : Inside) (board : IsBoard b) where
     unfolding after_instructions
     none_left none p u =
         ap (λ (rs : List Record). with_step b rs (devices_of b.drivers) (turns_later k b.moment) present used)
-        (records_then ∙ ap (slice_set (world_of b).records slot) (q.quiet.leads storage ∙ ap (λ (n : ℕ). after_instructions n before) none) ∙ set-same (world_of b).records slot before was_there)
-        ∙ ap₂ (λ (o : Option ℕ) (n : ℕ). with_step b (world_of b).records (devices_of b.drivers) (turns_later k b.moment) o n) p u
-        ∙ ap (λ (n : ℕ). with_step b (world_of b).records (devices_of b.drivers) (turns_later n b.moment) b.present b.used) none
-        ∙ ap₂ (λ (time steps : ℕ). with_step b (world_of b).records (devices_of b.drivers) (record b.moment { time = time; steps = steps }) b.present b.used) (none_more b.moment.time) (none_more b.moment.steps)
+        (records_then ∙ ap (slice_set (world_of b).records slot)
+        (q.quiet.leads storage ∙ ap (λ (n : ℕ). after_instructions n before) none)
+        ∙ set-same (world_of b).records slot before was_there)
+        ∙ ap₂ (λ (o : Option ℕ) (n : ℕ). with_step b (world_of b).records (devices_of b.drivers)
+        (turns_later k b.moment) o n) p u
+        ∙ ap (λ (n : ℕ). with_step b (world_of b).records (devices_of b.drivers) (turns_later n b.moment) b.present
+        b.used) none
+        ∙ ap₂ (λ (time steps : ℕ). with_step b (world_of b).records (devices_of b.drivers)
+        (record b.moment { time = time; steps = steps }) b.present b.used) (none_more b.moment.time)
+        (none_more b.moment.steps)
 
     -- some are a stretch
-    module _ (f : next (world_of b) ≡ Some (Run slot)) (runs : is_running q.at.before.0.state ≡ true) (first : ℕ) (begins : first ≡ used_after b.present b.used b.slice slot - 1) (lasts : first + k ≤ b.slice) (until : b.moment.time + k ≤ b.calm) (limit : b.moment.steps + k ≤ STEP_LIMIT)
-        (none : k ≡ 0 → (present ≡ b.present) × (used ≡ b.used)) (some : 0 < k → (present ≡ Some slot) × (used ≡ first + k)) where
+    module _ (f : next (world_of b) ≡ Some (Run slot)) (runs : is_running q.at.before.0.state ≡ true) (first : ℕ)
+        (begins : first ≡ used_after b.present b.used b.slice slot - 1) (lasts : first + k ≤ b.slice)
+        (until : b.moment.time + k ≤ b.calm) (limit : b.moment.steps + k ≤ STEP_LIMIT)
+        (none : k ≡ 0 → (present ≡ b.present) × (used ≡ b.used))
+        (some : 0 < k → (present ≡ Some slot) × (used ≡ first + k)) where
       stretched : RoundIsStretch → 0 < k → IsStretch k (world_of b) world_then
-      stretched law more = subst (IsStretch k (world_of b)) (sym same) (law k slot (world_of b) before more limit f was_there (state_is q.at.before.0.state runs) (subst (λ (n : ℕ). n + k ≤ b.slice) begins lasts) (q.quiet.go storage) (none_acts until))
+      stretched law more =
+          subst (IsStretch k (world_of b)) (sym same)
+          (law k slot (world_of b) before more limit f was_there (state_is q.at.before.0.state runs)
+          (subst (λ (n : ℕ). n + k ≤ b.slice) begins lasts) (q.quiet.go storage) (none_acts until))
         where
           same : world_then ≡ after_stretch k (at_turn (world_of b) slot) slot (after_instructions k before)
           same =
-              ap (λ (rs : List Record). with_step b rs (devices_of b.drivers) (turns_later k b.moment) present used) (records_then ∙ ap (slice_set (world_of b).records slot) (q.quiet.leads storage))
-              ∙ ap₂ (λ (o : Option ℕ) (n : ℕ). with_step b (slice_set (world_of b).records slot (after_instructions k before)) (devices_of b.drivers) (turns_later k b.moment) o n) (some more).0 ((some more).1 ∙ ap (λ (n : ℕ). n + k) begins)
+              ap (λ (rs : List Record). with_step b rs (devices_of b.drivers) (turns_later k b.moment) present used)
+              (records_then ∙ ap (slice_set (world_of b).records slot) (q.quiet.leads storage))
+              ∙ ap₂ (λ (o : Option ℕ) (n : ℕ). with_step b
+              (slice_set (world_of b).records slot (after_instructions k before)) (devices_of b.drivers)
+              (turns_later k b.moment) o n) (some more).0 ((some more).1 ∙ ap (λ (n : ℕ). n + k) begins)
 
       by_count : RoundIsStretch → NoneIsStretch → (n : ℕ) → n ≡ k → IsStretch k (world_of b) world_then
-      by_count law law_none zero e = subst (λ (n : ℕ). IsStretch n (world_of b) world_then) e (law_none (world_of b) world_then (none_left (sym e) (none (sym e)).0 (none (sym e)).1))
+      by_count law law_none zero e =
+          subst (λ (n : ℕ). IsStretch n (world_of b) world_then) e
+          (law_none (world_of b) world_then (none_left (sym e) (none (sym e)).0 (none (sym e)).1))
       by_count law law_none (suc n) e = stretched law (omega (arith, e))
 
       -- so the round robin's next steps are these turns
-      pub stretch_shown : (ticks : ℕ) (w : World) → RoundIsStretch → NoneIsStretch → ticks ≡ k → world_of b ≡ w → IsStretch k w (world_after_ticks ticks)
+      pub stretch_shown : (ticks : ℕ) (w : World) → RoundIsStretch → NoneIsStretch → ticks ≡ k → world_of b ≡ w
+          → IsStretch k w (world_after_ticks ticks)
       stretch_shown ticks w law law_none is shown =
-          subst (λ (n : ℕ). IsStretch k w (world_after_ticks n)) (sym is) (subst (λ (v : World). IsStretch k v world_then) shown (by_count law law_none k refl))
+          subst (λ (n : ℕ). IsStretch k w (world_after_ticks n)) (sym is)
+          (subst (λ (v : World). IsStretch k v world_then) shown (by_count law law_none k refl))
 
       -- the record there after the turns
       after_there : slice_get world_then.records slot ≡ Some after
-      after_there = ap (λ (rs : List Record). slice_get rs slot) records_then ∙ set_there (world_of b).records (slice_get_within (world_of b).records slot before was_there)
+      after_there = ap (λ (rs : List Record). slice_get rs slot) records_then
+          ∙ set_there (world_of b).records (slice_get_within (world_of b).records slot before was_there)
         where
           set_there : (rs : List Record) → slot < length rs → slice_get (slice_set rs slot after) slot ≡ Some after
-          set_there rs h = slice_get-get_or (slice_set rs slot after) slot after (rw length-set h) ∙ ap Some (get_or-set_same rs slot after after h)
+          set_there rs h =
+              slice_get-get_or (slice_set rs slot after) slot after (rw length-set h)
+              ∙ ap Some (get_or-set_same rs slot after after h)
 
       after_runs : after.process.state ≡ Running
-      after_runs = ap (λ (r : Record). r.process.state) (q.quiet.leads storage) ∙ still_runs k before ∙ state_is q.at.before.0.state runs
+      after_runs = ap (λ (r : Record). r.process.state) (q.quiet.leads storage) ∙ still_runs k before
+          ∙ state_is q.at.before.0.state runs
 
       -- who has the next turn then, where turns are left in the slice
-      turn_stays : PresentStaysOn → (n : ℕ) → n ≡ k → first + k < b.slice → (other : ℕ) → next world_then ≡ Some (Run other) → slot ≡ other
+      turn_stays : PresentStaysOn → (n : ℕ) → n ≡ k → first + k < b.slice → (other : ℕ)
+          → next world_then ≡ Some (Run other) → slot ≡ other
       turn_stays law zero e u other g =
           let there = none (sym e) in
           same_slot slot other (sym f ∙ ap next (sym (none_left (sym e) there.0 there.1)) ∙ g)
       turn_stays law (suc n) e u other g =
           let there = some (omega (arith, e)) in
-          let stays : next_slot (ready_slots world_then) present used b.slice ≡ Some slot = law world_then slot after there.0 after_there after_runs (omega (arith, there.1, u)) in
+          let stays : next_slot (ready_slots world_then) present used b.slice ≡ Some slot =
+          law world_then slot after there.0 after_there after_runs (omega (arith, there.1, u)) in
           let is : ◌≡◌ {A = Option ℕ} (Some slot) (Some other) = sym stays ∙ chosen_slot world_then other g in
           cc
 
@@ -344,15 +426,18 @@ module _ (b : Inside) (board : IsBoard b) where
           q.quiet.stops fewer storage (ap (λ (r : Record). (instruction r).end) is ∙ g.goes)
 
       -- nor where none were left
-      pub ends_shown : PresentStaysOn → (ticks asked until : ℕ) → ticks ≡ k → k ≤ most → (most ≤ k → most ≡ 0) → first + most ≤ b.slice → first < b.slice → b.moment.time < until → 0 < asked
-          → (most < asked → first + most < b.slice → b.moment.steps + most < STEP_LIMIT → b.moment.time + most < until → ⊥)
+      pub ends_shown : PresentStaysOn → (ticks asked until : ℕ) → ticks ≡ k → k ≤ most → (most ≤ k → most ≡ 0)
+          → first + most ≤ b.slice → first < b.slice → b.moment.time < until → 0 < asked
+          → (most < asked → first + most < b.slice → b.moment.steps + most < STEP_LIMIT → b.moment.time + most < until
+          → ⊥)
           → GoesOn (world_after_ticks ticks) → ⊥
       ends_shown law ticks asked until is made ends last below ahead asks all g =
           let goes : GoesOn world_then = subst (λ (n : ℕ). GoesOn (world_after_ticks n)) is g in
           let not_fewer : k < most → ⊥ = λ h. stops_there law last h goes in
           let zero_left : most ≡ 0 = ends (omega (arith, not_fewer)) in
           let limit : b.moment.steps + k < STEP_LIMIT = goes.limit in
-          all (omega (arith, zero_left, asks)) (omega (arith, zero_left, below)) (omega (arith, zero_left, made, limit)) (omega (arith, zero_left, ahead))
+          all (omega (arith, zero_left, asks)) (omega (arith, zero_left, below)) (omega (arith, zero_left, made, limit))
+          (omega (arith, zero_left, ahead))
 
     kept : q.at.after.1 ≡ record q.at.before.1 { ram = q.at.after.1.ram }
     kept = kept_own k most b.home.flash q.at.before q.at.after q.quiet
@@ -364,24 +449,36 @@ module _ (b : Inside) (board : IsBoard b) where
     pub still : StillHolds b k home processes
     still = record {
       seated = still_seated_on slot b.home home b.processes.items processes q.at b.moment.steps k q.seated board.seated;
-      lost = still_lost_on b.moment.steps k slot b.home home q.at.after.1 q.at.own_is (omega (arith, ap (λ (o : Own). o.dropped) kept, lost_where b.moment.steps b.home.owns slot q.at.before.1 q.at.own_was board.lost)) board.lost;
+      lost = still_lost_on b.moment.steps k slot b.home home q.at.after.1 q.at.own_is
+          (omega (
+            arith,
+            ap (λ (o : Own). o.dropped) kept,
+            lost_where b.moment.steps b.home.owns slot q.at.before.1 q.at.own_was board.lost,
+          )) board.lost;
       owns = as_many_owns slot b.home home b.processes.items processes q.at ∙ board.owns ∙ many;
       few = omega (arith, many, board.few);
       driven = subst (λ (h : Homes). AreDriven b.moment.settings (b.moment.time + k) h.owns b.drivers) (sym q.at.own_is)
-          (subst (λ (o : Own). AreDriven b.moment.settings (b.moment.time + k) (slice_set b.home.owns slot o) b.drivers) (sym kept)
-          (ram_driven b.moment.settings b.moment.time (b.moment.time + k) slot b.home.owns b.drivers q.at.before.1 q.at.after.1.ram q.at.own_was (omega arith) board.driven));
-      calm = subst (λ (h : Homes). IsCalm b.moment.settings.start (b.moment.time + k) b.calm h.owns b.drivers) (sym q.at.own_is)
-          (kept_calm b.moment.settings.start (b.moment.time + k) b.calm slot b.home.owns b.drivers q.at.before.1 q.at.after.1 q.at.own_was (ap (λ (o : Own). o.grants) kept) (ap (λ (o : Own). o.lives) kept)
-          (later_calm b.moment.settings.start b.moment.time (b.moment.time + k) b.calm b.home.owns b.drivers (omega arith) board.calm));
+          (subst (λ (o : Own). AreDriven b.moment.settings (b.moment.time + k) (slice_set b.home.owns slot o) b.drivers)
+          (sym kept)
+          (ram_driven b.moment.settings b.moment.time (b.moment.time + k) slot b.home.owns b.drivers q.at.before.1
+          q.at.after.1.ram q.at.own_was (omega arith) board.driven));
+      calm = subst (λ (h : Homes). IsCalm b.moment.settings.start (b.moment.time + k) b.calm h.owns b.drivers)
+          (sym q.at.own_is)
+          (kept_calm b.moment.settings.start (b.moment.time + k) b.calm slot b.home.owns b.drivers q.at.before.1
+          q.at.after.1 q.at.own_was (ap (λ (o : Own). o.grants) kept) (ap (λ (o : Own). o.lives) kept)
+          (later_calm b.moment.settings.start b.moment.time (b.moment.time + k) b.calm b.home.owns b.drivers
+          (omega arith) board.calm));
     }
 
 -- what is used of a slice, after so many turns
-pub used_within : (before slice first k used : ℕ) → before ≤ slice → first + k ≤ slice → (k ≡ 0 → used ≡ before) → (0 < k → used ≡ first + k) → used ≤ slice
+pub used_within : (before slice first k used : ℕ) → before ≤ slice → first + k ≤ slice → (k ≡ 0 → used ≡ before)
+    → (0 < k → used ≡ first + k) → used ≤ slice
 used_within before slice first zero used h lasts none some = omega (arith, h, none refl)
 used_within before slice first (suc k) used h lasts none some = omega (arith, lasts, some (omega arith))
 
 -- a slot whose process runs is one of the table's
-pub runs_within : (processes : List Process) (slot : ℕ) → slot_runs (slice_get processes slot) ≡ true → slot < length processes
+pub runs_within : (processes : List Process) (slot : ℕ) → slot_runs (slice_get processes slot) ≡ true
+    → slot < length processes
 runs_within processes slot e = by_process (slice_get processes slot) refl e
   where
     by_process : (o : Option Process) → slice_get processes slot ≡ o → slot_runs o ≡ true → slot < length processes
@@ -389,7 +486,8 @@ runs_within processes slot e = by_process (slice_get processes slot) refl e
     by_process (Some p) f h = slice_get_within processes slot p f
 
 -- a board that looked up to when no device step is ready
-pub looked_ahead : (b : Inside) (calm : ℕ) → IsBoard b → IsCalm b.moment.settings.start b.moment.time calm b.home.owns b.drivers → IsBoard (record b { calm = calm })
+pub looked_ahead : (b : Inside) (calm : ℕ) → IsBoard b
+    → IsCalm b.moment.settings.start b.moment.time calm b.home.owns b.drivers → IsBoard (record b { calm = calm })
 looked_ahead b calm board is = record {
   seated = board.seated;
   lost = board.lost;

@@ -1,5 +1,6 @@
 -- One turn, or a quiet stretch, of a slot of the tables is that of the process there.
-use Rattle.std.proofs.Common.{◌≡◌, ◌+◌, ◌<◌, ◌≤◌, ℕ, List, length, slice_get, slice_set, slice_index_or, Some, sym, ap, subst, ◌∙◌, arith}
+use Rattle.std.proofs.Common.{◌≡◌, ◌+◌, ◌<◌, ◌≤◌, ℕ, List, length, slice_get, slice_set, slice_index_or, Some, sym, ap}
+use Rattle.std.proofs.Common.{subst, ◌∙◌, arith}
 use Rattle.std.specs.List.{zip}
 use Rattle.std.proofs.lemmas.Option.{get_or_from_slice_get, slice_get-get_or, slice_get_within}
 use Rattle.tk_base.specs.declared.limits.TheConstants.{STEP_LIMIT}
@@ -7,25 +8,31 @@ use Rattle.process_record.specs.declared.process.Process.{Process}
 use Rattle.grant_enter.specs.Homes.{ChangesOnly, Homes, nobody, own_of}
 use Rattle.board_core.specs.declared.board.Board.TheInside.{Inside}
 use Rattle.board_core.specs.declared.drivers.Drivers.{Drivers}
-use Rattle.board_core.specs.declared.guard.Guard.{Guard}
+use Rattle.board_core.specs.declared.guard.ActivePmp.{ActivePmp}
 use Rattle.board_core.specs.declared.moment.Moment.{Moment}
 use Rattle.board_core.specs.declared.turn.Shown.{Shown}
-use Rattle.board_core.specs.Residents.{ChangesAt, IsSeated, Leaves, MayTurn, MayTurnAt, Turns, TurnsAt, resident}
+use Rattle.board_core.specs.Residents.{ChangesSlot, IsResident, LeavesSlot, MayTurn, MayTurnAt, Turns, TurnsAt}
+use Rattle.board_core.specs.Residents.{resident}
 use Rattle.board_core.specs.Shows.{IsBoard}
 use Rattle.board_core.specs.Stretches.{QuietAt, Quietly}
 use Rattle.board_core.proofs.Pairs.{zip-get}
 
 -- turns of a slot of a board's tables may be made while steps are left
-pub may_turn_on : (turns : ℕ) (b : Inside) (slot : ℕ) → IsBoard b → slot < length b.processes.items → b.moment.steps + turns ≤ STEP_LIMIT
+pub may_turn_on : (turns : ℕ) (b : Inside) (slot : ℕ) → IsBoard b → slot < length b.processes.items
+    → b.moment.steps + turns ≤ STEP_LIMIT
     → MayTurnAt turns b.moment slot b.home b.processes.items b.guard
-may_turn_on turns b slot board within limit = record { within = within; owns = board.owns; seated = board.seated; limit = limit; guard = board.guard }
+may_turn_on turns b slot board within limit =
+    record { within = within; owns = board.owns; seated = board.seated; limit = limit; guard = board.guard }
 
 -- The process in a slot of the tables, which was looked up there: its turns may be made, and what they leave of it is
 -- what they leave of the tables.
-module _ (turns : ℕ) (m : Moment) (slot index : ℕ) (home : Homes) (processes : List Process) (registers : Guard) (process : Process)
-    (is : index ≡ slot) (found : process ≡ slice_index_or processes index process) (may : MayTurnAt turns m slot home processes registers) where
+module _ (turns : ℕ) (m : Moment) (slot index : ℕ) (home : Homes) (processes : List Process) (registers : ActivePmp)
+    (process : Process)
+    (is : index ≡ slot) (found : process ≡ slice_index_or processes index process)
+    (may : MayTurnAt turns m slot home processes registers) where
   here : slice_get processes slot ≡ Some process
-  here = slice_get-get_or processes slot process may.within ∙ ap Some (ap (λ (k : ℕ). slice_index_or processes k process) (sym is) ∙ sym found)
+  here = slice_get-get_or processes slot process may.within
+      ∙ ap Some (ap (λ (k : ℕ). slice_index_or processes k process) (sym is) ∙ sym found)
 
   within_owns : slot < length home.owns
   within_owns = omega (arith, may.within, may.owns)
@@ -37,14 +44,19 @@ module _ (turns : ℕ) (m : Moment) (slot index : ℕ) (home : Homes) (processes
   may_turn = record {
     slot = within_owns;
     seated =
-        let pair : slice_get (zip processes home.owns) slot ≡ Some (resident home slot process) = zip-get processes home.owns slot process (own_of home slot) here own_here in
-        subst (IsSeated home.flash m.steps) (get_or_from_slice_get (zip processes home.owns) slot (resident home slot process) (resident home slot process) pair)
-        (may.seated slot (resident home slot process) (slice_get_within (zip processes home.owns) slot (resident home slot process) pair));
+        let pair : slice_get (zip processes home.owns) slot ≡ Some (resident home slot process) =
+        zip-get processes home.owns slot process (own_of home slot) here own_here in
+        subst (IsResident home.flash m.steps)
+        (get_or_from_slice_get (zip processes home.owns) slot (resident home slot process)
+        (resident home slot process) pair)
+        (may.seated slot (resident home slot process)
+        (slice_get_within (zip processes home.owns) slot (resident home slot process) pair));
     limit = may.limit;
     guard = may.guard;
   }
 
-  abbrev changed_at : (home_after : Homes) (after : Process) → ChangesOnly slot home home_after → ChangesAt slot home home_after processes (slice_set processes index after)
+  abbrev changed_at : (home_after : Homes) (after : Process) → ChangesOnly slot home home_after
+      → ChangesSlot slot home home_after processes (slice_set processes index after)
   changed_at home_after after only = record {
     before = resident home slot process;
     after = resident home_after slot after;
@@ -54,12 +66,16 @@ module _ (turns : ℕ) (m : Moment) (slot index : ℕ) (home : Homes) (processes
     own_is = only;
   }
 
-  pub turned_at : (home_after : Homes) (after : Process) (shown : Shown) (d d' : Drivers) → Leaves (m.steps + 1) slot home home_after after
+  pub turned_at : (home_after : Homes) (after : Process) (shown : Shown) (d d' : Drivers)
+      → LeavesSlot (m.steps + 1) slot home home_after after
       → Turns m slot home.flash (resident home slot process) (resident home_after slot after) shown d d'
       → TurnsAt m slot home home_after processes (slice_set processes index after) shown d d'
-  turned_at home_after after shown d d' leaves turned = record { at = changed_at home_after after leaves.rest; turns = turned; seated = leaves.seated }
+  turned_at home_after after shown d d' leaves turned =
+      record { at = changed_at home_after after leaves.rest; turns = turned; seated = leaves.seated }
 
-  pub quiet_at : (made : ℕ) (home_after : Homes) (after : Process) → Leaves (m.steps + made) slot home home_after after
+  pub quiet_at : (made : ℕ) (home_after : Homes) (after : Process)
+      → LeavesSlot (m.steps + made) slot home home_after after
       → Quietly made turns home.flash (resident home slot process) (resident home_after slot after)
       → QuietAt made turns m slot home home_after processes (slice_set processes index after)
-  quiet_at made home_after after leaves quiet = record { at = changed_at home_after after leaves.rest; quiet = quiet; seated = leaves.seated }
+  quiet_at made home_after after leaves quiet =
+      record { at = changed_at home_after after leaves.rest; quiet = quiet; seated = leaves.seated }

@@ -1,23 +1,25 @@
 -- Who waits, once a process had its turn.
-use Rattle.std.proofs.Common.{◌≡◌, ℕ, ◌+◌, ◌<◌, ◌≤◌, Bool, true, false, if◌then◌else◌, List, [], length, slice_get, slice_set, is_some, Option, None, Some, Result, Ok, Err, refl, sym, ap, subst, ◌∙◌, arith}
+use Rattle.std.proofs.Common.{◌≡◌, ℕ, ◌+◌, ◌<◌, ◌≤◌, Bool, true, false, if◌then◌else◌, List, [], length, slice_get}
+use Rattle.std.proofs.Common.{slice_set, is_some, Option, None, Some, Result, Ok, Err, refl, sym, ap, subst, ◌∙◌, arith}
 use Rattle.std.proofs.lemmas.List.Elements.{All-set}
 use Rattle.std.proofs.lemmas.Option.{slice_get_within, get_or_from_slice_get}
 use Rattle.tbf_headers.specs.declared.fault.HeaderFault.{HeaderFault}
 use Rattle.tbf_headers.specs.declared.program.Main.{Main}
-use Rattle.tbf_headers.specs.Meaning.{Meaning, reading}
-use Rattle.process_layout.specs.Extents.{Extents}
+use Rattle.tbf_headers.specs.Meaning.{Meaning, header_reading}
+use Rattle.process_layout.specs.LayoutView.{LayoutView}
 use Rattle.tk_base.specs.declared.process.ProcessId.{ProcessId}
-use Rattle.process_own.specs.Own.{Own}
+use Rattle.process_model.specs.Own.{Own}
 use Rattle.process_record.specs.declared.process.Process.{Process}
-use Rattle.driver_model.specs.Commands.{Act}
+use Rattle.driver_model.specs.Commands.{BoardRequest}
 use Rattle.driver_model.specs.Console.{console_reads, console_writes}
 use Rattle.driver_model.specs.Lines.{IsWithin, has_waiting, waits_after}
 use Rattle.driver_model.specs.Random.{randoms}
-use Rattle.driver_model.specs.Requests.{Desk, request_in}
+use Rattle.driver_model.specs.Requests.{RequestKind, request_in}
 use Rattle.driver_model.specs.Storage.{storages}
-use Rattle.driver_requests.specs.Waiting.{waiting_after}
+use Rattle.driver_requests.specs.Waiting.{queue_after}
 use Rattle.grant_enter.specs.Homes.{Homes, nobody, own_of}
-use Rattle.kernel_calls.specs.Own.{HasStart, IsApplication, is_alive}
+use Rattle.kernel_calls.specs.Own.{HasStart, IsApplication}
+use Rattle.kernel_model.specs.Lives.{is_alive}
 use Rattle.kernel_model.specs.Laws.{DropsAtMostOne, KeepsLines, TurnsActAtCalls, TurnsKeepLines, main_by}
 use Rattle.kernel_model.specs.Record.{Record}
 use Rattle.tk_base.specs.declared.process.Choice.TheVariants.{Run}
@@ -29,8 +31,9 @@ use Rattle.std.proofs.lemmas.Bool.{false≢true}
 use Rattle.board_core.specs.declared.board.Board.TheInside.{Inside}
 use Rattle.board_core.specs.declared.drivers.Drivers.{Drivers}
 use Rattle.board_core.specs.declared.turn.Shown.{Shown}
-use Rattle.board_core.specs.Driven.{AreDriven, Drives, IsLine, MayServe}
-use Rattle.board_core.specs.Residents.{IsSeated, TurnsAt, id_of, nothing_shown, record_of, resident_turns, slot_turns}
+use Rattle.board_core.specs.Driven.{AreDriven, Drives, IsQueueOf, MayServe}
+use Rattle.board_core.specs.Residents.{IsResident, TurnsAt, id_of, nothing_shown, record_of, resident_turns}
+use Rattle.board_core.specs.Residents.{can_turn_in}
 use Rattle.board_core.specs.Calm.{IsCalm}
 use Rattle.board_core.specs.Guards.{GuardsOnly}
 use Rattle.board_core.specs.Shows.{IsBoard, residents, world_of}
@@ -42,7 +45,8 @@ use Rattle.board_core.proofs.Pairs.{zip-get}
 use Rattle.board_core.proofs.Turns.{loses_one}
 
 -- an application that started can start again
-can_start_again : (address : ℕ) (e : Extents) (read : Result Meaning HeaderFault) → IsApplication address e read → is_some (main_by read) ≡ true
+can_start_again : (address : ℕ) (e : LayoutView) (read : Result Meaning HeaderFault) → IsApplication address e read
+    → is_some (main_by read) ≡ true
 can_start_again address e (Err fault) a = absurd a
 can_start_again address e (Ok h) a = by_main h.main a
   where
@@ -51,15 +55,18 @@ can_start_again address e (Ok h) a = by_main h.main a
     by_main (Some m) b = refl
 
 -- a process without a request waits in no list
-no_request : {R : Type 0} (desk : Desk R) (own : Own) → request_in desk own ≡ None → has_waiting desk own ≡ false
-no_request {R = R} desk own none = ap (λ (o : Option R). is_some (if own.lives then o else None)) none ∙ by_life own.lives
+no_request : {R : Type 0} (request_kind : RequestKind R) (own : Own) → request_in request_kind own ≡ None
+    → has_waiting request_kind own ≡ false
+no_request {R = R} request_kind own none =
+    ap (λ (o : Option R). is_some (if own.lives then o else None)) none ∙ by_life own.lives
   where
     by_life : (b : Bool) → is_some (if◌then◌else◌ {A = Option R} b None None) ≡ false
     by_life true = refl
     by_life false = refl
 
 -- what the drivers ask of a moment holds at each turn
-pub may_serve : (b : Inside) (slot : ℕ) → IsBoard b → slot < length b.home.owns → MayServe b.moment b.drivers slot (own_of b.home slot)
+pub may_serve : (b : Inside) (slot : ℕ) → IsBoard b → slot < length b.home.owns
+    → MayServe b.moment b.drivers slot (own_of b.home slot)
 may_serve b slot h there = record {
   asks = record {
     writes = λ none. h.driven.writes.each slot there ∙ no_request console_writes (own_of b.home slot) none;
@@ -72,7 +79,8 @@ may_serve b slot h there = record {
   size = h.driven.size;
 }
 
-module _ (b : Inside) (slot : ℕ) (home : Homes) (processes : List Process) (shown : Shown) (d : Drivers) (h : IsBoard b) (t : TurnsAt b.moment slot b.home home b.processes.items processes shown b.drivers d) where
+module _ (b : Inside) (slot : ℕ) (home : Homes) (processes : List Process) (shown : Shown) (d : Drivers) (h : IsBoard b)
+    (t : TurnsAt b.moment slot b.home home b.processes.items processes shown b.drivers d) where
   abbrev turn : Turned
   turn = turned b.moment.settings b.moment.time (record_of b.home.flash (t.at.before, []))
 
@@ -82,15 +90,17 @@ module _ (b : Inside) (slot : ℕ) (home : Homes) (processes : List Process) (sh
   own_is : turn.after.own ≡ t.at.after.1
   own_is = ap (λ (r : Record). r.own) (t.turns []).0
 
-  seat : IsSeated b.home.flash b.moment.steps t.at.before
-  seat = seated_there b.home.flash b.moment.steps b.processes.items b.home.owns slot t.at.before t.at.was t.at.own_was h.seated
+  seat : IsResident b.home.flash b.moment.steps t.at.before
+  seat = seated_there b.home.flash b.moment.steps b.processes.items b.home.owns slot t.at.before t.at.was t.at.own_was
+      h.seated
 
   -- where nothing was shown, nothing was asked of the drivers
   pub turn_is_idle : TurnsActAtCalls → shown ≡ nothing_shown → Drives (id_of slot t.at.before.1) [] b.drivers d
   turn_is_idle law quiet =
       let says = (t.turns []).1 in
-      subst (λ (acts : List Act). Drives (id_of slot t.at.before.1) acts b.drivers d)
-      (law b.moment.settings b.moment.time (record_of b.home.flash (t.at.before, [])) (says.call ∙ ap (λ (s : Shown). s.call) quiet) (says.denial ∙ ap (λ (s : Shown). s.denial) quiet))
+      subst (λ (acts : List BoardRequest). Drives (id_of slot t.at.before.1) acts b.drivers d)
+      (law b.moment.settings b.moment.time (record_of b.home.flash (t.at.before, []))
+      (says.call ∙ ap (λ (s : Shown). s.call) quiet) (says.denial ∙ ap (λ (s : Shown). s.denial) quiet))
       drives
 
   -- the serial line goes on
@@ -100,41 +110,60 @@ module _ (b : Inside) (slot : ℕ) (home : Homes) (processes : List Process) (sh
   module _ (law : TurnsKeepLines) (lives : t.at.before.1.lives ≡ true) where
     keeps : KeepsLines b.moment.settings.storage t.at.before.1 t.at.after.1 turn.acts
     keeps = subst (λ (o : Own). KeepsLines b.moment.settings.storage t.at.before.1 o turn.acts) own_is
-        (law b.moment.settings b.moment.time (record_of b.home.flash (t.at.before, [])) lives (can_start_again t.at.before.0.object.address t.at.before.1.layout (reading (record_of b.home.flash (t.at.before, [])).object) seat.own.object.application))
+        (law b.moment.settings b.moment.time (record_of b.home.flash (t.at.before, [])) lives
+        (can_start_again t.at.before.0.object.address t.at.before.1.layout
+        (header_reading (record_of b.home.flash (t.at.before, [])).object) seat.own.object.application))
 
-    line_is : {R : Type 0} (desk : Desk R) (ids ids' : List ProcessId) → IsLine desk ids b.home.owns
-        → has_waiting desk t.at.after.1 ≡ waits_after desk.line (has_waiting desk t.at.before.1) turn.acts → (has_waiting desk t.at.after.1 ≡ true → t.at.after.1.life ≡ t.at.before.1.life)
-        → ids' ≡ waiting_after desk.line (id_of slot t.at.before.1) ids turn.acts → IsLine desk ids' (slice_set b.home.owns slot t.at.after.1)
-    line_is desk ids ids' line follows life e =
-        subst (λ (xs : List ProcessId). IsLine desk xs (slice_set b.home.owns slot t.at.after.1)) (sym e)
-        (line_after desk ids b.home.owns slot t.at.before.1 t.at.after.1 turn.acts line t.at.own_was follows life)
+    line_is : {R : Type 0} (request_kind : RequestKind R) (ids ids' : List ProcessId)
+        → IsQueueOf request_kind ids b.home.owns
+        → has_waiting request_kind t.at.after.1
+        ≡ waits_after request_kind.line (has_waiting request_kind t.at.before.1) turn.acts
+        → (has_waiting request_kind t.at.after.1 ≡ true → t.at.after.1.life ≡ t.at.before.1.life)
+        → ids' ≡ queue_after request_kind.line (id_of slot t.at.before.1) ids turn.acts
+        → IsQueueOf request_kind ids' (slice_set b.home.owns slot t.at.after.1)
+    line_is request_kind ids ids' line follows life e =
+        subst (λ (xs : List ProcessId). IsQueueOf request_kind xs (slice_set b.home.owns slot t.at.after.1)) (sym e)
+        (line_after request_kind ids b.home.owns slot t.at.before.1 t.at.after.1 turn.acts line t.at.own_was follows
+        life)
 
     -- who waits has a request then, and no other
     turn_driven : AreDriven b.moment.settings (b.moment.time + 1) home.owns d
-    turn_driven = subst (λ (x : Homes). AreDriven b.moment.settings (b.moment.time + 1) x.owns d) (sym t.at.own_is) (record {
-      writes = line_is console_writes b.drivers.console.writes d.console.writes h.driven.writes keeps.lines.writes keeps.life.writes drives.writes;
-      reads = line_is console_reads b.drivers.console.reads d.console.reads h.driven.reads keeps.lines.reads keeps.life.reads drives.reads;
-      randoms = line_is randoms b.drivers.random.waiting d.random.waiting h.driven.randoms keeps.lines.randoms keeps.life.randoms drives.randoms;
-      stores = line_is storages b.drivers.storage.waiting d.storage.waiting h.driven.stores keeps.lines.stores keeps.life.stores drives.stores;
-      within = All-set (IsWithin b.moment.settings.storage) b.home.owns slot t.at.after.1 (keeps.within before_within) h.driven.within;
-      leds = drives.lit ∙ h.driven.leds;
-      size = ap (λ (s : _). s.size) drives.bytes ∙ h.driven.size;
-      slots = ap (λ (s : _). length s.slots) drives.bytes ∙ h.driven.slots;
-      ticks = omega (arith, ap (λ (l : _). l.ticks) drives.line, h.driven.ticks);
-      free = omega (arith, ap (λ (l : _). l.free) drives.line, h.driven.free);
-    })
+    turn_driven = subst (λ (x : Homes). AreDriven b.moment.settings (b.moment.time + 1) x.owns d) (sym t.at.own_is)
+        (record {
+          writes = line_is console_writes b.drivers.console.writes d.console.writes h.driven.writes keeps.lines.writes
+              keeps.life.writes drives.writes;
+          reads = line_is console_reads b.drivers.console.reads d.console.reads h.driven.reads keeps.lines.reads
+              keeps.life.reads drives.reads;
+          randoms = line_is randoms b.drivers.random.waiting d.random.waiting h.driven.randoms keeps.lines.randoms
+              keeps.life.randoms drives.randoms;
+          stores = line_is storages b.drivers.storage.waiting d.storage.waiting h.driven.stores keeps.lines.stores
+              keeps.life.stores drives.stores;
+          within = All-set (IsWithin b.moment.settings.storage) b.home.owns slot t.at.after.1
+              (keeps.within before_within)
+              h.driven.within;
+          leds = drives.lit ∙ h.driven.leds;
+          size = ap (λ (s : _). s.size) drives.bytes ∙ h.driven.size;
+          slots = ap (λ (s : _). length s.slots) drives.bytes ∙ h.driven.slots;
+          ticks = omega (arith, ap (λ (l : _). l.ticks) drives.line, h.driven.ticks);
+          free = omega (arith, ap (λ (l : _). l.free) drives.line, h.driven.free);
+        })
       where
         before_within : IsWithin b.moment.settings.storage t.at.before.1
-        before_within = subst (IsWithin b.moment.settings.storage) (get_or_from_slice_get b.home.owns slot t.at.before.1 nobody t.at.own_was) (h.driven.within slot nobody (slice_get_within b.home.owns slot t.at.before.1 t.at.own_was))
+        before_within =
+            subst (IsWithin b.moment.settings.storage)
+            (get_or_from_slice_get b.home.owns slot t.at.before.1 nobody t.at.own_was)
+            (h.driven.within slot nobody (slice_get_within b.home.owns slot t.at.before.1 t.at.own_was))
 
   -- it served as many requests as before
   served_stays : d.stores.served ≡ b.drivers.stores.served
   served_stays = ap (λ (s : _). s.served) drives.bytes
 
   -- a process that can have a turn lives
-  turn_lives : slot_turns (slice_get (residents b) slot) ≡ true → t.at.before.1.lives ≡ true
+  turn_lives : can_turn_in (slice_get (residents b) slot) ≡ true → t.at.before.1.lives ≡ true
   turn_lives can =
-      let may : resident_turns t.at.before ≡ true = sym (ap slot_turns (zip-get b.processes.items b.home.owns slot t.at.before.0 t.at.before.1 t.at.was t.at.own_was)) ∙ can in
+      let may : resident_turns t.at.before ≡ true =
+      sym (ap can_turn_in (zip-get b.processes.items b.home.owns slot t.at.before.0 t.at.before.1 t.at.was
+      t.at.own_was)) ∙ can in
       seat.own.lives ∙ by_state t.at.before.0.state may
     where
       by_state : (s : State) → has_turn s (is_pending t.at.before.1.pending) ≡ true → is_alive s ≡ true
@@ -144,13 +173,33 @@ module _ (b : Inside) (slot : ℕ) (home : Homes) (processes : List Process) (sh
       by_state (Terminated code) e = absurd (false≢true e)
 
 -- A board whose tables, registers and drivers are then these: after the turn it is one again, and the slot is present.
-module _ (b a : Inside) (slot : ℕ) (shown : Shown) (h : IsBoard b) (t : TurnsAt b.moment slot b.home a.home b.processes.items a.processes.items shown b.drivers a.drivers) where
-  pub turned_board : (calm used : ℕ) → DropsAtMostOne → TurnsKeepLines → is_ready (world_of b) (Run slot) ≡ true → GuardsOnly a.guard a.home → IsCalm b.moment.settings.start (b.moment.time + 1) calm a.home.owns a.drivers → used ≤ b.slice
-      → IsBoard (record b { home = a.home; processes = a.processes; guard = a.guard; drivers = a.drivers; moment = turn_later b.moment; calm = calm; present = Some slot; used = used })
+module _ (b a : Inside) (slot : ℕ) (shown : Shown) (h : IsBoard b)
+    (t : TurnsAt b.moment slot b.home a.home b.processes.items a.processes.items shown b.drivers a.drivers) where
+  pub turned_board : (calm used : ℕ) → DropsAtMostOne → TurnsKeepLines → is_ready (world_of b) (Run slot) ≡ true
+      → GuardsOnly a.guard a.home → IsCalm b.moment.settings.start (b.moment.time + 1) calm a.home.owns a.drivers
+      → used ≤ b.slice
+      → IsBoard (record b {
+        home = a.home;
+        processes = a.processes;
+        guard = a.guard;
+        drivers = a.drivers;
+        moment =
+            turn_later b.moment;
+        calm = calm;
+        present = Some slot;
+        used = used;
+      })
   turned_board calm used drops keeps ready guards quiet within = record {
     seated = still_seated slot b.home a.home b.processes.items a.processes.items t.at b.moment.steps t.seated h.seated;
-    lost = still_lost b.moment.steps slot b.home a.home t.at.after.1 t.at.own_is (omega (arith, loses_one b.moment slot b.home.flash t.at.before t.at.after shown b.drivers a.drivers drops t.turns, lost_where b.moment.steps b.home.owns slot t.at.before.1 t.at.own_was h.lost)) h.lost;
-    owns = as_many_owns slot b.home a.home b.processes.items a.processes.items t.at ∙ h.owns ∙ as_many slot b.home a.home b.processes.items a.processes.items t.at;
+    lost = still_lost b.moment.steps slot b.home a.home t.at.after.1 t.at.own_is
+        (omega (
+          arith,
+          loses_one b.moment slot b.home.flash t.at.before t.at.after shown b.drivers a.drivers drops
+              t.turns,
+          lost_where b.moment.steps b.home.owns slot t.at.before.1 t.at.own_was h.lost,
+        )) h.lost;
+    owns = as_many_owns slot b.home a.home b.processes.items a.processes.items t.at ∙ h.owns
+        ∙ as_many slot b.home a.home b.processes.items a.processes.items t.at;
     few = omega (arith, as_many slot b.home a.home b.processes.items a.processes.items t.at, h.few);
     guard = guards;
     driven = turn_driven b slot a.home a.processes.items shown a.drivers h t keeps lives;
@@ -163,4 +212,5 @@ module _ (b a : Inside) (slot : ℕ) (shown : Shown) (h : IsBoard b) (t : TurnsA
   }
     where
       lives : t.at.before.1.lives ≡ true
-      lives = turn_lives b slot a.home a.processes.items shown a.drivers h t (below_limit b slot h (ready_within b slot h ready).0 ∙ ready)
+      lives = turn_lives b slot a.home a.processes.items shown a.drivers h t
+          (below_limit b slot h (ready_within b slot h ready).0 ∙ ready)

@@ -1,14 +1,14 @@
 -- A process alone: its first record by what it can see, and what becomes of it by what happens to it. No other process,
--- no slot and no flash but its object occurs here.
+-- no slot and no flash but its object occurs here. Processes are isolated as in Levy et al., SOSP 2017.
 use Rattle.std.specs.Prelude.{◌≡◌, ℕ, ◌+◌, List, slice_get, Option, None, Some, option_map, IfSome, Result, Ok, Err}
 use Rattle.tk_base.specs.declared.process.Choice.{Choice}
 use Rattle.tbf_headers.specs.declared.fault.HeaderFault.{HeaderFault}
 use Rattle.tbf_headers.specs.declared.program.Main.{Main}
 use Rattle.tbf_headers.specs.Addresses.{accessible_start, accessible_end_of}
-use Rattle.tbf_headers.specs.Meaning.{Meaning, reading}
-use Rattle.process_layout.specs.Extents.{Extents, extents_at_start}
+use Rattle.tbf_headers.specs.Meaning.{Meaning, header_reading}
+use Rattle.process_layout.specs.LayoutView.{LayoutView, extents_at_start}
 use Rattle.app_placement.specs.Placement.{block_length}
-use Rattle.script_text.specs.Settings.{Settings as Script}
+use Rattle.script_text.specs.Settings.{ScriptSettings as Script}
 use Rattle.kernel_model.specs.Record.{Record}
 use Rattle.kernel_model.specs.Replay.{after_all, chosen, history, replay}
 use Rattle.kernel_model.specs.Run.{round}
@@ -24,7 +24,7 @@ IsReplayed old new choices = (slot : ℕ) → slice_get new.records slot
 
 -- the memory of an application by its header, its object at an address and its block from a start on; so how long the
 -- block is follows from the header
-abbrev pub extents_of : ℕ → ℕ → Meaning → Main → Extents
+abbrev pub extents_of : ℕ → ℕ → Meaning → Main → LayoutView
 extents_of address start h m =
     extents_at_start (accessible_start address h m) (accessible_end_of address h m) start
     (start + block_length m.minimum_ram) m.minimum_ram
@@ -37,7 +37,7 @@ first_by storage object address start (Err fault) = None
 
 -- by the bytes of its object, the object's address, and where its block starts
 abbrev pub first_alone : ℕ → List ℕ → ℕ → ℕ → Option Record
-first_alone storage object address start = first_by storage object address start (reading object)
+first_alone storage object address start = first_by storage object address start (header_reading object)
 
 -- what becomes of it under settings, by its own turns and by what devices answer it
 abbrev pub alone : Settings → List ℕ → ℕ → ℕ → List Event → Option Record
@@ -62,7 +62,8 @@ pub record AreAlike (r s : Record) : Type 0 where
 abbrev pub OpeningsAreAlone : Type 0
 OpeningsAreAlone = (script : Script) (flash : List ℕ) → OpensAlone (opening script flash)
 
--- On any two boards of two images and scripts, whatever their other objects and settings are, and after any two lists of
+-- On any two boards of two images and scripts, whatever their other objects and settings are, and after any two lists
+-- of
 -- choices: if a process of each has the same object in the same place, under the same settings that a process can see,
 -- and the same turns and answers, then it has the same record. The slots may differ.
 abbrev pub SameViewSameRecord : Type 0

@@ -1,11 +1,11 @@
 -- As long as no device step is ready. Only proofs use this.
 use Rattle.std.specs.Prelude.{◌≡◌, ◌≤◌, ◌<◌, ℕ, ◌+◌, ◌==◌, false, not, ◌&&◌, nat_le, List, length, Option, None, Some}
 use Rattle.std.specs.Option.{option_map}
-use Rattle.board_devices.specs.Arriving.{is_time, next_time}
+use Rattle.board_devices.specs.Arriving.{is_time, first_arrival_time}
 use Rattle.board_devices.specs.Clock.{clock_at}
-use Rattle.process_own.specs.Own.{Own}
+use Rattle.process_model.specs.Own.{Own}
 use Rattle.driver_model.specs.Alarm.{due_slot, nearer, next_left}
-use Rattle.kernel_model.specs.Run.{sending_time}
+use Rattle.kernel_model.specs.Run.{next_time_at}
 use Rattle.kernel_model.specs.World.{is_waited_for}
 use Rattle.board_core.specs.declared.drivers.Drivers.{Drivers}
 use Rattle.board_core.specs.declared.moment.Moment.{Moment}
@@ -32,13 +32,9 @@ pub record IsCalmAt (start time : ℕ) (owns : List Own) (d : Drivers) : Type 0 
 abbrev pub IsCalm : ℕ → ℕ → ℕ → List Own → Drivers → Type 0
 IsCalm start from until owns d = (time : ℕ) → from ≤ time → time < until → IsCalmAt start time owns d
 
--- the nearest time at which a device step becomes ready by itself: bytes come in, an alarm becomes due, or the UART is
--- free for a write that waits
+-- the nearest time at which a device step becomes ready by itself
 abbrev pub coming : Moment → List Own → Drivers → Option ℕ
-coming m owns d =
-    nearer (next_time d.arrivals)
-    (nearer (option_map (λ n. m.time + n) (next_left (clock_at m.settings.start m.time) owns))
-    (sending_time (devices_of d)))
+coming m owns d = next_time_at m.time (clock_at m.settings.start m.time) owns (devices_of d)
 
 -- there is a time, and it has come by another
 abbrev pub HasCome : ℕ → Option ℕ → Type 0

@@ -1,7 +1,8 @@
--- Laws of each run from a boot, by any choices.
+-- Laws of each run from a boot, by any choices. They speak of processes as Levy et al., SOSP 2017, and of buffers as
+-- TRD 104.
 use Rattle.std.specs.Prelude.{◌≡◌, ◌≢◌, ◌↔◌, ℕ, ◌+◌, true, List, ◌++◌, length, slice_get, All, Some, None, IfSome}
 use Rattle.tk_base.specs.declared.process.Choice.{Choice}
-use Rattle.script_text.specs.Settings.{Settings as Script}
+use Rattle.script_text.specs.Settings.{ScriptSettings as Script}
 use Rattle.kernel_model.specs.Record.{Record}
 use Rattle.kernel_model.specs.World.{World, Label, after, labels}
 use Rattle.kernel_model.specs.Run.{next, round}
@@ -29,7 +30,9 @@ BlocksFromBootAreApart = (script : Script) (flash : List ℕ) (choices : List Ch
 
 -- a step that starts a process again leaves it as it was at the boot, but for what no restart forgets
 abbrev pub RestartsFromBoot : Type 0
-RestartsFromBoot = (script : Script) (flash : List ℕ) (choices : List Choice) (choice : Choice) (slot : ℕ) (first before now : Record) →
+RestartsFromBoot =
+    (script : Script) (flash : List ℕ) (choices : List Choice) (choice : Choice) (slot : ℕ) (first before now : Record)
+    →
     let v = after_all (opening script flash) choices in
     slice_get (opening script flash).records slot ≡ Some first →
     slice_get v.records slot ≡ Some before → slice_get (after v choice).records slot ≡ Some now →
@@ -42,6 +45,7 @@ pub record CountsAre (choices : List Choice) (v : World) : Type 0 where
   pub steps : v.clock.steps ≡ length choices
   pub turns : turns_of_all v.records ≡ turns_made choices
 
+-- after choices from a boot that are each ready in its turn, the world's counts are those of the choices
 abbrev pub CountsFromBootAddUp : Type 0
 CountsFromBootAddUp = (script : Script) (flash : List ℕ) (choices : List Choice) →
     are_ready (opening script flash) choices ≡ true → CountsAre choices (after_all (opening script flash) choices)

@@ -1,6 +1,7 @@
--- What holds of each run from a boot.
+-- What holds of each run from a boot. Pairs and upcalls are those of TRD 104, "Subscribe", "Read-Only Allow" and
+-- "Read-Write Allow"; fairness is this board's own rule.
 use Rattle.std.specs.Prelude.{◌≤◌, ℕ, List, slice_get, IfSome}
-use Rattle.script_text.specs.Settings.{Settings as Script}
+use Rattle.script_text.specs.Settings.{ScriptSettings as Script}
 use Rattle.kernel_model.specs.Deliveries.{DeliversTheLast}
 use Rattle.kernel_model.specs.Fairness.{IsFair}
 use Rattle.kernel_model.specs.Histories.{GivesBackTheLast, HandedNothing}

@@ -1,22 +1,23 @@
 -- A step of a board that shows a world.
-use Rattle.std.specs.Prelude.{◌≡◌, ◌↔◌, ℕ, ◌==◌, if◌then◌else◌, Bool, List, [], ◌∷◌, length, not, ◌&&◌, nat_le, is_some, None, Some, Result, IsOk, IsTrue, OnOk, OnErr}
+use Rattle.std.specs.Prelude.{◌≡◌, ◌↔◌, ℕ, ◌==◌, if◌then◌else◌, Bool, List, [], ◌∷◌, length, not, ◌&&◌, nat_le, is_some}
+use Rattle.std.specs.Prelude.{None, Some, Result, IsOk, IsTrue, OnOk, OnErr}
 use Rattle.tk_base.specs.declared.process.Choice.{Choice}
 use Rattle.process_record.specs.declared.emit.Emit.{Emit}
 use Rattle.process_record.specs.Emit.{nothing}
 use Rattle.board_devices.specs.Arriving.{is_time}
 use Rattle.board_devices.specs.Clock.{clock_at}
-use Rattle.process_own.specs.Own.{Own}
+use Rattle.process_model.specs.Own.{Own}
 use Rattle.driver_model.specs.Alarm.{due_slot}
 use Rattle.kernel_model.specs.World.{World, after, is_ready, is_waited_for, labels}
 use Rattle.kernel_model.specs.Shown.{shown_by}
-use Rattle.board_core.specs.declared.board.NotReady.{NotReady}
+use Rattle.tk_base.specs.declared.process.NotReady.{NotReady}
 use Rattle.board_core.specs.declared.drivers.Drivers.{Drivers}
 use Rattle.board_core.specs.declared.moment.Moment.{Moment}
 use Rattle.board_core.specs.Driven.{slots_of}
 
 -- A choice that may be made is made: the world is the next one, and what it tells is shown. Any other is refused, and
 -- nothing changes.
-pub record Makes (choice : Choice) (old new : World) (before after_it : Emit)
+pub record MakesStep (choice : Choice) (old new : World) (before after_it : Emit)
     (result : Result Unit NotReady) : Type 0 where
   pub ready : IsOk result ↔ IsTrue (is_ready old choice)
   pub ok : OnOk result (new ≡ after old choice)

@@ -1,4 +1,5 @@
--- Choices that a board makes one after another, and what it prints meanwhile.
+-- Choices that a board makes one after another, and what it prints meanwhile. How they are made is this board's own
+-- rule.
 use Rattle.std.specs.Prelude.{◌≡◌, ◌<◌, ◌≤◌, ℕ, suc, true, false, List, take, length, slice_get, Some, Result, Ok, Err}
 use Rattle.tk_base.specs.declared.process.Choice.{Choice}
 use Rattle.tk_outside.specs.Sink.{SinkFacts}
@@ -15,7 +16,7 @@ use Rattle.board_core.specs.declared.play.PlayEnd.TheVariants.{NotReady, Failed}
 -- Choices were made: each was ready in its turn, and the world is the one after them. So the record of each process is
 -- the replay of its own turns, and of what devices answered it, meanwhile; and each of the steps is accounted for: each
 -- byte of a process that it changed has its cause, each access was permitted, each denial due.
-pub record Made (old new : World) (choices : List Choice) : Type 0 where
+pub record ChoicesMade (old new : World) (choices : List Choice) : Type 0 where
   pub ready : are_ready old choices ≡ true
   pub world : new ≡ after_all old choices
   pub records : IsReplayed old new choices
@@ -23,17 +24,19 @@ pub record Made (old new : World) (choices : List Choice) : Type 0 where
   -- in any other world under the same settings, and after any choices there, a process that had the same record, and
   -- the same turns and answers since, has the same record, whichever slots the two are in
   pub same : (other : World) (others : List Choice) (slot place : ℕ) → other.settings ≡ old.settings
-      → slice_get other.records place ≡ slice_get old.records slot → history place other others ≡ history slot old choices
+      → slice_get other.records place ≡ slice_get old.records slot
+      → history place other others ≡ history slot old choices
       → slice_get (after_all other others).records place ≡ slice_get new.records slot
   -- from the board's first world on, the record is a function of the process's object, of where that and its block lie,
   -- of the settings, and of its own turns and answers
-  pub alone : OpensAlone old → (slot : ℕ) (r : Record) → slice_get old.records slot ≡ Some r → slice_get new.records slot
+  pub alone : OpensAlone old → (slot : ℕ) (r : Record) → slice_get old.records slot ≡ Some r
+      → slice_get new.records slot
       ≡ alone old.settings r.object r.process.object.address r.own.layout.start (history slot old choices)
 
 -- all were made, and what they printed was written
 pub record PlayedAll {K : Type 0} (tells : K → SinkFacts) (old new : World) (choices : List Choice)
     (out out_after : K) : Type 0 where
-  pub made : Made old new choices
+  pub made : ChoicesMade old new choices
   pub wrote : WroteAll tells out out_after (printed_by_all old choices)
 
 -- the choice at a place is the first that was not ready: those before it were made, and what they printed was written
@@ -42,7 +45,7 @@ pub record StoppedAt {K : Type 0} (tells : K → SinkFacts) (old new : World) (c
   pub choice : Choice
   pub there : slice_get choices place ≡ Some choice
   pub refused : is_ready new choice ≡ false
-  pub made : Made old new (take place choices)
+  pub made : ChoicesMade old new (take place choices)
   pub wrote : WroteAll tells out out_after (printed_by_all old (take place choices))
 
 -- The sink failed: the first choices were made, as few as print more than what was written, which is a front of what
@@ -51,7 +54,7 @@ pub record FailedAfter {K : Type 0} (tells : K → SinkFacts) (old new : World) 
     (out out_after : K) : Type 0 where
   pub before : ℕ
   pub within : before < length choices
-  pub made : Made old new (take (suc before) choices)
+  pub made : ChoicesMade old new (take (suc before) choices)
   pub wrote : WrotePart tells out out_after (printed_by_all old (take (suc before) choices))
   pub fewest : length (printed_by_all old (take before choices)) ≤ length wrote.front
 

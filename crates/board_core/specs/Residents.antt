@@ -1,12 +1,14 @@
--- A process with what is its own: the record that it shows, and its turns. Only proofs use this.
-use Rattle.std.specs.Prelude.{◌≡◌, ℕ, ◌+◌, ◌≤◌, ◌<◌, Bool, true, false, List, [], length, slice_get, slice_set, All, Option, None, Some}
+-- A process with what is its own: the record that it shows, and its turns. A board shows `record_of`; the rest is for
+-- proofs alone. It is this board's own.
+use Rattle.std.specs.Prelude.{◌≡◌, ℕ, ◌+◌, ◌≤◌, ◌<◌, Bool, true, false, List, [], length, slice_get, slice_set, All}
+use Rattle.std.specs.Prelude.{Option, None, Some}
 use Rattle.std.specs.List.{zip}
 use Rattle.tk_base.specs.declared.access.TheConstants.{FLASH_START}
 use Rattle.tk_base.specs.declared.limits.TheConstants.{STEP_LIMIT}
-use Rattle.rv32_model.specs.UserTurn.{Touch, UserTurn}
+use Rattle.rv32_model.specs.UserTurn.{MemoryAccess, UserTurn}
 use Rattle.syscall_abi.specs.Call.{call_of}
-use Rattle.process_own.specs.Own.{Own}
-use Rattle.process_own.specs.Instruction.{with_write}
+use Rattle.process_model.specs.Own.{Own}
+use Rattle.process_model.specs.Instruction.{with_write}
 use Rattle.process_record.specs.Process.{after_turn, after_fault}
 use Rattle.process_record.specs.Name.{name_of}
 use Rattle.process_record.specs.declared.emit.Emit.{Emit}
@@ -19,17 +21,17 @@ use Rattle.fault_policy.specs.declared.Policy.{Policy}
 use Rattle.kernel_model.specs.Record.{Record, instruction}
 use Rattle.kernel_model.specs.Turn.{Turned, calls, settled, surroundings, turned, has_turn, is_pending}
 use Rattle.kernel_calls.specs.Own.{IsOwn, object_in, record_in}
-use Rattle.kernel_calls.specs.Outcomes.{record_at}
+use Rattle.kernel_calls.specs.Outcomes.{record_of_slot}
 use Rattle.kernel_model.specs.Calls.{served}
 use Rattle.syscall_abi.specs.declared.call.Call.{Call}
 use Rattle.process_record.specs.declared.outcome.Outcome.{Outcome}
 use Rattle.board_core.specs.declared.moment.Moment.{Moment}
 use Rattle.board_core.specs.declared.turn.Shown.{Shown}
 use Rattle.board_core.specs.declared.drivers.Drivers.{Drivers}
-use Rattle.board_core.specs.declared.guard.Guard.{Guard}
+use Rattle.board_core.specs.declared.guard.ActivePmp.{ActivePmp}
 use Rattle.board_core.specs.Guards.{GuardsOnly}
 use Rattle.board_core.specs.Driven.{Drives}
-use Rattle.driver_model.specs.Commands.{Act}
+use Rattle.driver_model.specs.Commands.{BoardRequest}
 use Rattle.tk_base.specs.declared.process.ProcessId.{ProcessId}
 
 -- a process with what is its own
@@ -45,8 +47,8 @@ abbrev pub resident : Homes → ℕ → Process → Resident
 resident home slot process = (process, own_of home slot)
 
 -- its next instruction, which its storage is not part of
-abbrev pub next : List ℕ → Resident → UserTurn
-next flash r = instruction (record_in flash r.0 r.1 [])
+abbrev pub next_instruction : List ℕ → Resident → UserTurn
+next_instruction flash r = instruction (record_in flash r.0 r.1 [])
 
 -- what an instruction leaves of both, and that it counts as a turn
 abbrev pub after_instruction : Resident → UserTurn → Resident
@@ -56,11 +58,11 @@ after_instruction r t = (record (after_turn r.0) { regs = t.regs }, with_write r
 abbrev pub IsMade : ℕ → Homes → Homes → Process → Process → Type 0
 IsMade slot home home_after process process_after =
     let r = resident home slot process in
-    resident home_after slot process_after ≡ after_instruction r (next home.flash r)
+    resident home_after slot process_after ≡ after_instruction r (next_instruction home.flash r)
 
 -- what a turn told in what a step shows, if it told anything
-abbrev pub shown_in : Emit → Shown
-shown_in emit = record { call = emit.made; denial = emit.denial }
+abbrev pub told_in_emit : Emit → Shown
+told_in_emit emit = record { call = emit.made; denial = emit.denial }
 
 abbrev pub with_shown : Emit → Shown → Emit
 with_shown emit shown = record emit { made = shown.call; denial = shown.denial }
@@ -85,8 +87,8 @@ Does turn slot flash old new shown d d_after = (storage : List ℕ) →
     (t.after ≡ record_in flash new.0 new.1 storage) × Shows t shown × Drives (id_of slot old.1) t.acts d d_after
 
 -- what serving the call of a process does at a moment
-abbrev pub Serves : Moment → ℕ → List ℕ → Resident → Resident → Shown → Drivers → Drivers → Type 0
-Serves m slot flash old new shown d d_after = (accesses : List Touch) →
+abbrev pub ServesCall : Moment → ℕ → List ℕ → Resident → Resident → Shown → Drivers → Drivers → Type 0
+ServesCall m slot flash old new shown d d_after = (accesses : List MemoryAccess) →
     Does (λ storage. calls m.settings m.time (record_in flash old.0 old.1 storage) accesses (call_of old.0.regs))
     slot flash old new shown d d_after
 
@@ -104,10 +106,10 @@ Turns m slot flash old new shown d d_after =
 -- what a call of the process in a slot leaves at a moment, what comes of it, and what the drivers do for it
 pub record Finishes (m : Moment) (slot : ℕ) (home : Homes) (process : Process) (call : Call) (home_after : Homes)
     (process_after : Process) (outcome : Outcome) (d d_after : Drivers) : Type 0 where
-  pub acts : List Act
+  pub acts : List BoardRequest
   pub serves : (storage : List ℕ) →
-      served (surroundings m.settings m.time) (record_at home slot process storage) call
-      ≡ record { after = record_at home_after slot process_after storage; outcome = outcome; acts = acts }
+      served (surroundings m.settings m.time) (record_of_slot home slot process storage) call
+      ≡ record { after = record_of_slot home_after slot process_after storage; outcome = outcome; acts = acts }
   pub drives : Drives (id_of slot (own_of home slot)) acts d d_after
 
 -- a process's object lies in flash
@@ -115,43 +117,45 @@ pub record InFlash (flash : List ℕ) (process : Process) : Type 0 where
   pub from_base : FLASH_START ≤ process.object.address
   pub in_flash : process.object.address + process.object.size ≤ FLASH_START + length flash
 
--- A process has its own object and what is kept of it; it had at most as many turns, and was started again at most as
--- often, as there were steps.
-pub record IsSeated (flash : List ℕ) (steps : ℕ) (r : Resident) : Type 0 where
+-- A process has its own object and what is kept of it; it had at most as many turns, was started again at most as often
+-- and began at most as many further lives as there were steps.
+pub record IsResident (flash : List ℕ) (steps : ℕ) (r : Resident) : Type 0 where
   pub own : IsOwn flash r.0 r.1
   pub turns : r.0.turns ≤ steps
   pub restarts : r.0.restarts ≤ steps
+  pub life : r.1.life ≤ steps
 
 -- So many turns of the process in a slot may be made at a moment: it is as it is to be, so many steps are left, and the
 -- registers protect whomever they are set for.
-pub record MayTurn (turns : ℕ) (m : Moment) (place : ℕ) (home : Homes) (process : Process) (registers : Guard)
+pub record MayTurn (turns : ℕ) (m : Moment) (place : ℕ) (home : Homes) (process : Process) (registers : ActivePmp)
     : Type 0 where
   pub slot : place < length home.owns
-  pub seated : IsSeated home.flash m.steps (resident home place process)
+  pub seated : IsResident home.flash m.steps (resident home place process)
   pub limit : m.steps + turns ≤ STEP_LIMIT
   pub guard : GuardsOnly registers home
 
 -- the same of a slot of the tables of a board
 pub record MayTurnAt (turns : ℕ) (m : Moment) (place : ℕ) (home : Homes) (processes : List Process)
-    (registers : Guard) : Type 0 where
+    (registers : ActivePmp) : Type 0 where
   pub within : place < length processes
   pub owns : length home.owns ≡ length processes
-  pub seated : All (IsSeated home.flash m.steps) (zip processes home.owns)
+  pub seated : All (IsResident home.flash m.steps) (zip processes home.owns)
   pub limit : m.steps + turns ≤ STEP_LIMIT
   pub guard : GuardsOnly registers home
 
 -- A turn of the process in a slot was counted and is not over: the process lives, and is as it is to be a step later.
 pub record InTurn (m : Moment) (place : ℕ) (home : Homes) (process : Process) : Type 0 where
   pub slot : place < length home.owns
-  pub seated : IsSeated home.flash (m.steps + 1) (resident home place process)
+  pub seated : IsResident home.flash (m.steps + 1) (resident home place process)
   pub lives : (own_of home place).lives ≡ true
   pub restarts : process.restarts ≤ m.steps
+  pub life : (own_of home place).life ≤ m.steps
   pub limit : m.steps < STEP_LIMIT
 
 -- what turns of the process in a slot leave, or a part of one: it is as it is to be after so many steps, and nothing
 -- of any other slot has changed
-pub record Leaves (steps : ℕ) (place : ℕ) (home home_after : Homes) (process : Process) : Type 0 where
-  pub seated : IsSeated home.flash steps (resident home_after place process)
+pub record LeavesSlot (steps : ℕ) (place : ℕ) (home home_after : Homes) (process : Process) : Type 0 where
+  pub seated : IsResident home.flash steps (resident home_after place process)
   pub rest : ChangesOnly place home home_after
 
 -- it lost at most as many upcalls as there were steps
@@ -159,7 +163,7 @@ abbrev pub HasLost : ℕ → Own → Type 0
 HasLost steps own = own.dropped ≤ steps
 
 -- nothing but the process in one slot, and what is its own, has changed
-pub record ChangesAt (slot : ℕ) (home home_after : Homes) (processes processes_after : List Process) : Type 0 where
+pub record ChangesSlot (slot : ℕ) (home home_after : Homes) (processes processes_after : List Process) : Type 0 where
   pub before : Resident
   pub after : Resident
   pub was : slice_get processes slot ≡ Some before.0
@@ -170,17 +174,17 @@ pub record ChangesAt (slot : ℕ) (home home_after : Homes) (processes processes
 -- one turn of the process in a slot, and of no other
 pub record TurnsAt (m : Moment) (slot : ℕ) (home home_after : Homes) (processes processes_after : List Process)
     (shown : Shown) (d d_after : Drivers) : Type 0 where
-  pub at : ChangesAt slot home home_after processes processes_after
+  pub at : ChangesSlot slot home home_after processes processes_after
   pub turns : Turns m slot home.flash at.before at.after shown d d_after
-  pub seated : IsSeated home.flash (m.steps + 1) at.after
+  pub seated : IsResident home.flash (m.steps + 1) at.after
 
 -- whether a process can have a turn, and whether that in a slot can, if there is one
 abbrev pub resident_turns : Resident → Bool
 resident_turns r = has_turn r.0.state (is_pending r.1.pending)
 
-abbrev pub slot_turns : Option Resident → Bool
-slot_turns None = false
-slot_turns (Some r) = resident_turns r
+abbrev pub can_turn_in : Option Resident → Bool
+can_turn_in None = false
+can_turn_in (Some r) = resident_turns r
 
 -- the line of the process in a slot
 abbrev pub line_in : List ℕ → Resident → SlotLine

@@ -1,10 +1,11 @@
--- The world that a board shows: what a board is to contracts. The invariant beside it is for proofs alone.
+-- The world that a board shows: what a board is to contracts. The invariant beside it is for proofs alone. It is this
+-- board's own.
 use Rattle.std.specs.Prelude.{◌≡◌, ◌≤◌, ◌*◌, ◌^◌, List, length, map, All}
 use Rattle.std.specs.List.{zip}
-use Rattle.tk_base.specs.declared.limits.TheConstants.{STEP_LIMIT}
+use Rattle.tk_base.specs.declared.limits.TheConstants.{SLOT_COUNT, STEP_LIMIT}
 use Rattle.kernel_model.specs.World.{World}
 use Rattle.board_core.specs.Guards.{GuardsOnly}
-use Rattle.board_core.specs.Residents.{HasLost, Resident, record_of, IsSeated}
+use Rattle.board_core.specs.Residents.{HasLost, Resident, record_of, IsResident}
 use Rattle.board_core.specs.Settings.{pace}
 use Rattle.board_core.specs.Calm.{IsCalm}
 use Rattle.board_core.specs.Driven.{AreDriven, devices_of}
@@ -27,10 +28,10 @@ world_of b = record {
 }
 
 pub record IsBoard (b : Inside) : Type 0 where
-  pub seated : All (IsSeated b.home.flash b.moment.steps) (residents b)
+  pub seated : All (IsResident b.home.flash b.moment.steps) (residents b)
   pub lost : All (HasLost b.moment.steps) b.home.owns
   pub owns : length b.home.owns ≡ length b.processes.items
-  pub few : length b.processes.items ≤ 8
+  pub few : length b.processes.items ≤ SLOT_COUNT
   pub guard : GuardsOnly b.guard b.home
   pub driven : AreDriven b.moment.settings b.moment.time b.home.owns b.drivers
   pub served : b.drivers.stores.served ≤ b.moment.steps

@@ -10,7 +10,7 @@ use Rattle.kernel_model.specs.Stretch.{AllGo, GoesOn, after_instructions}
 use Rattle.kernel_model.specs.World.{World}
 use Rattle.board_core.specs.declared.moment.Moment.{Moment}
 use Rattle.board_core.specs.declared.stretch.Part.{Part}
-use Rattle.board_core.specs.Residents.{ChangesAt, IsSeated, Resident, record_of}
+use Rattle.board_core.specs.Residents.{ChangesSlot, IsResident, Resident, record_of}
 
 -- whether a process in a state runs, and whether that in a slot does, if there is one
 abbrev pub is_running : State → Bool
@@ -27,15 +27,16 @@ slot_runs (Some process) = is_running process.state
 -- an instruction. Where they are fewer, the next instruction makes a system call or is denied.
 pub record Quietly (k most : ℕ) (flash : List ℕ) (old new : Resident) : Type 0 where
   pub go : (storage : List ℕ) → AllGo k (record_of flash (old, storage))
-  pub leads : (storage : List ℕ) → record_of flash (new, storage) ≡ after_instructions k (record_of flash (old, storage))
+  pub leads : (storage : List ℕ)
+      → record_of flash (new, storage) ≡ after_instructions k (record_of flash (old, storage))
   pub stops : k < most → (storage : List ℕ) → (instruction (record_of flash (new, storage))).end ≢ Went
 
 -- so many quiet turns of the process in a slot, and of no other
 pub record QuietAt (k most : ℕ) (m : Moment) (slot : ℕ) (home home_after : Homes)
     (processes processes_after : List Process) : Type 0 where
-  pub at : ChangesAt slot home home_after processes processes_after
+  pub at : ChangesSlot slot home home_after processes processes_after
   pub quiet : Quietly k most home.flash at.before at.after
-  pub seated : IsSeated home.flash (m.steps + k) at.after
+  pub seated : IsResident home.flash (m.steps + k) at.after
 
 -- where a part of a stretch is all of it, and fewer turns than were asked for, the stretch does not go on
 abbrev pub EndsStretch : ℕ → Part → World → Type 0

@@ -3,9 +3,9 @@ ghost use Rattle.std.specs.Prelude.{◌≡◌, ◌+◌, ◌-◌, ◌^◌, [], �
 ghost use Rattle.std.specs.List.{zip};
 ghost use Rattle.tk_base.specs.declared.process.Choice.TheVariants.{Run, Device, Pass};
 ghost use Rattle.tk_base.specs.declared.process.Dev.TheVariants.{Event, Alarm, Uart, Receive, Random, Store};
-ghost use Rattle.tk_base.specs.declared.limits.TheConstants.{STEP_LIMIT};
+ghost use Rattle.tk_base.specs.declared.limits.TheConstants.{OBJECT_LIMIT, SENDING_LIMIT, SLOT_COUNT, STEP_LIMIT};
 ghost use Rattle.turn_scheduler.specs.RoundRobin.{used_after};
-ghost use Rattle.turn_scheduler.specs.Status.{situation_of as status_situation};
+ghost use Rattle.turn_scheduler.specs.Status.{situation_shown as status_situation};
 ghost use Rattle.process_record.specs.Emit.{nothing};
 ghost use Rattle.process_record.specs.Name.{name_of};
 ghost use Rattle.kernel_calls.specs.Own.{object_in};
@@ -16,19 +16,19 @@ ghost use Rattle.kernel_model.specs.Run.{next, situation_of};
 ghost use Rattle.kernel_model.specs.Shown.{shown_by, summary_of};
 ghost use Rattle.board_core.specs.Alone.{IsReplayed, OpensAlone};
 ghost use Rattle.board_core.specs.Opening.{opening};
-ghost use Rattle.board_core.specs.Settings.{settings};
+ghost use Rattle.board_core.specs.Settings.{visible_settings};
 ghost use Rattle.board_core.specs.Calm.{IsCalm};
 ghost use Rattle.driver_model.specs.Laws.{IsDueWhereNoneAreLeft};
 ghost use Rattle.board_core.specs.Driven.{MayServe};
 ghost use Rattle.grant_enter.specs.Homes.{own_of};
-ghost use Rattle.board_core.specs.Makes.{Makes, ready_in, shown_printed};
+ghost use Rattle.board_core.specs.Makes.{MakesStep, ready_in, shown_printed};
 ghost use Rattle.board_core.specs.Guards.{GuardsOnly};
 ghost use Rattle.board_core.specs.Tells.{tells_somebody};
-ghost use Rattle.board_core.specs.Residents.{InFlash, MayTurnAt, TurnsAt, line_in, nothing_shown, resident_turns, shown_in, slot_turns, with_shown};
+ghost use Rattle.board_core.specs.Residents.{InFlash, MayTurnAt, TurnsAt, line_in, nothing_shown, resident_turns, told_in_emit, can_turn_in, with_shown};
 
-use crate::boot::{Crew, first_crew, placed_in, unplaced};
+use crate::boot::{LoadedProcesses, first_crew, placed_in, unplaced};
 use crate::drivers::Drivers;
-use crate::guard::Guard;
+use crate::guard::ActivePmp;
 use crate::moment::Moment;
 use crate::turn::{can_turn, take_turn};
 use alarm_capsule::next_due;
@@ -40,19 +40,18 @@ use kernel_model::{
     steps_are_accounted_for, turns_keep_lines,
 };
 use led_capsule::bits;
-use process_own::Object;
-use process_record::{Emit, Process, SlotLine, Summary, Unplaced, object_name};
+use process_model::Object;
+use process_record::{Emit, Process, SlotLine, Summary, object_name};
 use script_text::Script;
 use std::alloc::Global;
 use std::marker::Model;
 use tbf_headers::object_at;
-use tk_base::{Choice, Dev, FLASH_LIMIT, FLASH_START, STEP_LIMIT, Slot};
+use tk_base::{
+    Choice, Dev, FLASH_LIMIT, FLASH_START, NotReady, OBJECT_LIMIT, PRINT_LIMIT, PlaceFault,
+    SLOT_COUNT, STEP_LIMIT, Slot,
+};
 use tk_outside::NoMemory;
 use turn_scheduler::{Status, next_choice, next_slot, used_after};
-
-/// The choice was not ready, and nothing changed.
-#[derive(Clone, Copy, Debug, PartialEq, Eq)]
-pub struct NotReady;
 
 /// A board with its processes. Contracts see the world that it shows.
 #[derive(Drop)]
@@ -62,9 +61,9 @@ pub struct Board {
     /// The processes, slot 0 first.
     pub(crate) processes: Vec<Process>,
     /// The registers under which they run.
-    pub(crate) guard: Guard,
+    pub(crate) guard: ActivePmp,
     /// The applications that have no place.
-    unplaced: ArrayVec<Unplaced, 64>,
+    unplaced: ArrayVec<(u32, PlaceFault), OBJECT_LIMIT>,
     /// The settings, the time and the steps so far.
     pub(crate) moment: Moment,
     /// The drivers, with who waits for them and the devices that they serve.
@@ -93,22 +92,12 @@ impl Model for Board {
 /// Whether a slot can have a turn.
 fn can_run(home: &Home, processes: &[Process], slot: Slot) -> bool
     requires { length home.now.owns ≡ length processes.now }
-    ensures { result ≡ slot_turns (slice_get (zip processes.now home.now.owns) slot) }
+    ensures { result ≡ can_turn_in (slice_get (zip processes.now home.now.owns) slot) }
 {
     match processes.get(slot.index()) {
         Some(process) => can_turn(home, process, slot),
         None => false,
     }
-}
-
-/// How many turns of its slice the slot has used after one more.
-fn used_after_turn(present: Option<Slot>, used: u32, slice: u32, slot: Slot) -> u32
-    requires some { 1 ≤ slice }
-    requires within { used ≤ slice }
-    ensures value { result ≡ used_after present used slice slot }
-    ensures within { result ≤ slice }
-{
-    used_after(present, used, slice, slot)
 }
 
 /// Takes back what the last step told, but for whose turn it was. What it printed, a call or a denial is seldom
@@ -135,7 +124,7 @@ fn hide(emit: &mut Emit)
 }
 
 /// The step printed bytes for a slot's process, if it printed any.
-fn show(emit: &mut Emit, slot: Slot, printed: ArrayVec<u8, 64>)
+fn show(emit: &mut Emit, slot: Slot, printed: ArrayVec<u8, PRINT_LIMIT>)
     ensures { emit.new ≡ shown_printed slot printed.items }
 {
     hide(emit);
@@ -147,7 +136,8 @@ fn show(emit: &mut Emit, slot: Slot, printed: ArrayVec<u8, 64>)
 
 /// Which device steps are ready at a moment.
 fn devices_ready(home: &Home, drivers: &Drivers, moment: &Moment) -> ArrayVec<bool, 6>
-    ensures { (law : IsDueWhereNoneAreLeft) → result.items ≡ ready_in moment.now home.now.owns drivers.now }
+    ensures { (law : IsDueWhereNoneAreLeft)
+        → result.items ≡ ready_in moment.now home.now.owns drivers.now }
 {
     let alarm = is_now(next_due(home, moment.tick()));
     let sends = !drivers.console.writes.is_empty() && drivers.uart.free() <= moment.time;
@@ -171,7 +161,8 @@ fn is_now(left: Option<u32>) -> bool
 
 /// What of a script's settings processes can see.
 fn settings_of(script: &Script) -> Settings
-    ensures { result ≡ settings script.now.leds script.now.start script.now.storage script.now.policy }
+    ensures { result
+        ≡ visible_settings script.now.leds script.now.start script.now.storage script.now.policy }
 {
     Settings {
         leds: script.leds,
@@ -186,13 +177,13 @@ fn settings_of(script: &Script) -> Settings
 #[inline(always)]
 fn calm_after(calm: u64, moment: &Moment, home: &Home, drivers: &Drivers, emit: &Emit) -> u64
     requires time { moment.now.time + 2 ^ 32 ≤ 2 ^ 64 }
-    requires free { drivers.now.uart.free ≤ moment.now.time + 64000 }
-    requires calm { shown_in emit.now ≡ nothing_shown
+    requires free { drivers.now.uart.free ≤ moment.now.time + SENDING_LIMIT }
+    requires calm { told_in_emit emit.now ≡ nothing_shown
         → IsCalm moment.now.settings.start moment.now.time calm home.now.owns drivers.now }
     ensures { IsCalm moment.now.settings.start moment.now.time result home.now.owns drivers.now }
 {
     if emit.made.is_some() || emit.denial.is_some() {
-        return moment.calm(home, drivers);
+        return moment.look_ahead(home, drivers);
     }
     calm
 }
@@ -201,7 +192,7 @@ fn calm_after(calm: u64, moment: &Moment, home: &Home, drivers: &Drivers, emit: 
 fn turn_at(
     home: &mut Home,
     processes: &mut Vec<Process>,
-    guard: &mut Guard,
+    guard: &mut ActivePmp,
     drivers: &mut Drivers,
     slot: Slot,
     moment: &Moment,
@@ -209,11 +200,11 @@ fn turn_at(
 )
     requires turn { MayTurnAt 1 moment.now slot home.old processes.old.items guard.old }
     requires may { MayServe moment.now drivers.old slot (own_of home.old slot) }
-    requires quiet { shown_in emit.old ≡ nothing_shown }
+    requires quiet { told_in_emit emit.old ≡ nothing_shown }
     ensures turn { TurnsAt moment.now slot home.old home.new
-        processes.old.items processes.new.items (shown_in emit.new) drivers.old drivers.new }
+        processes.old.items processes.new.items (told_in_emit emit.new) drivers.old drivers.new }
     ensures guard { GuardsOnly guard.new home.new }
-    ensures emit { emit.new ≡ with_shown emit.old (shown_in emit.new) }
+    ensures emit { emit.new ≡ with_shown emit.old (told_in_emit emit.new) }
 {
     let process = &mut processes[slot.index()];
     take_turn(home, process, guard, drivers, slot, moment, emit);
@@ -221,8 +212,8 @@ fn turn_at(
 
 /// Adds for each slot whether it is ready. The table is filled where it lies: moving it would cost more
 /// than filling it, at each step.
-fn add_ready(home: &Home, processes: &[Process], ready: &mut ArrayVec<bool, 8>)
-    requires few { length processes.now ≤ 8 }
+fn add_ready(home: &Home, processes: &[Process], ready: &mut ArrayVec<bool, SLOT_COUNT>)
+    requires few { length processes.now ≤ SLOT_COUNT }
     requires owns { length home.now.owns ≡ length processes.now }
     requires fresh { ready.old.items ≡ [] }
     ensures { ready.new.items ≡ map resident_turns (zip processes.now home.now.owns) }
@@ -242,8 +233,8 @@ fn name_in(flash: &[u8], object: &Object) -> ArrayVec<u8, 32>
 }
 
 /// The same applications again.
-fn copied(unplaced: &[Unplaced]) -> ArrayVec<Unplaced, 64>
-    requires { length unplaced.now ≤ 64 }
+fn copied(unplaced: &[(u32, PlaceFault)]) -> ArrayVec<(u32, PlaceFault), OBJECT_LIMIT>
+    requires { length unplaced.now ≤ OBJECT_LIMIT }
     ensures { result.items ≡ unplaced.now }
 {
     let mut copy = ArrayVec::new();
@@ -254,8 +245,8 @@ fn copied(unplaced: &[Unplaced]) -> ArrayVec<Unplaced, 64>
 }
 
 /// The line of each slot.
-fn slot_lines(home: &Home, processes: &[Process]) -> ArrayVec<SlotLine, 8>
-    requires few { length processes.now ≤ 8 }
+fn slot_lines(home: &Home, processes: &[Process]) -> ArrayVec<SlotLine, SLOT_COUNT>
+    requires few { length processes.now ≤ SLOT_COUNT }
     requires owns { length home.now.owns ≡ length processes.now }
     requires objects { All (InFlash home.now.flash) processes.now }
     ensures { result.items ≡ map (line_in home.now.flash) (zip processes.now home.now.owns) }
@@ -285,7 +276,7 @@ impl Board {
         ensures alone { IfOk result OpensAlone }
     {
         let placed = placed_in(&flash, script.ram);
-        let Crew {
+        let LoadedProcesses {
             processes,
             footprints,
         } = first_crew(alloc, &flash, &placed)?;
@@ -299,11 +290,11 @@ impl Board {
         };
         let slice = script.slice;
         let drivers = Drivers::new(alloc, script)?;
-        let calm = moment.calm(&home, &drivers);
+        let calm = moment.look_ahead(&home, &drivers);
         Ok(Board {
             home,
             processes,
-            guard: Guard::new(),
+            guard: ActivePmp::new(),
             unplaced: unplaced(&placed),
             moment,
             drivers,
@@ -316,11 +307,9 @@ impl Board {
 
     /// Whether the process in a slot may have the next turn.
     fn may_run(&self, slot: Slot) -> bool
+        requires { self.now.clock.steps < STEP_LIMIT }
         ensures { result ≡ is_ready self.now (Run slot) }
     {
-        if self.moment.steps >= STEP_LIMIT {
-            return false;
-        }
         can_run(&self.home, &self.processes, slot)
     }
 
@@ -328,7 +317,8 @@ impl Board {
     /// what processes keep for the alarm, and that they live, changes at calls and denials alone.
     #[inline(always)]
     fn run(&mut self, slot: Slot, emit: &mut Emit) -> Result<(), NotReady>
-        ensures { Makes (Run slot) self.old self.new emit.old emit.new result }
+        requires { self.old.clock.steps < STEP_LIMIT }
+        ensures { MakesStep (Run slot) self.old self.new emit.old emit.new result }
     {
         grants_change_at_calls();
         turns_keep_lines();
@@ -346,7 +336,7 @@ impl Board {
             &self.moment,
             emit,
         );
-        self.used = used_after_turn(self.present, self.used, self.slice, slot);
+        self.used = used_after(self.present, self.used, self.slice, slot);
         self.present = Some(slot);
         self.moment.time += 1;
         self.moment.steps += 1;
@@ -356,46 +346,43 @@ impl Board {
 
     /// The next bytes come in on the serial line.
     fn arrive(&mut self, emit: &mut Emit) -> Result<(), NotReady>
-        ensures { Makes (Device Event) self.old self.new emit.old emit.new result }
+        requires { self.old.clock.steps < STEP_LIMIT }
+        ensures { MakesStep (Device Event) self.old self.new emit.old emit.new result }
     {
-        if self.moment.steps >= STEP_LIMIT {
-            return Err(NotReady);
-        }
         if !self.drivers.arrivals.is_time(self.moment.time) {
             return Err(NotReady);
         }
         self.drivers.arrivals.arrive(&mut self.drivers.uart);
         hide(emit);
         self.moment.steps += 1;
-        self.calm = self.moment.calm(&self.home, &self.drivers);
+        self.calm = self.moment.look_ahead(&self.home, &self.drivers);
         Ok(())
     }
 
     /// A device tells a process something.
     fn tell(&mut self, device: Dev, emit: &mut Emit) -> Result<(), NotReady>
-        requires { tells_somebody device ≡ true }
-        ensures { Makes (Device device) self.old self.new emit.old emit.new result }
+        requires tells { tells_somebody device ≡ true }
+        requires limit { self.old.clock.steps < STEP_LIMIT }
+        ensures { MakesStep (Device device) self.old self.new emit.old emit.new result }
     {
-        if self.moment.steps >= STEP_LIMIT {
-            return Err(NotReady);
-        }
         let mut printed = ArrayVec::new();
-        let Some(id) = self
+        let Ok(answer) = self
             .drivers
             .act(&mut self.home, device, &self.moment, &mut printed)
         else {
             return Err(NotReady);
         };
-        show(emit, id.slot, printed);
+        show(emit, answer.to.slot, printed);
         self.moment.steps += 1;
-        self.calm = self.moment.calm(&self.home, &self.drivers);
+        self.calm = self.moment.look_ahead(&self.home, &self.drivers);
         Ok(())
     }
 
     /// A device acts.
     #[inline(never)]
     fn act(&mut self, device: Dev, emit: &mut Emit) -> Result<(), NotReady>
-        ensures { Makes (Device device) self.old self.new emit.old emit.new result }
+        requires { self.old.clock.steps < STEP_LIMIT }
+        ensures { MakesStep (Device device) self.old self.new emit.old emit.new result }
     {
         match device {
             Dev::Event => self.arrive(emit),
@@ -408,15 +395,17 @@ impl Board {
     /// Whether so many ticks may pass.
     #[tactic(auto, unfolding(kernel_model::specs::World::may_be_made))]
     fn may_pass(&self, ticks: u32) -> bool
+        requires { self.now.clock.steps < STEP_LIMIT }
         ensures { result ≡ is_ready self.now (Pass ticks) }
     {
-        self.moment.steps < STEP_LIMIT && ticks > 0
+        ticks > 0
     }
 
     /// So many ticks pass, in which nothing acts.
     #[inline(never)]
     fn pass(&mut self, ticks: u32, emit: &mut Emit) -> Result<(), NotReady>
-        ensures { Makes (Pass ticks) self.old self.new emit.old emit.new result }
+        requires { self.old.clock.steps < STEP_LIMIT }
+        ensures { MakesStep (Pass ticks) self.old self.new emit.old emit.new result }
     {
         if !self.may_pass(ticks) {
             return Err(NotReady);
@@ -458,6 +447,9 @@ impl Board {
         self.owns_are_whole();
         steps_are_accounted_for();
         a_record_is_the_replay_of_its_events();
+        if self.moment.steps >= STEP_LIMIT {
+            return Err(NotReady);
+        }
         match choice {
             Choice::Run(slot) => self.run(slot, emit),
             Choice::Device(device) => self.act(device, emit),

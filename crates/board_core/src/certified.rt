@@ -1,5 +1,5 @@
 //! Laws that a certifier asks for, of all runs from a boot. The functions do nothing.
-ghost use Rattle.kernel_model.specs.Lives.{HasOrder, HasTenAtMost, LivesAsItRuns};
+ghost use Rattle.kernel_model.specs.Lives.{HasOrder, HasPendingWithinLimit, LivesAsItRuns};
 ghost use Rattle.kernel_model.specs.Prints.{PrintsItsBuffer, PrintsWhatItCouldLoad};
 ghost use Rattle.kernel_model.specs.Wholes.{HasWholeOwn};
 ghost use Rattle.board_core.specs.Certified.{BlocksFromBootAreApart, ChangesFromBootHaveCauses, CountsFromBootAddUp, EachFromBoot, EachLabelFromBoot};
@@ -11,16 +11,16 @@ use kernel_model::{
     prints_are_of_buffers, processes_live_as_they_run, restarts_are_as_opened,
     steps_are_accounted_for, time_steps_and_turns_add_up, words_are_drawn_in_order,
 };
-use process_own::only_handing_changes_pairs;
+use process_model::only_handing_changes_pairs;
 
 /// Whatever choices are made after a boot: a process lives exactly while it is Running or Yielded, and its life is the
 /// number of its restarts. Its memory is in order: the block's start, the mark, the break, the kernel break, which is the
-/// block's end less what the drivers cost that it has entered. No two blocks overlap. Ten upcalls wait at most.
+/// block's end less what the drivers cost that it has entered. No two blocks overlap. At most [`tk_base::PENDING_LIMIT`] upcalls wait.
 pub fn processes_from_boot_keep_their_places()
     ensures lives { EachFromBoot LivesAsItRuns }
     ensures order { EachFromBoot HasOrder }
     ensures apart { BlocksFromBootAreApart }
-    ensures ten { EachFromBoot HasTenAtMost }
+    ensures pending { EachFromBoot HasPendingWithinLimit }
 {
     places_never_change();
     processes_live_as_they_run();
@@ -77,10 +77,11 @@ pub fn changes_from_boot_have_causes()
     owns_stay_whole();
 }
 
-/// In each run by round robin from a boot, each byte of a process that changes has its cause: its own permitted act, or a
-/// buffer that it then allowed; each access was permitted, each denial was due and is shown with its address and rule, and a
-/// refused call changed little. The record of each process is what becomes of it alone, by its own turns and answers
-/// (Levy et al., SOSP 2017).
+/// In each run by round robin from a boot, each byte of a process that changes has its cause. One below its kernel break is
+/// changed by an own permitted act, or lies in a buffer that the process then allowed to the driver which answers it; one
+/// of its grants, above, is changed in its own turn or by an answer to it; one of its storage by a served request of its
+/// own. Each access was permitted, each denial was due and is shown with its address and rule, and a refused call changed
+/// little. The record of each process is what becomes of it alone, by its own turns and answers (Levy et al., SOSP 2017).
 pub fn runs_from_boot_are_accounted_for()
     ensures { RunsFromBootAreAccountedFor }
 {

@@ -1,7 +1,7 @@
 //! The drivers of the board.
 ghost use Rattle.std.specs.Prelude.{◌≡◌, ◌+◌, ◌*◌, ◌<◌, ◌≤◌, ◌^◌, ◌↔◌, ℕ, true, false, [], length, All, IfOk, IfSome};
-ghost use Rattle.board_devices.specs.Arriving.{next_time};
-ghost use Rattle.driver_model.specs.Commands.{gone};
+ghost use Rattle.board_devices.specs.Arriving.{first_arrival_time};
+ghost use Rattle.driver_model.specs.Commands.{leaving_all};
 ghost use Rattle.grant_enter.specs.Homes.{own_of, ChangesOnly};
 ghost use Rattle.grant_enter.specs.Visits.{is_stale};
 ghost use Rattle.kernel_model.specs.Run.{sending_time};
@@ -12,22 +12,22 @@ ghost use Rattle.tk_base.specs.declared.limits.TheConstants.{STEP_LIMIT};
 ghost use Rattle.board_core.specs.Driven.{AreDriven, AreFresh, Commands, Drives, IsTaken, MayAsk, devices_of};
 
 use crate::moment::Moment;
-use alarm_capsule::answer;
+use alarm_capsule::AlarmCapsule;
 use arrayvec::ArrayVec;
-use board_devices::{Arrivals, Leds, Stores, Uart, Words};
+use board_devices::{Answer, Arrivals, Leds, Stores, Uart, Words};
 use console_capsule::ConsoleCapsule;
 use driver_model::{
     a_due_slot_is_there, drivers_ask_for_their_own, events_tell_steps, lines_follow_answers,
 };
 use grant_enter::Home;
-use grant_values::{ALARM, CONSOLE, LED, RANDOM};
-use process_own::reads_own_flash;
+use grant_values::Driver;
+use process_model::reads_own_flash;
 use random_capsule::RandomCapsule;
 use script_text::Script;
 use std::alloc::Global;
 use storage_capsule::StorageCapsule;
 use syscall_abi::Reply;
-use tk_base::{CallRule, Dev, ProcessId, Slot};
+use tk_base::{CallRule, Dev, NotReady, PRINT_LIMIT, ProcessId};
 use tk_outside::NoMemory;
 
 /// The drivers that have processes wait, each with who waits for it, and the devices that they serve.
@@ -72,14 +72,14 @@ impl Drivers {
         })
     }
 
-    /// The process of a slot ended, or starts again: it waits in no list any more.
-    pub fn gone(&mut self, slot: Slot)
-        ensures { (life : ℕ) → Drives (record { slot = slot; life = life }) gone self.old self.new }
+    /// The process of an id ended, or starts again: it waits in no list any more. Its alarm went with its grant.
+    pub fn gone(&mut self, id: &ProcessId)
+        ensures { (life : ℕ)
+            → Drives (record { slot = id.now.slot; life = life }) leaving_all self.old self.new }
     {
-        self.console.writes.leave(slot);
-        self.console.reads.leave(slot);
-        self.random.waiting.leave(slot);
-        self.storage.waiting.leave(slot);
+        self.console.gone(*id);
+        self.random.gone(*id);
+        self.storage.gone(*id);
     }
 
     /// Whether a process waits for bytes that came in, for random bytes or for the storage: its device acts at
@@ -93,7 +93,7 @@ impl Drivers {
 
     /// The time at which the next bytes come in, if any are to.
     pub fn arrival_time(&self) -> Option<u64>
-        ensures at { result ≡ next_time self.now.arrivals }
+        ensures at { result ≡ first_arrival_time self.now.arrivals }
         ensures near { IfSome result (λ at. at < 2 ^ 32) }
     {
         let at = self.arrivals.next_time()?;
@@ -111,23 +111,25 @@ impl Drivers {
         }
     }
 
-    /// Has a device act that tells a process something at a moment: the id of that process, and what was printed for
-    /// it. None, and nothing changes, where the device may not act.
-    #[inline(never)]
+    /// Has a device act that tells a process something at a moment: which process, what it is told, and what was
+    /// printed for it. [`NotReady`] comes, and nothing changes, where the device may not act.
+    // Inlined, what is told is not copied: the board takes of it whom it was told.
+    #[inline(always)]
     pub fn act(
         &mut self,
         home: &mut Home,
         device: Dev,
         moment: &Moment,
-        printed: &mut ArrayVec<u8, 64>,
-    ) -> Option<ProcessId>
+        printed: &mut ArrayVec<u8, PRINT_LIMIT>,
+    ) -> Result<Answer, NotReady>
         requires tells { tells_somebody device ≡ true }
         requires driven { AreDriven moment.now.settings moment.now.time home.old.owns self.old }
         requires lost { All (HasLost moment.now.steps) home.old.owns }
         requires limit { moment.now.steps < STEP_LIMIT }
         requires time { moment.now.time ≤ moment.now.steps * 2 ^ 32 }
         requires empty { printed.old.items ≡ [] }
-        ensures { Acts device moment.now home.old self.old result printed.new.items home.new self.new }
+        ensures { Acts device moment.now home.old self.old result printed.new.items home.new
+            self.new }
     {
         a_due_slot_is_there();
         lines_follow_answers();
@@ -135,8 +137,8 @@ impl Drivers {
         reads_own_flash();
         home.held_buffers_lie_in_place();
         match device {
-            Dev::Event => None,
-            Dev::Alarm => answer(home, moment.tick()),
+            Dev::Event => Err(NotReady),
+            Dev::Alarm => AlarmCapsule.answer(home, moment.tick()),
             Dev::Uart => self
                 .console
                 .transmit(home, &mut self.uart, moment.time, printed),
@@ -146,8 +148,8 @@ impl Drivers {
         }
     }
 
-    /// Has the driver of a command of the process of an id serve it, when the alarm's clock shows a tick: the
-    /// reply, or the rule that refuses it. It asks that the driver takes commands, and that the process is
+    /// Has the driver of a command of the process of an id serve it, when the alarm's clock shows a tick: the reply,
+    /// and the rule that refuses it, if one does. It asks that the driver takes commands, and that the process is
     /// there, and waits only where it has a request.
     pub fn command(
         &mut self,
@@ -155,7 +157,7 @@ impl Drivers {
         tick: u32,
         id: ProcessId,
         order: &Order,
-    ) -> Result<Reply, CallRule>
+    ) -> (Reply, Option<CallRule>)
         requires slot { id.slot < length home.old.owns }
         requires present { is_stale id.life (own_of home.old id.slot) ≡ false }
         requires dropped { (own_of home.old id.slot).dropped + 1 < 2 ^ 32 }
@@ -172,15 +174,16 @@ impl Drivers {
             a2,
             a3,
         } = *order;
-        match driver {
-            ALARM => alarm_capsule::command(home, tick, id, number, a2, a3),
-            CONSOLE => self.console.command(home, id, number, a2),
-            LED => led_capsule::command(&mut self.leds, number, a2),
-            RANDOM => self.random.command(home, id, number, a2),
-            _ => {
+        match Driver::of(driver) {
+            Some(Driver::Alarm) => AlarmCapsule.command(home, tick, id, number, a2, a3),
+            Some(Driver::Console) => self.console.command(home, id, number, a2),
+            Some(Driver::Leds) => led_capsule::command(&mut self.leds, number, a2),
+            Some(Driver::Random) => self.random.command(home, id, number, a2),
+            Some(Driver::Storage) => {
                 let size = self.stores.size();
                 self.storage.command(home, size, id, number, a2, a3)
             }
+            None => unreachable!(),
         }
     }
 }

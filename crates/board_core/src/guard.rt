@@ -12,24 +12,24 @@ use tk_base::Slot;
 /// The board's protection registers (RISC-V privileged manual, "Physical Memory Protection"), and the slot
 /// for whose process they are set, if they are for any.
 #[derive(Drop)]
-pub struct Guard {
+pub struct ActivePmp {
     pub pmp: Pmp,
     pub slot: Option<Slot>,
 }
 
-impl Guard {
+impl ActivePmp {
     /// The registers when the board starts: they permit nothing, and are set for no process.
-    pub fn new() -> Guard
+    pub fn new() -> ActivePmp
         ensures { result.slot ≡ None }
     {
-        Guard {
+        ActivePmp {
             pmp: Pmp::new(),
             slot: None,
         }
     }
 
     /// Sets the registers for the process in a slot, where they are set for another one or for none.
-    pub fn turn_to(&mut self, home: &Home, slot: Slot)
+    pub fn switch_to(&mut self, home: &Home, slot: Slot)
         requires slot { slot < length home.now.owns }
         requires guards { GuardsOnly self.old home.now }
         ensures { IsSetFor slot self.new home.now }
@@ -43,7 +43,7 @@ impl Guard {
 
     /// Sets the registers again for the process in a slot, where its layout is no longer the one that they
     /// were set for.
-    pub fn follow(&mut self, home: &Home, slot: Slot, before: &Layout)
+    pub fn refresh(&mut self, home: &Home, slot: Slot, before: &Layout)
         requires slot { slot < length home.now.owns }
         requires set { Protect self.old.pmp before.now }
         ensures slot { self.new.slot ≡ self.old.slot }

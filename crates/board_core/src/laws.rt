@@ -28,8 +28,9 @@ pub fn deliveries_from_boot_are_of_the_last()
     deliveries_are_of_the_last();
 }
 
-/// No process that is ready waits for good after a boot: in the run by round robin, every window of `8 * slice`
-/// turns of processes in which a process is ready throughout has a turn of that process.
+/// No process that is ready waits for good after a boot: in the run by round robin, every window of as many
+/// turns of processes as all slots have in a slice each, in which a process is ready throughout, has a turn of that
+/// process.
 pub fn runs_from_boot_are_fair()
     ensures { RunsFromBootAreFair }
 {

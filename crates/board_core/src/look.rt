@@ -1,15 +1,15 @@
 //! What there is to see of one process on a board, and of those that wait.
 ghost use Rattle.std.specs.Prelude.{◌≡◌, All, map, slice_get};
 ghost use Rattle.std.specs.Option.{option_copied, option_map};
-ghost use Rattle.process_own.specs.Own.{block_of};
+ghost use Rattle.process_model.specs.Own.{block_of};
 ghost use Rattle.grant_enter.specs.Homes.{living};
 ghost use Rattle.board_core.specs.Looks.{LivesThere, waiting_for};
 
 use crate::board::Board;
+use driver_requests::Waiting;
 use process_layout::Layout;
 use process_record::Process;
 use tk_base::{Dev, ProcessId, Slot, Upcall};
-use waiting_list::Waiting;
 
 impl Board {
     /// The process in a slot: its registers, its state, its counts, its last denial and its last refusal. None exactly

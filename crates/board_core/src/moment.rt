@@ -1,7 +1,8 @@
 //! The moment of a step.
 ghost use Rattle.std.specs.Prelude.{◌≡◌, ◌+◌, ◌-◌, ◌<◌, ◌≤◌, ◌^◌, IfSome};
 ghost use Rattle.std.specs.Option.{option_map};
-ghost use Rattle.board_devices.specs.Arriving.{next_time};
+ghost use Rattle.tk_base.specs.declared.limits.TheConstants.{SENDING_LIMIT};
+ghost use Rattle.board_devices.specs.Arriving.{first_arrival_time};
 ghost use Rattle.board_devices.specs.Clock.{clock_at};
 ghost use Rattle.driver_model.specs.Alarm.{nearer, next_left};
 ghost use Rattle.kernel_model.specs.Run.{sending_time};
@@ -57,7 +58,7 @@ impl Moment {
     /// the UART is free for a write that waits. None exactly where none of these is to come.
     pub fn next_time(&self, home: &Home, drivers: &Drivers) -> Option<u64>
         requires time { self.now.time + 2 ^ 32 ≤ 2 ^ 64 }
-        requires free { drivers.now.uart.free ≤ self.now.time + 64000 }
+        requires free { drivers.now.uart.free ≤ self.now.time + SENDING_LIMIT }
         ensures at { result ≡ coming self.now home.now.owns drivers.now }
         ensures near { IfSome result (λ at. at - self.now.time < 2 ^ 32) }
     {
@@ -73,8 +74,9 @@ impl Moment {
     #[inline(never)]
     pub fn look_ahead(&self, home: &Home, drivers: &Drivers) -> u64
         requires time { self.now.time + 2 ^ 32 ≤ 2 ^ 64 }
-        requires free { drivers.now.uart.free ≤ self.now.time + 64000 }
-        ensures calm { IsCalm self.now.settings.start self.now.time result home.now.owns drivers.now }
+        requires free { drivers.now.uart.free ≤ self.now.time + SENDING_LIMIT }
+        ensures calm { IsCalm self.now.settings.start self.now.time result home.now.owns
+            drivers.now }
         ensures come { result ≤ self.now.time → ServesNobody drivers.now
             → HasCome self.now.time (coming self.now home.now.owns drivers.now) }
     {
@@ -86,14 +88,5 @@ impl Moment {
             Some(at) => at,
             None => u64::MAX,
         }
-    }
-
-    /// A time up to which no device step is ready.
-    pub fn calm(&self, home: &Home, drivers: &Drivers) -> u64
-        requires time { self.now.time + 2 ^ 32 ≤ 2 ^ 64 }
-        requires free { drivers.now.uart.free ≤ self.now.time + 64000 }
-        ensures { IsCalm self.now.settings.start self.now.time result home.now.owns drivers.now }
-    {
-        self.look_ahead(home, drivers)
     }
 }

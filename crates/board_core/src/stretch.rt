@@ -1,6 +1,6 @@
 //! A quiet stretch: turns of processes, one after another, that only execute an instruction.
 ghost use Rattle.std.specs.Prelude.{◌≡◌, ◌+◌, ◌-◌, ◌≤◌, ◌<◌, ◌^◌, true, false, ℕ, Some, IfSome, IfNone, slice_get};
-ghost use Rattle.tk_base.specs.declared.limits.TheConstants.{STEP_LIMIT};
+ghost use Rattle.tk_base.specs.declared.limits.TheConstants.{SENDING_LIMIT, STEP_LIMIT};
 ghost use Rattle.turn_scheduler.specs.RoundRobin.{used_after};
 ghost use Rattle.tk_base.specs.declared.process.Choice.TheVariants.{Run};
 ghost use Rattle.kernel_model.specs.Accounts.{IsAccountedFor};
@@ -10,12 +10,12 @@ ghost use Rattle.kernel_model.specs.Run.{next};
 ghost use Rattle.kernel_model.specs.Stretch.{GoesOn, IsStretch};
 ghost use Rattle.board_core.specs.Calm.{HasCome, IsCalm, ServesNobody, coming};
 ghost use Rattle.board_core.specs.Guards.{GuardsOnly, IsSetFor};
-ghost use Rattle.board_core.specs.Residents.{Leaves, MayTurn, MayTurnAt, resident};
+ghost use Rattle.board_core.specs.Residents.{LeavesSlot, MayTurn, MayTurnAt, resident};
 ghost use Rattle.board_core.specs.Stretches.{EndsStretch, QuietAt, Quietly, slot_runs};
 
 use crate::board::Board;
 use crate::drivers::Drivers;
-use crate::guard::Guard;
+use crate::guard::ActivePmp;
 use crate::moment::Moment;
 use grant_enter::Home;
 use kernel_model::{next_is_ready, round_is_stretch, steps_are_accounted_for};
@@ -65,9 +65,11 @@ fn turns_left(used: u32, slice: u32, moment: &Moment, until: u64, most: u32) -> 
 #[inline(always)]
 fn calm_ahead(calm: u64, moment: &Moment, home: &Home, drivers: &Drivers) -> u64
     requires time { moment.now.time + 2 ^ 32 ≤ 2 ^ 64 }
-    requires free { drivers.now.uart.free ≤ moment.now.time + 64000 }
-    requires calm { IsCalm moment.now.settings.start moment.now.time calm home.now.owns drivers.now }
-    ensures calm { IsCalm moment.now.settings.start moment.now.time result home.now.owns drivers.now }
+    requires free { drivers.now.uart.free ≤ moment.now.time + SENDING_LIMIT }
+    requires calm { IsCalm moment.now.settings.start moment.now.time calm home.now.owns
+        drivers.now }
+    ensures calm { IsCalm moment.now.settings.start moment.now.time result home.now.owns
+        drivers.now }
     ensures come { result ≤ moment.now.time → ServesNobody drivers.now
         → HasCome moment.now.time (coming moment.now home.now.owns drivers.now) }
 {
@@ -121,7 +123,7 @@ fn present_after(
 fn take_turns(
     home: &mut Home,
     process: &mut Process,
-    guard: &mut Guard,
+    guard: &mut ActivePmp,
     slot: Slot,
     moment: &Moment,
     most: u32,
@@ -130,10 +132,10 @@ fn take_turns(
     ensures most { result ≤ most }
     ensures quiet { Quietly result most home.old.flash (resident home.old slot process.old)
         (resident home.new slot process.new) }
-    ensures leaves { Leaves (moment.now.steps + result) slot home.old home.new process.new }
+    ensures leaves { LeavesSlot (moment.now.steps + result) slot home.old home.new process.new }
     ensures guard { IsSetFor slot guard.new home.new }
 {
-    guard.turn_to(home, slot);
+    guard.switch_to(home, slot);
     let made = home.instruct_quietly(slot, &guard.pmp, &mut process.regs, most);
     process.turns += made;
     made
@@ -143,14 +145,15 @@ fn take_turns(
 fn turns_at(
     home: &mut Home,
     processes: &mut Vec<Process>,
-    guard: &mut Guard,
+    guard: &mut ActivePmp,
     slot: Slot,
     moment: &Moment,
     most: u32,
 ) -> u32
     requires { MayTurnAt most moment.now slot home.old processes.old.items guard.old }
     ensures most { result ≤ most }
-    ensures quiet { QuietAt result most moment.now slot home.old home.new processes.old.items processes.new.items }
+    ensures quiet { QuietAt result most moment.now slot home.old home.new processes.old.items
+        processes.new.items }
     ensures guard { GuardsOnly guard.new home.new }
 {
     let process = &mut processes[slot.index()];

@@ -1,10 +1,10 @@
 //! One turn of the process in a slot.
 ghost use Rattle.std.specs.Prelude.{◌≡◌, ◌+◌, ◌<◌, ℕ, List, [], length, true, false, None, Some};
 ghost use Rattle.process_record.specs.declared.process.State.TheVariants.{Running, Yielded};
-ghost use Rattle.process_own.specs.Own.{ended};
+ghost use Rattle.process_model.specs.Own.{own_ended};
 ghost use Rattle.process_record.specs.Process.{after_fault};
 ghost use Rattle.grant_enter.specs.Homes.{own_of, ChangesOnly};
-ghost use Rattle.driver_model.specs.Commands.{gone};
+ghost use Rattle.driver_model.specs.Commands.{leaving_all};
 ghost use Rattle.kernel_calls.specs.Outcomes.{acts_for, is_for_driver};
 ghost use Rattle.kernel_calls.specs.Own.{object_in, record_in};
 ghost use Rattle.board_core.specs.Driven.{Drives, MayServe};
@@ -13,19 +13,19 @@ ghost use Rattle.kernel_model.specs.Calls.{restart};
 ghost use Rattle.kernel_model.specs.Record.{instruction};
 ghost use Rattle.kernel_model.specs.Turn.{arguments, made, unknown_call};
 ghost use Rattle.board_core.specs.Guards.{GuardsOnly, IsSetFor};
-ghost use Rattle.board_core.specs.Residents.{Finishes, InTurn, IsMade, Leaves, MayTurn, Serves, Settles, Turns, id_of, next, nothing_shown, resident, resident_turns, shown_in, with_shown};
+ghost use Rattle.board_core.specs.Residents.{Finishes, InTurn, IsMade, LeavesSlot, MayTurn, ServesCall, Settles, Turns, id_of, next_instruction, nothing_shown, resident, resident_turns, told_in_emit, with_shown};
 
 use crate::drivers::{Drivers, Order};
-use crate::guard::Guard;
+use crate::guard::ActivePmp;
 use crate::moment::Moment;
 use driver_model::commands_stay_in_place;
 use fault_policy::{Action, decide};
 use grant_enter::Home;
-use kernel_calls::{deliver, give, kernel_call, restart_process};
+use kernel_calls::{deliver, give_reply, kernel_call, restart_process};
 use process_record::{CallMade, Emit, Outcome, Process, State};
 use rv32_model::TurnEnd;
 use syscall_abi::Call;
-use tk_base::{Access, Denial, Regs, Rule, Slot};
+use tk_base::{Access, Denial, ProcessId, Regs, Rule, Slot};
 
 /// What a turn showed: the call that was made, or the denial.
 #[derive(Clone, Copy)]
@@ -55,7 +55,7 @@ fn call_shown(before: &Regs, outcome: Outcome) -> CallMade
     ensures { result ≡ made before.now outcome }
 {
     let (reply, rule) = match outcome {
-        Outcome::Replied { reply, rule } => {
+        Outcome::Replied(reply, rule) => {
             let mut after = *before;
             reply.put(&mut after);
             (Some(arguments_of(&after)), rule)
@@ -91,7 +91,7 @@ pub fn can_turn(home: &Home, process: &Process, slot: Slot) -> bool
 fn stop_at(home: &mut Home, process: &mut Process, slot: Slot, denial: Denial)
     requires { slot < length home.old.owns }
     ensures process { process.new ≡ after_fault process.old denial }
-    ensures own { own_of home.new slot ≡ ended (own_of home.old slot) }
+    ensures own { own_of home.new slot ≡ own_ended (own_of home.old slot) }
     ensures rest { ChangesOnly slot home.old home.new }
 {
     process.fault(denial);
@@ -102,7 +102,7 @@ fn stop_at(home: &mut Home, process: &mut Process, slot: Slot, denial: Denial)
 fn restart_at(
     home: &mut Home,
     process: &mut Process,
-    guard: &mut Guard,
+    guard: &mut ActivePmp,
     slot: Slot,
     denial: Denial,
     moment: &Moment,
@@ -110,22 +110,23 @@ fn restart_at(
     requires turn { InTurn moment.now slot home.old process.old }
     requires guard { IsSetFor slot guard.old home.old }
     ensures restarted { (storage : List ℕ) →
-        restart (record_in home.old.flash (after_fault process.old denial) (own_of home.old slot) storage)
+        restart (record_in home.old.flash (after_fault process.old denial) (own_of home.old slot)
+        storage)
         ≡ record_in home.old.flash process.new (own_of home.new slot) storage }
-    ensures leaves { Leaves (moment.now.steps + 1) slot home.old home.new process.new }
+    ensures leaves { LeavesSlot (moment.now.steps + 1) slot home.old home.new process.new }
     ensures guard { IsSetFor slot guard.new home.new }
 {
     process.denial = Some(denial);
     let layout = home.layout(slot);
     restart_process(home, process, slot);
-    guard.follow(home, slot, &layout);
+    guard.refresh(home, slot, &layout);
 }
 
 /// A denial: the process in a slot faults, and has ended or starts again, as the policy decides.
 fn fault_at(
     home: &mut Home,
     process: &mut Process,
-    guard: &mut Guard,
+    guard: &mut ActivePmp,
     drivers: &mut Drivers,
     slot: Slot,
     denial: Denial,
@@ -133,14 +134,17 @@ fn fault_at(
 ) -> Shown
     requires turn { InTurn moment.now slot home.old process.old }
     requires guard { IsSetFor slot guard.old home.old }
-    ensures settles { Settles moment.now.settings.policy home.old.flash process.old (own_of home.old slot) denial
-        (resident home.new slot process.new) }
-    ensures gone { Drives (id_of slot (own_of home.old slot)) gone drivers.old drivers.new }
-    ensures leaves { Leaves (moment.now.steps + 1) slot home.old home.new process.new }
+    ensures settles { Settles moment.now.settings.policy home.old.flash process.old
+        (own_of home.old slot) denial (resident home.new slot process.new) }
+    ensures gone { Drives (id_of slot (own_of home.old slot)) leaving_all drivers.old
+        drivers.new }
+    ensures leaves { LeavesSlot (moment.now.steps + 1) slot home.old home.new process.new }
     ensures guard { IsSetFor slot guard.new home.new }
     ensures shown { result ≡ record { call = None; denial = Some denial } }
 {
-    drivers.gone(slot);
+    let life = process.restarts;
+    let id = ProcessId { slot, life };
+    drivers.gone(&id);
     match decide(moment.settings.policy, process.restarts) {
         Action::Stop => stop_at(home, process, slot, denial),
         Action::Restart => restart_at(home, process, guard, slot, denial, moment),
@@ -175,9 +179,9 @@ fn command_driver(
     requires turn { InTurn moment.now slot home.old process.old }
     requires may { MayServe moment.now drivers.old slot (own_of home.old slot) }
     requires left { is_for_driver (object_in home.old.flash process.old.object) call.now ≡ true }
-    ensures serves { Finishes moment.now slot home.old process.old call.now home.new process.new result
-        drivers.old drivers.new }
-    ensures leaves { Leaves (moment.now.steps + 1) slot home.old home.new process.new }
+    ensures serves { Finishes moment.now slot home.old process.old call.now home.new process.new
+        result drivers.old drivers.new }
+    ensures leaves { LeavesSlot (moment.now.steps + 1) slot home.old home.new process.new }
 {
     commands_stay_in_place();
     let Call::Command {
@@ -198,13 +202,13 @@ fn command_driver(
         a2,
         a3,
     };
-    let answer = drivers.command(home, moment.tick(), id, &order);
-    give(process, answer)
+    let (reply, rule) = drivers.command(home, moment.tick(), id, &order);
+    give_reply(process, reply, rule)
 }
 
 /// Whether the process has ended, or starts again.
 fn is_gone(outcome: Outcome) -> bool
-    ensures gone { result ≡ true → acts_for outcome ≡ gone }
+    ensures gone { result ≡ true → acts_for outcome ≡ leaving_all }
     ensures none { result ≡ false → acts_for outcome ≡ [] }
 {
     matches!(outcome, Outcome::Ended | Outcome::Again)
@@ -214,7 +218,7 @@ fn is_gone(outcome: Outcome) -> bool
 fn serve(
     home: &mut Home,
     process: &mut Process,
-    guard: &mut Guard,
+    guard: &mut ActivePmp,
     drivers: &mut Drivers,
     slot: Slot,
     call: &Call,
@@ -223,22 +227,24 @@ fn serve(
     requires turn { InTurn moment.now slot home.old process.old }
     requires may { MayServe moment.now drivers.old slot (own_of home.old slot) }
     requires guard { IsSetFor slot guard.old home.old }
-    ensures serves { Finishes moment.now slot home.old process.old call.now home.new process.new result
-        drivers.old drivers.new }
-    ensures leaves { Leaves (moment.now.steps + 1) slot home.old home.new process.new }
+    ensures serves { Finishes moment.now slot home.old process.old call.now home.new process.new
+        result drivers.old drivers.new }
+    ensures leaves { LeavesSlot (moment.now.steps + 1) slot home.old home.new process.new }
     ensures guard { IsSetFor slot guard.new home.new }
 {
     let layout = home.layout(slot);
+    let life = process.restarts;
+    let id = ProcessId { slot, life };
     let outcome = match kernel_call(home, process, slot, call) {
         Outcome::ToDriver => command_driver(home, process, drivers, slot, call, moment),
         outcome => {
             if is_gone(outcome) {
-                drivers.gone(slot);
+                drivers.gone(&id);
             }
             outcome
         }
     };
-    guard.follow(home, slot, &layout);
+    guard.refresh(home, slot, &layout);
     outcome
 }
 
@@ -246,7 +252,7 @@ fn serve(
 fn serve_call(
     home: &mut Home,
     process: &mut Process,
-    guard: &mut Guard,
+    guard: &mut ActivePmp,
     drivers: &mut Drivers,
     slot: Slot,
     moment: &Moment,
@@ -254,9 +260,9 @@ fn serve_call(
     requires turn { InTurn moment.now slot home.old process.old }
     requires may { MayServe moment.now drivers.old slot (own_of home.old slot) }
     requires guard { IsSetFor slot guard.old home.old }
-    ensures serves { Serves moment.now slot home.old.flash (resident home.old slot process.old)
+    ensures serves { ServesCall moment.now slot home.old.flash (resident home.old slot process.old)
         (resident home.new slot process.new) result drivers.old drivers.new }
-    ensures leaves { Leaves (moment.now.steps + 1) slot home.old home.new process.new }
+    ensures leaves { LeavesSlot (moment.now.steps + 1) slot home.old home.new process.new }
     ensures guard { IsSetFor slot guard.new home.new }
 {
     let before = process.regs;
@@ -275,19 +281,20 @@ fn serve_call(
 fn make_instruction(
     home: &mut Home,
     process: &mut Process,
-    guard: &mut Guard,
+    guard: &mut ActivePmp,
     slot: Slot,
     moment: &Moment,
 ) -> TurnEnd
     requires turn { MayTurn 1 moment.now slot home.old process.old guard.old }
     requires runs { process.old.state ≡ Running }
-    ensures end { result ≡ (next home.old.flash (resident home.old slot process.old)).end }
+    ensures end { result
+        ≡ (next_instruction home.old.flash (resident home.old slot process.old)).end }
     ensures made { IsMade slot home.old home.new process.old process.new }
     ensures turn { InTurn moment.now slot home.new process.new }
     ensures rest { ChangesOnly slot home.old home.new }
     ensures guard { IsSetFor slot guard.new home.new }
 {
-    guard.turn_to(home, slot);
+    guard.switch_to(home, slot);
     process.count_turn();
     home.instruct(slot, &guard.pmp, &mut process.regs)
 }
@@ -297,7 +304,7 @@ fn make_instruction(
 fn run_on(
     home: &mut Home,
     process: &mut Process,
-    guard: &mut Guard,
+    guard: &mut ActivePmp,
     drivers: &mut Drivers,
     slot: Slot,
     moment: &Moment,
@@ -306,12 +313,12 @@ fn run_on(
     requires turn { MayTurn 1 moment.now slot home.old process.old guard.old }
     requires runs { process.old.state ≡ Running }
     requires may { MayServe moment.now drivers.old slot (own_of home.old slot) }
-    requires quiet { shown_in emit.old ≡ nothing_shown }
+    requires quiet { told_in_emit emit.old ≡ nothing_shown }
     ensures turns { Turns moment.now slot home.old.flash (resident home.old slot process.old)
-        (resident home.new slot process.new) (shown_in emit.new) drivers.old drivers.new }
-    ensures leaves { Leaves (moment.now.steps + 1) slot home.old home.new process.new }
+        (resident home.new slot process.new) (told_in_emit emit.new) drivers.old drivers.new }
+    ensures leaves { LeavesSlot (moment.now.steps + 1) slot home.old home.new process.new }
     ensures guard { IsSetFor slot guard.new home.new }
-    ensures emit { emit.new ≡ with_shown emit.old (shown_in emit.new) }
+    ensures emit { emit.new ≡ with_shown emit.old (told_in_emit emit.new) }
 {
     match make_instruction(home, process, guard, slot, moment) {
         TurnEnd::Went => {}
@@ -328,15 +335,16 @@ fn run_on(
 
 /// The turn of a process that waits: the first of its pending upcalls is delivered, if there is one. The
 /// registers are set for it, since it is the next to run. It shows nothing.
-fn wake(home: &mut Home, process: &mut Process, guard: &mut Guard, slot: Slot, moment: &Moment)
+fn wake(home: &mut Home, process: &mut Process, guard: &mut ActivePmp, slot: Slot, moment: &Moment)
     requires turn { MayTurn 1 moment.now slot home.old process.old guard.old }
     requires waits { process.old.state ≡ Yielded }
     ensures turns { (drivers : Drivers) → Turns moment.now slot home.old.flash
-        (resident home.old slot process.old) (resident home.new slot process.new) nothing_shown drivers drivers }
-    ensures leaves { Leaves (moment.now.steps + 1) slot home.old home.new process.new }
+        (resident home.old slot process.old) (resident home.new slot process.new) nothing_shown
+        drivers drivers }
+    ensures leaves { LeavesSlot (moment.now.steps + 1) slot home.old home.new process.new }
     ensures guard { IsSetFor slot guard.new home.new }
 {
-    guard.turn_to(home, slot);
+    guard.switch_to(home, slot);
     if home.has_pending(slot) {
         process.count_turn();
         deliver(home, process, slot);
@@ -348,7 +356,7 @@ fn wake(home: &mut Home, process: &mut Process, guard: &mut Guard, slot: Slot, m
 pub fn take_turn(
     home: &mut Home,
     process: &mut Process,
-    guard: &mut Guard,
+    guard: &mut ActivePmp,
     drivers: &mut Drivers,
     slot: Slot,
     moment: &Moment,
@@ -356,12 +364,12 @@ pub fn take_turn(
 )
     requires turn { MayTurn 1 moment.now slot home.old process.old guard.old }
     requires may { MayServe moment.now drivers.old slot (own_of home.old slot) }
-    requires quiet { shown_in emit.old ≡ nothing_shown }
+    requires quiet { told_in_emit emit.old ≡ nothing_shown }
     ensures turns { Turns moment.now slot home.old.flash (resident home.old slot process.old)
-        (resident home.new slot process.new) (shown_in emit.new) drivers.old drivers.new }
-    ensures leaves { Leaves (moment.now.steps + 1) slot home.old home.new process.new }
+        (resident home.new slot process.new) (told_in_emit emit.new) drivers.old drivers.new }
+    ensures leaves { LeavesSlot (moment.now.steps + 1) slot home.old home.new process.new }
     ensures guard { GuardsOnly guard.new home.new }
-    ensures emit { emit.new ≡ with_shown emit.old (shown_in emit.new) }
+    ensures emit { emit.new ≡ with_shown emit.old (told_in_emit emit.new) }
 {
     match process.state {
         State::Running => run_on(home, process, guard, drivers, slot, moment, emit),

@@ -1,5 +1,7 @@
--- A UART, as a process sees its two halves.
+-- A UART, as a process sees its two halves. How long a byte takes, and how many the ring holds, is this board's own
+-- rule.
 use Rattle.std.specs.Prelude.{ℕ, ◌-◌, List, ◌++◌, drop, length}
+use Rattle.tk_base.specs.declared.limits.TheConstants.{RING_SIZE}
 
 -- the bytes that came in and were not read, the oldest first; the ticks that it takes to send a byte; the time from
 -- which on the next bytes can be sent
@@ -8,13 +10,9 @@ pub record SerialLine : Type 0 where
   pub ticks : ℕ
   pub free : ℕ
 
--- how many bytes that came in are kept
-abbrev pub ring_size : ℕ
-ring_size = 256
-
 -- what is kept of bytes that came in: the newest
 abbrev pub newest : List ℕ → List ℕ
-newest bytes = drop (length bytes - ring_size) bytes
+newest bytes = drop (length bytes - RING_SIZE) bytes
 
 -- a UART at which bytes came in, the first one first
 abbrev pub with_input : List ℕ → SerialLine → SerialLine

@@ -1,34 +1,37 @@
--- The storage of the slots, each of which reads and writes its own bytes alone.
-use Rattle.std.specs.Prelude.{◌≡◌, ℕ, ◌+◌, ◌^◌, ◌==◌, ◌<◌, Bool, List, [], ◌++◌, All, drop, length, replicate, slice_index_or, slice_range, slice_set, take}
+-- The storage of the slots, each of which reads and writes its own bytes alone. How many bytes it has, and when it
+-- fails, is this board's own rule.
+use Rattle.std.specs.Prelude.{◌≡◌, ℕ, ◌+◌, ◌^◌, ◌==◌, ◌<◌, Bool, List, [], ◌++◌, All, drop, length, replicate}
+use Rattle.std.specs.Prelude.{slice_index_or, slice_range, slice_set, take}
 use Rattle.std.specs.List.{list_any}
+use Rattle.tk_base.specs.declared.limits.TheConstants.{SLOT_COUNT}
 
 -- the bytes of each slot, slot 0 first; how many each has; how many requests were served; and the numbers of those that
 -- fail, counted from 1
-pub record Storage : Type 0 where
+pub record StoredSlots : Type 0 where
   pub slots : List (List ℕ)
   pub size : ℕ
   pub served : ℕ
   pub faults : List ℕ
 
--- there are eight slots, and each has so many bytes
+-- each slot has so many bytes
 pub record AreSized (size : ℕ) (slots : List (List ℕ)) : Type 0 where
   pub fits : size < 2 ^ 32
-  pub eight : length slots ≡ 8
+  pub each : length slots ≡ SLOT_COUNT
   pub sizes : All (λ bytes. length bytes ≡ size) slots
 
 -- bytes that were never written
 abbrev pub fresh_slots : ℕ → List (List ℕ)
-fresh_slots size = replicate 8 (replicate size 0xFF)
+fresh_slots size = replicate SLOT_COUNT (replicate size 0xFF)
 
 -- storage before the first request
-abbrev pub fresh_storage : ℕ → List ℕ → Storage
+abbrev pub fresh_storage : ℕ → List ℕ → StoredSlots
 fresh_storage size faults = record { slots = fresh_slots size; size = size; served = 0; faults = faults }
 
-abbrev pub slot_bytes : Storage → ℕ → List ℕ
+abbrev pub slot_bytes : StoredSlots → ℕ → List ℕ
 slot_bytes s slot = slice_index_or s.slots slot []
 
 -- so many bytes of a slot, from an offset on
-abbrev pub bytes_from : Storage → ℕ → ℕ → ℕ → List ℕ
+abbrev pub bytes_from : StoredSlots → ℕ → ℕ → ℕ → List ℕ
 bytes_from s slot offset count = slice_range (slot_bytes s slot) offset (offset + count)
 
 -- bytes with others put over them from an offset on
@@ -36,8 +39,8 @@ abbrev pub overwritten : List ℕ → ℕ → List ℕ → List ℕ
 overwritten bytes offset written = take offset bytes ++ written ++ drop (offset + length written) bytes
 
 -- the storage with bytes put over those of a slot, from an offset on
-abbrev pub with_bytes : Storage → ℕ → ℕ → List ℕ → Storage
-with_bytes s slot offset written = record s {
+abbrev pub with_slot_bytes : StoredSlots → ℕ → ℕ → List ℕ → StoredSlots
+with_slot_bytes s slot offset written = record s {
   slots = slice_set s.slots slot (overwritten (slot_bytes s slot) offset written);
 }
 

@@ -1,6 +1,6 @@
 //! What a device tells a process.
 use arrayvec::ArrayVec;
-use tk_base::ProcessId;
+use tk_base::{ProcessId, RING_SIZE};
 
 /// An answer of a device, and whose request it serves.
 #[derive(Debug, PartialEq, Eq, Drop)]
@@ -17,7 +17,7 @@ pub enum Kind {
     /// The UART has taken all bytes of a write.
     WriteDone,
     /// Bytes came in, the oldest first; a read has them.
-    Input(ArrayVec<u8, 256>),
+    Input(ArrayVec<u8, RING_SIZE>),
     /// The next random word.
     Word(u32),
     /// A request for random bytes took no word.

@@ -2,7 +2,7 @@
 ghost use Rattle.std.specs.Prelude.{◌≡◌, ◌<◌, drop, length};
 ghost use Rattle.std.specs.Option.{option_map};
 ghost use Rattle.board_devices.specs.SerialLine.{with_input};
-ghost use Rattle.board_devices.specs.Arriving.{is_time, next_time, with_first};
+ghost use Rattle.board_devices.specs.Arriving.{is_time, first_arrival_time, with_first_arrived};
 
 use crate::uart::Uart;
 use script_text::{EventList, TimedEvent};
@@ -25,9 +25,9 @@ fn push_into(uart: &mut Uart, event: &TimedEvent)
 
 impl Model for Arrivals {
     ghost use Rattle.std.specs.Prelude.{List, ◌≤◌, drop, length};
-    ghost use Rattle.script_text.specs.Settings.{Event};
+    ghost use Rattle.script_text.specs.Settings.{ScriptEvent};
 
-    ghost Value = { List Event };
+    ghost Value = { List ScriptEvent };
 
     ghost view = { λ a. drop a.come a.events };
 
@@ -44,7 +44,7 @@ impl Arrivals {
 
     /// The time, in ticks, at which the next bytes come in. None exactly where none are left.
     pub fn next_time(&self) -> Option<u32>
-        ensures { result ≡ next_time self.now }
+        ensures { result ≡ first_arrival_time self.now }
     {
         let next = self.events.as_slice().get(self.come)?;
         Some(next.time)
@@ -64,7 +64,7 @@ impl Arrivals {
     pub fn arrive(&mut self, uart: &mut Uart)
         requires { 0 < length self.old }
         ensures left { self.new ≡ drop 1 self.old }
-        ensures line { uart.new ≡ with_first self.old uart.old }
+        ensures line { uart.new ≡ with_first_arrived self.old uart.old }
     {
         let event = &self.events.as_slice()[self.come];
         push_into(uart, event);

@@ -1,32 +1,35 @@
 //! The LEDs.
 ghost use Rattle.std.specs.Prelude.{◌≡◌, ◌==◌, ◌<◌, ◌≤◌, false, length, replicate, slice_index_or, slice_set};
+ghost use Rattle.tk_base.specs.declared.limits.TheConstants.{LED_LIMIT};
 
 use arrayvec::ArrayVec;
 use std::marker::Model;
+use tk_base::LED_LIMIT;
 
-/// The LEDs of the board, at most 16. Contracts see the list of whether each is on, LED 0 first.
+/// The LEDs of the board, at most [`LED_LIMIT`]. Contracts see the list of whether each is on, LED 0 first.
 #[derive(Drop)]
 pub struct Leds {
-    lit: ArrayVec<bool, 16>,
+    lit: ArrayVec<bool, LED_LIMIT>,
 }
 
 impl Model for Leds {
     ghost use Rattle.std.specs.Prelude.{Bool, List, ◌≤◌, length};
+    ghost use Rattle.tk_base.specs.declared.limits.TheConstants.{LED_LIMIT};
 
     ghost Value = { List Bool };
 
     ghost view = { λ l. l.lit.items };
 
-    ghost invariant = { λ l. length l.lit.items ≤ 16 };
+    ghost invariant = { λ l. length l.lit.items ≤ LED_LIMIT };
 }
 
 impl Leds {
-    /// So many LEDs, at most 16, which are off.
+    /// So many LEDs, at most [`LED_LIMIT`], which are off.
     pub fn new(n: u32) -> Leds
-        requires { n ≤ 16 }
+        requires { n ≤ LED_LIMIT }
         ensures { result ≡ replicate n false }
     {
-        let mut lit = ArrayVec::from([false; 16]);
+        let mut lit = ArrayVec::from([false; LED_LIMIT]);
         lit.truncate(n as usize);
         Leds { lit }
     }
@@ -34,7 +37,7 @@ impl Leds {
     /// How many LEDs there are.
     pub fn len(&self) -> u32
         ensures number { result ≡ length self.now }
-        ensures few { result ≤ 16 }
+        ensures few { result ≤ LED_LIMIT }
     {
         self.lit.len() as u32
     }

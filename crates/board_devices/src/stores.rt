@@ -5,7 +5,7 @@ ghost use Rattle.board_devices.specs.Storage.{overwritten, fresh_slots};
 use arrayvec::ArrayVec;
 use std::alloc::{AllocError, Global};
 use std::marker::Model;
-use tk_base::Slot;
+use tk_base::{FAULT_LIMIT, SLOT_COUNT, Slot};
 use tk_outside::NoMemory;
 
 /// The value of a byte that was never written, as flash has it after it was erased.
@@ -70,13 +70,13 @@ pub struct Stores {
     slots: Vec<Store>,
     size: u32,
     served: u64,
-    faults: ArrayVec<u32, 64>,
+    faults: ArrayVec<u32, FAULT_LIMIT>,
 }
 
 impl Model for Stores {
-    ghost use Rattle.board_devices.specs.Storage.{Storage, AreSized};
+    ghost use Rattle.board_devices.specs.Storage.{StoredSlots, AreSized};
 
-    ghost Value = { Storage };
+    ghost Value = { StoredSlots };
 
     ghost view = { λ s. record {
       slots = s.slots.items;
@@ -93,7 +93,7 @@ fn erased_slots(alloc: Global, size: usize) -> Result<Vec<Store>, AllocError>
     ensures { IfOk result (λ slots. slots.items ≡ fresh_slots size) }
 {
     let mut slots = Vec::new(alloc);
-    for _ in 0..Slot::COUNT {
+    for _ in 0..SLOT_COUNT {
         slots.push(Store::new(alloc, size)?)?;
     }
     Ok(slots)
@@ -101,12 +101,16 @@ fn erased_slots(alloc: Global, size: usize) -> Result<Vec<Store>, AllocError>
 
 impl Stores {
     ghost use Rattle.tk_outside.specs.Count.{counted};
-    ghost use Rattle.board_devices.specs.Storage.{AreSized, fresh_storage, bytes_from, slot_bytes, with_bytes, is_fault};
+    ghost use Rattle.board_devices.specs.Storage.{AreSized, fresh_storage, bytes_from, slot_bytes, with_slot_bytes, is_fault};
 
-    /// The storage of eight slots with so many bytes each, which are 0xFF, before the first request.
+    /// The storage of all slots with so many bytes each, which are 0xFF, before the first request.
     /// `faults` are the numbers of the requests that fail. It fails where there is no memory for the
     /// bytes.
-    pub fn new(alloc: Global, size: u32, faults: ArrayVec<u32, 64>) -> Result<Stores, NoMemory>
+    pub fn new(
+        alloc: Global,
+        size: u32,
+        faults: ArrayVec<u32, FAULT_LIMIT>,
+    ) -> Result<Stores, NoMemory>
         ensures { IfOk result (λ stores. stores ≡ fresh_storage size faults.items) }
     {
         match erased_slots(alloc, size as usize) {
@@ -127,12 +131,20 @@ impl Stores {
         self.slots[slot.index()].all()
     }
 
-    /// The size of a slot's storage in bytes. Each of the eight slots has so many.
+    /// The size of a slot's storage in bytes. Each slot has so many.
     pub fn size(&self) -> u32
         ensures size { result ≡ self.now.size }
         ensures slots { AreSized result self.now.slots }
     {
         self.size
+    }
+
+    /// Whether the next request that is served is one of those that fail.
+    pub fn fails_next(&self) -> bool
+        ensures { result ≡ is_fault self.now.faults (counted self.now.served) }
+    {
+        let number = self.served.saturating_add(1);
+        self.faults.iter().any(|fault| u64::from(*fault) == number)
     }
 
     /// Counts a request that is served, from 1, and says whether it is one of those that fail. The count
@@ -141,9 +153,9 @@ impl Stores {
         ensures fault { result ≡ is_fault self.old.faults (counted self.old.served) }
         ensures counted { self.new ≡ record self.old { served = counted self.old.served } }
     {
-        let number = self.served.saturating_add(1);
-        self.served = number;
-        self.faults.iter().any(|fault| u64::from(*fault) == number)
+        let fails = self.fails_next();
+        self.served = self.served.saturating_add(1);
+        fails
     }
 
     /// Copies bytes of a slot, from an offset on, as many as the slice has. It asks that they lie in the
@@ -159,7 +171,7 @@ impl Stores {
     /// The other slots have what they had, and nothing else changes.
     pub fn write(&mut self, slot: Slot, offset: u32, from: &[u8])
         requires { offset + length from.now ≤ self.old.size }
-        ensures { self.new ≡ with_bytes self.old slot offset from.now }
+        ensures { self.new ≡ with_slot_bytes self.old slot offset from.now }
     {
         self.slots[slot.index()].write(offset as usize, from);
     }

@@ -1,12 +1,14 @@
 //! The UART.
 ghost use Rattle.std.specs.Prelude.{◌≡◌, ◌≤◌, [], IfOk, drop, length, take};
 
+use arrayvec::ArrayVec;
 use circular_buffer::HeapCircularBuffer;
 use std::alloc::Global;
 use std::marker::Model;
+use tk_base::RING_SIZE;
 use tk_outside::NoMemory;
 
-/// A UART: an input ring of 256 bytes, and a sending half, which is free from some time on. Contracts see
+/// A UART: an input ring of [`RING_SIZE`] bytes, and a sending half, which is free from some time on. Contracts see
 /// the bytes in the ring, the oldest first, beside the free time and the ticks that a byte takes.
 #[derive(Drop)]
 pub struct Uart {
@@ -17,27 +19,26 @@ pub struct Uart {
 
 impl Model for Uart {
     ghost use Rattle.std.specs.Prelude.{◌≡◌};
-    ghost use Rattle.board_devices.specs.SerialLine.{SerialLine, ring_size};
+    ghost use Rattle.tk_base.specs.declared.limits.TheConstants.{RING_SIZE};
+    ghost use Rattle.board_devices.specs.SerialLine.{SerialLine};
 
     ghost Value = { SerialLine };
 
     ghost view = { λ u. record { ring = u.ring.items; ticks = u.ticks; free = u.free } };
 
-    ghost invariant = { λ u. u.ring.capacity ≡ ring_size };
+    ghost invariant = { λ u. u.ring.capacity ≡ RING_SIZE };
 }
 
 impl Uart {
-    ghost use Rattle.board_devices.specs.SerialLine.{ring_size, with_input};
-
-    /// The size of the input ring in bytes.
-    const RING_SIZE: usize = 256;
+    ghost use Rattle.tk_base.specs.declared.limits.TheConstants.{RING_SIZE};
+    ghost use Rattle.board_devices.specs.SerialLine.{with_input};
 
     /// A UART that takes so many ticks to send a byte, is free from time 0 on and has no input. It fails
     /// where there is no memory for the ring.
     pub fn new(alloc: Global, ticks: u32) -> Result<Uart, NoMemory>
         ensures { IfOk result (λ uart. uart ≡ record { ring = []; ticks = ticks; free = 0 }) }
     {
-        match HeapCircularBuffer::with_capacity(alloc, Self::RING_SIZE) {
+        match HeapCircularBuffer::with_capacity(alloc, RING_SIZE) {
             Ok(ring) => Ok(Uart {
                 ring,
                 ticks,
@@ -79,9 +80,27 @@ impl Uart {
     /// How many bytes are in the ring.
     pub fn held(&self) -> usize
         ensures number { result ≡ length self.now.ring }
-        ensures most { result ≤ ring_size }
+        ensures most { result ≤ RING_SIZE }
     {
         self.ring.len()
+    }
+
+    /// All bytes of the ring, the oldest first. They stay there.
+    pub fn peek(&self) -> ArrayVec<u8, 256>
+        ensures { result.items ≡ self.now.ring }
+    {
+        let mut bytes = ArrayVec::new();
+        if self.held() == 0 {
+            return bytes;
+        }
+        let (older, newer) = self.ring.as_slices();
+        let Ok(()) = bytes.try_extend_from_slice(older) else {
+            unreachable!()
+        };
+        let Ok(()) = bytes.try_extend_from_slice(newer) else {
+            unreachable!()
+        };
+        bytes
     }
 
     /// Moves the oldest bytes of the ring to a slice, as many as it has room for. It asks that the ring

@@ -2,7 +2,8 @@
 use Rattle.std.specs.Prelude.{ℕ, ◌+◌, ◌-◌, ◌≤◌, List, ◌++◌, length, take, drop, replicate, slice_range}
 use Rattle.std.specs.List.{refill}
 use Rattle.tk_base.specs.declared.access.TheConstants.{FLASH_START, RAM_START}
-use Rattle.process_layout.specs.Extents.{Extents}
+use Rattle.process_layout.specs.LayoutView.{LayoutView}
+use Rattle.tk_base.specs.Bytes.{over}
 
 -- the bytes of flash and of RAM
 pub record MemoryBytes : Type 0 where
@@ -10,7 +11,7 @@ pub record MemoryBytes : Type 0 where
   pub ram : List ℕ
 
 -- the accessible flash lies in flash, and the block in RAM
-pub record IsPlaced (e : Extents) (m : MemoryBytes) : Type 0 where
+pub record IsPlaced (e : LayoutView) (m : MemoryBytes) : Type 0 where
   pub flash_from : FLASH_START ≤ e.flash_start
   pub flash_to : e.flash_end ≤ FLASH_START + length m.flash
   pub from : RAM_START ≤ e.start
@@ -21,16 +22,12 @@ abbrev pub ram_between : List ℕ → ℕ → ℕ → List ℕ
 ram_between ram from to = slice_range ram (from - RAM_START) (to - RAM_START)
 
 -- the bytes of a layout's accessible flash
-abbrev pub accessible_flash : Extents → List ℕ → List ℕ
+abbrev pub accessible_flash : LayoutView → List ℕ → List ℕ
 accessible_flash e flash = slice_range flash (e.flash_start - FLASH_START) (e.flash_end - FLASH_START)
 
--- bytes with others written over them from a place on
-abbrev pub over : List ℕ → ℕ → List ℕ → List ℕ
-over bytes at others = take at bytes ++ (others ++ drop (length others) (drop at bytes))
-
 -- memory with a block of zeros
-abbrev pub cleared : Extents → MemoryBytes → MemoryBytes
-cleared e m = record m { ram = over m.ram (e.start - RAM_START) (replicate (e.end - e.start) 0) }
+abbrev pub block_cleared : LayoutView → MemoryBytes → MemoryBytes
+block_cleared e m = record m { ram = over m.ram (e.start - RAM_START) (replicate (e.end - e.start) 0) }
 
 -- memory with bytes written over RAM from an address on; RAM keeps its length
 abbrev pub with_run : MemoryBytes → ℕ → List ℕ → MemoryBytes

@@ -8,9 +8,9 @@ use crate::parts::Block;
 use crate::view::View;
 use pmp_regions::Pmp;
 use process_layout::Layout;
-use std::alloc::{AllocError, Global};
+use std::alloc::Global;
 use std::marker::Model;
-use tk_base::{Addr, FLASH_START, RAM_START};
+use tk_base::{Addr, FLASH_START, NoMemory, RAM_START};
 
 /// The board's memory: flash, whose first byte has the address [`FLASH_START`], and RAM, whose first byte
 /// has the address [`RAM_START`]. All processes have their blocks in the one RAM.
@@ -30,11 +30,11 @@ impl Model for Memory {
 
 impl Memory {
     ghost use Rattle.board_memory.specs.Lending.{LendsView, LendsBlock, LendsPart};
-    ghost use Rattle.board_memory.specs.Memory.{IsPlaced, cleared, ram_between, accessible_flash};
+    ghost use Rattle.board_memory.specs.Memory.{IsPlaced, block_cleared, ram_between, accessible_flash};
 
-    /// Memory with these bytes in flash, and so many bytes of RAM, which are 0. It fails where there is no
-    /// memory for them.
-    pub fn new(alloc: Global, flash: Vec<u8>, ram: u32) -> Result<Memory, AllocError>
+    /// Memory with these bytes in flash, and so many bytes of RAM, which are 0. The one error is want
+    /// of memory; flash is dropped then.
+    pub fn new(alloc: Global, flash: Vec<u8>, ram: u32) -> Result<Memory, NoMemory>
         ensures { IfOk result
             (λ memory. memory ≡ record { flash = flash.items; ram = replicate ram 0 }) }
     {
@@ -52,7 +52,7 @@ impl Memory {
     /// Makes every byte of a block 0. Nothing else of memory changes.
     pub fn clear_block(&mut self, layout: &Layout)
         requires { IsPlaced layout.now self.old }
-        ensures { self.new ≡ cleared layout.now self.old }
+        ensures { self.new ≡ block_cleared layout.now self.old }
     {
         let from = (layout.start - RAM_START) as usize;
         let to = (layout.end - RAM_START) as usize;
@@ -76,7 +76,8 @@ impl Memory {
         requires { IsPlaced layout.now self.old }
         ensures* writes_back { sem 𝓛 (LendsBlock self.entry layout.now result) }
         ensures flash { result.flash.now ≡ accessible_flash layout.now self.old.flash }
-        ensures bytes { result.bytes.now ≡ ram_between self.old.ram layout.now.start layout.now.end }
+        ensures bytes { result.bytes.now
+            ≡ ram_between self.old.ram layout.now.start layout.now.end }
         ensures cut { result.cut ≡ layout.now.kernel_break - layout.now.start }
         ensures inside { result.cut ≤ length result.bytes.now }
     {

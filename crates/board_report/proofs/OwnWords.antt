@@ -2,7 +2,8 @@
 use Rattle.std.proofs.Common.{◌≡◌, ℕ, List, [], ◌∷◌, find, Option, Some, option_map, refl, sym, ap, ◌∙◌}
 use Rattle.std.specs.Prelude.{bytes_eq, codes}
 use Rattle.tk_base.specs.declared.access.Rule.{Rule}
-use Rattle.tk_base.specs.declared.access.Rule.TheVariants.{NoRegion, NoExecute, NoWrite, NoRead, Misaligned, Illegal, Breakpoint, UnknownClass}
+use Rattle.tk_base.specs.declared.access.Rule.TheVariants.{NoRegion, NoExecute, NoWrite, NoRead, Misaligned, Illegal}
+use Rattle.tk_base.specs.declared.access.Rule.TheVariants.{Breakpoint, UnknownClass}
 use Rattle.tk_base.specs.declared.call.CallRule.{CallRule}
 use Rattle.tk_base.specs.declared.call.CallRule.TheVariants as calls
 use Rattle.board_report.specs.Words.{call_rule_text, rule_text}
@@ -13,7 +14,9 @@ abbrev read_as : {R : Type 0} → (R → List ℕ) → List R → List ℕ → O
 read_as text rules word = find (λ rule. bytes_eq (text rule) word) rules
 
 abbrev call_rules : List CallRule
-call_rules = calls.Permission ∷ calls.NoDriver ∷ calls.NoNumber ∷ calls.NoCommand ∷ calls.NoOperation ∷ calls.Outside ∷ calls.Range ∷ calls.NoRoom ∷ calls.Break ∷ calls.Busy ∷ calls.Empty ∷ calls.Nothing ∷ calls.Index ∷ []
+call_rules =
+    calls.Permission ∷ calls.NoDriver ∷ calls.NoNumber ∷ calls.NoCommand ∷ calls.NoOperation ∷ calls.Outside
+    ∷ calls.Range ∷ calls.NoRoom ∷ calls.Break ∷ calls.Busy ∷ calls.Empty ∷ calls.Nothing ∷ calls.Index ∷ []
 
 abbrev access_rules : List Rule
 access_rules = NoRegion ∷ NoExecute ∷ NoWrite ∷ NoRead ∷ Misaligned ∷ Illegal ∷ Breakpoint ∷ UnknownClass ∷ []

@@ -1,4 +1,5 @@
--- The text of `tock list`: a line for each object of a flash image, and how many there are.
+-- The text of `tock list`: a line for each object of a flash image, and how many there are. Its form is this tool's
+-- own.
 use Rattle.std.specs.Prelude.{ℕ, List, ◌++◌, length, codes, decimal}
 use Rattle.std.specs.List.{flat_map}
 use Rattle.tbf_headers.specs.declared.fault.HeaderFault.{HeaderFault}
@@ -19,6 +20,7 @@ bad_text Sizes = codes "bad-sizes"
 bad_text Checksum = codes "bad-checksum"
 bad_text (Tlv at) = codes "bad-tlv"
 
+-- the word of a verdict, with the fault of a header
 abbrev pub verdict_text : Verdict → List ℕ
 verdict_text (Bad fault) = bad_text fault
 verdict_text Padding = codes "padding"

@@ -1,5 +1,6 @@
--- The text of the report.
-use Rattle.std.specs.Prelude.{ℕ, ◌+◌, ◌/◌, ◌%◌, ◌^◌, ◌==◌, if◌then◌else◌, List, [], ◌∷◌, ◌++◌, map, codes, decimal, Option, None, Some}
+-- The text of the report. Its form is this tool's own.
+use Rattle.std.specs.Prelude.{ℕ, ◌+◌, ◌/◌, ◌%◌, ◌^◌, ◌==◌, if◌then◌else◌, List, [], ◌∷◌, ◌++◌, map, codes, decimal}
+use Rattle.std.specs.Prelude.{Option, None, Some}
 use Rattle.std.specs.List.{flat_map, range_with_len}
 use Rattle.tk_base.specs.declared.access.Denial.{Denial}
 use Rattle.tk_outside.specs.Text.{hex_digits}
@@ -7,7 +8,7 @@ use Rattle.process_record.specs.declared.process.State.{State}
 use Rattle.process_record.specs.declared.process.State.TheVariants.{Running, Yielded, Faulted, Terminated}
 use Rattle.process_record.specs.declared.summary.SlotLine.{SlotLine}
 use Rattle.process_record.specs.declared.summary.Summary.{Summary}
-use Rattle.process_record.specs.declared.summary.Unplaced.{Unplaced}
+use Rattle.process_record.specs.Summary.{Unplaced}
 use Rattle.board_report.specs.Words.{newline, access_text, rule_text, fault_text, name_text}
 use Rattle.board_report.specs.declared.report.End.{End}
 use Rattle.board_report.specs.declared.report.End.TheVariants.{Done, Turns}
@@ -18,6 +19,7 @@ denial_text None = []
 denial_text (Some d) =
     codes " " ++ (access_text d.access ++ (codes " " ++ (hex_digits 8 d.address ++ (codes " " ++ rule_text d.rule))))
 
+-- the state of a process: of one that faulted with its last denial, of one that ended with its code
 abbrev pub state_text : State → Option Denial → List ℕ
 state_text Running denial = codes "running"
 state_text Yielded denial = codes "yielded"
@@ -32,14 +34,15 @@ dropped_text dropped = if dropped == 0 then [] else codes " dropped " ++ decimal
 abbrev pub slot_head : ℕ → SlotLine → List ℕ
 slot_head slot line = codes "slot " ++ (decimal slot ++ (codes " " ++ (name_text line.name.items ++ codes " ")))
 
-abbrev pub slot_turns : SlotLine → List ℕ
-slot_turns line = codes " turns " ++ (decimal line.turns ++ (codes " restarts " ++ decimal line.restarts))
+-- how many turns a process had, and how often it was started again
+abbrev pub turns_text : SlotLine → List ℕ
+turns_text line = codes " turns " ++ (decimal line.turns ++ (codes " restarts " ++ decimal line.restarts))
 
 -- the line of a slot
 unfoldable pub slot_text : ℕ → SlotLine → List ℕ
 slot_text slot line =
     slot_head slot line ++ (state_text line.state line.denial
-    ++ (slot_turns line ++ (dropped_text line.dropped ++ newline)))
+    ++ (turns_text line ++ (dropped_text line.dropped ++ newline)))
 
 -- the lines of the slots from one on
 abbrev pub slot_texts : ℕ → List SlotLine → List ℕ
@@ -48,8 +51,9 @@ slot_texts slot (line ∷ lines) = slot_text slot line ++ slot_texts (slot + 1) 
 
 -- the line of an application that was not placed
 unfoldable pub unplaced_text : Unplaced → List ℕ
-unplaced_text u = codes "unplaced " ++ (decimal u.offset ++ (codes " " ++ (fault_text u.fault ++ newline)))
+unplaced_text u = codes "unplaced " ++ (decimal u.0 ++ (codes " " ++ (fault_text u.1 ++ newline)))
 
+-- the lines of the applications that have no place
 abbrev pub unplaced_texts : List Unplaced → List ℕ
 unplaced_texts us = flat_map unplaced_text us
 
@@ -69,14 +73,15 @@ led_list leds count = if count == 0 then codes "-" else led_texts leds count
 unfoldable pub leds_text : ℕ → ℕ → List ℕ
 leds_text leds count = codes "leds " ++ (led_list leds count ++ newline)
 
-abbrev pub end_text : End → List ℕ
-end_text Done = codes "done"
-end_text Turns = codes "turns"
+-- how the run ended: nothing was left to do, or the turns were made that were asked for
+abbrev pub end_words : End → List ℕ
+end_words Done = codes "done"
+end_words Turns = codes "turns"
 
 -- the line of the end
 unfoldable pub end_line : End → ℕ → ℕ → List ℕ
 end_line end steps time =
-    codes "end " ++ (end_text end ++ (codes " steps "
+    codes "end " ++ (end_words end ++ (codes " steps "
     ++ (decimal steps ++ (codes " time " ++ (decimal time ++ newline)))))
 
 -- the whole report

@@ -1,4 +1,5 @@
--- The text of a trace: the lines of a step, which tell the call or the denial in it and what it printed.
+-- The text of a trace: the lines of a step, which tell the call or the denial in it and what it printed. Its form is
+-- this tool's own.
 use Rattle.std.specs.Prelude.{ℕ, ◌==◌, if◌then◌else◌, List, [], ◌++◌, length, codes, decimal, Option, None, Some}
 use Rattle.std.specs.List.{flat_map}
 use Rattle.tk_base.specs.declared.access.Denial.{Denial}
@@ -17,6 +18,7 @@ line_head time slot kind = codes "@" ++ (decimal time ++ (codes " " ++ (decimal 
 abbrev pub register_text : ℕ → List ℕ
 register_text register = codes " " ++ hex_digits 8 register
 
+-- the registers of a call, or of its reply, one after another
 abbrev pub registers_text : List ℕ → List ℕ
 registers_text registers = flat_map register_text registers
 
@@ -54,10 +56,12 @@ abbrev pub call_text : ℕ → ℕ → Option CallMade → List ℕ
 call_text time slot None = []
 call_text time slot (Some call) = call_line time slot call
 
+-- the line of a denial, if the step was denied something
 abbrev pub denied_text : ℕ → ℕ → Option Denial → List ℕ
 denied_text time slot None = []
 denied_text time slot (Some denial) = denial_line time slot denial
 
+-- the line of what was printed, if anything was
 abbrev pub out_text : ℕ → ℕ → List ℕ → List ℕ
 out_text time slot bytes = if length bytes == 0 then [] else out_line time slot bytes
 
@@ -66,10 +70,10 @@ abbrev pub turn_text : ℕ → ℕ → Option CallMade → Option Denial → Lis
 turn_text time slot call denial = call_text time slot call ++ denied_text time slot denial
 
 -- the lines of a step of a slot that began at a time
-abbrev pub lines_of : ℕ → Option ℕ → Emit → List ℕ
-lines_of time None step = []
-lines_of time (Some slot) step = turn_text time slot step.made step.denial ++ out_text time slot step.printed.items
+abbrev pub lines_of_step : ℕ → Option ℕ → Emit → List ℕ
+lines_of_step time None step = []
+lines_of_step time (Some slot) step = turn_text time slot step.made step.denial ++ out_text time slot step.printed.items
 
 -- the lines of a step that began at a time, by what it shows; a step of nobody has none
 unfoldable pub trace_text : ℕ → Emit → List ℕ
-trace_text time step = lines_of time step.slot step
+trace_text time step = lines_of_step time step.slot step

@@ -1,9 +1,10 @@
--- The words of the report and of the trace.
+-- The words of the report and of the trace. They are this tool's own.
 use Rattle.std.specs.Prelude.{ℕ, ◌&&◌, nat_le, if◌then◌else◌, List, [], ◌∷◌, map, codes}
 use Rattle.tk_base.specs.declared.access.Access.{Access}
 use Rattle.tk_base.specs.declared.access.Access.TheVariants.{Fetch, Load, Store}
 use Rattle.tk_base.specs.declared.access.Rule.{Rule}
-use Rattle.tk_base.specs.declared.access.Rule.TheVariants.{NoRegion, NoExecute, NoWrite, NoRead, Misaligned, Illegal, Breakpoint, UnknownClass}
+use Rattle.tk_base.specs.declared.access.Rule.TheVariants.{NoRegion, NoExecute, NoWrite, NoRead, Misaligned, Illegal}
+use Rattle.tk_base.specs.declared.access.Rule.TheVariants.{Breakpoint, UnknownClass}
 use Rattle.tk_base.specs.declared.call.CallRule.{CallRule}
 use Rattle.tk_base.specs.declared.call.CallRule.TheVariants as calls
 use Rattle.tk_base.specs.declared.process.PlaceFault.{PlaceFault}
@@ -13,11 +14,13 @@ use Rattle.tk_base.specs.declared.process.PlaceFault.TheVariants.{NoSlot, FixedT
 abbrev pub newline : List ℕ
 newline = 10 ∷ []
 
+-- the word of a kind of access
 abbrev pub access_text : Access → List ℕ
 access_text Fetch = codes "fetch"
 access_text Load = codes "load"
 access_text Store = codes "store"
 
+-- the word of the rule by which an access or an instruction is denied
 abbrev pub rule_text : Rule → List ℕ
 rule_text NoRegion = codes "no-region"
 rule_text NoExecute = codes "no-execute"
@@ -28,11 +31,13 @@ rule_text Illegal = codes "illegal"
 rule_text Breakpoint = codes "breakpoint"
 rule_text UnknownClass = codes "unknown-class"
 
+-- the word of the cause for which an application has no place
 abbrev pub fault_text : PlaceFault → List ℕ
 fault_text NoSlot = codes "no-slot"
 fault_text FixedTaken = codes "fixed-taken"
 fault_text NoRoom = codes "no-room"
 
+-- the word of the rule by which a call is refused
 abbrev pub call_rule_text : CallRule → List ℕ
 call_rule_text calls.Permission = codes "permission"
 call_rule_text calls.NoDriver = codes "no-driver"

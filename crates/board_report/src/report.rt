@@ -3,12 +3,12 @@
 ghost use Rattle.std.specs.Prelude.{◌≡◌, ◌++◌, codes, decimal};
 ghost use Rattle.tk_outside.specs.Writes.{Writes};
 ghost use Rattle.board_report.specs.Words.{newline};
-ghost use Rattle.board_report.specs.Report.{denial_text, state_text, dropped_text, slot_head, slot_turns, slot_text, slot_texts, unplaced_text, unplaced_texts, led_text, led_texts, led_list, leds_text, end_text, end_line, report_text};
+ghost use Rattle.board_report.specs.Report.{denial_text, state_text, dropped_text, slot_head, turns_text, slot_text, slot_texts, unplaced_text, unplaced_texts, led_text, led_texts, led_list, leds_text, end_words, end_line, report_text};
 
 use crate::words::{access_word, fault_word, rule_word, shown_name};
 use itoa::Buffer;
-use process_record::{SlotLine, State, Summary, Unplaced};
-use tk_base::Denial;
+use process_record::{SlotLine, State, Summary};
+use tk_base::{Denial, PlaceFault};
 use tk_outside::{Failed, Sink, hex_text, put_all, put_number, put_pieces, writes_compose};
 
 /// How a run ended.
@@ -98,7 +98,7 @@ fn write_dropped<K: Sink>(out: &mut K, dropped: u32) -> Result<(), Failed>
 
 /// Writes how many turns and restarts there were.
 fn write_turns<K: Sink>(out: &mut K, line: &SlotLine) -> Result<(), Failed>
-    ensures { Writes K.tells out.old out.new (slot_turns line.now) result }
+    ensures { Writes K.tells out.old out.new (turns_text line.now) result }
 {
     let mut turns = Buffer::new();
     let mut restarts = Buffer::new();
@@ -138,24 +138,25 @@ fn write_slots<K: Sink>(out: &mut K, lines: &[SlotLine]) -> Result<(), Failed>
 
 /// Writes the line of an application that was not placed.
 #[tactic(auto, unfolding(crate::specs::Report::unplaced_text))]
-fn write_unplaced<K: Sink>(out: &mut K, app: &Unplaced) -> Result<(), Failed>
+fn write_unplaced<K: Sink>(out: &mut K, app: &(u32, PlaceFault)) -> Result<(), Failed>
     ensures { Writes K.tells out.old out.new (unplaced_text app.now) result }
 {
+    let (offset, fault) = *app;
     let mut buffer = Buffer::new();
     put_pieces(
         out,
         &[
             b"unplaced ",
-            buffer.format(app.offset).as_bytes(),
+            buffer.format(offset).as_bytes(),
             b" ",
-            fault_word(app.fault),
+            fault_word(fault),
             b"\n",
         ],
     )
 }
 
 /// Writes the lines of the applications that were not placed.
-fn write_all_unplaced<K: Sink>(out: &mut K, apps: &[Unplaced]) -> Result<(), Failed>
+fn write_all_unplaced<K: Sink>(out: &mut K, apps: &[(u32, PlaceFault)]) -> Result<(), Failed>
     ensures { Writes K.tells out.old out.new (unplaced_texts apps.now) result }
 {
     writes_compose::<K>();
@@ -209,7 +210,7 @@ fn write_leds<K: Sink>(out: &mut K, leds: u32, count: u32) -> Result<(), Failed>
 
 /// The word of an end.
 fn end_word(end: End) -> &'static [u8]
-    ensures { result.now ≡ end_text end }
+    ensures { result.now ≡ end_words end }
 {
     match end {
         End::Done => b"done",

@@ -2,7 +2,7 @@
 ghost use Rattle.std.specs.Prelude.{◌++◌, Some};
 ghost use Rattle.tk_outside.specs.Writes.{Writes};
 ghost use Rattle.board_report.specs.Words.{newline};
-ghost use Rattle.board_report.specs.Trace.{line_head, register_text, registers_text, reply_text, refusal_text, call_line, denial_line, bytes_text, out_line, call_text, denied_text, out_text, lines_of, trace_text};
+ghost use Rattle.board_report.specs.Trace.{line_head, register_text, registers_text, reply_text, refusal_text, call_line, denial_line, bytes_text, out_line, call_text, denied_text, out_text, lines_of_step, trace_text};
 
 use crate::report::write_denial;
 use crate::words::call_rule_word;
@@ -158,7 +158,7 @@ fn write_out<K: Sink>(out: &mut K, time: u64, slot: Slot, step: &Emit) -> Result
 
 /// Writes the lines of a step of a slot.
 fn write_lines<K: Sink>(out: &mut K, time: u64, slot: Slot, step: &Emit) -> Result<(), Failed>
-    ensures { Writes K.tells out.old out.new (lines_of time (Some slot) step.now) result }
+    ensures { Writes K.tells out.old out.new (lines_of_step time (Some slot) step.now) result }
 {
     writes_compose::<K>();
     write_call(out, time, slot, step)?;

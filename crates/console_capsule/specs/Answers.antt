@@ -5,7 +5,8 @@ use Rattle.tk_base.specs.declared.process.ProcessId.{ProcessId}
 use Rattle.board_devices.specs.SerialLine.{SerialLine}
 use Rattle.grant_enter.specs.Homes.{Homes, own_of}
 use Rattle.driver_model.specs.Console.{free_after, received, sent}
-use Rattle.driver_requests.specs.Answers.{Answered}
+use Rattle.driver_model.specs.Told.{received_told, sent_told}
+use Rattle.driver_requests.specs.Answers.{Answered, kinds}
 
 -- whether the UART can take nothing at a time: no write waits, or it is not free yet
 abbrev pub cannot_send : List ProcessId → SerialLine → ℕ → Bool
@@ -16,10 +17,15 @@ abbrev pub cannot_give : List ProcessId → SerialLine → Bool
 cannot_give ids line = is_none (slice_get ids 0) || length line.ring == 0
 
 -- the step of the write of the process of an id, with the bytes that are printed
-abbrev pub sent_by : Homes → ProcessId → Answered (ArrayVec ℕ)
-sent_by home id =
+abbrev pub written_by : Homes → ProcessId → Answered (ArrayVec ℕ)
+written_by home id =
     let s = sent home.flash id.life (own_of home id.slot) in
-    record { own = s.own; device = record { items = s.printed }; completed = s.completed }
+    record {
+      kind = sent_told kinds s;
+      own = s.own;
+      device = record { items = s.printed };
+      completed = s.completed;
+    }
 
 -- the UART after bytes were printed at a time: it is free again once they are sent
 abbrev pub sending_at : ℕ → List ℕ → SerialLine → SerialLine
@@ -30,6 +36,7 @@ abbrev pub received_by : SerialLine → Homes → ProcessId → Answered SerialL
 received_by line home id =
     let r = received line.ring id.life (own_of home id.slot) in
     record {
+      kind = received_told kinds r;
       own = r.own;
       device = record line { ring = drop (length r.moved) line.ring };
       completed = r.completed;

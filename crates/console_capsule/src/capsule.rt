@@ -1,45 +1,38 @@
 //! The console, and who waits for it.
-ghost use Rattle.std.specs.Prelude.{◌≡◌, ◌+◌, ◌*◌, ◌<◌, ◌^◌, [], is_none, slice_get, IfSome};
+ghost use Rattle.std.specs.Prelude.{◌≡◌, ◌+◌, ◌*◌, ◌<◌, ◌^◌, [], is_ok, not, slice_get, IfSome};
+ghost use Rattle.tk_base.specs.declared.limits.TheConstants.{PRINT_LIMIT};
 ghost use Rattle.driver_model.specs.Commands.{Reads, Writes};
 ghost use Rattle.driver_model.specs.Console.{command, console_reads, console_writes};
-ghost use Rattle.driver_requests.specs.Answers.{Answers};
-ghost use Rattle.driver_requests.specs.Asking.{MayAskAt, MayBeTold, Obeys};
-ghost use Rattle.console_capsule.specs.Answers.{cannot_give, cannot_send, received_by, sending_at, sent_by};
+ghost use Rattle.driver_requests.specs.Answers.{AnswersFirst};
+ghost use Rattle.driver_requests.specs.Waiting.{without};
+ghost use Rattle.driver_requests.specs.Asking.{MayAskAt, MayBeTold, Obeys, Replies};
+ghost use Rattle.console_capsule.specs.Answers.{cannot_give, cannot_send, received_by, sending_at, written_by};
 
 use crate::commands::{cancel, read};
 use crate::grants::consoles;
 use crate::writes::keep_busy;
 use arrayvec::ArrayVec;
-use board_devices::Uart;
-use driver_requests::Line;
+use board_devices::{Answer, Uart};
+use driver_model::reply_of;
+use driver_requests::RequestQueue;
 use grant_enter::Home;
 use grant_values::{WaitingRead, WaitingWrite};
 use syscall_abi::Reply;
-use tk_base::{CallRule, ProcessId};
+use tk_base::{CallRule, NotReady, PRINT_LIMIT, ProcessId};
 
 /// The console.
 #[derive(Default, Drop)]
 pub struct ConsoleCapsule {
     /// The processes whose write waits.
-    pub writes: Line<WaitingWrite>,
+    pub writes: RequestQueue<WaitingWrite>,
     /// The processes whose read waits.
-    pub reads: Line<WaitingRead>,
+    pub reads: RequestQueue<WaitingRead>,
 }
 
 impl ConsoleCapsule {
-    /// Serves a command of the process of an id to the console (TRD 104, "Command"): the reply, or the rule that
-    /// refuses it. 0 asks whether the driver is there. 1 asks to write `count` bytes, 2 to read as many; the
-    /// process then waits, after all others that do. 2 is refused with [`CallRule::Empty`] where `count` is 0;
-    /// both with [`CallRule::Busy`] where a request of that kind of the process waits already, else with
-    /// [`CallRule::NoRoom`] where there is no room for its grant. 3 drops the read that waits, of which upcall 2
-    /// tells that it was cancelled; it is refused with [`CallRule::Nothing`] where none waits. Any other number
-    /// is refused with [`CallRule::NoCommand`]. Nothing of another process changes, and nothing at all where it
-    /// is refused.
-    ///
-    /// It asks that the process is there, that it waits only where it has a request, and that its count of
-    /// dropped upcalls has room for one more.
+    /// A command of the process of an id to the console: the reply, or the rule that refuses it.
     #[tactic(auto, unfolding(driver_model::specs::Console::command, driver_model::specs::Console::commands))]
-    pub fn command(
+    fn obey(
         &mut self,
         home: &mut Home,
         id: ProcessId,
@@ -69,37 +62,67 @@ impl ConsoleCapsule {
         }
     }
 
+    /// Serves a command of the process of an id to the console (TRD 104, "Command"): the reply, and the rule that
+    /// refuses it, if one does. 0 asks whether the driver is there. 1 asks to write `count` bytes, 2 to read as many;
+    /// the process then waits, after all others that do. 2 is refused with [`CallRule::Empty`] where `count` is 0; both
+    /// with [`CallRule::Busy`] where a request of that kind of the process waits already, else with
+    /// [`CallRule::NoRoom`] where there is no room for its grant. 3 drops the read that waits, of which upcall 2 tells
+    /// that it was cancelled; it is refused with [`CallRule::Nothing`] where none waits. Any other number is refused
+    /// with [`CallRule::NoCommand`]. Nothing of another process changes, and nothing at all where it is refused.
+    ///
+    /// It asks that the process is there, that it waits only where it has a request, and that its count of
+    /// dropped upcalls has room for one more.
+    pub fn command(
+        &mut self,
+        home: &mut Home,
+        id: ProcessId,
+        number: u32,
+        count: u32,
+    ) -> (Reply, Option<CallRule>)
+        requires writes { MayAskAt console_writes self.old.writes home.old id }
+        requires reads { MayAskAt console_reads self.old.reads home.old id }
+        requires told { MayBeTold home.old id }
+        ensures writes { Replies Writes id (command number count) self.old.writes home.old
+            result self.new.writes home.new }
+        ensures reads { Replies Reads id (command number count) self.old.reads home.old
+            result self.new.reads home.new }
+    {
+        reply_of(self.obey(home, id, number, count))
+    }
+
     /// Has the UART take a step of the write that waits longest, at a time: it takes the next bytes out of the
-    /// buffer that the process has allowed now, at most 64, and `printed` is then those; it is free again once
+    /// buffer that the process has allowed now, at most [`PRINT_LIMIT`], and `printed` is then those; it is free again once
     /// they are sent. Where none is left the write completes: upcall 1 has the count of bytes that were taken, 0
     /// and 0, and the process waits no more. As many bytes are taken as were asked for, and no more than the
     /// buffer has. Nothing changes where the process is not there in that life, or has no write; and nothing of
-    /// another slot. The answer is whom it served; None exactly where no write waits or the UART is not free yet.
+    /// another slot. The answer is whom it served, and what it told it: that the UART took the next bytes, or has
+    /// taken all. [`NotReady`] comes exactly where no write waits or the UART is not free yet, and then nothing
+    /// changes.
     ///
     /// It asks that the slot of the first is one of the home's, that its count of dropped upcalls has room for
-    /// one more, that `printed` is empty, and that the time at which 64 bytes are sent is below 2^64.
+    /// one more, that `printed` is empty, and that the time at which so many bytes are sent is below 2^64.
     pub fn transmit(
         &mut self,
         home: &mut Home,
         uart: &mut Uart,
         time: u64,
-        printed: &mut ArrayVec<u8, 64>,
-    ) -> Option<ProcessId>
+        printed: &mut ArrayVec<u8, PRINT_LIMIT>,
+    ) -> Result<Answer, NotReady>
         requires told { IfSome (slice_get self.old.writes 0) (MayBeTold home.old) }
         requires empty { printed.old.items ≡ [] }
-        requires time { time + 64 * uart.old.ticks < 2 ^ 64 }
-        ensures none { is_none result ≡ cannot_send self.old.writes uart.old time }
-        ensures answers { Answers (sent_by home.old) self.old.writes printed.old home.old result
-            self.new.writes printed.new home.new }
+        requires time { time + PRINT_LIMIT * uart.old.ticks < 2 ^ 64 }
+        ensures ready { is_ok result ≡ not (cannot_send self.old.writes uart.old time) }
+        ensures answers { AnswersFirst (written_by home.old) self.old.writes printed.old home.old
+            result self.new.writes printed.new home.new }
         ensures uart { uart.new ≡ sending_at time printed.new.items uart.old }
         ensures reads { self.new.reads ≡ self.old.reads }
     {
         if time < uart.free() {
-            return None;
+            return Err(NotReady);
         }
-        let id = self.writes.answer::<ConsoleCapsule>(home, printed)?;
+        let answer = self.writes.answer::<ConsoleCapsule>(home, printed)?;
         keep_busy(uart, time, printed);
-        Some(id)
+        Ok(answer)
     }
 
     /// Moves the oldest bytes that came in to the read that waits longest, to the start of the buffer that the
@@ -107,20 +130,31 @@ impl ConsoleCapsule {
     /// completes: upcall 2 has a status, the count of bytes and 0, and the process waits no more. The status is 0,
     /// or that of TRD 104, "Error codes", for a size where the buffer has no bytes; then no byte is moved. Nothing
     /// changes where the process is not there in that life, or has no read; and nothing of another slot. The
-    /// answer is whom it served; None exactly where no read waits or nothing came in.
+    /// answer is whom it served, and the bytes. [`NotReady`] comes exactly where no read waits or nothing came in, and
+    /// then nothing changes.
     ///
     /// It asks that the slot of the first is one of the home's, and that its count of dropped upcalls has room
     /// for one more.
-    pub fn receive(&mut self, home: &mut Home, uart: &mut Uart) -> Option<ProcessId>
+    pub fn receive(&mut self, home: &mut Home, uart: &mut Uart) -> Result<Answer, NotReady>
         requires told { IfSome (slice_get self.old.reads 0) (MayBeTold home.old) }
-        ensures none { is_none result ≡ cannot_give self.old.reads uart.old }
-        ensures answers { Answers (received_by uart.old home.old) self.old.reads uart.old home.old result
-            self.new.reads uart.new home.new }
+        ensures ready { is_ok result ≡ not (cannot_give self.old.reads uart.old) }
+        ensures answers { AnswersFirst (received_by uart.old home.old) self.old.reads uart.old
+            home.old result self.new.reads uart.new home.new }
         ensures writes { self.new.writes ≡ self.old.writes }
     {
         if uart.held() == 0 {
-            return None;
+            return Err(NotReady);
         }
         self.reads.answer::<ConsoleCapsule>(home, uart)
+    }
+
+    /// The process of an id ended, or starts again: no write and no read of it waits any more. The others keep their
+    /// order.
+    pub fn gone(&mut self, id: ProcessId)
+        ensures writes { self.new.writes ≡ without id.slot self.old.writes }
+        ensures reads { self.new.reads ≡ without id.slot self.old.reads }
+    {
+        self.writes.leave(id.slot);
+        self.reads.leave(id.slot);
     }
 }

@@ -3,11 +3,11 @@ ghost use Rattle.std.specs.Prelude.{◌≡◌, is_some, true};
 ghost use Rattle.grant_enter.specs.Homes.{own_of, ChangesOnly};
 ghost use Rattle.driver_model.specs.Commands.{Reads};
 ghost use Rattle.driver_model.specs.Requests.{request_in, waiting_of};
-ghost use Rattle.driver_model.specs.Console.{cancelling, console_reads, reading, without_read};
+ghost use Rattle.driver_model.specs.Console.{cancelling, console, console_reads, asking_to_read, without_read};
 ghost use Rattle.driver_requests.specs.Asking.{IsPresent, MayAskAt, MayBeTold, Obeys};
 
-use crate::grants::consoles;
-use driver_requests::{Line, has_request};
+use crate::grants::{READ_ONLY, READ_WRITE, UPCALLS, consoles};
+use driver_requests::{RequestQueue, has_request};
 use grant_enter::{Entered, Home, Visit, frames_join};
 use grant_values::{Console, WaitingRead};
 use syscall_abi::Reply;
@@ -15,13 +15,14 @@ use tk_base::{CallRule, ErrorCode, ProcessId};
 
 /// A process asks to read so many bytes: where its request begins to wait it is put last.
 pub(crate) fn read(
-    waiting: &mut Line<WaitingRead>,
+    waiting: &mut RequestQueue<WaitingRead>,
     home: &mut Home,
     id: ProcessId,
     count: u32,
 ) -> Result<Reply, CallRule>
     requires { MayAskAt console_reads waiting.old home.old id }
-    ensures { Obeys Reads id (reading count) waiting.old home.old result waiting.new home.new }
+    ensures { Obeys Reads id (asking_to_read count) waiting.old home.old result waiting.new
+        home.new }
 {
     if count == 0 {
         return Err(CallRule::Empty);
@@ -36,21 +37,21 @@ struct DropRead;
 impl Visit<Console> for DropRead {
     ghost use Rattle.std.specs.Prelude.{◌≡◌, ◌+◌, ◌<◌, ◌^◌, [], ◌∷◌, None};
     ghost use Rattle.tk_base.specs.Call.{code_of};
-    ghost use Rattle.tk_base.specs.declared.call.ErrorCode.TheVariants.{Cancel};
-    ghost use Rattle.process_own.specs.Served.{scheduled};
+    ghost use Rattle.tk_base.specs.declared.call.ErrorCode.TheVariants.{CANCEL};
+    ghost use Rattle.process_model.specs.Served.{own_scheduled};
 
     type Answer = ();
 
-    ghost asks = { λ drop value seen. (seen.driver ≡ 0x1) × (2 < seen.counts.upcalls)
+    ghost asks = { λ drop value seen. (seen.driver ≡ console) × (2 < seen.counts.upcalls)
         × (seen.own.dropped + 1 < 2 ^ 32) };
 
     ghost leaves = { λ drop value seen answer value' own. (value' ≡ record value { read = None })
-        × (own ≡ scheduled 0x1 2 (code_of Cancel ∷ 0 ∷ 0 ∷ []) seen.own) };
+        × (own ≡ own_scheduled console 2 (code_of CANCEL ∷ 0 ∷ 0 ∷ []) seen.own) };
 
     fn run(self, value: &mut Console, entered: &mut Entered<'_>) {
         frames_join();
         value.read = None;
-        entered.schedule(2, [ErrorCode::Cancel.code(), 0, 0]);
+        entered.schedule(2, [ErrorCode::CANCEL.code(), 0, 0]);
     }
 }
 
@@ -69,16 +70,16 @@ fn drop_read(home: &mut Home, id: ProcessId)
 
 /// A process drops its read: where one waits it waits no more.
 pub(crate) fn cancel(
-    waiting: &mut Line<WaitingRead>,
+    waiting: &mut RequestQueue<WaitingRead>,
     home: &mut Home,
     id: ProcessId,
 ) -> Result<Reply, CallRule>
     requires there { IsPresent home.old id }
     requires told { MayBeTold home.old id }
-    ensures { Obeys Reads id (λ own. cancelling (request_in console_reads own) own) waiting.old home.old
-        result waiting.new home.new }
+    ensures { Obeys Reads id (λ own. cancelling (request_in console_reads own) own) waiting.old
+        home.old result waiting.new home.new }
 {
-    if !has_request::<WaitingRead, 3, 2, 2>(&consoles(), home, &id) {
+    if !has_request::<WaitingRead, UPCALLS, READ_ONLY, READ_WRITE>(&consoles(), home, &id) {
         return Err(CallRule::Nothing);
     }
     let slot = id.slot;

@@ -1,18 +1,19 @@
 //! Reads: bytes that came in are moved into the buffer of the one that waits longest.
-ghost use Rattle.std.specs.Prelude.{◌≡◌, ◌==◌, ◌+◌, ◌<◌, ◌^◌, if◌then◌else◌, min, drop, length, take, IfSome, is_some, true};
+ghost use Rattle.std.specs.Prelude.{◌≡◌, ◌==◌, ◌+◌, ◌-◌, ◌<◌, ◌≤◌, ◌^◌, if◌then◌else◌, min, drop, length, take, IfSome, is_some, true};
 ghost use Rattle.tk_base.specs.Call.{code_of};
 ghost use Rattle.grant_enter.specs.Homes.{own_of, ChangesOnly};
-ghost use Rattle.grant_enter.specs.Seen.{Framed, IsLent, own_entered};
-ghost use Rattle.process_own.specs.Served.{over};
+ghost use Rattle.grant_enter.specs.Seen.{Framed, IsLent, own_entered, seen};
+ghost use Rattle.tk_base.specs.Bytes.{over};
 ghost use Rattle.driver_model.specs.Requests.{waiting_of};
-ghost use Rattle.driver_model.specs.Console.{console_reads, moving, read_status, receiving};
+ghost use Rattle.driver_model.specs.Console.{console, console_reads, bytes_moving, read_status, receiving};
 ghost use Rattle.driver_requests.specs.Asking.{MayBeTold};
 ghost use Rattle.console_capsule.specs.Receiving.{told_input, written_input};
 
 use crate::capsule::ConsoleCapsule;
-use crate::grants::consoles;
-use board_devices::Uart;
-use driver_requests::{Serve, has_request};
+use crate::grants::{READ_ONLY, READ_WRITE, UPCALLS, consoles};
+use arrayvec::ArrayVec;
+use board_devices::{Kind, Uart};
+use driver_requests::{Serve, Service, has_request};
 use grant_enter::{Entered, Home, Visit, a_buffer_is_written, buffers_are_whole, frames_join};
 use grant_values::{Console, WaitingRead};
 use tk_base::{ErrorCode, ProcessId};
@@ -29,7 +30,7 @@ impl<'a> Visit<Console> for Receive<'a> {
 
     type Answer = &'a mut Uart;
 
-    ghost asks = { λ receive value seen. (seen.driver ≡ 0x1) × (2 < seen.counts.upcalls)
+    ghost asks = { λ receive value seen. (seen.driver ≡ console) × (2 < seen.counts.upcalls)
         × (1 < seen.counts.rw) × (seen.own.dropped + 1 < 2 ^ 32) };
 
     ghost leaves = { λ receive value seen uart value' own. (uart.ghost_name ≡ receive.uart.ghost_name)
@@ -58,15 +59,17 @@ struct Filled {
 /// Moves the oldest bytes that came in to the start of a buffer, as many as a read asks for, and no more than the
 /// buffer has.
 fn fill(buffer: &mut [u8], uart: &mut Uart, read: &WaitingRead) -> Filled
-    ensures count { result.count ≡ length (take (min read.now.length (length buffer.old)) uart.old.ring) }
-    ensures status { result.status ≡ (if length buffer.old == 0 then code_of ErrorCode.Size else 0) }
+    ensures count { result.count
+        ≡ length (take (min read.now.length (length buffer.old)) uart.old.ring) }
+    ensures status { result.status
+        ≡ (if length buffer.old == 0 then code_of ErrorCode.SIZE else 0) }
     ensures buffer { buffer.new
         ≡ over buffer.old 0 (take (min read.now.length (length buffer.old)) uart.old.ring) }
     ensures long { length buffer.new ≡ length buffer.old }
     ensures uart { uart.new ≡ record uart.old { ring = drop result.count uart.old.ring } }
 {
     let status = if buffer.is_empty() {
-        ErrorCode::Size.code()
+        ErrorCode::SIZE.code()
     } else {
         0
     };
@@ -82,12 +85,13 @@ fn fill(buffer: &mut [u8], uart: &mut Uart, read: &WaitingRead) -> Filled
 /// Moves bytes that came in to the buffer of a process.
 fn fill_buffer(entered: &mut Entered<'_>, uart: &mut Uart, read: &WaitingRead) -> Filled
     requires lent { IsLent entered.old }
-    requires driver { entered.old.driver ≡ 0x1 }
-    requires buffer { 1 < entered.old.counts.rw }
-    ensures count { result.count ≡ length (moving uart.old.ring read.now (own_entered entered.old)) }
+    requires driver { (seen entered.old).driver ≡ console }
+    requires buffer { 1 < (seen entered.old).counts.rw }
+    ensures count { result.count
+        ≡ length (bytes_moving uart.old.ring read.now (own_entered entered.old)) }
     ensures status { result.status ≡ read_status (own_entered entered.old) }
     ensures own { let own = own_entered entered.old in
-        own_entered entered.new ≡ written_input (moving uart.old.ring read.now own) own }
+        own_entered entered.new ≡ written_input (bytes_moving uart.old.ring read.now own) own }
     ensures uart { uart.new ≡ record uart.old { ring = drop result.count uart.old.ring } }
     // what a visitor owes
     ensures lent { IsLent entered.new }
@@ -101,11 +105,12 @@ fn fill_buffer(entered: &mut Entered<'_>, uart: &mut Uart, read: &WaitingRead) -
 /// Moves bytes that came in to the buffer of a process, and tells it.
 fn take_in(entered: &mut Entered<'_>, uart: &mut Uart, read: &WaitingRead)
     requires lent { IsLent entered.old }
-    requires driver { entered.old.driver ≡ 0x1 }
-    requires upcall { 2 < entered.old.counts.upcalls }
-    requires buffer { 1 < entered.old.counts.rw }
+    requires driver { (seen entered.old).driver ≡ console }
+    requires upcall { 2 < (seen entered.old).counts.upcalls }
+    requires buffer { 1 < (seen entered.old).counts.rw }
     requires dropped { (own_entered entered.old).dropped + 1 < 2 ^ 32 }
-    ensures told { let own = own_entered entered.old in let bytes = moving uart.old.ring read.now own in
+    ensures told { let own = own_entered entered.old in
+        let bytes = bytes_moving uart.old.ring read.now own in
         (own_entered entered.new ≡ told_input bytes own)
         × (uart.new ≡ record uart.old { ring = drop (length bytes) uart.old.ring }) }
     // what a visitor owes
@@ -122,8 +127,8 @@ fn step_of(home: &mut Home, id: ProcessId, uart: &mut Uart)
     requires told { MayBeTold home.old id }
     requires request { is_some (waiting_of console_reads id.life (own_of home.old id.slot)) ≡ true }
     ensures step { let own = own_of home.old id.slot in
-        IfSome (waiting_of console_reads id.life own) (λ read. let r = receiving uart.old.ring own read in
-        (own_of home.new id.slot ≡ r.own)
+        IfSome (waiting_of console_reads id.life own)
+        (λ read. let r = receiving uart.old.ring own read in (own_of home.new id.slot ≡ r.own)
         × (uart.new ≡ record uart.old { ring = drop (length r.moved) uart.old.ring })) }
     ensures rest { ChangesOnly id.slot home.old home.new }
 {
@@ -131,6 +136,15 @@ fn step_of(home: &mut Home, id: ProcessId, uart: &mut Uart)
         Ok(Some(_uart)) => {}
         _ => unreachable!(),
     }
+}
+
+/// The bytes that have left the ring, of those that were in it.
+fn gone_from(mut bytes: ArrayVec<u8, 256>, uart: &Uart) -> ArrayVec<u8, 256>
+    requires { length uart.now.ring ≤ length bytes.items }
+    ensures { result.items ≡ take (length bytes.items - length uart.now.ring) bytes.items }
+{
+    bytes.truncate(bytes.len() - uart.held());
+    bytes
 }
 
 impl Serve<WaitingRead> for ConsoleCapsule {
@@ -142,13 +156,21 @@ impl Serve<WaitingRead> for ConsoleCapsule {
 
     ghost answer_to = { received_by };
 
-    /// Moves bytes that came in to the read of a process, if it is there and has one. The answer is whether it has.
+    /// Moves bytes that came in to the read of a process, if it is there and has one: the bytes, and whether it has
+    /// one.
     #[tactic(auto, unfolding(driver_model::specs::Console::received))]
-    fn serve(home: &mut Home, id: &ProcessId, uart: &mut Uart) -> bool {
-        if !has_request::<WaitingRead, 3, 2, 2>(&consoles(), home, id) {
-            return false;
+    fn serve(home: &mut Home, id: &ProcessId, uart: &mut Uart) -> Service {
+        if !has_request::<WaitingRead, UPCALLS, READ_ONLY, READ_WRITE>(&consoles(), home, id) {
+            return Service {
+                kind: Kind::Input(ArrayVec::new()),
+                completed: false,
+            };
         }
+        let bytes = uart.peek();
         step_of(home, *id, uart);
-        true
+        Service {
+            kind: Kind::Input(gone_from(bytes, uart)),
+            completed: true,
+        }
     }
 }

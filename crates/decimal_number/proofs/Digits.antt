@@ -10,7 +10,8 @@ digit_is : (b : ℕ) → is_ascii_digit b ≡ true → digit_value b ≡ b - 48
 digit_is b h = grind (arith, nat_tests)
 
 -- one more digit
-pub digit_more : (v b : ℕ) (bytes : List ℕ) → is_ascii_digit b ≡ true → digits_value_after 10 v (b ∷ bytes) ≡ digits_value_after 10 (v * 10 + (b - 48)) bytes
+pub digit_more : (v b : ℕ) (bytes : List ℕ) → is_ascii_digit b ≡ true
+    → digits_value_after 10 v (b ∷ bytes) ≡ digits_value_after 10 (v * 10 + (b - 48)) bytes
 digit_more v b bytes h = ap (λ d. digits_value_after 10 (v * 10 + d) bytes) (digit_is b h)
 
 pub below_more : (v b k : ℕ) → is_ascii_digit b ≡ true → v < 10 ^ k → v * 10 + (b - 48) < 10 ^ (k + 1)

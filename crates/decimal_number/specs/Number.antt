@@ -1,4 +1,5 @@
--- Numbers as the board's texts write them: 1 to 10 ASCII decimal digits, leading zeros permitted, no sign.
+-- Numbers as the board's texts write them: 1 to 10 ASCII decimal digits, leading zeros permitted, no sign. This form is
+-- this board's own.
 use Rattle.std.specs.Prelude.{ℕ, Bool, ◌&&◌, nat_le, if◌then◌else◌, List, length, Option, Some, None}
 use Rattle.std.specs.Str.{all_ascii_digits}
 use Rattle.std.specs.Str.Parse.{digits_value}

@@ -1,7 +1,8 @@
 -- Who waits after an answer.
-use Rattle.std.proofs.Common.{◌≡◌, ℕ, ◌+◌, ◌-◌, ◌==◌, nat_le, Bool, true, false, cond, List, [], slice_get, Option, None, Some, is_some, is_none, option_map, unwrap_or, refl, ap, sym, ◌∙◌, subst}
+use Rattle.std.proofs.Common.{◌≡◌, ℕ, ◌+◌, ◌-◌, ◌==◌, nat_le, Bool, true, false, cond, List, [], slice_get, Option}
+use Rattle.std.proofs.Common.{None, Some, is_some, is_none, option_map, unwrap_or, refl, ap, sym, ◌∙◌, subst}
 use Rattle.std.proofs.Math.Bool.{and-false}
-use Rattle.grant_areas.specs.Grants.{Grant, grant_of}
+use Rattle.grant_model.specs.Grants.{Grant, grant_of}
 use Rattle.grant_values.specs.declared.alarm.Armed.{Armed}
 use Rattle.grant_values.specs.declared.console.WaitingRead.{WaitingRead}
 use Rattle.grant_values.specs.declared.console.WaitingWrite.{WaitingWrite}
@@ -9,9 +10,9 @@ use Rattle.grant_values.specs.declared.random.RandomRequest.{RandomRequest}
 use Rattle.grant_values.specs.declared.storage.StorageKind.{StorageKind}
 use Rattle.grant_values.specs.declared.storage.StorageKind.TheVariants.{Read, Write}
 use Rattle.grant_values.specs.declared.storage.StorageRequest.{StorageRequest}
-use Rattle.process_own.specs.Own.{Own}
-use Rattle.driver_model.specs.Commands.{is_same, Line, Writes, Reads, Randoms, Stores}
-use Rattle.driver_model.specs.Requests.{Desk, request_in, waiting_in, waiting_of, with_request}
+use Rattle.process_model.specs.Own.{Own}
+use Rattle.driver_model.specs.Commands.{is_same, QueueName, Writes, Reads, Randoms, Stores}
+use Rattle.driver_model.specs.Requests.{RequestKind, request_in, waiting_in, waiting_of, with_request}
 use Rattle.driver_model.specs.Console as console
 use Rattle.driver_model.specs.Console.{Sent, console_reads, console_writes}
 use Rattle.driver_model.specs.Random as random
@@ -21,15 +22,19 @@ use Rattle.driver_model.specs.Storage.{storages}
 use Rattle.driver_model.specs.Alarm as alarm
 use Rattle.driver_model.specs.Alarm.{with_alarm}
 use Rattle.driver_model.specs.Laws.{IsAtMostOneMore}
-use Rattle.driver_model.specs.Answers.{FollowsAnswer, LinesFollowAnswers, Remains, left_by}
+use Rattle.driver_model.specs.Answers.{FollowsAnswer, LinesFollowAnswers, Remains, queue_left_by}
 use Rattle.driver_model.proofs.Scheduled.{Serves, as_before, none_more, serves, serves_silently}
 use Rattle.driver_model.proofs.Sizes.{written_size}
-use Rattle.driver_model.proofs.Asked.{Asked, asked, told_by, asked_randoms, asked_reads, asked_stores, asked_writes, if_told}
+use Rattle.driver_model.proofs.Asked.{Asked, asked, told_by, asked_randoms, asked_reads, asked_stores, asked_writes}
+use Rattle.driver_model.proofs.Asked.{if_told}
 use Rattle.driver_model.proofs.Waits.{LiesWithin, Moves, each_waits, is_within, stays}
 use Rattle.driver_model.proofs.Follows.{arms_apart}
 
 -- by what is asked for after the answer
-follows : (left : Line → Bool) (own o : Own) (after : Asked) → Remains own o → IsAtMostOneMore own.dropped o.dropped → asked o.grants ≡ after → Moves (λ line waits. cond (left line) false waits) (asked own.grants) after → ((size : ℕ) → LiesWithin size (asked own.grants).stores → LiesWithin size after.stores) → FollowsAnswer left own o
+follows : (left : QueueName → Bool) (own o : Own) (after : Asked) → Remains own o
+    → IsAtMostOneMore own.dropped o.dropped → asked o.grants ≡ after
+    → Moves (λ line waits. cond (left line) false waits) (asked own.grants) after
+    → ((size : ℕ) → LiesWithin size (asked own.grants).stores → LiesWithin size after.stores) → FollowsAnswer left own o
 follows left own o after rest dropped is moves lies = record {
   rest = rest;
   dropped = dropped;
@@ -46,19 +51,21 @@ remains : (own o : Own) (grants : List Grant) → Serves own o → Remains own (
 remains own o grants served = subst (λ (x : Own). Remains own (record x { grants = grants })) (sym served.rest) refl
 
 -- nothing changed
-unmoved : (left : Line → Bool) (own : Own) → ((line : Line) → left line ≡ false) → FollowsAnswer left own own
+unmoved : (left : QueueName → Bool) (own : Own) → ((line : QueueName) → left line ≡ false) → FollowsAnswer left own own
 unmoved left own stays =
-    follows left own own (asked own.grants) refl (none_more own.dropped) refl (record { writes = at Writes _; reads = at Reads _; randoms = at Randoms _; stores = at Stores _ })
+    follows left own own (asked own.grants) refl (none_more own.dropped) refl
+    (record { writes = at Writes _; reads = at Reads _; randoms = at Randoms _; stores = at Stores _ })
     (λ size held. held)
   where
-    at : (line : Line) (waits : Bool) → waits ≡ cond (left line) false waits
+    at : (line : QueueName) (waits : Bool) → waits ≡ cond (left line) false waits
     at line waits = ap (λ (b : Bool). cond b false waits) (sym (stays line))
 
-never_left : (here line : Line) → left_by here false line ≡ false
+never_left : (here line : QueueName) → queue_left_by here false line ≡ false
 never_left here line = and-false (is_same here line)
 
 -- where one waited, one waits after it where one is put
-replaced : {R : Type 0} (waiting : R) (before request : Option R) → before ≡ Some waiting → is_some request ≡ cond (is_none request) false (is_some before)
+replaced : {R : Type 0} (waiting : R) (before request : Option R) → before ≡ Some waiting
+    → is_some request ≡ cond (is_none request) false (is_some before)
 replaced waiting before None told = refl
 replaced waiting before (Some request) told = sym (ap is_some told)
 
@@ -66,119 +73,182 @@ module _ (own o : Own) (served : Serves own o) where
   same : o.grants ≡ own.grants
   same = ap (λ (x : Own). x.grants) served.rest
 
-  told : {R : Type 0} (desk : Desk R) (waiting : R) → request_in desk own ≡ Some waiting → request_in desk o ≡ Some waiting
-  told desk waiting is = ap (λ (gs : List Grant). told_by desk (grant_of desk.driver gs)) same ∙ is
+  told : {R : Type 0} (request_kind : RequestKind R) (waiting : R) → request_in request_kind own ≡ Some waiting
+      → request_in request_kind o ≡ Some waiting
+  told request_kind waiting is =
+      ap (λ (gs : List Grant). told_by request_kind (grant_of request_kind.driver gs)) same ∙ is
 
-  put_writes : (waiting : WaitingWrite) (request : Option WaitingWrite) → request_in console_writes own ≡ Some waiting → FollowsAnswer (left_by Writes (is_none request)) own (with_request console_writes request o)
+  put_writes : (waiting : WaitingWrite) (request : Option WaitingWrite) → request_in console_writes own ≡ Some waiting
+      → FollowsAnswer (queue_left_by Writes (is_none request)) own (with_request console_writes request o)
   put_writes waiting request is =
       follows _ own _ (record (asked own.grants) { writes = request }) (remains own o _ served) served.dropped
-      (asked_writes request o ∙ (λ i. record (asked (same i)) { writes = if_told console_writes waiting request (grant_of console_writes.driver o.grants) (told console_writes waiting is) i }))
-      (record { writes = replaced waiting _ request is; reads = refl; randoms = refl; stores = refl }) (λ size held. held)
+      (asked_writes request o
+      ∙ (λ i. record (asked (same i)) {
+        writes =
+            if_told console_writes waiting request (grant_of console_writes.driver o.grants)
+            (told console_writes waiting is) i;
+      }))
+      (record { writes = replaced waiting _ request is; reads = refl; randoms = refl; stores = refl })
+      (λ size held. held)
 
-  put_reads : (waiting : WaitingRead) (request : Option WaitingRead) → request_in console_reads own ≡ Some waiting → FollowsAnswer (left_by Reads (is_none request)) own (with_request console_reads request o)
+  put_reads : (waiting : WaitingRead) (request : Option WaitingRead) → request_in console_reads own ≡ Some waiting
+      → FollowsAnswer (queue_left_by Reads (is_none request)) own (with_request console_reads request o)
   put_reads waiting request is =
       follows _ own _ (record (asked own.grants) { reads = request }) (remains own o _ served) served.dropped
-      (asked_reads request o ∙ (λ i. record (asked (same i)) { reads = if_told console_reads waiting request (grant_of console_reads.driver o.grants) (told console_reads waiting is) i }))
-      (record { writes = refl; reads = replaced waiting _ request is; randoms = refl; stores = refl }) (λ size held. held)
+      (asked_reads request o
+      ∙ (λ i. record (asked (same i)) {
+        reads =
+            if_told console_reads waiting request (grant_of console_reads.driver o.grants)
+            (told console_reads waiting is)
+            i;
+      }))
+      (record { writes = refl; reads = replaced waiting _ request is; randoms = refl; stores = refl })
+      (λ size held. held)
 
-  put_randoms : (waiting : RandomRequest) (request : Option RandomRequest) → request_in randoms own ≡ Some waiting → FollowsAnswer (left_by Randoms (is_none request)) own (with_request randoms request o)
+  put_randoms : (waiting : RandomRequest) (request : Option RandomRequest) → request_in randoms own ≡ Some waiting
+      → FollowsAnswer (queue_left_by Randoms (is_none request)) own (with_request randoms request o)
   put_randoms waiting request is =
       follows _ own _ (record (asked own.grants) { randoms = request }) (remains own o _ served) served.dropped
-      (asked_randoms request o ∙ (λ i. record (asked (same i)) { randoms = if_told randoms waiting request (grant_of randoms.driver o.grants) (told randoms waiting is) i }))
-      (record { writes = refl; reads = refl; randoms = replaced waiting _ request is; stores = refl }) (λ size held. held)
+      (asked_randoms request o
+      ∙ (λ i. record (asked (same i)) {
+        randoms =
+            if_told randoms waiting request (grant_of randoms.driver o.grants) (told randoms waiting is) i;
+      }))
+      (record { writes = refl; reads = refl; randoms = replaced waiting _ request is; stores = refl })
+      (λ size held. held)
 
-  ends_stores : (waiting : StorageRequest) → request_in storages own ≡ Some waiting → FollowsAnswer (left_by Stores true) own (with_request storages None o)
+  ends_stores : (waiting : StorageRequest) → request_in storages own ≡ Some waiting
+      → FollowsAnswer (queue_left_by Stores true) own (with_request storages None o)
   ends_stores waiting is =
       follows _ own _ (record (asked own.grants) { stores = None }) (remains own o _ served) served.dropped
-      (asked_stores None o ∙ (λ i. record (asked (same i)) { stores = if_told storages waiting None (grant_of storages.driver o.grants) (told storages waiting is) i }))
+      (asked_stores None o
+      ∙ (λ i. record (asked (same i)) {
+        stores =
+            if_told storages waiting None (grant_of storages.driver o.grants) (told storages waiting is) i;
+      }))
       (record { writes = refl; reads = refl; randoms = refl; stores = replaced waiting _ None is }) (λ size held. tt)
 
   stops_alarm : FollowsAnswer (λ line. false) own (with_alarm None o)
   stops_alarm =
-      follows _ own _ (asked own.grants) (remains own o _ served) served.dropped (arms_apart None o ∙ ap asked same) (stays (asked own.grants))
+      follows _ own _ (asked own.grants) (remains own o _ served) served.dropped (arms_apart None o ∙ ap asked same)
+      (stays (asked own.grants))
       (λ size held. held)
 
 -- one that waits is there, and keeps the request
-if_so : {R : Type 0} (b : Bool) (waiting : Option R) (request : R) → cond b waiting None ≡ Some request → waiting ≡ Some request
+if_so : {R : Type 0} (b : Bool) (waiting : Option R) (request : R) → cond b waiting None ≡ Some request
+    → waiting ≡ Some request
 if_so true waiting request e = e
 if_so false waiting request e = cc
 
-module _ {R : Type 0} (desk : Desk R) (life : ℕ) (own : Own) (request : R) (is : waiting_of desk life own ≡ Some request) where
-  waits : waiting_in desk own ≡ Some request
-  waits = if_so (own.life == life) (waiting_in desk own) request is
+module _ {R : Type 0} (request_kind : RequestKind R) (life : ℕ) (own : Own) (request : R)
+    (is : waiting_of request_kind life own ≡ Some request) where
+  waits : waiting_in request_kind own ≡ Some request
+  waits = if_so (own.life == life) (waiting_in request_kind own) request is
 
-  asks : request_in desk own ≡ Some request
-  asks = if_so own.lives (request_in desk own) request waits
+  asks : request_in request_kind own ≡ Some request
+  asks = if_so own.lives (request_in request_kind own) request waits
 
 -- a step of a write
 abbrev Sends : Own → Sent → Type 0
-Sends own s = FollowsAnswer (left_by Writes s.completed) own s.own
+Sends own s = FollowsAnswer (queue_left_by Writes s.completed) own s.own
 
 sends : (flash : List ℕ) (life : ℕ) (own : Own) → Sends own (console.sent flash life own)
 unfolding console.sent
 sends flash life own = by_waiting (waiting_of console_writes life own) refl
   where
-    by_portion : (write : WaitingWrite) (b : Bool) → waiting_of console_writes life own ≡ Some write → Sends own (cond b (record { own = console.write_done own; printed = []; completed = true }) (record { own = console.taken own; printed = console.next_bytes flash write own; completed = false }))
+    by_portion : (write : WaitingWrite) (b : Bool) → waiting_of console_writes life own ≡ Some write
+        → Sends own (cond b (record { own = console.write_done own; printed = []; completed = true })
+        (record { own = console.taken own; printed = console.next_bytes flash write own; completed = false }))
     by_portion write true is =
-        subst (λ (w : _). FollowsAnswer (left_by Writes true) own (unwrap_or (option_map (console.writing own) w) own)) (sym (waits console_writes life own write is))
+        subst (λ (w : _). FollowsAnswer (queue_left_by Writes true) own
+        (unwrap_or (option_map (console.write_completing own) w) own))
+        (sym (waits console_writes life own write is))
         (put_writes own _ (serves _ _ _ own.ram own (as_before own)) write None (asks console_writes life own write is))
     by_portion write false is =
-        subst (λ (w : _). FollowsAnswer (left_by Writes false) own (unwrap_or (option_map (console.taking own) w) own)) (sym (waits console_writes life own write is))
-        (put_writes own _ (serves_silently own.ram own (as_before own)) write (Some (record write { taken = write.taken + console.portion write own })) (asks console_writes life own write is))
+        subst (λ (w : _). FollowsAnswer (queue_left_by Writes false) own
+        (unwrap_or (option_map (console.taking own) w) own)) (sym (waits console_writes life own write is))
+        (put_writes own _ (serves_silently own.ram own (as_before own)) write
+        (Some (record write { taken = write.taken + console.portion write own }))
+        (asks console_writes life own write is))
 
-    by_waiting : (w : Option WaitingWrite) → waiting_of console_writes life own ≡ w → Sends own (unwrap_or (option_map (console.sending flash own) w) (console.unsent own))
+    by_waiting : (w : Option WaitingWrite) → waiting_of console_writes life own ≡ w
+        → Sends own (unwrap_or (option_map (console.sending flash own) w) (console.unsent own))
     by_waiting None is = unmoved _ own (never_left Writes)
     by_waiting (Some write) is = by_portion write (console.portion write own == 0) is
 
-receives : (ring : List ℕ) (life : ℕ) (own : Own) → let r = console.received ring life own in FollowsAnswer (left_by Reads r.completed) own r.own
+receives : (ring : List ℕ) (life : ℕ) (own : Own) → let r = console.received ring life own in
+    FollowsAnswer (queue_left_by Reads r.completed) own r.own
 unfolding console.received
 receives ring life own = by_waiting (waiting_of console_reads life own) refl
   where
-    by_waiting : (w : Option WaitingRead) → waiting_of console_reads life own ≡ w → let r = unwrap_or (option_map (console.receiving ring own) w) (console.unreceived own) in FollowsAnswer (left_by Reads r.completed) own r.own
+    by_waiting : (w : Option WaitingRead) → waiting_of console_reads life own ≡ w
+        → let r = unwrap_or (option_map (console.receiving ring own) w) (console.unreceived own) in
+        FollowsAnswer (queue_left_by Reads r.completed) own r.own
     by_waiting None is = unmoved _ own (never_left Reads)
     by_waiting (Some read) is =
-        subst (λ (w : _). FollowsAnswer (left_by Reads true) own (unwrap_or (option_map (console.reading_in (console.moving ring read own) own) w) own)) (sym (waits console_reads life own read is))
-        (put_reads own _ (serves _ _ _ _ own (written_size console.console 1 0 (console.moving ring read own) own)) read None (asks console_reads life own read is))
+        subst (λ (w : _). FollowsAnswer (queue_left_by Reads true) own
+        (unwrap_or (option_map (console.reading_in (console.bytes_moving ring read own) own) w) own))
+        (sym (waits console_reads life own read is))
+        (put_reads own _ (serves _ _ _ _ own
+        (written_size console.console 1 0 (console.bytes_moving ring read own) own)) read None
+        (asks console_reads life own read is))
 
 -- a step of a request for random bytes
 serves_if : (own : Own) (b : Bool) (p q : Progress) → Serves own p.own → Serves own q.own → Serves own (cond b p q).own
 serves_if own true p q first second = first
 serves_if own false p q first second = second
 
-serves_drawing : (left : ℕ) (request : RandomRequest) (own : Own) (word : Option ℕ) → Serves own (random.drawing left request own word).own
+serves_drawing : (left : ℕ) (request : RandomRequest) (own : Own) (word : Option ℕ)
+    → Serves own (random.drawing left request own word).own
 serves_drawing left request own None = serves _ _ _ own.ram own (as_before own)
-serves_drawing left request own (Some word) = serves_if own (nat_le left 4) _ _ (serves _ _ _ _ own (written_size random.random 0 request.written _ own)) (serves_silently _ own (written_size random.random 0 request.written _ own))
+serves_drawing left request own (Some word) =
+    serves_if own (nat_le left 4) _ _ (serves _ _ _ _ own (written_size random.random 0 request.written _ own))
+    (serves_silently _ own (written_size random.random 0 request.written _ own))
 
-pub serves_progress : (word : Option ℕ) (request : RandomRequest) (own : Own) → Serves own (random.progress word request own).own
+pub serves_progress : (word : Option ℕ) (request : RandomRequest) (own : Own)
+    → Serves own (random.progress word request own).own
 serves_progress word request own =
     serves_if own (nat_le (random.wanted request own) request.written) _ _ (serves _ _ _ own.ram own (as_before own))
     (serves_drawing (random.wanted request own - request.written) request own word)
 
-draws : (words : List ℕ) (life : ℕ) (own : Own) → let a = random.answered words life own in FollowsAnswer (left_by Randoms a.completed) own a.own
+draws : (words : List ℕ) (life : ℕ) (own : Own) → let a = random.answered words life own in
+    FollowsAnswer (queue_left_by Randoms a.completed) own a.own
 unfolding random.answered
 draws words life own = by_waiting (waiting_of randoms life own) refl
   where
-    by_waiting : (w : Option RandomRequest) → waiting_of randoms life own ≡ w → let a = unwrap_or (option_map (λ (request : RandomRequest). random.advanced words (random.progress (slice_get words 0) request own)) w) (random.unanswered words own) in FollowsAnswer (left_by Randoms a.completed) own a.own
+    by_waiting : (w : Option RandomRequest) → waiting_of randoms life own ≡ w
+        → let a = unwrap_or (option_map (λ (request : RandomRequest). random.advanced words
+        (random.progress (slice_get words 0) request own)) w) (random.unanswered words own) in
+        FollowsAnswer (queue_left_by Randoms a.completed) own a.own
     by_waiting None is = unmoved _ own (never_left Randoms)
     by_waiting (Some request) is =
-        put_randoms own _ (serves_progress (slice_get words 0) request own) request (random.progress (slice_get words 0) request own).rest (asks randoms life own request is)
+        put_randoms own _ (serves_progress (slice_get words 0) request own) request
+        (random.progress (slice_get words 0) request own).rest (asks randoms life own request is)
 
 -- a storage request that is served
-pub serves_served : (fault : Bool) (flash bytes : List ℕ) (request : StorageRequest) (own : Own) → Serves own (storage.served fault flash bytes request own).own
+pub serves_served : (fault : Bool) (flash bytes : List ℕ) (request : StorageRequest) (own : Own)
+    → Serves own (storage.storage_served fault flash bytes request own).own
 serves_served fault flash bytes request own = by_fault fault request.kind
   where
-    by_fault : (b : Bool) (kind : StorageKind) → Serves own (cond b (record { own = storage.completing request.kind 0 1 own; written = None }) (storage.moving kind flash bytes request own)).own
+    by_fault : (b : Bool) (kind : StorageKind)
+        → Serves own (cond b (record { own = storage.completing request.kind 0 1 own; written = None })
+        (storage.moving kind flash bytes request own)).own
     by_fault true kind = serves _ _ _ own.ram own (as_before own)
     by_fault false Read = serves _ _ _ _ own (written_size storage.storage 0 0 _ own)
     by_fault false Write = serves _ _ _ own.ram own (as_before own)
 
-stores : (fault : Bool) (flash bytes : List ℕ) (life : ℕ) (own : Own) → let a = storage.answered fault flash bytes life own in FollowsAnswer (left_by Stores a.completed) own a.own
+stores : (fault : Bool) (flash bytes : List ℕ) (life : ℕ) (own : Own)
+    → let a = storage.answered fault flash bytes life own in FollowsAnswer (queue_left_by Stores a.completed) own a.own
 unfolding storage.answered
 stores fault flash bytes life own = by_waiting (waiting_of storages life own) refl
   where
-    by_waiting : (w : Option StorageRequest) → waiting_of storages life own ≡ w → let a = unwrap_or (option_map (λ (request : StorageRequest). storage.answer_of (storage.served fault flash bytes request own)) w) (storage.unanswered own) in FollowsAnswer (left_by Stores a.completed) own a.own
+    by_waiting : (w : Option StorageRequest) → waiting_of storages life own ≡ w
+        → let a = unwrap_or (option_map (λ (request : StorageRequest). storage.storage_answer_of
+        (storage.storage_served fault flash bytes request own)) w) (storage.unanswered own) in
+        FollowsAnswer (queue_left_by Stores a.completed) own a.own
     by_waiting None is = unmoved _ own (never_left Stores)
-    by_waiting (Some request) is = ends_stores own _ (serves_served fault flash bytes request own) request (asks storages life own request is)
+    by_waiting (Some request) is =
+        ends_stores own _ (serves_served fault flash bytes request own) request (asks storages life own request is)
 
 fires : (now : ℕ) (own : Own) → FollowsAnswer (λ line. false) own (alarm.answered now own)
 unfolding alarm.answered

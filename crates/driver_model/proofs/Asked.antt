@@ -1,10 +1,11 @@
 -- All that a process asks for, as its grants tell it.
-use Rattle.std.proofs.Common.{◌≡◌, ℕ, ◌==◌, Bool, true, false, List, [], Option, None, Some, is_some, option_and_then, unwrap_or, refl, ap, ◌∙◌, eqb-true}
+use Rattle.std.proofs.Common.{◌≡◌, ℕ, ◌==◌, Bool, true, false, List, [], Option, None, Some, is_some, option_and_then}
+use Rattle.std.proofs.Common.{unwrap_or, refl, ap, ◌∙◌, eqb-true}
 use Rattle.std.proofs.lemmas.Bool.{false≢true}
 use Rattle.std.specs.Option.{option_map}
-use Rattle.grant_areas.specs.declared.kinds.PairKind.{PairKind}
-use Rattle.grant_areas.specs.declared.kinds.PairKind.TheVariants.{Upcall, ReadOnly, ReadWrite}
-use Rattle.grant_areas.specs.Grants.{with_pair, Grant, entered, grant_of, with_grant, with_value, shape_of}
+use Rattle.grant_model.specs.declared.kinds.PairKind.{PairKind}
+use Rattle.grant_model.specs.declared.kinds.PairKind.TheVariants.{Upcall, ReadOnly, ReadWrite}
+use Rattle.grant_model.specs.Grants.{with_pair, Grant, entered, grant_of, with_grant, with_value, shape_of}
 use Rattle.grant_values.specs.declared.console.WaitingRead.{WaitingRead}
 use Rattle.grant_values.specs.declared.console.WaitingWrite.{WaitingWrite}
 use Rattle.grant_values.specs.declared.random.RandomRequest.{RandomRequest}
@@ -12,9 +13,9 @@ use Rattle.grant_values.specs.declared.storage.StorageKind.{StorageKind}
 use Rattle.grant_values.specs.declared.storage.StorageKind.TheVariants.{Read, Write}
 use Rattle.grant_values.specs.declared.storage.StorageRequest.{StorageRequest}
 use Rattle.grant_values.specs.Drivers.{counts_of, drivers}
-use Rattle.process_own.specs.Own.{Own}
-use Rattle.process_own.specs.Handed.{entering}
-use Rattle.driver_model.specs.Requests.{Desk, with_request}
+use Rattle.process_model.specs.Own.{Own}
+use Rattle.process_model.specs.Handed.{own_entering}
+use Rattle.driver_model.specs.Requests.{RequestKind, with_request}
 use Rattle.driver_model.specs.Console.{console, console_reads, console_writes}
 use Rattle.driver_model.specs.Random.{random, randoms}
 use Rattle.driver_model.specs.Storage.{storage, storages}
@@ -26,9 +27,9 @@ pub record Asked : Type 0 where
   pub randoms : Option RandomRequest
   pub stores : Option StorageRequest
 
--- what a grant tells at a desk
-abbrev pub told_by : {R : Type 0} → Desk R → Option Grant → Option R
-told_by desk found = option_and_then desk.told (option_map (λ g. g.value) found)
+-- what a grant tells of a kind of request
+abbrev pub told_by : {R : Type 0} → RequestKind R → Option Grant → Option R
+told_by request_kind found = option_and_then request_kind.told (option_map (λ g. g.value) found)
 
 abbrev pub asked : List Grant → Asked
 asked gs = record {
@@ -42,10 +43,13 @@ all_same : (a b : Asked) → a.writes ≡ b.writes → a.reads ≡ b.reads → a
 all_same a b w r d s = λ i. record { writes = w i; reads = r i; randoms = d i; stores = s i }
 
 -- another driver's grant may be changed
-pub asked_apart : (driver : ℕ) (change : Grant → Grant) (gs : List Grant) → (driver == console) ≡ false → (driver == random) ≡ false → (driver == storage) ≡ false → StaysWith change → asked (with_grant driver change gs) ≡ asked gs
+pub asked_apart : (driver : ℕ) (change : Grant → Grant) (gs : List Grant) → (driver == console) ≡ false
+    → (driver == random) ≡ false → (driver == storage) ≡ false → StaysWith change
+    → asked (with_grant driver change gs) ≡ asked gs
 asked_apart driver change gs c r s stays =
     let at = λ (other : ℕ) (apart : (driver == other) ≡ false). unchanged other driver change gs apart stays in
-    all_same _ _ (ap (told_by console_writes) (at console c)) (ap (told_by console_reads) (at console c)) (ap (told_by randoms) (at random r)) (ap (told_by storages) (at storage s))
+    all_same _ _ (ap (told_by console_writes) (at console c)) (ap (told_by console_reads) (at console c))
+    (ap (told_by randoms) (at random r)) (ap (told_by storages) (at storage s))
 
 -- any may be entered
 pub asked_still : (driver : ℕ) (gs : List Grant) → asked (entered driver gs) ≡ asked gs
@@ -58,27 +62,36 @@ asked_still driver gs =
     (told_still (told_by storages) storage driver gs refl)
 
 -- a pair may be handed, to any driver
-asked_pair : {R : Type 0} (desk : Desk R) (kind : PairKind) (driver number : ℕ) (pair : ℕ × ℕ) (gs : List Grant) → told_by desk (grant_of desk.driver (with_grant driver (with_pair kind number pair) gs)) ≡ told_by desk (grant_of desk.driver gs)
-asked_pair desk kind driver number pair gs = by_test (driver == desk.driver) refl
+asked_pair : {R : Type 0} (request_kind : RequestKind R) (kind : PairKind) (driver number : ℕ) (pair : ℕ × ℕ)
+    (gs : List Grant)
+    → told_by request_kind (grant_of request_kind.driver (with_grant driver (with_pair kind number pair) gs))
+    ≡ told_by request_kind (grant_of request_kind.driver gs)
+asked_pair request_kind kind driver number pair gs = by_test (driver == request_kind.driver) refl
   where
     stays : (k : PairKind) → StaysWith (with_pair k number pair)
     stays Upcall g = refl
     stays ReadOnly g = refl
     stays ReadWrite g = refl
 
-    by_grant : (k : PairKind) (found : Option Grant) → told_by desk (option_map (with_pair k number pair) found) ≡ told_by desk found
+    by_grant : (k : PairKind) (found : Option Grant)
+        → told_by request_kind (option_map (with_pair k number pair) found) ≡ told_by request_kind found
     by_grant k None = refl
     by_grant Upcall (Some g) = refl
     by_grant ReadOnly (Some g) = refl
     by_grant ReadWrite (Some g) = refl
 
-    by_test : (b : Bool) → (driver == desk.driver) ≡ b → told_by desk (grant_of desk.driver (with_grant driver (with_pair kind number pair) gs)) ≡ told_by desk (grant_of desk.driver gs)
+    by_test : (b : Bool) → (driver == request_kind.driver) ≡ b
+        → told_by request_kind (grant_of request_kind.driver (with_grant driver (with_pair kind number pair) gs))
+        ≡ told_by request_kind (grant_of request_kind.driver gs)
     by_test true e =
-        ap (λ (d : ℕ). told_by desk (grant_of desk.driver (with_grant d (with_pair kind number pair) gs))) (eqb-true driver desk.driver e)
-        ∙ ap (told_by desk) (changed desk.driver _ gs (stays kind)) ∙ by_grant kind (grant_of desk.driver gs)
-    by_test false e = ap (told_by desk) (unchanged desk.driver driver _ gs e (stays kind))
+        ap (λ (d : ℕ). told_by request_kind (grant_of request_kind.driver
+        (with_grant d (with_pair kind number pair) gs))) (eqb-true driver request_kind.driver e)
+        ∙ ap (told_by request_kind) (changed request_kind.driver _ gs (stays kind))
+        ∙ by_grant kind (grant_of request_kind.driver gs)
+    by_test false e = ap (told_by request_kind) (unchanged request_kind.driver driver _ gs e (stays kind))
 
-pub asked_handed : (kind : PairKind) (driver number : ℕ) (pair : ℕ × ℕ) (gs : List Grant) → asked (with_grant driver (with_pair kind number pair) gs) ≡ asked gs
+pub asked_handed : (kind : PairKind) (driver number : ℕ) (pair : ℕ × ℕ) (gs : List Grant)
+    → asked (with_grant driver (with_pair kind number pair) gs) ≡ asked gs
 asked_handed kind driver number pair gs =
     all_same _ _
     (asked_pair console_writes kind driver number pair gs)
@@ -87,53 +100,76 @@ asked_handed kind driver number pair gs =
     (asked_pair storages kind driver number pair gs)
 
 -- what a list of grants tells where one of them has words of another request
-abbrev putting : {R : Type 0} → Desk R → Option R → List Grant → List Grant
-putting desk request gs = with_grant desk.driver (with_value (desk.words_with request (unwrap_or (option_map (λ g. g.value) (grant_of desk.driver gs)) []))) gs
+abbrev putting : {R : Type 0} → RequestKind R → Option R → List Grant → List Grant
+putting request_kind request gs =
+    with_grant request_kind.driver (with_value
+    (request_kind.words_with request (unwrap_or (option_map (λ g. g.value) (grant_of request_kind.driver gs)) []))) gs
 
 -- a request where there is a grant for it
 abbrev pub if_there : {R : Type 0} → Option R → Option Grant → Option R
 if_there request found = option_and_then (λ words. request) (option_map (λ g. g.value) found)
 
--- what the words that are put tell, at that desk and at another of the same driver
-put_here : {R S : Type 0} (desk : Desk R) (other : Desk S) (request : Option R) (tells : List ℕ → Option S) (gs : List Grant) → ((words : List ℕ) → other.told (desk.words_with request words) ≡ tells words) → told_by other (grant_of desk.driver (putting desk request gs)) ≡ option_and_then tells (option_map (λ g. g.value) (grant_of desk.driver gs))
-put_here desk other request tells gs reads = ap (told_by other) (changed desk.driver _ gs (λ g. refl)) ∙ by_grant (grant_of desk.driver gs)
+-- what the words that are put tell, at that kind of request and at another of the same driver
+put_here : {R S : Type 0} (request_kind : RequestKind R) (other : RequestKind S) (request : Option R)
+    (tells : List ℕ → Option S) (gs : List Grant)
+    → ((words : List ℕ) → other.told (request_kind.words_with request words) ≡ tells words)
+    → told_by other (grant_of request_kind.driver (putting request_kind request gs))
+    ≡ option_and_then tells (option_map (λ g. g.value) (grant_of request_kind.driver gs))
+put_here request_kind other request tells gs reads =
+    ap (told_by other) (changed request_kind.driver _ gs (λ g. refl)) ∙ by_grant (grant_of request_kind.driver gs)
   where
-    by_grant : (found : Option Grant) → told_by other (option_map (with_value (desk.words_with request (unwrap_or (option_map (λ g. g.value) found) []))) found) ≡ option_and_then tells (option_map (λ g. g.value) found)
+    by_grant : (found : Option Grant)
+        → told_by other (option_map (with_value
+        (request_kind.words_with request (unwrap_or (option_map (λ g. g.value) found) []))) found)
+        ≡ option_and_then tells (option_map (λ g. g.value) found)
     by_grant None = refl
     by_grant (Some g) = reads g.value
 
-put_elsewhere : {R S : Type 0} (desk : Desk R) (other : Desk S) (request : Option R) (gs : List Grant) → (desk.driver == other.driver) ≡ false → told_by other (grant_of other.driver (putting desk request gs)) ≡ told_by other (grant_of other.driver gs)
-put_elsewhere desk other request gs apart = ap (told_by other) (unchanged other.driver desk.driver _ gs apart (λ g. refl))
+put_elsewhere : {R S : Type 0} (request_kind : RequestKind R) (other : RequestKind S) (request : Option R)
+    (gs : List Grant) → (request_kind.driver == other.driver) ≡ false
+    → told_by other (grant_of other.driver (putting request_kind request gs)) ≡ told_by other (grant_of other.driver gs)
+put_elsewhere request_kind other request gs apart =
+    ap (told_by other) (unchanged other.driver request_kind.driver _ gs apart (λ g. refl))
 
 -- the words of a value tell the request that was put into them
-write_is_told : (request : Option WaitingWrite) (words : List ℕ) → console_writes.told (console_writes.words_with request words) ≡ request
+write_is_told : (request : Option WaitingWrite) (words : List ℕ)
+    → console_writes.told (console_writes.words_with request words) ≡ request
 write_is_told None words = refl
 write_is_told (Some request) words = refl
 
-read_is_told : (request : Option WaitingRead) (words : List ℕ) → console_reads.told (console_reads.words_with request words) ≡ request
+read_is_told : (request : Option WaitingRead) (words : List ℕ)
+    → console_reads.told (console_reads.words_with request words) ≡ request
 read_is_told None words = refl
 read_is_told (Some request) words = refl
 
-random_is_told : (request : Option RandomRequest) (words : List ℕ) → randoms.told (randoms.words_with request words) ≡ request
+random_is_told : (request : Option RandomRequest) (words : List ℕ)
+    → randoms.told (randoms.words_with request words) ≡ request
 random_is_told None words = refl
 random_is_told (Some request) words = refl
 
-storage_is_told : (request : Option StorageRequest) (words : List ℕ) → storages.told (storages.words_with request words) ≡ request
+storage_is_told : (request : Option StorageRequest) (words : List ℕ)
+    → storages.told (storages.words_with request words) ≡ request
 storage_is_told None words = refl
 storage_is_told (Some request) words = by_kind request.kind
   where
-    by_kind : (kind : StorageKind) → storages.told (storages.words_with (Some (record request { kind = kind })) words) ≡ Some (record request { kind = kind })
+    by_kind : (kind : StorageKind)
+        → storages.told (storages.words_with (Some (record request { kind = kind })) words)
+        ≡ Some (record request { kind = kind })
     by_kind Read = refl
     by_kind Write = refl
 
-write_stays : (request : Option WaitingRead) (words : List ℕ) → console_writes.told (console_reads.words_with request words) ≡ console_writes.told words
+write_stays : (request : Option WaitingRead) (words : List ℕ)
+    → console_writes.told (console_reads.words_with request words) ≡ console_writes.told words
 write_stays request words = write_is_told (console_writes.told words) (console_reads.words_with request words)
 
-read_stays : (request : Option WaitingWrite) (words : List ℕ) → console_reads.told (console_writes.words_with request words) ≡ console_reads.told words
+read_stays : (request : Option WaitingWrite) (words : List ℕ)
+    → console_reads.told (console_writes.words_with request words) ≡ console_reads.told words
 read_stays request words = read_is_told (console_reads.told words) (console_writes.words_with request words)
 
 -- each request that is put changes what is asked there
-pub asked_writes : (request : Option WaitingWrite) (own : Own) → asked (with_request console_writes request own).grants ≡ record (asked own.grants) { writes = if_there request (grant_of console own.grants) }
+pub asked_writes : (request : Option WaitingWrite) (own : Own)
+    → asked (with_request console_writes request own).grants
+    ≡ record (asked own.grants) { writes = if_there request (grant_of console own.grants) }
 asked_writes request own =
     all_same _ _
     (put_here console_writes console_writes request (λ words. request) own.grants (write_is_told request))
@@ -141,7 +177,9 @@ asked_writes request own =
     (put_elsewhere console_writes randoms request own.grants refl)
     (put_elsewhere console_writes storages request own.grants refl)
 
-pub asked_reads : (request : Option WaitingRead) (own : Own) → asked (with_request console_reads request own).grants ≡ record (asked own.grants) { reads = if_there request (grant_of console own.grants) }
+pub asked_reads : (request : Option WaitingRead) (own : Own)
+    → asked (with_request console_reads request own).grants
+    ≡ record (asked own.grants) { reads = if_there request (grant_of console own.grants) }
 asked_reads request own =
     all_same _ _
     (put_here console_reads console_writes request console_writes.told own.grants (write_stays request))
@@ -149,7 +187,9 @@ asked_reads request own =
     (put_elsewhere console_reads randoms request own.grants refl)
     (put_elsewhere console_reads storages request own.grants refl)
 
-pub asked_randoms : (request : Option RandomRequest) (own : Own) → asked (with_request randoms request own).grants ≡ record (asked own.grants) { randoms = if_there request (grant_of random own.grants) }
+pub asked_randoms : (request : Option RandomRequest) (own : Own)
+    → asked (with_request randoms request own).grants
+    ≡ record (asked own.grants) { randoms = if_there request (grant_of random own.grants) }
 asked_randoms request own =
     all_same _ _
     (put_elsewhere randoms console_writes request own.grants refl)
@@ -157,7 +197,9 @@ asked_randoms request own =
     (put_here randoms randoms request (λ words. request) own.grants (random_is_told request))
     (put_elsewhere randoms storages request own.grants refl)
 
-pub asked_stores : (request : Option StorageRequest) (own : Own) → asked (with_request storages request own).grants ≡ record (asked own.grants) { stores = if_there request (grant_of storage own.grants) }
+pub asked_stores : (request : Option StorageRequest) (own : Own)
+    → asked (with_request storages request own).grants
+    ≡ record (asked own.grants) { stores = if_there request (grant_of storage own.grants) }
 asked_stores request own =
     all_same _ _
     (put_elsewhere storages console_writes request own.grants refl)
@@ -166,7 +208,8 @@ asked_stores request own =
     (put_here storages storages request (λ words. request) own.grants (storage_is_told request))
 
 -- where the driver is entered, the request is the one that was put; where none is put, there is none
-if_entered : {R : Type 0} (request : Option R) (driver : ℕ) (gs : List Grant) → if_there request (grant_of driver (entered driver gs)) ≡ request
+if_entered : {R : Type 0} (request : Option R) (driver : ℕ) (gs : List Grant)
+    → if_there request (grant_of driver (entered driver gs)) ≡ request
 if_entered request driver gs = by_grant (grant_of driver (entered driver gs)) (is_there driver gs)
   where
     by_grant : (found : Option Grant) → is_some found ≡ true → if_there request found ≡ request
@@ -174,22 +217,39 @@ if_entered request driver gs = by_grant (grant_of driver (entered driver gs)) (i
     by_grant (Some g) e = refl
 
 -- so it is where one was told before
-pub if_told : {R : Type 0} (desk : Desk R) (waiting : R) (request : Option R) (found : Option Grant) → told_by desk found ≡ Some waiting → if_there request found ≡ request
-if_told desk waiting request None e = cc
-if_told desk waiting request (Some g) e = refl
+pub if_told : {R : Type 0} (request_kind : RequestKind R) (waiting : R) (request : Option R) (found : Option Grant)
+    → told_by request_kind found ≡ Some waiting → if_there request found ≡ request
+if_told request_kind waiting request None e = cc
+if_told request_kind waiting request (Some g) e = refl
 
 pub if_none : {R : Type 0} (found : Option Grant) → if_there {R = R} None found ≡ None
 if_none None = refl
 if_none (Some g) = refl
 
-pub entered_writes : (request : Option WaitingWrite) (own : Own) → asked (with_request console_writes request (entering console own)).grants ≡ record (asked own.grants) { writes = request }
-entered_writes request own = asked_writes request (entering console own) ∙ (λ i. record (asked_still console own.grants i) { writes = if_entered request console own.grants i })
+pub entered_writes : (request : Option WaitingWrite) (own : Own)
+    → asked (with_request console_writes request (own_entering console own)).grants
+    ≡ record (asked own.grants) { writes = request }
+entered_writes request own =
+    asked_writes request (own_entering console own)
+    ∙ (λ i. record (asked_still console own.grants i) { writes = if_entered request console own.grants i })
 
-pub entered_reads : (request : Option WaitingRead) (own : Own) → asked (with_request console_reads request (entering console own)).grants ≡ record (asked own.grants) { reads = request }
-entered_reads request own = asked_reads request (entering console own) ∙ (λ i. record (asked_still console own.grants i) { reads = if_entered request console own.grants i })
+pub entered_reads : (request : Option WaitingRead) (own : Own)
+    → asked (with_request console_reads request (own_entering console own)).grants
+    ≡ record (asked own.grants) { reads = request }
+entered_reads request own =
+    asked_reads request (own_entering console own)
+    ∙ (λ i. record (asked_still console own.grants i) { reads = if_entered request console own.grants i })
 
-pub entered_randoms : (request : Option RandomRequest) (own : Own) → asked (with_request randoms request (entering random own)).grants ≡ record (asked own.grants) { randoms = request }
-entered_randoms request own = asked_randoms request (entering random own) ∙ (λ i. record (asked_still random own.grants i) { randoms = if_entered request random own.grants i })
+pub entered_randoms : (request : Option RandomRequest) (own : Own)
+    → asked (with_request randoms request (own_entering random own)).grants
+    ≡ record (asked own.grants) { randoms = request }
+entered_randoms request own =
+    asked_randoms request (own_entering random own)
+    ∙ (λ i. record (asked_still random own.grants i) { randoms = if_entered request random own.grants i })
 
-pub entered_stores : (request : Option StorageRequest) (own : Own) → asked (with_request storages request (entering storage own)).grants ≡ record (asked own.grants) { stores = request }
-entered_stores request own = asked_stores request (entering storage own) ∙ (λ i. record (asked_still storage own.grants i) { stores = if_entered request storage own.grants i })
+pub entered_stores : (request : Option StorageRequest) (own : Own)
+    → asked (with_request storages request (own_entering storage own)).grants
+    ≡ record (asked own.grants) { stores = request }
+entered_stores request own =
+    asked_stores request (own_entering storage own)
+    ∙ (λ i. record (asked_still storage own.grants i) { stores = if_entered request storage own.grants i })

@@ -1,17 +1,19 @@
 -- What the commands to each driver ask of the board, by the rows of its table.
-use Rattle.std.proofs.Common.{◌≡◌, inl, inr, ℕ, ◌==◌, ◌+◌, nat_le, nat_lt, Bool, true, false, cond, List, [], ◌∷◌, Option, None, Some, refl}
+use Rattle.std.proofs.Common.{◌≡◌, inl, inr, ℕ, ◌==◌, ◌+◌, nat_le, nat_lt, Bool, true, false, cond, List, [], ◌∷◌}
+use Rattle.std.proofs.Common.{Option, None, Some, refl}
 use Rattle.grant_values.specs.declared.alarm.Armed.{Armed}
 use Rattle.grant_values.specs.declared.console.WaitingRead.{WaitingRead}
 use Rattle.grant_values.specs.declared.storage.StorageRequest.{StorageRequest}
-use Rattle.process_own.specs.Own.{Own}
-use Rattle.process_own.specs.Handed.{has_place}
+use Rattle.process_model.specs.Own.{Own}
+use Rattle.process_model.specs.Handed.{has_place}
 use Rattle.driver_model.specs.Alarm as alarm
 use Rattle.driver_model.specs.Asked.{AskTheirOwn, OneOf}
-use Rattle.driver_model.specs.Commands.{Act, Commanded, Waits, Leaves, Lights, On, Off, Toggle, Switch, Writes, Reads, Randoms, Stores}
+use Rattle.driver_model.specs.Commands.{BoardRequest, Commanded, Waits, Leaves, Lights, On, Off, Toggle, Switch, Writes}
+use Rattle.driver_model.specs.Commands.{Reads, Randoms, Stores}
 use Rattle.driver_model.specs.Console as console
 use Rattle.driver_model.specs.Leds as leds
 use Rattle.driver_model.specs.Random as random
-use Rattle.driver_model.specs.Requests.{Desk, asking_beside, request_in}
+use Rattle.driver_model.specs.Requests.{RequestKind, asking_beside, request_in}
 use Rattle.driver_model.specs.Storage as storage
 use Rattle.driver_model.proofs.Tables.{Each, commanded}
 
@@ -29,7 +31,7 @@ stopping_asks (Some armed) own = refl
 
 arming_asks : (armed : Armed) (own : Own) → AsksNothing (alarm.arming armed own)
 unfolding AsksNothing
-arming_asks armed own = by_test AsksNothing (has_place 0 own) _ _ refl refl
+arming_asks armed own = by_test AsksNothing (has_place alarm.alarm_driver own) _ _ refl refl
 
 alarm_asks : (now number a2 a3 : ℕ) (own : Own) → AsksNothing (alarm.command now number a2 a3 own)
 unfolding Each alarm.command alarm.commands AsksNothing
@@ -38,18 +40,24 @@ alarm_asks now number a2 a3 own =
     (refl, (refl, (refl, (stopping_asks (alarm.alarm_in own) own, (arming_asks _ own, (arming_asks _ own, tt))))))
 
 -- a request has its process begin to wait, or asks for nothing
-begins : {R : Type 0} (P : Commanded → Type 0) (desk : Desk R) (o : Option R) (request : R) (own : Own) → ((c : Commanded) → c.acts ≡ [] → P c) → ((c : Commanded) → c.acts ≡ Waits desk.line ∷ [] → P c) → P (asking_beside desk o request own)
-begins P desk None request own none waits = by_test P (has_place desk.driver own) _ _ (waits _ refl) (none _ refl)
-begins P desk (Some waiting) request own none waits = none _ refl
+begins : {R : Type 0} (P : Commanded → Type 0) (request_kind : RequestKind R) (o : Option R) (request : R) (own : Own)
+    → ((c : Commanded) → c.acts ≡ [] → P c) → ((c : Commanded) → c.acts ≡ Waits request_kind.line ∷ [] → P c)
+    → P (asking_beside request_kind o request own)
+begins P request_kind None request own none waits =
+    by_test P (has_place request_kind.driver own) _ _ (waits _ refl) (none _ refl)
+begins P request_kind (Some waiting) request own none waits = none _ refl
 
-abbrev AsksOf : List (List Act) → Commanded → Type 0
+abbrev AsksOf : List (List BoardRequest) → Commanded → Type 0
 AsksOf lists c = OneOf c.acts lists
 
-abbrev of_console : List (List Act)
+abbrev of_console : List (List BoardRequest)
 of_console = [] ∷ (Waits Writes ∷ []) ∷ (Waits Reads ∷ []) ∷ (Leaves Reads ∷ []) ∷ []
 
-reading_asks : (count : ℕ) (own : Own) → AsksOf of_console (console.reading count own)
-reading_asks count own = by_test (AsksOf of_console) (count == 0) _ _ (inl refl) (begins (AsksOf of_console) console.console_reads (request_in console.console_reads own) _ own (λ c e. inl e) (λ c e. inr (inr (inl e))))
+reading_asks : (count : ℕ) (own : Own) → AsksOf of_console (console.asking_to_read count own)
+reading_asks count own =
+    by_test (AsksOf of_console) (count == 0) _ _ (inl refl)
+    (begins (AsksOf of_console) console.console_reads (request_in console.console_reads own) _ own (λ c e. inl e)
+    (λ c e. inr (inr (inl e))))
 
 cancelling_asks : (o : Option WaitingRead) (own : Own) → AsksOf of_console (console.cancelling o own)
 cancelling_asks None own = inl refl
@@ -58,37 +66,61 @@ cancelling_asks (Some read) own = inr (inr (inr (inl refl)))
 console_asks : (number count : ℕ) (own : Own) → AsksOf of_console (console.command number count own)
 unfolding Each console.command console.commands
 console_asks number count own =
-    commanded (AsksOf of_console) own (console.commands count own) number (inl refl)
-    (inl refl, (begins (AsksOf of_console) console.console_writes (request_in console.console_writes own) _ own (λ c e. inl e) (λ c e. inr (inl e)), (reading_asks count own, (cancelling_asks (request_in console.console_reads own) own, tt))))
+    commanded (AsksOf of_console) own (console.commands count own) number (inl refl) (
+      inl refl,
+      (
+        begins (AsksOf of_console) console.console_writes (request_in console.console_writes own) _ own
+            (λ c e. inl e) (λ c e. inr (inl e)),
+        (reading_asks count own, (cancelling_asks (request_in console.console_reads own) own, tt)),
+      ),
+    )
 
-abbrev of_leds : ℕ → List (List Act)
+abbrev of_leds : ℕ → List (List BoardRequest)
 of_leds led = [] ∷ (Lights led On ∷ []) ∷ (Lights led Off ∷ []) ∷ (Lights led Toggle ∷ []) ∷ []
 
-switching_asks : (count led : ℕ) (switch : Switch) (own : Own) → AsksOf (of_leds led) (leds.switching count led switch own)
+switching_asks : (count led : ℕ) (switch : Switch) (own : Own)
+    → AsksOf (of_leds led) (leds.switching count led switch own)
 switching_asks count led On own = by_test (AsksOf (of_leds led)) (nat_lt led count) _ _ (inr (inl refl)) (inl refl)
-switching_asks count led Off own = by_test (AsksOf (of_leds led)) (nat_lt led count) _ _ (inr (inr (inl refl))) (inl refl)
-switching_asks count led Toggle own = by_test (AsksOf (of_leds led)) (nat_lt led count) _ _ (inr (inr (inr (inl refl)))) (inl refl)
+switching_asks count led Off own =
+    by_test (AsksOf (of_leds led)) (nat_lt led count) _ _ (inr (inr (inl refl))) (inl refl)
+switching_asks count led Toggle own =
+    by_test (AsksOf (of_leds led)) (nat_lt led count) _ _ (inr (inr (inr (inl refl)))) (inl refl)
 
 leds_ask : (count number led : ℕ) (own : Own) → AsksOf (of_leds led) (leds.command count number led own)
 unfolding Each leds.command leds.commands
 leds_ask count number led own =
-    commanded (AsksOf (of_leds led)) own (leds.commands count led own) number (inl refl)
-    (inl refl, (switching_asks count led On own, (switching_asks count led Off own, (switching_asks count led Toggle own, tt))))
+    commanded (AsksOf (of_leds led)) own (leds.commands count led own) number (inl refl) (
+      inl refl,
+      (
+        switching_asks count led On own,
+        (switching_asks count led Off own, (switching_asks count led Toggle own, tt)),
+      ),
+    )
 
-abbrev of_random : List (List Act)
+abbrev of_random : List (List BoardRequest)
 of_random = [] ∷ (Waits Randoms ∷ []) ∷ []
 
 random_asks : (number count : ℕ) (own : Own) → AsksOf of_random (random.command number count own)
 unfolding Each random.command random.commands
 random_asks number count own =
-    commanded (AsksOf of_random) own (random.commands count own) number (inl refl)
-    (inl refl, (begins (AsksOf of_random) random.randoms (request_in random.randoms own) _ own (λ c e. inl e) (λ c e. inr (inl e)), tt))
+    commanded (AsksOf of_random) own (random.commands count own) number (inl refl) (
+      inl refl,
+      (
+        begins (AsksOf of_random) random.randoms (request_in random.randoms own) _ own (λ c e. inl e)
+            (λ c e. inr (inl e)),
+        tt,
+      ),
+    )
 
-abbrev of_storage : List (List Act)
+abbrev of_storage : List (List BoardRequest)
 of_storage = [] ∷ (Waits Stores ∷ []) ∷ []
 
-requesting_asks : (size : ℕ) (request : StorageRequest) (own : Own) → AsksOf of_storage (storage.requesting size request own)
-requesting_asks size request own = by_test (AsksOf of_storage) (nat_le (request.offset + request.length) size) _ _ (begins (AsksOf of_storage) storage.storages (request_in storage.storages own) request own (λ c e. inl e) (λ c e. inr (inl e))) (inl refl)
+requesting_asks : (size : ℕ) (request : StorageRequest) (own : Own)
+    → AsksOf of_storage (storage.requesting size request own)
+requesting_asks size request own =
+    by_test (AsksOf of_storage) (nat_le (request.offset + request.length) size) _ _
+    (begins (AsksOf of_storage) storage.storages (request_in storage.storages own) request own (λ c e. inl e)
+    (λ c e. inr (inl e))) (inl refl)
 
 storage_asks : (size number a2 a3 : ℕ) (own : Own) → AsksOf of_storage (storage.command size number a2 a3 own)
 unfolding Each storage.command storage.commands
@@ -98,4 +130,5 @@ storage_asks size number a2 a3 own =
 
 pub ask_their_own : AskTheirOwn
 unfolding AsksNothing
-ask_their_own = record { alarm = alarm_asks; console = console_asks; leds = leds_ask; random = random_asks; storage = storage_asks }
+ask_their_own =
+    record { alarm = alarm_asks; console = console_asks; leds = leds_ask; random = random_asks; storage = storage_asks }

@@ -1,18 +1,20 @@
 -- The bytes of a process's own after commands and answers.
-use Rattle.std.proofs.Common.{◌≡◌, ◌⊎◌, inl, ℕ, ◌+◌, ◌-◌, Bool, true, false, cond, nat_le, List, [], ◌∷◌, slice_get, length, Option, None, Some, refl, sym, subst}
+use Rattle.std.proofs.Common.{◌≡◌, ◌⊎◌, inl, ℕ, ◌+◌, ◌-◌, Bool, true, false, cond, nat_le, List, [], ◌∷◌, slice_get}
+use Rattle.std.proofs.Common.{length, Option, None, Some, refl, sym, subst}
 use Rattle.std.specs.Prelude.{min, slice_range}
 use Rattle.tk_base.specs.Call.{code_of}
-use Rattle.tk_base.specs.declared.call.ErrorCode.TheVariants.{Cancel}
-use Rattle.grant_areas.specs.declared.kinds.PairKind.TheVariants.{ReadOnly}
+use Rattle.tk_base.specs.declared.call.ErrorCode.TheVariants.{CANCEL}
+use Rattle.grant_model.specs.declared.kinds.PairKind.TheVariants.{ReadOnly}
 use Rattle.grant_values.specs.declared.alarm.Armed.{Armed}
 use Rattle.grant_values.specs.declared.random.RandomRequest.{RandomRequest}
 use Rattle.grant_values.specs.declared.storage.StorageKind.{StorageKind}
 use Rattle.grant_values.specs.declared.storage.StorageKind.TheVariants.{Read, Write}
 use Rattle.grant_values.specs.declared.storage.StorageRequest.{StorageRequest}
-use Rattle.process_own.specs.Own.{Own}
-use Rattle.process_own.specs.Handed.{held}
-use Rattle.process_own.specs.Served.{bytes_at, ram_at, scheduled, with_written}
-use Rattle.process_own.specs.Changes.{ChangesAt, IsInside, IsOwn, IsWhole, KeepsBytes, OnlyWritesChangeBytes, own_byte}
+use Rattle.process_model.specs.Own.{Own}
+use Rattle.process_model.specs.Handed.{held}
+use Rattle.process_model.specs.Served.{bytes_at, ram_at, own_scheduled, with_written}
+use Rattle.process_model.specs.Changes.{ChangesAt, IsInside, IsOwnAddress, IsWhole, KeepsBytes, OnlyWritesChangeBytes}
+use Rattle.process_model.specs.Changes.{own_byte}
 use Rattle.driver_model.specs.Alarm as alarm
 use Rattle.driver_model.specs.Console as console
 use Rattle.driver_model.specs.Console.{console_reads, console_writes}
@@ -27,18 +29,23 @@ use Rattle.driver_model.proofs.Scheduled.{schedules}
 use Rattle.driver_model.proofs.Services.{if_waits}
 
 -- an upcall that is scheduled changes no byte
-then_scheduled : (Cause : ℕ → Type 0) (driver number : ℕ) (args : List ℕ) (own o : Own) → ChangesAt Cause own o → ChangesAt Cause own (scheduled driver number args o)
+then_scheduled : (Cause : ℕ → Type 0) (driver number : ℕ) (args : List ℕ) (own o : Own) → ChangesAt Cause own o
+    → ChangesAt Cause own (own_scheduled driver number args o)
 then_scheduled Cause driver number args own o changes at before after =
     let rest = (schedules driver number args o).rest in
-    subst (λ (x : Own). IsOwn at x → (own_byte x at ≡ own_byte own at) ⊎ Cause at) (sym rest) (changes at before) after
+    subst (λ (x : Own). IsOwnAddress at x → (own_byte x at ≡ own_byte own at) ⊎ Cause at) (sym rest) (changes at before)
+    after
 
-keeps_scheduled : (driver number : ℕ) (args : List ℕ) (own : Own) → KeepsBytes own (scheduled driver number args own)
+keeps_scheduled : (driver number : ℕ) (args : List ℕ) (own : Own)
+    → KeepsBytes own (own_scheduled driver number args own)
 keeps_scheduled driver number args own at before after =
     let rest = (schedules driver number args own).rest in
     subst (λ (x : Own). own_byte x at ≡ own_byte own at) (sym rest) refl
 
-stays_scheduled : (Cause : ℕ → Type 0) (driver number : ℕ) (args : List ℕ) (own : Own) → ChangesAt Cause own (scheduled driver number args own)
-stays_scheduled Cause driver number args own at before after = inl (keeps_scheduled driver number args own at before after)
+stays_scheduled : (Cause : ℕ → Type 0) (driver number : ℕ) (args : List ℕ) (own : Own)
+    → ChangesAt Cause own (own_scheduled driver number args own)
+stays_scheduled Cause driver number args own at before after =
+    inl (keeps_scheduled driver number args own at before after)
 
 pub commands_keep_bytes : OnlyWritesChangeBytes → CommandsKeepBytes
 commands_keep_bytes law driver taker is around number a2 a3 own =
@@ -46,9 +53,9 @@ commands_keep_bytes law driver taker is around number a2 a3 own =
       refuses = λ rule at before after. refl;
       replies = λ reply at before after. refl;
       lights = λ led switch at before after. refl;
-      arms = λ alarm room. law.entering 0 own;
+      arms = λ armed room. law.entering alarm.alarm_driver own;
       stops = λ at before after. refl;
-      cancels = keeps_scheduled console.console 2 (code_of Cancel ∷ 0 ∷ 0 ∷ []) own;
+      cancels = keeps_scheduled console.console 2 (code_of CANCEL ∷ 0 ∷ 0 ∷ []) own;
       writes = λ request room none. law.entering console.console own;
       reads = λ request room none. law.entering console.console own;
       draws = λ request room none. law.entering random.random own;
@@ -58,10 +65,12 @@ commands_keep_bytes law driver taker is around number a2 a3 own =
 module _ (law : OnlyWritesChangeBytes) where
   fires : (now : ℕ) (own : Own) (due : Option Armed) → KeepsBytes own (alarm.fired_if now own due)
   fires now own None = λ at before after. refl
-  fires now own (Some armed) = keeps_scheduled 0 0 (now ∷ alarm.expiration armed ∷ 0 ∷ []) own
+  fires now own (Some armed) = keeps_scheduled alarm.alarm_driver 0 (now ∷ alarm.expiration armed ∷ 0 ∷ []) own
 
-  drawing : (left : ℕ) (request : RandomRequest) (own : Own) (word : Option ℕ) → IsWhole own → ChangesAt (IsInside (word_buffer own)) own (random.drawing left request own word).own
-  drawing left request own None whole = stays_scheduled (IsInside (word_buffer own)) random.random 0 (1 ∷ request.written ∷ 0 ∷ []) own
+  drawing : (left : ℕ) (request : RandomRequest) (own : Own) (word : Option ℕ) → IsWhole own
+      → ChangesAt (IsInside (word_buffer own)) own (random.drawing left request own word).own
+  drawing left request own None whole =
+      stays_scheduled (IsInside (word_buffer own)) random.random 0 (1 ∷ request.written ∷ 0 ∷ []) own
   drawing left request own (Some word) whole = by_left (nat_le left 4)
     where
       o : Own
@@ -70,54 +79,78 @@ module _ (law : OnlyWritesChangeBytes) where
       written : ChangesAt (IsInside (word_buffer own)) own o
       written = law.written random.random 0 _ _ own whole
 
-      by_left : (b : Bool) → ChangesAt (IsInside (word_buffer own)) own (cond b (random.completing true 0 (request.written + left) o) (record { rest = Some (record request { written = request.written + 4 }); own = o; took = true })).own
-      by_left true = then_scheduled (IsInside (word_buffer own)) random.random 0 (0 ∷ (request.written + left) ∷ 0 ∷ []) own o written
+      by_left : (b : Bool)
+          → ChangesAt (IsInside (word_buffer own)) own
+          (cond b (random.completing true 0 (request.written + left) o)
+          (record { rest = Some (record request { written = request.written + 4 }); own = o; took = true })).own
+      by_left true = then_scheduled (IsInside (word_buffer own)) random.random 0 (0 ∷ (request.written + left) ∷ 0 ∷ [])
+          own o written
       by_left false = written
 
-  progress : (word : Option ℕ) (request : RandomRequest) (own : Own) → IsWhole own → ChangesAt (IsInside (word_buffer own)) own (random.progress word request own).own
+  progress : (word : Option ℕ) (request : RandomRequest) (own : Own) → IsWhole own
+      → ChangesAt (IsInside (word_buffer own)) own (random.progress word request own).own
   progress word request own whole = by_wanted (nat_le (random.wanted request own) request.written)
     where
-      by_wanted : (b : Bool) → ChangesAt (IsInside (word_buffer own)) own (cond b (random.completing false 0 request.written own) (random.drawing (random.wanted request own - request.written) request own word)).own
+      by_wanted : (b : Bool)
+          → ChangesAt (IsInside (word_buffer own)) own
+          (cond b (random.completing false 0 request.written own)
+          (random.drawing (random.wanted request own - request.written) request own word)).own
       by_wanted true = stays_scheduled (IsInside (word_buffer own)) random.random 0 (0 ∷ request.written ∷ 0 ∷ []) own
       by_wanted false = drawing _ request own word whole
 
   no_progress : (request : RandomRequest) (own : Own) → KeepsBytes own (random.progress None request own).own
   no_progress request own = by_wanted (nat_le (random.wanted request own) request.written)
     where
-      by_wanted : (b : Bool) → KeepsBytes own (cond b (random.completing false 0 request.written own) (random.drawing (random.wanted request own - request.written) request own None)).own
+      by_wanted : (b : Bool)
+          → KeepsBytes own (cond b (random.completing false 0 request.written own)
+          (random.drawing (random.wanted request own - request.written) request own None)).own
       by_wanted true = keeps_scheduled random.random 0 (0 ∷ request.written ∷ 0 ∷ []) own
       by_wanted false = keeps_scheduled random.random 0 (1 ∷ request.written ∷ 0 ∷ []) own
 
-  moving : (kind : StorageKind) (flash bytes : List ℕ) (request : StorageRequest) (own : Own) → IsWhole own → ChangesAt (IsInside (stored_buffer own)) own (storage.moving kind flash bytes request own).own
+  moving : (kind : StorageKind) (flash bytes : List ℕ) (request : StorageRequest) (own : Own) → IsWhole own
+      → ChangesAt (IsInside (stored_buffer own)) own (storage.moving kind flash bytes request own).own
   moving Read flash bytes request own whole =
       let count = min request.length (length (ram_at own (stored_buffer own))) in
       let copied = slice_range bytes request.offset (request.offset + count) in
-      then_scheduled (IsInside (stored_buffer own)) storage.storage 0 (count ∷ 0 ∷ 0 ∷ []) own (with_written storage.storage 0 0 copied own) (law.written storage.storage 0 0 copied own whole)
+      then_scheduled (IsInside (stored_buffer own)) storage.storage 0 (count ∷ 0 ∷ 0 ∷ []) own
+      (with_written storage.storage 0 0 copied own) (law.written storage.storage 0 0 copied own whole)
   moving Write flash bytes request own whole =
-      stays_scheduled (IsInside (stored_buffer own)) storage.storage 1 (min request.length (length (bytes_at flash own (held ReadOnly storage.storage 0 own))) ∷ 0 ∷ 0 ∷ []) own
+      stays_scheduled (IsInside (stored_buffer own)) storage.storage 1
+      (min request.length (length (bytes_at flash own (held ReadOnly storage.storage 0 own))) ∷ 0 ∷ 0 ∷ []) own
 
-  served : (fault : Bool) (flash bytes : List ℕ) (request : StorageRequest) (own : Own) → IsWhole own → ChangesAt (IsInside (stored_buffer own)) own (storage.served fault flash bytes request own).own
-  served true flash bytes request own whole = stays_scheduled (IsInside (stored_buffer own)) storage.storage (storage.upcall_for request.kind) (0 ∷ 1 ∷ 0 ∷ []) own
+  served : (fault : Bool) (flash bytes : List ℕ) (request : StorageRequest) (own : Own) → IsWhole own
+      → ChangesAt (IsInside (stored_buffer own)) own (storage.storage_served fault flash bytes request own).own
+  served true flash bytes request own whole =
+      stays_scheduled (IsInside (stored_buffer own)) storage.storage (storage.upcall_for request.kind) (0 ∷ 1 ∷ 0 ∷ [])
+      own
   served false flash bytes request own whole = moving request.kind flash bytes request own whole
 
   pub answers_write_in_buffers : AnswersWriteInBuffers
   unfolding alarm.answered random.answered storage.answered
   answers_write_in_buffers = record {
     alarmed = λ now own. fires now own (alarm.due_alarm now own);
-    taken = λ own. if_waits (KeepsBytes own) (console.taking own) own (waiting_in console_writes own) (λ at before after. refl) (λ write at before after. refl);
-    write_done = λ own. if_waits (KeepsBytes own) (console.writing own) own (waiting_in console_writes own) (λ at before after. refl) (λ write. keeps_scheduled console.console 1 (write.taken ∷ 0 ∷ 0 ∷ []) own);
+    taken = λ own. if_waits (KeepsBytes own) (console.taking own) own (waiting_in console_writes own)
+        (λ at before after. refl) (λ write at before after. refl);
+    write_done = λ own. if_waits (KeepsBytes own) (console.write_completing own) own (waiting_in console_writes own)
+        (λ at before after. refl) (λ write. keeps_scheduled console.console 1 (write.taken ∷ 0 ∷ 0 ∷ []) own);
     input = λ bytes own whole.
-        if_waits (ChangesAt (IsInside (input_buffer own)) own) (console.reading_in bytes own) own (waiting_in console_reads own) (λ at before after. inl refl)
+        if_waits (ChangesAt (IsInside (input_buffer own)) own) (console.reading_in bytes own) own
+        (waiting_in console_reads own) (λ at before after. inl refl)
         (λ read.
-        then_scheduled (IsInside (input_buffer own)) console.console 2 (console.read_status own ∷ length bytes ∷ 0 ∷ []) own (with_written console.console 1 0 bytes own)
+        then_scheduled (IsInside (input_buffer own)) console.console 2 (console.read_status own ∷ length bytes ∷ 0 ∷ [])
+        own (with_written console.console 1 0 bytes own)
         (law.written console.console 1 0 bytes own whole));
     word = λ words life own whole.
-        if_waits (λ (a : random.Answered). ChangesAt (IsInside (word_buffer own)) own a.own) _ _ (waiting_of randoms life own) (λ at before after. inl refl)
+        if_waits (λ (a : random.RandomAnswered). ChangesAt (IsInside (word_buffer own)) own a.own) _ _
+        (waiting_of randoms life own) (λ at before after. inl refl)
         (λ request. progress (slice_get words 0) request own whole);
     no_word = λ life own.
-        if_waits (λ (a : random.Answered). KeepsBytes own a.own) _ _ (waiting_of randoms life own) (λ at before after. refl) (λ request. no_progress request own);
+        if_waits (λ (a : random.RandomAnswered). KeepsBytes own a.own) _ _ (waiting_of randoms life own)
+        (λ at before after. refl) (λ request. no_progress request own);
     stored = λ fault flash bytes life own whole.
-        if_waits (λ (a : storage.Answered). ChangesAt (IsInside (stored_buffer own)) own a.own) _ _ (waiting_of storages life own) (λ at before after. inl refl)
+        if_waits (λ (a : storage.StorageAnswered). ChangesAt (IsInside (stored_buffer own)) own a.own) _ _
+        (waiting_of storages life own) (λ at before after. inl refl)
         (λ request. served fault flash bytes request own whole);
-    failed = λ flash bytes life own. if_waits (λ (a : storage.Answered). a.written ≡ None) _ _ (waiting_of storages life own) refl (λ request. refl);
+    failed = λ flash bytes life own. if_waits (λ (a : storage.StorageAnswered). a.written ≡ None) _ _
+        (waiting_of storages life own) refl (λ request. refl);
   }

@@ -1,17 +1,21 @@
 -- Whose alarm fires, and what it changes of its process.
-use Rattle.std.proofs.Common.{◌≡◌, ℕ, Bool, true, false, cond, List, ◌∷◌, [], ◌<◌, length, find, slice_get, Option, None, Some, refl, sym, ap, ◌∙◌}
+use Rattle.std.proofs.Common.{◌≡◌, ℕ, Bool, true, false, cond, List, ◌∷◌, [], ◌<◌, length, find, slice_get, Option}
+use Rattle.std.proofs.Common.{None, Some, refl, sym, ap, ◌∙◌}
 use Rattle.std.specs.List.{range_with_len}
 use Rattle.std.proofs.lemmas.Option.{slice_get_within}
+use Rattle.tk_base.specs.declared.limits.TheConstants.{SLOT_COUNT}
 use Rattle.grant_values.specs.declared.alarm.Armed.{Armed}
-use Rattle.process_own.specs.Own.{Own}
-use Rattle.driver_model.specs.Alarm.{answered, due_alarm, due_slot, expiration, fired, fired_if, has_due}
+use Rattle.process_model.specs.Own.{Own}
+use Rattle.driver_model.specs.Alarm.{alarm_driver, answered, due_alarm, due_slot, expiration, fired, fired_if, has_due}
 use Rattle.driver_model.specs.Laws.{AnAlarmLeavesTheRest, DueSlotIsThere, IsAtMostOneMore}
 use Rattle.driver_model.proofs.Scheduled.{none_more, schedules}
 
-fires : (now : ℕ) (own : Own) (alarm : Option Armed) → let o = fired_if now own alarm in (o ≡ record own { pending = o.pending; dropped = o.dropped; grants = o.grants }) × IsAtMostOneMore own.dropped o.dropped
+fires : (now : ℕ) (own : Own) (alarm : Option Armed) → let o = fired_if now own alarm in
+    (o ≡ record own { pending = o.pending; dropped = o.dropped; grants = o.grants })
+    × IsAtMostOneMore own.dropped o.dropped
 fires now own None = (refl, none_more own.dropped)
 fires now own (Some alarm) =
-    let q = schedules 0 0 (now ∷ expiration alarm ∷ 0 ∷ []) own in
+    let q = schedules alarm_driver 0 (now ∷ expiration alarm ∷ 0 ∷ []) own in
     (ap (λ (o : Own). record o { grants = (fired now alarm own).grants }) q.rest, q.dropped)
 
 pub an_alarm_leaves_the_rest : AnAlarmLeavesTheRest
@@ -22,13 +26,16 @@ found_passes : (p : ℕ → Bool) (xs : List ℕ) (x : ℕ) → find p xs ≡ So
 found_passes p [] x e = cc
 found_passes p (y ∷ ys) x e = by_test (p y) refl e (found_passes p ys x)
   where
-    by_test : (b : Bool) → p y ≡ b → cond b (Some y) (find p ys) ≡ Some x → (find p ys ≡ Some x → p x ≡ true) → p x ≡ true
+    by_test : (b : Bool) → p y ≡ b → cond b (Some y) (find p ys) ≡ Some x → (find p ys ≡ Some x → p x ≡ true)
+        → p x ≡ true
     by_test true f g later = let same : y ≡ x = cc in ap p (sym same) ∙ f
     by_test false f g later = later g
 
 pub due_slot_is_there : DueSlotIsThere
 unfolding due_slot
-due_slot_is_there now slot owns e = by_own (slice_get owns slot) refl (found_passes (λ s. has_due now (slice_get owns s)) (range_with_len 0 8) slot e)
+due_slot_is_there now slot owns e =
+    by_own (slice_get owns slot) refl (found_passes (λ s. has_due now (slice_get owns s)) (range_with_len 0 SLOT_COUNT)
+    slot e)
   where
     by_own : (o : Option Own) → slice_get owns slot ≡ o → has_due now o ≡ true → slot < length owns
     by_own None f due = cc

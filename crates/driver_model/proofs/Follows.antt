@@ -1,35 +1,41 @@
 -- Who waits after a command.
-use Rattle.std.proofs.Common.{◌≡◌, Bool, true, false, cond, not, ◌&&◌, [], ◌∷◌, Option, None, Some, is_some, Ok, refl, ap, sym, ◌∙◌}
+use Rattle.std.proofs.Common.{◌≡◌, Bool, true, false, cond, not, ◌&&◌, [], ◌∷◌, Option, None, Some, is_some, Ok, refl}
+use Rattle.std.proofs.Common.{ap, sym, ◌∙◌}
 use Rattle.std.proofs.lemmas.Bool.{false≢true}
 use Rattle.tk_base.specs.Call.{code_of}
-use Rattle.tk_base.specs.declared.call.ErrorCode.TheVariants.{Cancel}
-use Rattle.grant_areas.specs.Grants.{grant_of, with_value}
+use Rattle.tk_base.specs.declared.call.ErrorCode.TheVariants.{CANCEL}
+use Rattle.grant_model.specs.Grants.{grant_of, with_value}
 use Rattle.grant_values.specs.declared.alarm.Armed.{Armed}
 use Rattle.grant_values.specs.Alarm.{alarm_words}
 use Rattle.syscall_abi.specs.declared.reply.Reply.TheVariants.{Success}
-use Rattle.process_own.specs.Own.{Own}
-use Rattle.process_own.specs.Handed.{entering}
-use Rattle.process_own.specs.Served.{scheduled}
+use Rattle.process_model.specs.Own.{Own}
+use Rattle.process_model.specs.Handed.{own_entering}
+use Rattle.process_model.specs.Served.{own_scheduled}
 use Rattle.driver_model.specs.Commands.{Commanded, Leaves, Reads}
-use Rattle.driver_model.specs.Requests.{Desk, request_in}
-use Rattle.driver_model.specs.Alarm.{with_alarm}
+use Rattle.driver_model.specs.Requests.{RequestKind, request_in}
+use Rattle.driver_model.specs.Alarm.{alarm_driver, with_alarm}
 use Rattle.driver_model.specs.Console.{console, console_reads, console_writes, without_read}
 use Rattle.driver_model.specs.Random.{randoms}
 use Rattle.driver_model.specs.Storage.{storages}
-use Rattle.driver_model.specs.Lines.{FollowsCommand, LinesFollowCommands, OfEachDesk, has_waiting, waits_after, waits_once}
-use Rattle.driver_model.specs.Drivers.{Surroundings}
+use Rattle.driver_model.specs.Lines.{FollowsCommand, LinesFollowCommands, OfEachRequestKind, has_waiting, waits_after}
+use Rattle.driver_model.specs.Lines.{waits_once}
+use Rattle.driver_model.specs.Drivers.{CommandContext}
 use Rattle.driver_model.proofs.Scheduled.{schedules}
-use Rattle.driver_model.proofs.Asked.{Asked, asked, asked_apart, asked_reads, asked_still, entered_reads, entered_randoms, entered_stores, entered_writes, if_none}
+use Rattle.driver_model.proofs.Asked.{Asked, asked, asked_apart, asked_reads, asked_still, entered_reads}
+use Rattle.driver_model.proofs.Asked.{entered_randoms, entered_stores, entered_writes, if_none}
 use Rattle.driver_model.proofs.Waits.{LiesWithin, Moves, each_waits, is_within, stays}
 use Rattle.driver_model.proofs.Outcomes.{of_command}
 
 -- it begins to wait nowhere twice
 abbrev BeginsOnce : Own → Commanded → Type 0
-BeginsOnce own c = OfEachDesk (λ R desk. waits_once desk.line (has_waiting desk own) c.acts ≡ true)
+BeginsOnce own c =
+    OfEachRequestKind (λ R request_kind. waits_once request_kind.line (has_waiting request_kind own) c.acts ≡ true)
 
 -- where no request is kept, it does not wait yet
-not_yet : {R : Type 0} (desk : Desk R) (own : Own) → request_in desk own ≡ None → (not (has_waiting desk own) && true) ≡ true
-not_yet {R} desk own none = ap (λ (q : Option R). not (is_some (cond own.lives q None)) && true) none ∙ by_lives own.lives
+not_yet : {R : Type 0} (request_kind : RequestKind R) (own : Own) → request_in request_kind own ≡ None
+    → (not (has_waiting request_kind own) && true) ≡ true
+not_yet {R} request_kind own none =
+    ap (λ (q : Option R). not (is_some (cond own.lives q None)) && true) none ∙ by_lives own.lives
   where
     nothing : Option R
     nothing = None
@@ -39,40 +45,64 @@ not_yet {R} desk own none = ap (λ (q : Option R). not (is_some (cond own.lives 
     by_lives false = refl
 
 -- by what is asked for after the command
-follows : (around : Surroundings) (own : Own) (c : Commanded) (after : Asked) → c.own.lives ≡ own.lives → asked c.own.grants ≡ after → Moves (λ line waits. waits_after line waits c.acts) (asked own.grants) after → (LiesWithin around.storage (asked own.grants).stores → LiesWithin around.storage after.stores) → BeginsOnce own c → FollowsCommand around own c
+follows : (around : CommandContext) (own : Own) (c : Commanded) (after : Asked) → c.own.lives ≡ own.lives
+    → asked c.own.grants ≡ after → Moves (λ line waits. waits_after line waits c.acts) (asked own.grants) after
+    → (LiesWithin around.storage (asked own.grants).stores → LiesWithin around.storage after.stores) → BeginsOnce own c
+    → FollowsCommand around own c
 follows around own c after lives is moves lies once = record {
   once = once;
-  lines = λ (l : own.lives ≡ true). each_waits _ own c.own after lives is (λ line ended. absurd (false≢true (sym ended ∙ l))) moves;
+  lines = λ (l : own.lives ≡ true). each_waits _ own c.own after lives is
+      (λ line ended. absurd (false≢true (sym ended ∙ l))) moves;
   within = λ held. is_within around.storage c.own after is (lies held);
 }
 
 -- another driver than those of the desks is armed, or stopped
 pub arms_apart : (armed : Option Armed) (own : Own) → asked (with_alarm armed own).grants ≡ asked own.grants
-arms_apart armed own = asked_apart 0x0 (with_value (alarm_words (record { armed = armed }))) own.grants refl refl refl (λ g. refl)
+arms_apart armed own =
+    asked_apart alarm_driver (with_value (alarm_words (record { armed = armed }))) own.grants refl refl refl (λ g. refl)
 
-cancels : (around : Surroundings) (own : Own) → FollowsCommand around own (record { answer = Ok Success; own = without_read own; acts = Leaves Reads ∷ [] })
+cancels : (around : CommandContext) (own : Own)
+    → FollowsCommand around own (record { answer = Ok Success; own = without_read own; acts = Leaves Reads ∷ [] })
 cancels around own =
-    let s = scheduled console 2 (code_of Cancel ∷ 0 ∷ 0 ∷ []) own in
-    let q = schedules console 2 (code_of Cancel ∷ 0 ∷ 0 ∷ []) own in
+    let s = own_scheduled console 2 (code_of CANCEL ∷ 0 ∷ 0 ∷ []) own in
+    let q = schedules console 2 (code_of CANCEL ∷ 0 ∷ 0 ∷ []) own in
     let same : s.grants ≡ own.grants = ap (λ (o : Own). o.grants) q.rest in
     let lives : s.lives ≡ own.lives = ap (λ (o : Own). o.lives) q.rest in
     let told : asked (without_read own).grants ≡ record (asked own.grants) { reads = None } =
     asked_reads None s ∙ (λ i. record (asked (same i)) { reads = if_none (grant_of console s.grants) i }) in
     follows around own _ (record (asked own.grants) { reads = None }) lives told
-    (record { writes = refl; reads = refl; randoms = refl; stores = refl }) (λ held. held) (record { writes = refl; reads = refl; randoms = refl; stores = refl })
+    (record { writes = refl; reads = refl; randoms = refl; stores = refl }) (λ held. held)
+    (record { writes = refl; reads = refl; randoms = refl; stores = refl })
 
 pub lines_follow_commands : LinesFollowCommands
 lines_follow_commands driver taker is around number a2 a3 own =
     let before = asked own.grants in
     of_command FollowsCommand driver taker is around number a2 a3 own (record {
-      refuses = λ rule. follows around own _ before refl refl (stays before) (λ held. held) (record { writes = refl; reads = refl; randoms = refl; stores = refl });
-      replies = λ reply. follows around own _ before refl refl (stays before) (λ held. held) (record { writes = refl; reads = refl; randoms = refl; stores = refl });
-      lights = λ led switch. follows around own _ before refl refl (stays before) (λ held. held) (record { writes = refl; reads = refl; randoms = refl; stores = refl });
-      arms = λ alarm room. follows around own _ before refl (arms_apart (Some alarm) (entering 0x0 own) ∙ asked_still 0x0 own.grants) (stays before) (λ held. held) (record { writes = refl; reads = refl; randoms = refl; stores = refl });
-      stops = follows around own _ before refl (arms_apart None own) (stays before) (λ held. held) (record { writes = refl; reads = refl; randoms = refl; stores = refl });
+      refuses = λ rule. follows around own _ before refl refl (stays before) (λ held. held)
+          (record { writes = refl; reads = refl; randoms = refl; stores = refl });
+      replies = λ reply. follows around own _ before refl refl (stays before) (λ held. held)
+          (record { writes = refl; reads = refl; randoms = refl; stores = refl });
+      lights = λ led switch. follows around own _ before refl refl (stays before) (λ held. held)
+          (record { writes = refl; reads = refl; randoms = refl; stores = refl });
+      arms = λ alarm room.
+          follows around own _ before refl (arms_apart (Some alarm) (own_entering alarm_driver own)
+          ∙ asked_still alarm_driver own.grants) (stays before) (λ held. held)
+          (record { writes = refl; reads = refl; randoms = refl; stores = refl });
+      stops = follows around own _ before refl (arms_apart None own) (stays before) (λ held. held)
+          (record { writes = refl; reads = refl; randoms = refl; stores = refl });
       cancels = cancels around own;
-      writes = λ request room none. follows around own _ _ refl (entered_writes (Some request) own) (record { writes = refl; reads = refl; randoms = refl; stores = refl }) (λ held. held) (record { writes = not_yet console_writes own none; reads = refl; randoms = refl; stores = refl });
-      reads = λ request room none. follows around own _ _ refl (entered_reads (Some request) own) (record { writes = refl; reads = refl; randoms = refl; stores = refl }) (λ held. held) (record { writes = refl; reads = not_yet console_reads own none; randoms = refl; stores = refl });
-      draws = λ request room none. follows around own _ _ refl (entered_randoms (Some request) own) (record { writes = refl; reads = refl; randoms = refl; stores = refl }) (λ held. held) (record { writes = refl; reads = refl; randoms = not_yet randoms own none; stores = refl });
-      stores = λ request fits room none. follows around own _ _ refl (entered_stores (Some request) own) (record { writes = refl; reads = refl; randoms = refl; stores = refl }) (λ held. fits) (record { writes = refl; reads = refl; randoms = refl; stores = not_yet storages own none });
+      writes = λ request room none. follows around own _ _ refl (entered_writes (Some request) own)
+          (record { writes = refl; reads = refl; randoms = refl; stores = refl }) (λ held. held)
+          (record { writes = not_yet console_writes own none; reads = refl; randoms = refl; stores = refl });
+      reads = λ request room none.
+          follows around own _ _ refl (entered_reads (Some request) own)
+          (record { writes = refl; reads = refl; randoms = refl; stores = refl }) (λ held. held)
+          (record { writes = refl; reads = not_yet console_reads own none; randoms = refl; stores = refl });
+      draws = λ request room none.
+          follows around own _ _ refl (entered_randoms (Some request) own)
+          (record { writes = refl; reads = refl; randoms = refl; stores = refl }) (λ held. held)
+          (record { writes = refl; reads = refl; randoms = not_yet randoms own none; stores = refl });
+      stores = λ request fits room none. follows around own _ _ refl (entered_stores (Some request) own)
+          (record { writes = refl; reads = refl; randoms = refl; stores = refl }) (λ held. fits)
+          (record { writes = refl; reads = refl; randoms = refl; stores = not_yet storages own none });
     })

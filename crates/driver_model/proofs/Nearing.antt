@@ -1,11 +1,15 @@
 -- The ticks that are left of alarms.
-use Rattle.std.proofs.Common.{◌≡◌, ◌<◌, ◌≤◌, ℕ, ◌+◌, ◌-◌, ◌%◌, ◌^◌, ◌==◌, min, nat_le, Bool, true, false, cond, ◌||◌, List, [], ◌∷◌, find, fold, slice_get, is_some, IfSome, option_and_then, Option, None, Some, refl, ap, sym, ◌∙◌, arith, eqb-true}
+use Rattle.std.proofs.Common.{◌≡◌, ◌<◌, ◌≤◌, ℕ, ◌+◌, ◌-◌, ◌%◌, ◌^◌, ◌==◌, min, nat_le, Bool, true, false, cond, ◌||◌}
+use Rattle.std.proofs.Common.{List, [], ◌∷◌, find, fold, slice_get, is_some, IfSome, option_and_then, Option, None}
+use Rattle.std.proofs.Common.{Some, refl, ap, sym, ◌∙◌, arith, eqb-true}
 use Rattle.std.proofs.lemmas.Bool.{false≢true}
 use Rattle.std.proofs.lemmas.Bool.Decides.{nat_tests}
 use Rattle.std.specs.List.{range_with_len}
+use Rattle.tk_base.specs.declared.limits.TheConstants.{SLOT_COUNT}
 use Rattle.grant_values.specs.declared.alarm.Armed.{Armed}
-use Rattle.process_own.specs.Own.{Own}
-use Rattle.driver_model.specs.Alarm.{alarm_in, due_slot, has_due, if_due, is_due, left_if, left_in, left_of, nearer, nearer_with, next_left}
+use Rattle.process_model.specs.Own.{Own}
+use Rattle.driver_model.specs.Alarm.{alarm_in, due_slot, has_due, if_due, is_due, left_if, ticks_left_in, ticks_left_of}
+use Rattle.driver_model.specs.Alarm.{nearer, nearer_with, next_left}
 use Rattle.driver_model.specs.Laws.{IsDueWhereNoneAreLeft, QuietUntilNext, TimeBringsNearer}
 
 -- whether there is a number of ticks, and it is 0
@@ -33,13 +37,15 @@ some_if : (b : Bool) (alarm : Armed) → b ≡ is_some (cond b (Some alarm) None
 some_if true alarm = refl
 some_if false alarm = refl
 
-armed_now : (now : ℕ) (lives : Bool) (armed : Option Armed) → is_now (cond lives (left_if now armed) None) ≡ is_some (cond lives (if_due now armed) None)
+armed_now : (now : ℕ) (lives : Bool) (armed : Option Armed)
+    → is_now (cond lives (left_if now armed) None) ≡ is_some (cond lives (if_due now armed) None)
 unfolding is_now
 armed_now now false armed = refl
 armed_now now true None = refl
-armed_now now true (Some alarm) = zero_where_passed alarm.delta ((now + (2 ^ 32 - alarm.reference)) % 2 ^ 32) ∙ some_if (is_due now alarm) alarm
+armed_now now true (Some alarm) =
+    zero_where_passed alarm.delta ((now + (2 ^ 32 - alarm.reference)) % 2 ^ 32) ∙ some_if (is_due now alarm) alarm
 
-slot_now : (now : ℕ) (own : Option Own) → is_now (option_and_then (left_of now) own) ≡ has_due now own
+slot_now : (now : ℕ) (own : Option Own) → is_now (option_and_then (ticks_left_of now) own) ≡ has_due now own
 unfolding is_now
 slot_now now None = refl
 slot_now now (Some own) = armed_now now own.lives (alarm_in own)
@@ -49,17 +55,21 @@ one_more true b slot rest = refl
 one_more false true slot rest = refl
 one_more false false slot rest = refl
 
-folded_now : (now : ℕ) (owns : List Own) (slots : List ℕ) (least : Option ℕ) → is_now (fold (nearer_with now owns) least slots) ≡ is_now least || is_some (find (λ slot. has_due now (slice_get owns slot)) slots)
+folded_now : (now : ℕ) (owns : List Own) (slots : List ℕ) (least : Option ℕ)
+    → is_now (fold (nearer_with now owns) least slots)
+    ≡ is_now least || is_some (find (λ slot. has_due now (slice_get owns slot)) slots)
 folded_now now owns [] least = or_false (is_now least)
 folded_now now owns (slot ∷ slots) least =
     let rest = find (λ slot. has_due now (slice_get owns slot)) slots in
     folded_now now owns slots (nearer_with now owns least slot)
-    ∙ ap (λ (a : Bool). a || is_some rest) (nearer_now least (left_in now owns slot) ∙ ap (λ (b : Bool). is_now least || b) (slot_now now (slice_get owns slot)))
+    ∙ ap (λ (a : Bool). a || is_some rest)
+    (nearer_now least (ticks_left_in now owns slot)
+    ∙ ap (λ (b : Bool). is_now least || b) (slot_now now (slice_get owns slot)))
     ∙ one_more (is_now least) (has_due now (slice_get owns slot)) slot rest
 
 next_now : (now : ℕ) (owns : List Own) → is_now (next_left now owns) ≡ is_some (due_slot now owns)
 unfolding is_now next_left due_slot
-next_now now owns = folded_now now owns (range_with_len 0 8) None
+next_now now owns = folded_now now owns (range_with_len 0 SLOT_COUNT) None
 
 zero_if_now : (least : Option ℕ) → is_now least ≡ true → least ≡ Some 0
 unfolding is_now
@@ -71,10 +81,13 @@ unfolding is_now
 now_if_zero least e = ap is_now e
 
 pub is_due_where_none_are_left : IsDueWhereNoneAreLeft
-is_due_where_none_are_left now owns =
-    (λ zero. sym (next_now now owns) ∙ now_if_zero (next_left now owns) zero, λ due. zero_if_now (next_left now owns) (next_now now owns ∙ due))
+is_due_where_none_are_left now owns = (
+  λ zero. sym (next_now now owns) ∙ now_if_zero (next_left now owns) zero,
+  λ due. zero_if_now (next_left now owns) (next_now now owns ∙ due),
+)
 
-elapsed : (now passed from : ℕ) → now < 2 ^ 32 → from < 2 ^ 32 → (now + (2 ^ 32 - from)) % 2 ^ 32 + passed < 2 ^ 32 → ((now + passed) % 2 ^ 32 + (2 ^ 32 - from)) % 2 ^ 32 ≡ (now + (2 ^ 32 - from)) % 2 ^ 32 + passed
+elapsed : (now passed from : ℕ) → now < 2 ^ 32 → from < 2 ^ 32 → (now + (2 ^ 32 - from)) % 2 ^ 32 + passed < 2 ^ 32
+    → ((now + passed) % 2 ^ 32 + (2 ^ 32 - from)) % 2 ^ 32 ≡ (now + (2 ^ 32 - from)) % 2 ^ 32 + passed
 elapsed now passed from n f fits = omega arith
 
 fewer : (d e passed later : ℕ) → later ≡ e + passed → d - later ≡ d - e - passed
@@ -101,10 +114,13 @@ both_more passed None b more = (tt, more)
 both_more passed (Some m) None more = (more, tt)
 both_more passed (Some m) (Some n) more = (omega (arith, more), omega (arith, more))
 
-not_due : (now passed : ℕ) (alarm : Armed) → passed < alarm.delta - (now + (2 ^ 32 - alarm.reference)) % 2 ^ 32 → is_due ((now + passed) % 2 ^ 32) alarm ≡ false
-not_due now passed alarm more = not_reached alarm.delta _ (still_below now passed (2 ^ 32 - alarm.reference) alarm.delta more)
+not_due : (now passed : ℕ) (alarm : Armed) → passed < alarm.delta - (now + (2 ^ 32 - alarm.reference)) % 2 ^ 32
+    → is_due ((now + passed) % 2 ^ 32) alarm ≡ false
+not_due now passed alarm more =
+    not_reached alarm.delta _ (still_below now passed (2 ^ 32 - alarm.reference) alarm.delta more)
   where
-    still_below : (now passed from delta : ℕ) → passed < delta - (now + from) % 2 ^ 32 → ((now + passed) % 2 ^ 32 + from) % 2 ^ 32 < delta
+    still_below : (now passed from delta : ℕ) → passed < delta - (now + from) % 2 ^ 32
+        → ((now + passed) % 2 ^ 32 + from) % 2 ^ 32 < delta
     still_below now passed from delta more = omega arith
 
     not_reached : (delta e : ℕ) → e < delta → nat_le delta e ≡ false
@@ -113,25 +129,35 @@ not_due now passed alarm more = not_reached alarm.delta _ (still_below now passe
 none_if : (b : Bool) (alarm : Armed) → b ≡ false → is_some (cond b (Some alarm) None) ≡ false
 none_if b alarm e = ap (λ (x : Bool). is_some (cond x (Some alarm) None)) e
 
-armed_quiet : (now passed : ℕ) (lives : Bool) (armed : Option Armed) → MoreLeft passed (cond lives (left_if now armed) None) → is_some (cond lives (if_due ((now + passed) % 2 ^ 32) armed) None) ≡ false
+armed_quiet : (now passed : ℕ) (lives : Bool) (armed : Option Armed)
+    → MoreLeft passed (cond lives (left_if now armed) None)
+    → is_some (cond lives (if_due ((now + passed) % 2 ^ 32) armed) None) ≡ false
 armed_quiet now passed false armed more = refl
 armed_quiet now passed true None more = refl
-armed_quiet now passed true (Some alarm) more = none_if (is_due ((now + passed) % 2 ^ 32) alarm) alarm (not_due now passed alarm more)
+armed_quiet now passed true (Some alarm) more =
+    none_if (is_due ((now + passed) % 2 ^ 32) alarm) alarm (not_due now passed alarm more)
 
-slot_quiet : (now passed : ℕ) (own : Option Own) → MoreLeft passed (option_and_then (left_of now) own) → has_due ((now + passed) % 2 ^ 32) own ≡ false
+slot_quiet : (now passed : ℕ) (own : Option Own) → MoreLeft passed (option_and_then (ticks_left_of now) own)
+    → has_due ((now + passed) % 2 ^ 32) own ≡ false
 slot_quiet now passed None more = refl
 slot_quiet now passed (Some own) more = armed_quiet now passed own.lives (alarm_in own) more
 
-passes_over : (p : ℕ → Bool) (slot : ℕ) (slots : List ℕ) → p slot ≡ false → find p slots ≡ None → find p (slot ∷ slots) ≡ None
+passes_over : (p : ℕ → Bool) (slot : ℕ) (slots : List ℕ) → p slot ≡ false → find p slots ≡ None
+    → find p (slot ∷ slots) ≡ None
 passes_over p slot slots e none = ap (λ (b : Bool). cond b (Some slot) (find p slots)) e ∙ none
 
-all_quiet : (now passed : ℕ) (owns : List Own) (slots : List ℕ) (least : Option ℕ) → MoreLeft passed (fold (nearer_with now owns) least slots) → (find (λ slot. has_due ((now + passed) % 2 ^ 32) (slice_get owns slot)) slots ≡ None) × MoreLeft passed least
+all_quiet : (now passed : ℕ) (owns : List Own) (slots : List ℕ) (least : Option ℕ)
+    → MoreLeft passed (fold (nearer_with now owns) least slots)
+    → (find (λ slot. has_due ((now + passed) % 2 ^ 32) (slice_get owns slot)) slots ≡ None) × MoreLeft passed least
 all_quiet now passed owns [] least more = (refl, more)
 all_quiet now passed owns (slot ∷ slots) least more =
     let rest = all_quiet now passed owns slots (nearer_with now owns least slot) more in
-    let both = both_more passed least (left_in now owns slot) rest.1 in
-    (passes_over (λ slot. has_due ((now + passed) % 2 ^ 32) (slice_get owns slot)) slot slots (slot_quiet now passed (slice_get owns slot) both.1) rest.0, both.0)
+    let both = both_more passed least (ticks_left_in now owns slot) rest.1 in (
+      passes_over (λ slot. has_due ((now + passed) % 2 ^ 32) (slice_get owns slot)) slot slots
+          (slot_quiet now passed (slice_get owns slot) both.1) rest.0,
+      both.0,
+    )
 
 pub quiet_until_next : QuietUntilNext
 unfolding next_left due_slot
-quiet_until_next now passed owns more = (all_quiet now passed owns (range_with_len 0 8) None more).0
+quiet_until_next now passed owns more = (all_quiet now passed owns (range_with_len 0 SLOT_COUNT) None more).0

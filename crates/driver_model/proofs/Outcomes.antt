@@ -1,62 +1,83 @@
 -- Whatever may come of a command to any driver: the one walk over the tables of all of them.
-use Rattle.std.proofs.Common.{◌≡◌, ◌≤◌, ℕ, ◌+◌, ◌==◌, nat_le, nat_lt, Bool, true, false, cond, [], ◌∷◌, Option, None, Some, Ok, refl}
+use Rattle.std.proofs.Common.{◌≡◌, ◌≤◌, ℕ, ◌+◌, ◌==◌, nat_le, nat_lt, Bool, true, false, cond, [], ◌∷◌, Option, None}
+use Rattle.std.proofs.Common.{Some, Ok, refl}
 use Rattle.std.proofs.lemmas.Bool.{leb-true}
 use Rattle.tk_base.specs.declared.call.CallRule.{CallRule}
 use Rattle.tk_base.specs.declared.call.CallRule.TheVariants.{Busy, Empty, NoCommand, NoRoom, Nothing, Range}
 use Rattle.grant_values.specs.declared.alarm.Armed.{Armed}
 use Rattle.grant_values.specs.declared.console.WaitingRead.{WaitingRead}
 use Rattle.grant_values.specs.declared.console.WaitingWrite.{WaitingWrite}
+use Rattle.grant_values.specs.declared.drivers.Driver.{Driver}
+use Rattle.grant_values.specs.declared.drivers.Driver.TheVariants.{Alarm, Console, Leds, Random, Storage}
 use Rattle.grant_values.specs.declared.random.RandomRequest.{RandomRequest}
 use Rattle.grant_values.specs.declared.storage.StorageRequest.{StorageRequest}
 use Rattle.syscall_abi.specs.declared.reply.Reply.{Reply}
 use Rattle.syscall_abi.specs.declared.reply.Reply.TheVariants.{Success, SuccessU32}
-use Rattle.process_own.specs.Own.{Own}
-use Rattle.process_own.specs.Handed.{entering, has_place}
-use Rattle.driver_model.specs.Commands.{Commanded, Leaves, Lights, Reads, Switch, On, Off, Toggle, Waits, accepted, refused}
-use Rattle.driver_model.specs.Requests.{Desk, asking, asking_beside, request_in, with_request}
-use Rattle.driver_model.specs.Alarm.{alarm_in, arming, expiration, stopping, with_alarm, command as alarm_command, commands as alarm_commands}
-use Rattle.driver_model.specs.Console.{cancelling, console_reads, console_writes, reading, without_read, command as console_command, commands as console_commands}
+use Rattle.process_model.specs.Own.{Own}
+use Rattle.process_model.specs.Handed.{own_entering, has_place}
+use Rattle.driver_model.specs.Commands.{Commanded, Leaves, Lights, Reads, Switch, On, Off, Toggle, Waits, accepting}
+use Rattle.driver_model.specs.Commands.{refusing}
+use Rattle.driver_model.specs.Requests.{RequestKind, asking, asking_beside, request_in, with_request}
+use Rattle.driver_model.specs.Alarm.{alarm_driver, alarm_in, arming, expiration, stopping, with_alarm}
+use Rattle.driver_model.specs.Alarm.{command as alarm_command, commands as alarm_commands}
+use Rattle.driver_model.specs.Console.{cancelling, console_reads, console_writes, asking_to_read, without_read}
+use Rattle.driver_model.specs.Console.{command as console_command, commands as console_commands}
 use Rattle.driver_model.specs.Leds.{switching, command as led_command, commands as led_commands}
 use Rattle.driver_model.specs.Random.{randoms, command as random_command, commands as random_commands}
 use Rattle.driver_model.specs.Storage.{requesting, storages, command as storage_command, commands as storage_commands}
-use Rattle.driver_model.specs.Drivers.{Surroundings, Taker, taker_of, takers}
+use Rattle.driver_model.specs.Drivers.{CommandContext, CommandHandler, handler_by, handler_of}
 use Rattle.driver_model.proofs.Tables.{Each, commanded, taken}
 
 -- a request that begins to wait
-abbrev pub begun : {R : Type 0} → Desk R → R → Own → Commanded
-begun desk request own = record {
+abbrev pub begun : {R : Type 0} → RequestKind R → R → Own → Commanded
+begun request_kind request own = record {
   answer = Ok Success;
-  own = with_request desk (Some request) (entering desk.driver own);
-  acts = Waits desk.line ∷ [];
+  own = with_request request_kind (Some request) (own_entering request_kind.driver own);
+  acts = Waits request_kind.line ∷ [];
 }
 
 -- what holds of each thing that may come of a command
-pub record OfEachOutcome (around : Surroundings) (own : Own) (P : Commanded → Type 0) : Type 0 where
-  pub refuses : (rule : CallRule) → P (refused rule own)
-  pub replies : (reply : Reply) → P (accepted reply own)
-  pub lights : (led : ℕ) (switch : Switch) → P (record { answer = Ok Success; own = own; acts = Lights led switch ∷ [] })
-  pub arms : (alarm : Armed) → has_place 0 own ≡ true → P (accepted (SuccessU32 (expiration alarm)) (with_alarm (Some alarm) (entering 0 own)))
-  pub stops : P (accepted Success (with_alarm None own))
+pub record OfEachOutcome (around : CommandContext) (own : Own) (P : Commanded → Type 0) : Type 0 where
+  pub refuses : (rule : CallRule) → P (refusing rule own)
+  pub replies : (reply : Reply) → P (accepting reply own)
+  pub lights : (led : ℕ) (switch : Switch)
+      → P (record { answer = Ok Success; own = own; acts = Lights led switch ∷ [] })
+  pub arms : (alarm : Armed) → has_place alarm_driver own ≡ true
+      → P (accepting (SuccessU32 (expiration alarm)) (with_alarm (Some alarm) (own_entering alarm_driver own)))
+  pub stops : P (accepting Success (with_alarm None own))
   pub cancels : P (record { answer = Ok Success; own = without_read own; acts = Leaves Reads ∷ [] })
-  pub writes : (request : WaitingWrite) → has_place console_writes.driver own ≡ true → request_in console_writes own ≡ None → P (begun console_writes request own)
-  pub reads : (request : WaitingRead) → has_place console_reads.driver own ≡ true → request_in console_reads own ≡ None → P (begun console_reads request own)
-  pub draws : (request : RandomRequest) → has_place randoms.driver own ≡ true → request_in randoms own ≡ None → P (begun randoms request own)
-  pub stores : (request : StorageRequest) → request.offset + request.length ≤ around.storage → has_place storages.driver own ≡ true → request_in storages own ≡ None → P (begun storages request own)
+  pub writes : (request : WaitingWrite) → has_place console_writes.driver own ≡ true
+      → request_in console_writes own ≡ None → P (begun console_writes request own)
+  pub reads : (request : WaitingRead) → has_place console_reads.driver own ≡ true → request_in console_reads own ≡ None
+      → P (begun console_reads request own)
+  pub draws : (request : RandomRequest) → has_place randoms.driver own ≡ true → request_in randoms own ≡ None
+      → P (begun randoms request own)
+  pub stores : (request : StorageRequest) → request.offset + request.length ≤ around.storage
+      → has_place storages.driver own ≡ true → request_in storages own ≡ None → P (begun storages request own)
 
 by_test : (P : Commanded → Type 0) (b : Bool) (c d : Commanded) → (b ≡ true → P c) → P d → P (cond b c d)
 by_test P true c d p q = p refl
 by_test P false c d p q = q
 
-by_beside : {R : Type 0} (P : Commanded → Type 0) (desk : Desk R) (waiting : Option R) (request : R) (own : Own) → request_in desk own ≡ waiting → ((rule : CallRule) → P (refused rule own)) → (has_place desk.driver own ≡ true → request_in desk own ≡ None → P (begun desk request own)) → P (asking_beside desk waiting request own)
-by_beside P desk None request own is refuses begins = by_test P (has_place desk.driver own) _ _ (λ room. begins room is) (refuses NoRoom)
-by_beside P desk (Some waiting) request own is refuses begins = refuses Busy
+by_beside : {R : Type 0} (P : Commanded → Type 0) (request_kind : RequestKind R) (waiting : Option R) (request : R)
+    (own : Own) → request_in request_kind own ≡ waiting → ((rule : CallRule) → P (refusing rule own))
+    → (has_place request_kind.driver own ≡ true → request_in request_kind own ≡ None
+    → P (begun request_kind request own)) → P (asking_beside request_kind waiting request own)
+by_beside P request_kind None request own is refuses begins =
+    by_test P (has_place request_kind.driver own) _ _ (λ room. begins room is) (refuses NoRoom)
+by_beside P request_kind (Some waiting) request own is refuses begins = refuses Busy
 
-by_asking : {R : Type 0} (P : Commanded → Type 0) (desk : Desk R) (request : R) (own : Own) → ((rule : CallRule) → P (refused rule own)) → (has_place desk.driver own ≡ true → request_in desk own ≡ None → P (begun desk request own)) → P (asking desk request own)
-by_asking P desk request own refuses begins = by_beside P desk (request_in desk own) request own refl refuses begins
+by_asking : {R : Type 0} (P : Commanded → Type 0) (request_kind : RequestKind R) (request : R) (own : Own)
+    → ((rule : CallRule) → P (refusing rule own))
+    → (has_place request_kind.driver own ≡ true → request_in request_kind own ≡ None
+    → P (begun request_kind request own)) → P (asking request_kind request own)
+by_asking P request_kind request own refuses begins =
+    by_beside P request_kind (request_in request_kind own) request own refl refuses begins
 
-module _ (P : Commanded → Type 0) (around : Surroundings) (number a2 a3 : ℕ) (own : Own) (each : OfEachOutcome around own P) where
+module _ (P : Commanded → Type 0) (around : CommandContext) (number a2 a3 : ℕ) (own : Own)
+    (each : OfEachOutcome around own P) where
   by_arming : (alarm : Armed) → P (arming alarm own)
-  by_arming alarm = by_test P (has_place 0 own) _ _ (each.arms alarm) (each.refuses NoRoom)
+  by_arming alarm = by_test P (has_place alarm_driver own) _ _ (each.arms alarm) (each.refuses NoRoom)
 
   by_stopping : (alarm : Option Armed) → P (stopping alarm own)
   by_stopping None = each.refuses Nothing
@@ -65,11 +86,17 @@ module _ (P : Commanded → Type 0) (around : Surroundings) (number a2 a3 : ℕ)
   of_alarm : P (alarm_command around.now number a2 a3 own)
   unfolding Each alarm_command alarm_commands
   of_alarm =
-      commanded P own (alarm_commands around.now a2 a3 own) number (each.refuses NoCommand)
-      (each.replies Success, (each.replies (SuccessU32 1000), (each.replies (SuccessU32 around.now), (by_stopping (alarm_in own), (by_arming _, (by_arming _, tt))))))
+      commanded P own (alarm_commands around.now a2 a3 own) number (each.refuses NoCommand) (
+        each.replies Success,
+        (
+          each.replies (SuccessU32 1000),
+          (each.replies (SuccessU32 around.now), (by_stopping (alarm_in own), (by_arming _, (by_arming _, tt)))),
+        ),
+      )
 
-  by_reading : P (reading a2 own)
-  by_reading = by_test P (a2 == 0) _ _ (λ none. each.refuses Empty) (by_asking P console_reads _ own each.refuses (each.reads _))
+  by_reading : P (asking_to_read a2 own)
+  by_reading = by_test P (a2 == 0) _ _ (λ none. each.refuses Empty)
+      (by_asking P console_reads _ own each.refuses (each.reads _))
 
   by_cancelling : (read : Option WaitingRead) → P (cancelling read own)
   by_cancelling None = each.refuses Nothing
@@ -78,8 +105,13 @@ module _ (P : Commanded → Type 0) (around : Surroundings) (number a2 a3 : ℕ)
   of_console : P (console_command number a2 own)
   unfolding Each console_command console_commands
   of_console =
-      commanded P own (console_commands a2 own) number (each.refuses NoCommand)
-      (each.replies Success, (by_asking P console_writes _ own each.refuses (each.writes _), (by_reading, (by_cancelling (request_in console_reads own), tt))))
+      commanded P own (console_commands a2 own) number (each.refuses NoCommand) (
+        each.replies Success,
+        (
+          by_asking P console_writes _ own each.refuses (each.writes _),
+          (by_reading, (by_cancelling (request_in console_reads own), tt)),
+        ),
+      )
 
   by_switching : (switch : Switch) → P (switching around.leds a2 switch own)
   by_switching switch = by_test P (nat_lt a2 around.leds) _ _ (λ there. each.lights a2 switch) (each.refuses Range)
@@ -99,7 +131,8 @@ module _ (P : Commanded → Type 0) (around : Surroundings) (number a2 a3 : ℕ)
   by_requesting : (request : StorageRequest) → P (requesting around.storage request own)
   by_requesting request =
       by_test P (nat_le (request.offset + request.length) around.storage) _ _
-      (λ fits. by_asking P storages request own each.refuses (each.stores request (leb-true _ _ fits))) (each.refuses Range)
+      (λ fits. by_asking P storages request own each.refuses (each.stores request (leb-true _ _ fits)))
+      (each.refuses Range)
 
   of_storage : P (storage_command around.storage number a2 a3 own)
   unfolding Each storage_command storage_commands
@@ -107,9 +140,17 @@ module _ (P : Commanded → Type 0) (around : Surroundings) (number a2 a3 : ℕ)
       commanded P own (storage_commands around.storage a2 a3 own) number (each.refuses NoCommand)
       (each.replies Success, (each.replies (SuccessU32 around.storage), (by_requesting _, (by_requesting _, tt))))
 
+  of_driver : (d : Driver) → P (handler_by d around number a2 a3 own)
+  of_driver Alarm = of_alarm
+  of_driver Console = of_console
+  of_driver Leds = of_leds
+  of_driver Random = of_random
+  of_driver Storage = of_storage
+
 -- of any command to any driver
-pub of_command : (P : Surroundings → Own → Commanded → Type 0) (driver : ℕ) (taker : Taker) → taker_of driver ≡ Some taker → (around : Surroundings) (number a2 a3 : ℕ) (own : Own) → OfEachOutcome around own (P around own) → P around own (taker around number a2 a3 own)
-unfolding Each takers
+pub of_command : (P : CommandContext → Own → Commanded → Type 0) (driver : ℕ) (taker : CommandHandler)
+    → handler_of driver ≡ Some taker → (around : CommandContext) (number a2 a3 : ℕ) (own : Own)
+    → OfEachOutcome around own (P around own) → P around own (taker around number a2 a3 own)
 of_command P driver taker is around number a2 a3 own each =
     taken (λ t. P around own (t around number a2 a3 own)) driver taker is
-    (of_alarm _ around number a2 a3 own each, (of_console _ around number a2 a3 own each, (of_leds _ around number a2 a3 own each, (of_random _ around number a2 a3 own each, (of_storage _ around number a2 a3 own each, tt)))))
+    (of_driver (P around own) around number a2 a3 own each)

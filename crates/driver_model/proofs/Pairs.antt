@@ -1,8 +1,8 @@
 -- The pairs that a process has handed, after commands and answers.
 use Rattle.std.proofs.Common.{refl, ap, ◌∙◌}
-use Rattle.process_own.specs.Own.{Own}
-use Rattle.process_own.specs.Handed.{entering}
-use Rattle.process_own.specs.Pairs.{HandsTheSame, OnlyHandingChangesPairs}
+use Rattle.process_model.specs.Own.{Own}
+use Rattle.process_model.specs.Handed.{own_entering}
+use Rattle.process_model.specs.Pairs.{HandsTheSame, OnlyHandingChangesPairs}
 use Rattle.driver_model.specs.Pairs.{DriversLeavePairs}
 use Rattle.driver_model.proofs.Services.{of_services}
 
@@ -15,6 +15,8 @@ drivers_leave_pairs law =
     of_services HandsTheSame (record {
       same = λ own. law.grants own own refl;
       keeps = law.keeping;
-      enters = λ driver words own room. then (law.entering driver own) (law.keeping driver words (entering driver own));
-      serves = λ driver words own o s. then (law.grants own o (ap (λ (x : Own). x.grants) s.rest)) (law.keeping driver words o);
+      enters = λ driver words own room. then (law.entering driver own)
+          (law.keeping driver words (own_entering driver own));
+      serves = λ driver words own o s. then (law.grants own o (ap (λ (x : Own). x.grants) s.rest))
+          (law.keeping driver words o);
     })

@@ -1,35 +1,45 @@
 -- Where a process lies after a command, and how many of its upcalls were dropped.
 use Rattle.std.proofs.Common.{◌≡◌, ℕ, [], ◌∷◌, Option, None, Some, refl, sym, ap, subst}
 use Rattle.tk_base.specs.Call.{code_of}
-use Rattle.tk_base.specs.declared.call.ErrorCode.TheVariants.{Cancel}
-use Rattle.grant_areas.specs.Grants.{Grant, grant_of}
+use Rattle.tk_base.specs.declared.call.ErrorCode.TheVariants.{CANCEL}
+use Rattle.grant_model.specs.Grants.{Grant, grant_of}
 use Rattle.grant_region.specs.Region.{roomed}
-use Rattle.process_own.specs.Own.{Own}
-use Rattle.process_own.specs.Handed.{entering}
-use Rattle.process_own.specs.Served.{scheduled}
+use Rattle.process_model.specs.Own.{Own}
+use Rattle.process_model.specs.Handed.{own_entering}
+use Rattle.process_model.specs.Served.{own_scheduled}
 use Rattle.driver_model.specs.Alarm.{with_alarm}
 use Rattle.driver_model.specs.Console.{console, console_reads, console_writes}
 use Rattle.driver_model.specs.Random.{randoms}
-use Rattle.driver_model.specs.Requests.{Desk, with_request}
+use Rattle.driver_model.specs.Requests.{RequestKind, with_request}
 use Rattle.driver_model.specs.Storage.{storages}
 use Rattle.driver_model.specs.Laws.{CommandDropsAtMostOne, CommandsStayInPlace, IsAtMostOneMore, StaysInPlace}
 use Rattle.driver_model.proofs.Outcomes.{begun, of_command}
 use Rattle.driver_model.proofs.Scheduled.{Queues, none_more, schedules}
 
 -- entering takes room alone
-pub entering_stays : (driver : ℕ) (own : Own) → StaysInPlace own (entering driver own)
-entering_stays driver own = ap (λ (e : _). record own { layout = e; ram = (entering driver own).ram; grants = (entering driver own).grants }) (takes_room (grant_of driver own.grants))
+pub entering_stays : (driver : ℕ) (own : Own) → StaysInPlace own (own_entering driver own)
+entering_stays driver own =
+    ap (λ (e : _). record own {
+      layout = e;
+      ram = (own_entering driver own).ram;
+      grants =
+          (own_entering driver own).grants;
+    }) (takes_room (grant_of driver own.grants))
   where
-    takes_room : (g : Option Grant) → roomed driver own.layout g ≡ record own.layout { kernel_break = (roomed driver own.layout g).kernel_break }
+    takes_room : (g : Option Grant)
+        → roomed driver own.layout g ≡ record own.layout { kernel_break = (roomed driver own.layout g).kernel_break }
     takes_room None = refl
     takes_room (Some g) = refl
 
-begun_stays : {R : Type 0} (desk : Desk R) (request : R) (own : Own) → StaysInPlace own (begun desk request own).own
-begun_stays desk request own = ap (λ (o : Own). record o { grants = (begun desk request own).own.grants }) (entering_stays desk.driver own)
+begun_stays : {R : Type 0} (request_kind : RequestKind R) (request : R) (own : Own)
+    → StaysInPlace own (begun request_kind request own).own
+begun_stays request_kind request own =
+    ap (λ (o : Own). record o { grants = (begun request_kind request own).own.grants })
+    (entering_stays request_kind.driver own)
 
 -- a read that is dropped has its process told of it
-cancels : (own : Own) → Queues own (scheduled console 2 (code_of Cancel ∷ 0 ∷ 0 ∷ []) own)
-cancels own = schedules console 2 (code_of Cancel ∷ 0 ∷ 0 ∷ []) own
+cancels : (own : Own) → Queues own (own_scheduled console 2 (code_of CANCEL ∷ 0 ∷ 0 ∷ []) own)
+cancels own = schedules console 2 (code_of CANCEL ∷ 0 ∷ 0 ∷ []) own
 
 pub commands_stay_in_place : CommandsStayInPlace
 commands_stay_in_place driver taker is around number a2 a3 own =
@@ -48,7 +58,8 @@ commands_stay_in_place driver taker is around number a2 a3 own =
 
 pub command_drops_at_most_one : CommandDropsAtMostOne
 command_drops_at_most_one driver taker around number a2 a3 own is =
-    of_command (λ around own c. IsAtMostOneMore own.dropped c.own.dropped) driver taker is around number a2 a3 own (record {
+    of_command (λ around own c. IsAtMostOneMore own.dropped c.own.dropped) driver taker is around number a2 a3 own
+    (record {
       refuses = λ rule. none_more own.dropped;
       replies = λ reply. none_more own.dropped;
       lights = λ led switch. none_more own.dropped;

@@ -3,22 +3,23 @@ use Rattle.std.proofs.Common.{◌≡◌, List, Result, Ok, Err, ap}
 use Rattle.tk_base.specs.declared.call.CallRule.{CallRule}
 use Rattle.syscall_abi.specs.declared.reply.Reply.{Reply}
 use Rattle.syscall_abi.specs.declared.reply.Reply.TheVariants.{Success}
-use Rattle.process_own.specs.Own.{Own}
-use Rattle.driver_model.specs.Commands.{Act, Commanded, refused}
+use Rattle.process_model.specs.Own.{Own}
+use Rattle.driver_model.specs.Commands.{BoardRequest, Commanded, refusing}
 use Rattle.driver_model.specs.Laws.{RefusedByAnyDriver}
 use Rattle.driver_model.proofs.Outcomes.{of_command}
 
 -- where it is refused, it is a refusal alone
 abbrev Keeps : Own → Commanded → Type 0
-Keeps own c = (rule : CallRule) → c.answer ≡ Err rule → c ≡ refused rule own
+Keeps own c = (rule : CallRule) → c.answer ≡ Err rule → c ≡ refusing rule own
 
-keeps_refused : (own : Own) (broken : CallRule) → Keeps own (refused broken own)
-keeps_refused own broken rule e = let same : broken ≡ rule = cc in ap (λ (r : CallRule). refused r own) same
+keeps_refused : (own : Own) (broken : CallRule) → Keeps own (refusing broken own)
+keeps_refused own broken rule e = let same : broken ≡ rule = cc in ap (λ (r : CallRule). refusing r own) same
 
 no_refusal : (reply : Reply) (rule : CallRule) → ◌≡◌ {A = Result Reply CallRule} (Ok reply) (Err rule) → ⊥
 no_refusal reply rule e = cc
 
-keeps_accepted : (own new : Own) (reply : Reply) (acts : List Act) → Keeps own (record { answer = Ok reply; own = new; acts = acts })
+keeps_accepted : (own new : Own) (reply : Reply) (acts : List BoardRequest)
+    → Keeps own (record { answer = Ok reply; own = new; acts = acts })
 keeps_accepted own new reply acts rule e = absurd (no_refusal reply rule e)
 
 pub refused_by_any_driver : RefusedByAnyDriver

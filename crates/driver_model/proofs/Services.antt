@@ -1,9 +1,9 @@
 -- The one walk over all that drivers do to a process.
 use Rattle.std.proofs.Common.{◌≡◌, true, ℕ, List, slice_get, Option, None, Some, option_map, unwrap_or}
 use Rattle.grant_values.specs.declared.alarm.Armed.{Armed}
-use Rattle.process_own.specs.Own.{Own}
-use Rattle.process_own.specs.Handed.{entering, has_place}
-use Rattle.process_own.specs.Served.{with_kept}
+use Rattle.process_model.specs.Own.{Own}
+use Rattle.process_model.specs.Handed.{own_entering, has_place}
+use Rattle.process_model.specs.Served.{with_kept}
 use Rattle.driver_model.specs.Alarm as alarm
 use Rattle.driver_model.specs.Console as console
 use Rattle.driver_model.specs.Console.{console_reads, console_writes}
@@ -18,40 +18,52 @@ use Rattle.driver_model.proofs.Outcomes.{of_command}
 use Rattle.driver_model.proofs.Scheduled.{Serves, as_before, serves}
 use Rattle.driver_model.proofs.Sizes.{written_size}
 
--- what holds of a process that was left as it is; of one that keeps another value for a driver; of one that keeps one once
+-- what holds of a process that was left as it is; of one that keeps another value for a driver; of one that keeps one
+-- once
 -- the driver was entered; and of one that keeps one once the driver served it
 pub record OfEachForm (P : Own → Own → Type 0) : Type 0 where
   pub same : (own : Own) → P own own
   pub keeps : (driver : ℕ) (words : List ℕ) (own : Own) → P own (with_kept driver words own)
-  pub enters : (driver : ℕ) (words : List ℕ) (own : Own) → has_place driver own ≡ true → P own (with_kept driver words (entering driver own))
+  pub enters : (driver : ℕ) (words : List ℕ) (own : Own) → has_place driver own ≡ true
+      → P own (with_kept driver words (own_entering driver own))
   pub serves : (driver : ℕ) (words : List ℕ) (own o : Own) → Serves own o → P own (with_kept driver words o)
 
 -- what holds of what comes where one waits, and where none does
-pub if_waits : {R X : Type 0} (Q : X → Type 0) (serve : R → X) (none : X) (waiting : Option R) → Q none → ((request : R) → Q (serve request)) → Q (unwrap_or (option_map serve waiting) none)
+pub if_waits : {R X : Type 0} (Q : X → Type 0) (serve : R → X) (none : X) (waiting : Option R) → Q none
+    → ((request : R) → Q (serve request)) → Q (unwrap_or (option_map serve waiting) none)
 if_waits Q serve none None nothing some = nothing
 if_waits Q serve none (Some request) nothing some = some request
 
 pub of_services : (P : Own → Own → Type 0) → OfEachForm P → OfEachService P
 unfolding alarm.answered random.answered storage.answered
 of_services P each = record {
-  command = λ driver taker is around number a2 a3 own. of_command (λ around own c. P own c.own) driver taker is around number a2 a3 own (record {
-    refuses = λ rule. each.same own;
-    replies = λ reply. each.same own;
-    lights = λ led switch. each.same own;
-    arms = λ alarm room. each.enters 0 _ own room;
-    stops = each.keeps 0 _ own;
-    cancels = each.serves _ _ own _ (serves console.console 2 _ own.ram own (as_before own));
-    writes = λ request room none. each.enters console.console _ own room;
-    reads = λ request room none. each.enters console.console _ own room;
-    draws = λ request room none. each.enters random.random _ own room;
-    stores = λ request fits room none. each.enters storage.storage _ own room;
-  });
+  command = λ driver taker is around number a2 a3 own.
+      of_command (λ around own c. P own c.own) driver taker is around number a2 a3 own (record {
+        refuses = λ rule. each.same own;
+        replies = λ reply. each.same own;
+        lights = λ led switch. each.same own;
+        arms = λ alarm room. each.enters 0 _ own room;
+        stops = each.keeps 0 _ own;
+        cancels = each.serves _ _ own _ (serves console.console 2 _ own.ram own (as_before own));
+        writes = λ request room none. each.enters console.console _ own room;
+        reads = λ request room none. each.enters console.console _ own room;
+        draws = λ request room none. each.enters random.random _ own room;
+        stores = λ request fits room none. each.enters storage.storage _ own room;
+      });
   alarmed = λ now own. fires own now (alarm.due_alarm now own);
-  taken = λ own. if_waits (P own) (console.taking own) own (waiting_in console_writes own) (each.same own) (λ write. each.keeps _ _ own);
-  write_done = λ own. if_waits (P own) (console.writing own) own (waiting_in console_writes own) (each.same own) (λ write. each.serves _ _ own _ (serves _ _ _ own.ram own (as_before own)));
-  input = λ bytes own. if_waits (P own) (console.reading_in bytes own) own (waiting_in console_reads own) (each.same own) (λ read. each.serves _ _ own _ (serves _ _ _ _ own (written_size console.console 1 0 bytes own)));
-  drawn = λ words life own. if_waits (λ (a : random.Answered). P own a.own) _ _ (waiting_of randoms life own) (each.same own) (λ request. each.serves _ _ own _ (serves_progress (slice_get words 0) request own));
-  stored = λ fault flash bytes life own. if_waits (λ (a : storage.Answered). P own a.own) _ _ (waiting_of storages life own) (each.same own) (λ request. each.serves _ _ own _ (serves_served fault flash bytes request own));
+  taken = λ own. if_waits (P own) (console.taking own) own (waiting_in console_writes own) (each.same own)
+      (λ write. each.keeps _ _ own);
+  write_done = λ own. if_waits (P own) (console.write_completing own) own (waiting_in console_writes own)
+      (each.same own) (λ write. each.serves _ _ own _ (serves _ _ _ own.ram own (as_before own)));
+  input = λ bytes own.
+      if_waits (P own) (console.reading_in bytes own) own (waiting_in console_reads own) (each.same own)
+      (λ read. each.serves _ _ own _ (serves _ _ _ _ own (written_size console.console 1 0 bytes own)));
+  drawn = λ words life own.
+      if_waits (λ (a : random.RandomAnswered). P own a.own) _ _ (waiting_of randoms life own) (each.same own)
+      (λ request. each.serves _ _ own _ (serves_progress (slice_get words 0) request own));
+  stored = λ fault flash bytes life own.
+      if_waits (λ (a : storage.StorageAnswered). P own a.own) _ _ (waiting_of storages life own) (each.same own)
+      (λ request. each.serves _ _ own _ (serves_served fault flash bytes request own));
 }
   where
     fires : (own : Own) (now : ℕ) (due : Option Armed) → P own (alarm.fired_if now own due)

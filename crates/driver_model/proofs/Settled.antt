@@ -1,21 +1,23 @@
 -- That a process's own stays settled: its bytes end at the kernel break, and its buffers lie below the mark.
-use Rattle.std.proofs.Common.{◌≡◌, ◌≢◌, ◌⊎◌, inl, inr, ◌≤◌, ◌<◌, ℕ, ◌+◌, ◌-◌, ◌==◌, ◌||◌, Bool, true, false, cond, max, length, take, Option, None, Some, refl, sym, ap, ap₂, subst, ◌∙◌, arith, eqb-true, eq-eqb}
+use Rattle.std.proofs.Common.{◌≡◌, ◌≢◌, ◌⊎◌, inl, inr, ◌≤◌, ◌<◌, ℕ, ◌+◌, ◌-◌, ◌==◌, ◌||◌, Bool, true, false, cond, max}
+use Rattle.std.proofs.Common.{length, take, Option, None, Some, refl, sym, ap, ap₂, subst, ◌∙◌, arith, eqb-true, eq-eqb}
 use Rattle.std.specs.Prelude.{IsTrue}
 use Rattle.std.proofs.lemmas.Bool.{false≢true}
 use Rattle.std.proofs.lemmas.Bool.Decides.{nat_tests}
 use Rattle.std.proofs.lemmas.List.{length-take}
-use Rattle.grant_areas.specs.declared.kinds.PairKind.{PairKind}
-use Rattle.grant_areas.specs.declared.kinds.PairKind.TheVariants.{Upcall, ReadOnly, ReadWrite}
-use Rattle.grant_areas.specs.Grants.{Grant, grant_of, shape_of}
-use Rattle.grant_areas.specs.Kinds.{count_of}
+use Rattle.grant_model.specs.declared.kinds.PairKind.{PairKind}
+use Rattle.grant_model.specs.declared.kinds.PairKind.TheVariants.{Upcall, ReadOnly, ReadWrite}
+use Rattle.grant_model.specs.Grants.{Grant, grant_of, shape_of}
+use Rattle.grant_model.specs.Kinds.{count_of}
 use Rattle.grant_region.specs.Region.{roomed}
-use Rattle.process_layout.specs.Extents.{Extents}
+use Rattle.process_layout.specs.LayoutView.{LayoutView}
 use Rattle.process_layout.specs.Interval.{lies_within}
-use Rattle.process_own.specs.Own.{Own}
-use Rattle.process_own.specs.Handed.{entering, handing, has_place, held, lies_in_ram, marked, may_hand, raised}
-use Rattle.process_own.specs.Changes.{IsWhole}
-use Rattle.process_own.specs.Pairs.{HandsOne, HandsTheSame, OnlyHandingChangesPairs}
-use Rattle.driver_model.specs.Keeping.{DriversKeepSettled, HoldsBelowMark, IsInOrder, IsSettled, KeepsOrder, KeepsSettled}
+use Rattle.process_model.specs.Own.{Own}
+use Rattle.process_model.specs.Handed.{own_entering, handing, has_place, held, lies_in_ram, marked, may_share, raised}
+use Rattle.process_model.specs.Changes.{IsWhole}
+use Rattle.process_model.specs.Pairs.{HandsOne, HandsTheSame, OnlyHandingChangesPairs}
+use Rattle.driver_model.specs.Keeping.{DriversKeepSettled, HoldsBelowMark, IsInOrder, IsSettled, KeepsOrder}
+use Rattle.driver_model.specs.Keeping.{KeepsSettled}
 use Rattle.driver_model.specs.Laws.{StaysInPlace}
 use Rattle.driver_model.specs.Pairs.{DriversLeavePairs}
 use Rattle.driver_model.specs.Services.{OfEachService}
@@ -24,31 +26,39 @@ use Rattle.driver_model.proofs.Services.{of_services}
 use Rattle.driver_model.proofs.Sizes.{lies}
 
 -- a layout in which accessible RAM ends at the mark
-abbrev at_mark : Extents → Extents
+abbrev at_mark : LayoutView → LayoutView
 at_mark e = record e { brk = e.mark }
 
 -- a buffer may be handed where accessible RAM ends elsewhere, if it lies in it there too
-or_wider : (none ram flash wide : Bool) → (none ≡ false → ram ≡ true → wide ≡ true) → (none || ram || flash) ≡ true → (none || wide || flash) ≡ true
+or_wider : (none ram flash wide : Bool) → (none ≡ false → ram ≡ true → wide ≡ true) → (none || ram || flash) ≡ true
+    → (none || wide || flash) ≡ true
 or_wider true ram flash wide lies_too e = refl
 or_wider false true flash true lies_too e = refl
 or_wider false true flash false lies_too e = absurd (false≢true (lies_too refl refl))
 or_wider false false flash true lies_too e = refl
 or_wider false false flash false lies_too e = e
 
-or_wider_ram : (none ram wide : Bool) → (none ≡ false → ram ≡ true → wide ≡ true) → (none || ram) ≡ true → (none || wide) ≡ true
+or_wider_ram : (none ram wide : Bool) → (none ≡ false → ram ≡ true → wide ≡ true) → (none || ram) ≡ true
+    → (none || wide) ≡ true
 or_wider_ram true ram wide lies_too e = refl
 or_wider_ram false true wide lies_too e = lies_too refl refl
 or_wider_ram false false wide lies_too e = absurd (false≢true e)
 
 -- the bytes of a buffer that has some lie also in RAM up to another end
 abbrev LiesToo : ℕ → ℕ → ℕ → ℕ × ℕ → Type 0
-LiesToo start brk to pair = (pair.1 == 0) ≡ false → lies_within start brk pair.0 pair.1 ≡ true → lies_within start to pair.0 pair.1 ≡ true
+LiesToo start brk to pair = (pair.1 == 0) ≡ false → lies_within start brk pair.0 pair.1 ≡ true
+    → lies_within start to pair.0 pair.1 ≡ true
 
-wider_ro : (e : Extents) (to : ℕ) (pair : ℕ × ℕ) → LiesToo e.start e.brk to pair → may_hand ReadOnly e pair ≡ true → may_hand ReadOnly (record e { brk = to }) pair ≡ true
-wider_ro e to pair lies_too may = or_wider (pair.1 == 0) (lies_in_ram e pair.0 pair.1) (lies_within e.flash_start e.flash_end pair.0 pair.1) (lies_within e.start to pair.0 pair.1) lies_too may
+wider_ro : (e : LayoutView) (to : ℕ) (pair : ℕ × ℕ) → LiesToo e.start e.brk to pair → may_share ReadOnly e pair ≡ true
+    → may_share ReadOnly (record e { brk = to }) pair ≡ true
+wider_ro e to pair lies_too may =
+    or_wider (pair.1 == 0) (lies_in_ram e pair.0 pair.1) (lies_within e.flash_start e.flash_end pair.0 pair.1)
+    (lies_within e.start to pair.0 pair.1) lies_too may
 
-wider_rw : (e : Extents) (to : ℕ) (pair : ℕ × ℕ) → LiesToo e.start e.brk to pair → may_hand ReadWrite e pair ≡ true → may_hand ReadWrite (record e { brk = to }) pair ≡ true
-wider_rw e to pair lies_too may = or_wider_ram (pair.1 == 0) (lies_in_ram e pair.0 pair.1) (lies_within e.start to pair.0 pair.1) lies_too may
+wider_rw : (e : LayoutView) (to : ℕ) (pair : ℕ × ℕ) → LiesToo e.start e.brk to pair → may_share ReadWrite e pair ≡ true
+    → may_share ReadWrite (record e { brk = to }) pair ≡ true
+wider_rw e to pair lies_too may =
+    or_wider_ram (pair.1 == 0) (lies_in_ram e pair.0 pair.1) (lies_within e.start to pair.0 pair.1) lies_too may
 
 within : (from to at size : ℕ) → from ≤ at → at + size ≤ to → lies_within from to at size ≡ true
 within from to at size low high = grind (arith, nat_tests)
@@ -58,25 +68,28 @@ lies_further start brk to pair up some is =
     let inside = lies start brk pair.0 pair.1 is in within start to pair.0 pair.1 inside.0 (omega (arith, up, inside.1))
 
 -- the mark is raised to the end of a buffer, and never lowered
-raised_covers : (pair : ℕ × ℕ) (e : Extents) → LiesToo e.start e.brk (raised pair e).mark pair
+raised_covers : (pair : ℕ × ℕ) (e : LayoutView) → LiesToo e.start e.brk (raised pair e).mark pair
 raised_covers pair e = by_test (pair.1 == 0) (lies_in_ram e pair.0 pair.1) refl
   where
-    by_test : (none ram : Bool) → lies_in_ram e pair.0 pair.1 ≡ ram → none ≡ false → ram ≡ true → lies_within e.start (cond none e (cond ram (record e { mark = max e.mark (pair.0 + pair.1) }) e)).mark pair.0 pair.1 ≡ true
+    by_test : (none ram : Bool) → lies_in_ram e pair.0 pair.1 ≡ ram → none ≡ false → ram ≡ true
+        → lies_within e.start (cond none e (cond ram (record e { mark = max e.mark (pair.0 + pair.1) }) e)).mark pair.0
+        pair.1 ≡ true
     by_test true ram is some there = absurd (false≢true (sym some))
     by_test false false is some there = absurd (false≢true there)
     by_test false true is some there =
         let inside = lies e.start e.brk pair.0 pair.1 is in
         within e.start (max e.mark (pair.0 + pair.1)) pair.0 pair.1 inside.0 (omega arith)
 
-raised_grows : (pair : ℕ × ℕ) (e : Extents) → e.mark ≤ (raised pair e).mark
+raised_grows : (pair : ℕ × ℕ) (e : LayoutView) → e.mark ≤ (raised pair e).mark
 raised_grows pair e = by_test (pair.1 == 0) (lies_in_ram e pair.0 pair.1)
   where
-    by_test : (none ram : Bool) → e.mark ≤ (cond none e (cond ram (record e { mark = max e.mark (pair.0 + pair.1) }) e)).mark
+    by_test : (none ram : Bool)
+        → e.mark ≤ (cond none e (cond ram (record e { mark = max e.mark (pair.0 + pair.1) }) e)).mark
     by_test true ram = omega arith
     by_test false true = omega arith
     by_test false false = omega arith
 
-marked_grows : (kind : PairKind) (pair : ℕ × ℕ) (e : Extents) → e.mark ≤ (marked kind pair e).mark
+marked_grows : (kind : PairKind) (pair : ℕ × ℕ) (e : LayoutView) → e.mark ≤ (marked kind pair e).mark
 marked_grows Upcall pair e = omega arith
 marked_grows ReadOnly pair e = raised_grows pair e
 marked_grows ReadWrite pair e = raised_grows pair e
@@ -85,8 +98,14 @@ whole_of : (own : Own) → IsSettled own → IsWhole own
 whole_of own h = record {
   bytes = h.bytes;
   buffers = record {
-    read_only = λ driver number. let pair = held ReadOnly driver number own in wider_ro (at_mark own.layout) own.layout.brk pair (lies_further own.layout.start own.layout.mark own.layout.brk pair h.order.brk) (h.buffers.read_only driver number);
-    read_write = λ driver number. let pair = held ReadWrite driver number own in wider_rw (at_mark own.layout) own.layout.brk pair (lies_further own.layout.start own.layout.mark own.layout.brk pair h.order.brk) (h.buffers.read_write driver number);
+    read_only = λ driver number. let pair = held ReadOnly driver number own in
+        wider_ro (at_mark own.layout) own.layout.brk pair
+        (lies_further own.layout.start own.layout.mark own.layout.brk pair h.order.brk)
+        (h.buffers.read_only driver number);
+    read_write = λ driver number. let pair = held ReadWrite driver number own in
+        wider_rw (at_mark own.layout) own.layout.brk pair
+        (lies_further own.layout.start own.layout.mark own.layout.brk pair h.order.brk)
+        (h.buffers.read_write driver number);
   };
 }
 
@@ -94,12 +113,16 @@ whole_of own h = record {
 abbrev KeepsSize : Own → Own → Type 0
 KeepsSize own o = IsInOrder own → IsWhole own → length o.ram ≡ o.layout.kernel_break - o.layout.start
 
-entering_size : (driver : ℕ) (own : Own) → length own.ram ≡ own.layout.kernel_break - own.layout.start → let o = entering driver own in length o.ram ≡ o.layout.kernel_break - o.layout.start
+entering_size : (driver : ℕ) (own : Own) → length own.ram ≡ own.layout.kernel_break - own.layout.start
+    → let o = own_entering driver own in length o.ram ≡ o.layout.kernel_break - o.layout.start
 entering_size driver own size = by_grant (grant_of driver own.grants)
   where
-    by_grant : (g : Option Grant) → let e = roomed driver own.layout g in length (take (e.kernel_break - e.start) own.ram) ≡ e.kernel_break - e.start
-    by_grant None = let e = roomed driver own.layout None in let taken = length-take (e.kernel_break - e.start) own.ram in omega (arith, taken, size)
-    by_grant (Some g) = let e = own.layout in let taken = length-take (e.kernel_break - e.start) own.ram in omega (arith, taken, size)
+    by_grant : (g : Option Grant) → let e = roomed driver own.layout g in
+        length (take (e.kernel_break - e.start) own.ram) ≡ e.kernel_break - e.start
+    by_grant None = let e = roomed driver own.layout None in
+        let taken = length-take (e.kernel_break - e.start) own.ram in omega (arith, taken, size)
+    by_grant (Some g) = let e = own.layout in let taken = length-take (e.kernel_break - e.start) own.ram in
+        omega (arith, taken, size)
 
 keep_size : OfEachService KeepsSize
 keep_size =
@@ -107,7 +130,8 @@ keep_size =
       same = λ own h whole. whole.bytes;
       keeps = λ driver words own h whole. whole.bytes;
       enters = λ driver words own room h whole. entering_size driver own whole.bytes;
-      serves = λ driver words own o s h whole. s.size whole h.kernel_break ∙ whole.bytes ∙ ap (λ (x : Own). x.layout.kernel_break - x.layout.start) (sym s.rest);
+      serves = λ driver words own o s h whole. s.size whole h.kernel_break ∙ whole.bytes
+          ∙ ap (λ (x : Own). x.layout.kernel_break - x.layout.start) (sym s.rest);
     })
 
 -- kinds are the same, or not
@@ -123,52 +147,67 @@ kinds ReadWrite Upcall = inr (λ e. cc)
 kinds ReadWrite ReadOnly = inr (λ e. cc)
 
 -- what holds of the pair that was handed, and of all that were before, holds of all
-of_handed : (kind : PairKind) (driver number : ℕ) (pair : ℕ × ℕ) (own o : Own) → HandsOne kind driver number pair own o → (P : ℕ × ℕ → Type 0) (k : PairKind) (d n : ℕ) → (k ≡ kind → P pair) → P (held k d n own) → P (held k d n o)
-of_handed kind driver number pair own o hands P k d n this before = by_key (kinds k kind) (d == driver) (n == number) refl refl
+of_handed : (kind : PairKind) (driver number : ℕ) (pair : ℕ × ℕ) (own o : Own) → HandsOne kind driver number pair own o
+    → (P : ℕ × ℕ → Type 0) (k : PairKind) (d n : ℕ) → (k ≡ kind → P pair) → P (held k d n own) → P (held k d n o)
+of_handed kind driver number pair own o hands P k d n this before =
+    by_key (kinds k kind) (d == driver) (n == number) refl refl
   where
     by_key : (k ≡ kind) ⊎ (k ≢ kind) → (a b : Bool) → (d == driver) ≡ a → (n == number) ≡ b → P (held k d n o)
     by_key (inr apart) a b e f = subst P (sym (hands.others k d n (λ same. absurd (apart same)))) before
-    by_key (inl same) false b e f = subst P (sym (hands.others k d n (λ k_is d_is n_is. false≢true (sym e ∙ eq-eqb d driver d_is)))) before
-    by_key (inl same) true false e f = subst P (sym (hands.others k d n (λ k_is d_is n_is. false≢true (sym f ∙ eq-eqb n number n_is)))) before
+    by_key (inl same) false b e f =
+        subst P (sym (hands.others k d n (λ k_is d_is n_is. false≢true (sym e ∙ eq-eqb d driver d_is)))) before
+    by_key (inl same) true false e f =
+        subst P (sym (hands.others k d n (λ k_is d_is n_is. false≢true (sym f ∙ eq-eqb n number n_is)))) before
     by_key (inl same) true true e f =
         let d_is = eqb-true d driver e in
         let n_is = eqb-true n number f in
         subst P (sym ((λ i. held (same i) (d_is i) (n_is i) o) ∙ hands.this)) (this same)
 
 -- the pair that was handed lies below the mark afterwards
-this_ro : (kind : PairKind) (pair : ℕ × ℕ) (e : Extents) → ReadOnly ≡ kind → may_hand kind e pair ≡ true → may_hand ReadOnly (at_mark (marked kind pair e)) pair ≡ true
+this_ro : (kind : PairKind) (pair : ℕ × ℕ) (e : LayoutView) → ReadOnly ≡ kind → may_share kind e pair ≡ true
+    → may_share ReadOnly (at_mark (marked kind pair e)) pair ≡ true
 this_ro ReadOnly pair e same may =
-    subst (λ (f : Extents). may_hand ReadOnly (at_mark f) pair ≡ true) (sym (marked_rest ReadOnly pair e)) (wider_ro e (raised pair e).mark pair (raised_covers pair e) may)
+    subst (λ (f : LayoutView). may_share ReadOnly (at_mark f) pair ≡ true) (sym (marked_rest ReadOnly pair e))
+    (wider_ro e (raised pair e).mark pair (raised_covers pair e) may)
 this_ro Upcall pair e same may = absurd (cc)
 this_ro ReadWrite pair e same may = absurd (cc)
 
-this_rw : (kind : PairKind) (pair : ℕ × ℕ) (e : Extents) → ReadWrite ≡ kind → may_hand kind e pair ≡ true → may_hand ReadWrite (at_mark (marked kind pair e)) pair ≡ true
+this_rw : (kind : PairKind) (pair : ℕ × ℕ) (e : LayoutView) → ReadWrite ≡ kind → may_share kind e pair ≡ true
+    → may_share ReadWrite (at_mark (marked kind pair e)) pair ≡ true
 this_rw ReadWrite pair e same may =
-    subst (λ (f : Extents). may_hand ReadWrite (at_mark f) pair ≡ true) (sym (marked_rest ReadWrite pair e)) (wider_rw e (raised pair e).mark pair (raised_covers pair e) may)
+    subst (λ (f : LayoutView). may_share ReadWrite (at_mark f) pair ≡ true) (sym (marked_rest ReadWrite pair e))
+    (wider_rw e (raised pair e).mark pair (raised_covers pair e) may)
 this_rw Upcall pair e same may = absurd (cc)
 this_rw ReadOnly pair e same may = absurd (cc)
 
 -- and so do the others
-other_ro : (kind : PairKind) (pair other : ℕ × ℕ) (e : Extents) → may_hand ReadOnly (at_mark e) other ≡ true → may_hand ReadOnly (at_mark (marked kind pair e)) other ≡ true
+other_ro : (kind : PairKind) (pair other : ℕ × ℕ) (e : LayoutView) → may_share ReadOnly (at_mark e) other ≡ true
+    → may_share ReadOnly (at_mark (marked kind pair e)) other ≡ true
 other_ro kind pair other e may =
-    subst (λ (f : Extents). may_hand ReadOnly (at_mark f) other ≡ true) (sym (marked_rest kind pair e))
-    (wider_ro (at_mark e) (marked kind pair e).mark other (lies_further e.start e.mark (marked kind pair e).mark other (marked_grows kind pair e)) may)
+    subst (λ (f : LayoutView). may_share ReadOnly (at_mark f) other ≡ true) (sym (marked_rest kind pair e))
+    (wider_ro (at_mark e) (marked kind pair e).mark other
+    (lies_further e.start e.mark (marked kind pair e).mark other (marked_grows kind pair e)) may)
 
-other_rw : (kind : PairKind) (pair other : ℕ × ℕ) (e : Extents) → may_hand ReadWrite (at_mark e) other ≡ true → may_hand ReadWrite (at_mark (marked kind pair e)) other ≡ true
+other_rw : (kind : PairKind) (pair other : ℕ × ℕ) (e : LayoutView) → may_share ReadWrite (at_mark e) other ≡ true
+    → may_share ReadWrite (at_mark (marked kind pair e)) other ≡ true
 other_rw kind pair other e may =
-    subst (λ (f : Extents). may_hand ReadWrite (at_mark f) other ≡ true) (sym (marked_rest kind pair e))
-    (wider_rw (at_mark e) (marked kind pair e).mark other (lies_further e.start e.mark (marked kind pair e).mark other (marked_grows kind pair e)) may)
+    subst (λ (f : LayoutView). may_share ReadWrite (at_mark f) other ≡ true) (sym (marked_rest kind pair e))
+    (wider_rw (at_mark e) (marked kind pair e).mark other
+    (lies_further e.start e.mark (marked kind pair e).mark other (marked_grows kind pair e)) may)
 
 -- room for a grant moves the kernel break alone
-roomed_ro : (driver : ℕ) (e : Extents) (g : Option Grant) (pair : ℕ × ℕ) → may_hand ReadOnly (at_mark e) pair ≡ true → may_hand ReadOnly (at_mark (roomed driver e g)) pair ≡ true
+roomed_ro : (driver : ℕ) (e : LayoutView) (g : Option Grant) (pair : ℕ × ℕ) → may_share ReadOnly (at_mark e) pair ≡ true
+    → may_share ReadOnly (at_mark (roomed driver e g)) pair ≡ true
 roomed_ro driver e None pair may = may
 roomed_ro driver e (Some g) pair may = may
 
-roomed_rw : (driver : ℕ) (e : Extents) (g : Option Grant) (pair : ℕ × ℕ) → may_hand ReadWrite (at_mark e) pair ≡ true → may_hand ReadWrite (at_mark (roomed driver e g)) pair ≡ true
+roomed_rw : (driver : ℕ) (e : LayoutView) (g : Option Grant) (pair : ℕ × ℕ)
+    → may_share ReadWrite (at_mark e) pair ≡ true → may_share ReadWrite (at_mark (roomed driver e g)) pair ≡ true
 roomed_rw driver e None pair may = may
 roomed_rw driver e (Some g) pair may = may
 
-roomed_may : (kind : PairKind) (driver : ℕ) (e : Extents) (g : Option Grant) (pair : ℕ × ℕ) → may_hand kind e pair ≡ true → may_hand kind (roomed driver e g) pair ≡ true
+roomed_may : (kind : PairKind) (driver : ℕ) (e : LayoutView) (g : Option Grant) (pair : ℕ × ℕ)
+    → may_share kind e pair ≡ true → may_share kind (roomed driver e g) pair ≡ true
 roomed_may Upcall driver e None pair may = may
 roomed_may ReadOnly driver e None pair may = may
 roomed_may ReadWrite driver e None pair may = may
@@ -176,21 +215,28 @@ roomed_may kind driver e (Some g) pair may = may
 
 module _ (law : OnlyHandingChangesPairs) where
   -- where a process lies stays, and the pairs that it has handed
-  same_buffers : (own o : Own) (k b : ℕ) → o.layout ≡ record own.layout { kernel_break = k; brk = b } → HandsTheSame own o → HoldsBelowMark own → HoldsBelowMark o
+  same_buffers : (own o : Own) (k b : ℕ) → o.layout ≡ record own.layout { kernel_break = k; brk = b }
+      → HandsTheSame own o → HoldsBelowMark own → HoldsBelowMark o
   same_buffers own o k b layout pairs h = record {
-    read_only = λ driver number. ap₂ (λ (e : Extents) (pair : ℕ × ℕ). may_hand ReadOnly (at_mark e) pair) layout (law.held own o pairs ReadOnly driver number) ∙ h.read_only driver number;
-    read_write = λ driver number. ap₂ (λ (e : Extents) (pair : ℕ × ℕ). may_hand ReadWrite (at_mark e) pair) layout (law.held own o pairs ReadWrite driver number) ∙ h.read_write driver number;
+    read_only = λ driver number. ap₂ (λ (e : LayoutView) (pair : ℕ × ℕ). may_share ReadOnly (at_mark e) pair) layout
+        (law.held own o pairs ReadOnly driver number) ∙ h.read_only driver number;
+    read_write = λ driver number. ap₂ (λ (e : LayoutView) (pair : ℕ × ℕ). may_share ReadWrite (at_mark e) pair) layout
+        (law.held own o pairs ReadWrite driver number) ∙ h.read_write driver number;
   }
 
-  settles : (own o : Own) → StaysInPlace own o → HandsTheSame own o → KeepsOrder own o → KeepsSize own o → KeepsSettled own o
+  settles : (own o : Own) → StaysInPlace own o → HandsTheSame own o → KeepsOrder own o → KeepsSize own o
+      → KeepsSettled own o
   settles own o stays pairs order size h = record {
     order = order h.order;
     bytes = size h.order (whole_of own h);
-    buffers = same_buffers own o o.layout.kernel_break own.layout.brk (ap (λ (x : Own). x.layout) stays) pairs h.buffers;
+    buffers = same_buffers own o o.layout.kernel_break own.layout.brk (ap (λ (x : Own). x.layout) stays) pairs
+        h.buffers;
     shape = law.shape own o pairs h.shape;
   }
 
-  handed_settled : (kind : PairKind) (driver number : ℕ) (pair : ℕ × ℕ) (own : Own) → has_place driver own ≡ true → IsTrue (may_hand kind own.layout pair) → number < count_of kind (shape_of driver) → KeepsSettled own (handing kind driver number pair own)
+  handed_settled : (kind : PairKind) (driver number : ℕ) (pair : ℕ × ℕ) (own : Own) → has_place driver own ≡ true
+      → IsTrue (may_share kind own.layout pair) → number < count_of kind (shape_of driver)
+      → KeepsSettled own (handing kind driver number pair own)
   handed_settled kind driver number pair own room may is_number h =
       let o = handing kind driver number pair own in
       let g = grant_of driver own.grants in
@@ -199,10 +245,19 @@ module _ (law : OnlyHandingChangesPairs) where
       let may_now = roomed_may kind driver own.layout g pair may in
       record {
         order = handed_order kind driver number pair own room h.order;
-        bytes = entering_size driver own h.bytes ∙ ap (λ (f : Extents). f.kernel_break - f.start) (sym (marked_rest kind pair e));
+        bytes = entering_size driver own h.bytes
+            ∙ ap (λ (f : LayoutView). f.kernel_break - f.start) (sym (marked_rest kind pair e));
         buffers = record {
-          read_only = λ d n. of_handed kind driver number pair own o hands (λ p. may_hand ReadOnly (at_mark (marked kind pair e)) p ≡ true) ReadOnly d n (λ same. this_ro kind pair e same may_now) (other_ro kind pair (held ReadOnly d n own) e (roomed_ro driver own.layout g (held ReadOnly d n own) (h.buffers.read_only d n)));
-          read_write = λ d n. of_handed kind driver number pair own o hands (λ p. may_hand ReadWrite (at_mark (marked kind pair e)) p ≡ true) ReadWrite d n (λ same. this_rw kind pair e same may_now) (other_rw kind pair (held ReadWrite d n own) e (roomed_rw driver own.layout g (held ReadWrite d n own) (h.buffers.read_write d n)));
+          read_only = λ d n. of_handed kind driver number pair own o hands
+              (λ p. may_share ReadOnly (at_mark (marked kind pair e)) p ≡ true) ReadOnly d n
+              (λ same. this_ro kind pair e same may_now)
+              (other_ro kind pair (held ReadOnly d n own) e
+              (roomed_ro driver own.layout g (held ReadOnly d n own) (h.buffers.read_only d n)));
+          read_write = λ d n. of_handed kind driver number pair own o hands
+              (λ p. may_share ReadWrite (at_mark (marked kind pair e)) p ≡ true) ReadWrite d n
+              (λ same. this_rw kind pair e same may_now)
+              (other_rw kind pair (held ReadWrite d n own) e
+              (roomed_rw driver own.layout g (held ReadWrite d n own) (h.buffers.read_write d n)));
         };
         shape = hands.shape;
       }
@@ -214,13 +269,23 @@ module _ (law : OnlyHandingChangesPairs) where
       let z = keep_size in
       record {
         services = record {
-          command = λ driver taker is around number a2 a3 own. settles own _ (p.command driver taker is around number a2 a3 own) (leave.command driver taker is around number a2 a3 own) (q.command driver taker is around number a2 a3 own) (z.command driver taker is around number a2 a3 own);
-          alarmed = λ now own. settles own _ (p.alarmed now own) (leave.alarmed now own) (q.alarmed now own) (z.alarmed now own);
+          command = λ driver taker is around number a2 a3 own.
+              settles own _ (p.command driver taker is around number a2 a3 own)
+              (leave.command driver taker is around number a2 a3 own)
+              (q.command driver taker is around number a2 a3 own) (z.command driver taker is around number a2 a3 own);
+          alarmed = λ now own. settles own _ (p.alarmed now own) (leave.alarmed now own) (q.alarmed now own)
+              (z.alarmed now own);
           taken = λ own. settles own _ (p.taken own) (leave.taken own) (q.taken own) (z.taken own);
-          write_done = λ own. settles own _ (p.write_done own) (leave.write_done own) (q.write_done own) (z.write_done own);
-          input = λ bytes own. settles own _ (p.input bytes own) (leave.input bytes own) (q.input bytes own) (z.input bytes own);
-          drawn = λ words life own. settles own _ (p.drawn words life own) (leave.drawn words life own) (q.drawn words life own) (z.drawn words life own);
-          stored = λ fault flash bytes life own. settles own _ (p.stored fault flash bytes life own) (leave.stored fault flash bytes life own) (q.stored fault flash bytes life own) (z.stored fault flash bytes life own);
+          write_done = λ own. settles own _ (p.write_done own) (leave.write_done own) (q.write_done own)
+              (z.write_done own);
+          input = λ bytes own.
+              settles own _ (p.input bytes own) (leave.input bytes own) (q.input bytes own) (z.input bytes own);
+          drawn = λ words life own.
+              settles own _ (p.drawn words life own) (leave.drawn words life own) (q.drawn words life own)
+              (z.drawn words life own);
+          stored = λ fault flash bytes life own.
+              settles own _ (p.stored fault flash bytes life own) (leave.stored fault flash bytes life own)
+              (q.stored fault flash bytes life own) (z.stored fault flash bytes life own);
         };
         handed = handed_settled;
         whole = whole_of;

@@ -1,19 +1,22 @@
 -- How many bytes a process has, once a driver has written into its buffer: as many as before.
-use Rattle.std.proofs.Common.{◌≡◌, ◌⊎◌, inl, inr, ◌≤◌, ◌<◌, ℕ, ◌+◌, ◌-◌, ◌==◌, ◌||◌, Bool, true, false, List, ◌++◌, length, take, drop, refl, arith, eqb-true}
+use Rattle.std.proofs.Common.{◌≡◌, ◌⊎◌, inl, inr, ◌≤◌, ◌<◌, ℕ, ◌+◌, ◌-◌, ◌==◌, ◌||◌, Bool, true, false, List, ◌++◌}
+use Rattle.std.proofs.Common.{length, take, drop, refl, arith, eqb-true}
 use Rattle.std.specs.Prelude.{IsTrue}
 use Rattle.std.proofs.lemmas.Bool.{cases_lt}
 use Rattle.std.proofs.lemmas.Bool.Decides.{nat_tests}
 use Rattle.std.proofs.lemmas.List.{length-append, length-drop, length-take}
-use Rattle.grant_areas.specs.declared.kinds.PairKind.TheVariants.{ReadWrite}
-use Rattle.process_layout.specs.Extents.{Extents}
+use Rattle.grant_model.specs.declared.kinds.PairKind.TheVariants.{ReadWrite}
+use Rattle.process_layout.specs.LayoutView.{LayoutView}
 use Rattle.process_layout.specs.Interval.{lies_within}
-use Rattle.process_own.specs.Own.{Own}
-use Rattle.process_own.specs.Handed.{held, lies_in_ram, may_hand}
-use Rattle.process_own.specs.Served.{over, with_written}
+use Rattle.process_model.specs.Own.{Own}
+use Rattle.process_model.specs.Handed.{held, lies_in_ram, may_share}
+use Rattle.process_model.specs.Served.{with_written}
+use Rattle.tk_base.specs.Bytes.{over}
 use Rattle.driver_model.proofs.Scheduled.{AsMany}
 
 -- bytes that are written over others, where these lie in them, or are none
-over_size : (xs ys : List ℕ) (at : ℕ) → (at + length ys ≤ length xs) ⊎ (length ys ≡ 0) → length (over xs at ys) ≡ length xs
+over_size : (xs ys : List ℕ) (at : ℕ) → (at + length ys ≤ length xs) ⊎ (length ys ≡ 0)
+    → length (over xs at ys) ≡ length xs
 over_size xs ys at = by_side
   where
     rest : List ℕ
@@ -39,26 +42,35 @@ pub lies : (from to at size : ℕ) → lies_within from to at size ≡ true → 
 lies from to at size e = (grind (arith, nat_tests), grind (arith, nat_tests))
 
 -- a buffer that may be allowed lies in accessible RAM, or has no bytes
-lies_in : (e : Extents) (buffer : ℕ × ℕ) → IsTrue (may_hand ReadWrite e buffer) → ((e.start ≤ buffer.0) × (buffer.0 + buffer.1 ≤ e.brk)) ⊎ (buffer.1 ≡ 0)
+lies_in : (e : LayoutView) (buffer : ℕ × ℕ) → IsTrue (may_share ReadWrite e buffer)
+    → ((e.start ≤ buffer.0) × (buffer.0 + buffer.1 ≤ e.brk)) ⊎ (buffer.1 ≡ 0)
 lies_in e buffer may = by_size (buffer.1 == 0) (lies_in_ram e buffer.0 buffer.1) refl refl may
   where
-    by_size : (none ram : Bool) → (buffer.1 == 0) ≡ none → lies_in_ram e buffer.0 buffer.1 ≡ ram → (none || ram) ≡ true → ((e.start ≤ buffer.0) × (buffer.0 + buffer.1 ≤ e.brk)) ⊎ (buffer.1 ≡ 0)
+    by_size : (none ram : Bool) → (buffer.1 == 0) ≡ none → lies_in_ram e buffer.0 buffer.1 ≡ ram → (none || ram) ≡ true
+        → ((e.start ≤ buffer.0) × (buffer.0 + buffer.1 ≤ e.brk)) ⊎ (buffer.1 ≡ 0)
     by_size true ram is lies_so may = inr (eqb-true buffer.1 0 is)
     by_size false true is lies_so may = inl (lies e.start e.brk buffer.0 buffer.1 lies_so)
     by_size false false is lies_so may = absurd (cc)
 
 -- those that fit a buffer lie in the block
-in_block : (ram bytes : List ℕ) (start from size offset brk : ℕ) → ((start ≤ from) × (from + size ≤ brk)) ⊎ (size ≡ 0) → brk - start ≤ length ram
-    → ((from - start + offset) + length (take (size - offset) bytes) ≤ length ram) ⊎ (length (take (size - offset) bytes) ≡ 0)
+in_block : (ram bytes : List ℕ) (start from size offset brk : ℕ) → ((start ≤ from) × (from + size ≤ brk)) ⊎ (size ≡ 0)
+    → brk - start ≤ length ram
+    → ((from - start + offset) + length (take (size - offset) bytes) ≤ length ram)
+    ⊎ (length (take (size - offset) bytes) ≡ 0)
 in_block ram bytes start from size offset brk place low = by_room (cases_lt offset size) place
   where
-    by_room : (offset < size) ⊎ (size ≤ offset) → ((start ≤ from) × (from + size ≤ brk)) ⊎ (size ≡ 0) → ((from - start + offset) + length (take (size - offset) bytes) ≤ length ram) ⊎ (length (take (size - offset) bytes) ≡ 0)
-    by_room (inl room) (inl inside) = let short = length-take (size - offset) bytes in inl (omega (arith, room, inside.0, inside.1, low, short))
+    by_room : (offset < size) ⊎ (size ≤ offset) → ((start ≤ from) × (from + size ≤ brk)) ⊎ (size ≡ 0)
+        → ((from - start + offset) + length (take (size - offset) bytes) ≤ length ram)
+        ⊎ (length (take (size - offset) bytes) ≡ 0)
+    by_room (inl room) (inl inside) = let short = length-take (size - offset) bytes in
+        inl (omega (arith, room, inside.0, inside.1, low, short))
     by_room (inl room) (inr none) = absurd (omega (arith, room, none))
     by_room (inr full) placed = let short = length-take (size - offset) bytes in inr (omega (arith, full, short))
 
-pub written_size : (driver number offset : ℕ) (bytes : List ℕ) (own : Own) → AsMany own (with_written driver number offset bytes own).ram
+pub written_size : (driver number offset : ℕ) (bytes : List ℕ) (own : Own)
+    → AsMany own (with_written driver number offset bytes own).ram
 written_size driver number offset bytes own whole low =
     let buffer = held ReadWrite driver number own in
     over_size own.ram _ _
-    (in_block own.ram bytes own.layout.start buffer.0 buffer.1 offset own.layout.brk (lies_in own.layout buffer (whole.buffers.read_write driver number)) (omega (arith, whole.bytes, low)))
+    (in_block own.ram bytes own.layout.start buffer.0 buffer.1 offset own.layout.brk
+    (lies_in own.layout buffer (whole.buffers.read_write driver number)) (omega (arith, whole.bytes, low)))

@@ -10,5 +10,11 @@ drivers_schedule_held =
       same = λ own. schedules_none own own refl;
       keeps = λ driver words own. schedules_none own _ refl;
       enters = λ driver words own room. schedules_none own _ refl;
-      serves = λ driver words own o s. record { more = s.upcalls.more; pending = s.upcalls.pending; one = s.upcalls.one; each = s.upcalls.each };
+      serves = λ driver words own o s. record {
+        more = s.upcalls.more;
+        pending = s.upcalls.pending;
+        one =
+            s.upcalls.one;
+        each = s.upcalls.each;
+      };
     })

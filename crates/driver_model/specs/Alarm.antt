@@ -1,14 +1,22 @@
 -- The alarm (Tock's driver 0x0): a process arms one alarm by a reference and a delta, in ticks of a clock of 32 bits.
-use Rattle.std.specs.Prelude.{ℕ, ◌+◌, ◌-◌, ◌%◌, ◌^◌, min, nat_le, Bool, if◌then◌else◌, List, [], ◌∷◌, find, fold, slice_get, Option, None, Some, is_some, option_and_then}
+use Rattle.std.specs.Prelude.{ℕ, ◌+◌, ◌-◌, ◌%◌, ◌^◌, min, nat_le, Bool, if◌then◌else◌, List, [], ◌∷◌, find, fold}
+use Rattle.std.specs.Prelude.{slice_get, Option, None, Some, is_some, option_and_then}
 use Rattle.std.specs.List.{range_with_len}
 use Rattle.tk_base.specs.declared.call.CallRule.TheVariants.{NoRoom, Nothing}
+use Rattle.tk_base.specs.declared.limits.TheConstants.{SLOT_COUNT}
 use Rattle.grant_values.specs.declared.alarm.Armed.{Armed}
+use Rattle.grant_values.specs.declared.drivers.Driver.TheVariants.{Alarm}
 use Rattle.grant_values.specs.Alarm.{alarm_words, alarm_of}
+use Rattle.grant_values.specs.Drivers.{number_of_driver}
 use Rattle.syscall_abi.specs.declared.reply.Reply.TheVariants.{Success, SuccessU32}
-use Rattle.process_own.specs.Own.{Own}
-use Rattle.process_own.specs.Handed.{entering, has_place}
-use Rattle.process_own.specs.Served.{kept, scheduled, with_kept}
-use Rattle.driver_model.specs.Commands.{Commanded, accepted, refused, by_number}
+use Rattle.process_model.specs.Own.{Own}
+use Rattle.process_model.specs.Handed.{own_entering, has_place}
+use Rattle.process_model.specs.Served.{kept, own_scheduled, with_kept}
+use Rattle.driver_model.specs.Commands.{Commanded, accepting, refusing, by_number}
+
+-- the number of the driver
+abbrev pub alarm_driver : ℕ
+alarm_driver = number_of_driver Alarm
 
 -- the tick at which an alarm expires
 abbrev pub expiration : Armed → ℕ
@@ -23,31 +31,33 @@ abbrev pub armed_in : Option (List ℕ) → Option Armed
 armed_in None = None
 armed_in (Some words) = (alarm_of words).armed
 
+-- the alarm that a process has armed, if it has
 abbrev pub alarm_in : Own → Option Armed
-alarm_in own = armed_in (kept 0 own)
+alarm_in own = armed_in (kept alarm_driver own)
 
 -- a process with that alarm armed, or with none
 abbrev pub with_alarm : Option Armed → Own → Own
-with_alarm alarm own = with_kept 0 (alarm_words (record { armed = alarm })) own
+with_alarm alarm own = with_kept alarm_driver (alarm_words (record { armed = alarm })) own
 
 -- An alarm is armed in place of the one before, if there is room for the driver's grant; the reply is when it expires.
 abbrev pub arming : Armed → Own → Commanded
 arming alarm own =
-    if has_place 0 own then accepted (SuccessU32 (expiration alarm)) (with_alarm (Some alarm) (entering 0 own))
-    else refused NoRoom own
+    if has_place alarm_driver own
+    then accepting (SuccessU32 (expiration alarm)) (with_alarm (Some alarm) (own_entering alarm_driver own))
+    else refusing NoRoom own
 
 -- an alarm that is armed is stopped
 abbrev pub stopping : Option Armed → Own → Commanded
-stopping None own = refused Nothing own
-stopping (Some alarm) own = accepted Success (with_alarm None own)
+stopping None own = refusing Nothing own
+stopping (Some alarm) own = accepting Success (with_alarm None own)
 
 -- its commands: the driver is there; ticks a second; the clock; stop the alarm; arm it from now on, or from a reference
 -- on
 unfoldable pub commands : ℕ → ℕ → ℕ → Own → List (ℕ × Commanded)
 commands now a2 a3 own =
-    (0, accepted Success own)
-    ∷ (1, accepted (SuccessU32 1000) own)
-    ∷ (2, accepted (SuccessU32 now) own)
+    (0, accepting Success own)
+    ∷ (1, accepting (SuccessU32 1000) own)
+    ∷ (2, accepting (SuccessU32 now) own)
     ∷ (3, stopping (alarm_in own) own)
     ∷ (5, arming (record { reference = now; delta = a2 }) own)
     ∷ (6, arming (record { reference = a2; delta = a3 }) own)
@@ -62,13 +72,15 @@ abbrev pub if_due : ℕ → Option Armed → Option Armed
 if_due now None = None
 if_due now (Some alarm) = if is_due now alarm then Some alarm else None
 
+-- the alarm of a process that lives, where it is due
 abbrev pub due_alarm : ℕ → Own → Option Armed
 due_alarm now own = if own.lives then if_due now (alarm_in own) else None
 
 -- An alarm fires: upcall 0 is scheduled with the clock and the expiration, and the alarm is stopped.
 abbrev pub fired : ℕ → Armed → Own → Own
-fired now alarm own = with_alarm None (scheduled 0 0 (now ∷ expiration alarm ∷ 0 ∷ []) own)
+fired now alarm own = with_alarm None (own_scheduled alarm_driver 0 (now ∷ expiration alarm ∷ 0 ∷ []) own)
 
+-- a process whose alarm fired, if one did
 abbrev pub fired_if : ℕ → Own → Option Armed → Own
 fired_if now own None = own
 fired_if now own (Some alarm) = fired now alarm own
@@ -83,23 +95,24 @@ has_due now own = is_some (option_and_then (due_alarm now) own)
 
 -- the lowest slot with an alarm that is due
 unfoldable pub due_slot : ℕ → List Own → Option ℕ
-due_slot now owns = find (λ slot. has_due now (slice_get owns slot)) (range_with_len 0 8)
+due_slot now owns = find (λ slot. has_due now (slice_get owns slot)) (range_with_len 0 SLOT_COUNT)
 
 -- how many ticks are left until an alarm becomes due: 0 where it is due
 abbrev pub ticks_left : ℕ → Armed → ℕ
 ticks_left now alarm = alarm.delta - (now + (2 ^ 32 - alarm.reference)) % 2 ^ 32
 
+-- the ticks that are left until an alarm is due, if one is armed
 abbrev pub left_if : ℕ → Option Armed → Option ℕ
 left_if now None = None
 left_if now (Some alarm) = Some (ticks_left now alarm)
 
 -- the ticks that are left of a process's alarm; none of one that has ended, or has none armed
-abbrev pub left_of : ℕ → Own → Option ℕ
-left_of now own = if own.lives then left_if now (alarm_in own) else None
+abbrev pub ticks_left_of : ℕ → Own → Option ℕ
+ticks_left_of now own = if own.lives then left_if now (alarm_in own) else None
 
 -- the ticks that are left of the alarm of the process in a slot, if there is one
-abbrev pub left_in : ℕ → List Own → ℕ → Option ℕ
-left_in now owns slot = option_and_then (left_of now) (slice_get owns slot)
+abbrev pub ticks_left_in : ℕ → List Own → ℕ → Option ℕ
+ticks_left_in now owns slot = option_and_then (ticks_left_of now) (slice_get owns slot)
 
 -- the lesser of two numbers of ticks, where there are two
 abbrev pub nearer : Option ℕ → Option ℕ → Option ℕ
@@ -109,8 +122,8 @@ nearer (Some ticks) (Some other) = Some (min ticks other)
 
 -- the least so far, and then with one slot more
 abbrev pub nearer_with : ℕ → List Own → Option ℕ → ℕ → Option ℕ
-nearer_with now owns least slot = nearer least (left_in now owns slot)
+nearer_with now owns least slot = nearer least (ticks_left_in now owns slot)
 
 -- the ticks that are left until the next alarm becomes due: the least over all slots
 unfoldable pub next_left : ℕ → List Own → Option ℕ
-next_left now owns = fold (nearer_with now owns) None (range_with_len 0 8)
+next_left now owns = fold (nearer_with now owns) None (range_with_len 0 SLOT_COUNT)

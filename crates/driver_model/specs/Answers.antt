@@ -1,41 +1,42 @@
 -- What devices' answers leave of a process, and what of it the process is told.
 use Rattle.std.specs.Prelude.{◌≡◌, ℕ, ◌==◌, Bool, false, ◌&&◌, if◌then◌else◌, List, [], ◌∷◌, ◌++◌, length}
-use Rattle.process_own.specs.Own.{Own}
-use Rattle.driver_model.specs.Commands.{Line, Writes, Reads, Randoms, Stores, is_same}
+use Rattle.process_model.specs.Own.{Own}
+use Rattle.driver_model.specs.Commands.{QueueName, Writes, Reads, Randoms, Stores, is_same}
 use Rattle.driver_model.specs.Alarm as alarm
 use Rattle.driver_model.specs.Console as console
 use Rattle.driver_model.specs.Random as random
 use Rattle.driver_model.specs.Storage as storage
 use Rattle.driver_model.specs.Laws.{IsAtMostOneMore}
-use Rattle.driver_model.specs.Lines.{IsWithin, OfEachDesk, has_waiting}
+use Rattle.driver_model.specs.Lines.{IsWithin, OfEachRequestKind, has_waiting}
 
 -- a device's answer may change the bytes of a process, its grants, what waits to be delivered and the count of dropped
 -- upcalls; where it lies, its life, and that it lives, stay
 abbrev pub Remains : Own → Own → Type 0
 Remains own o = o ≡ record own { ram = o.ram; grants = o.grants; pending = o.pending; dropped = o.dropped }
 
--- What an answer leaves of a process: it remains; one upcall more was dropped at most; it has a request at a desk where
--- it had one, unless it left that list; and one for storage is for some of so many bytes, as one before it was.
-pub record FollowsAnswer (left : Line → Bool) (own o : Own) : Type 0 where
+-- What an answer leaves of a process: it remains; one upcall more was dropped at most; it has a request of a kind
+-- where it had one, unless it left that queue; and one for storage is for some of so many bytes, as one before it was.
+pub record FollowsAnswer (left : QueueName → Bool) (own o : Own) : Type 0 where
   pub rest : Remains own o
   pub dropped : IsAtMostOneMore own.dropped o.dropped
-  pub lines : OfEachDesk (λ R desk. has_waiting desk o ≡ (if left desk.line then false else has_waiting desk own))
+  pub lines : OfEachRequestKind (λ R request_kind.
+      has_waiting request_kind o ≡ (if left request_kind.line then false else has_waiting request_kind own))
   pub within : (size : ℕ) → IsWithin size own → IsWithin size o
 
 -- whether a process left a list by the answer to its request in one, which completed or did not
-abbrev pub left_by : Line → Bool → Line → Bool
-left_by here completed line = is_same here line && completed
+abbrev pub queue_left_by : QueueName → Bool → QueueName → Bool
+queue_left_by here completed line = is_same here line && completed
 
 -- so it is with each device's answer to a process, whichever of its lives it is for; an alarm that fires leaves no list
 pub record LinesFollowAnswers : Type 0 where
   pub writes : (flash : List ℕ) (life : ℕ) (own : Own) →
-      let s = console.sent flash life own in FollowsAnswer (left_by Writes s.completed) own s.own
+      let s = console.sent flash life own in FollowsAnswer (queue_left_by Writes s.completed) own s.own
   pub reads : (ring : List ℕ) (life : ℕ) (own : Own) →
-      let r = console.received ring life own in FollowsAnswer (left_by Reads r.completed) own r.own
+      let r = console.received ring life own in FollowsAnswer (queue_left_by Reads r.completed) own r.own
   pub randoms : (words : List ℕ) (life : ℕ) (own : Own) →
-      let a = random.answered words life own in FollowsAnswer (left_by Randoms a.completed) own a.own
+      let a = random.answered words life own in FollowsAnswer (queue_left_by Randoms a.completed) own a.own
   pub stores : (fault : Bool) (flash bytes : List ℕ) (life : ℕ) (own : Own) →
-      let a = storage.answered fault flash bytes life own in FollowsAnswer (left_by Stores a.completed) own a.own
+      let a = storage.answered fault flash bytes life own in FollowsAnswer (queue_left_by Stores a.completed) own a.own
   pub alarms : (now : ℕ) (own : Own) → FollowsAnswer (λ line. false) own (alarm.answered now own)
 
 -- the word that was drawn, if these are left of some: the first, where they are one fewer

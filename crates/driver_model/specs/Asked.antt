@@ -1,6 +1,6 @@
 -- What the commands to each driver ask of the board.
 use Rattle.std.specs.Prelude.{◌≡◌, ◌⊎◌, ℕ, List, [], ◌∷◌}
-use Rattle.process_own.specs.Own.{Own}
+use Rattle.process_model.specs.Own.{Own}
 use Rattle.driver_model.specs.Alarm as alarm
 use Rattle.driver_model.specs.Commands.{Waits, Leaves, Lights, On, Off, Toggle, Writes, Reads, Randoms, Stores}
 use Rattle.driver_model.specs.Console as console

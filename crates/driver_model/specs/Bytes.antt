@@ -1,33 +1,37 @@
--- What drivers write of the bytes that are a process's own: only what it has allowed them (TRD 104, "Read-Write Allow").
+-- What drivers write of the bytes that are a process's own: only what it has allowed them (TRD 104, "Read-Write
+-- Allow").
 use Rattle.std.specs.Prelude.{◌≡◌, ℕ, Bool, true, List, [], None, Some}
-use Rattle.grant_areas.specs.declared.kinds.PairKind.TheVariants.{ReadWrite}
-use Rattle.process_own.specs.Own.{Own}
-use Rattle.process_own.specs.Handed.{held}
-use Rattle.process_own.specs.Changes.{ChangesAt, IsInside, IsWhole, KeepsBytes}
+use Rattle.grant_model.specs.declared.kinds.PairKind.TheVariants.{ReadWrite}
+use Rattle.process_model.specs.Own.{Own}
+use Rattle.process_model.specs.Handed.{held}
+use Rattle.process_model.specs.Changes.{ChangesAt, IsInside, IsWhole, KeepsBytes}
 use Rattle.driver_model.specs.Alarm as alarm
 use Rattle.driver_model.specs.Console as console
 use Rattle.driver_model.specs.Random as random
 use Rattle.driver_model.specs.Storage as storage
-use Rattle.driver_model.specs.Drivers.{Surroundings, Taker, taker_of}
+use Rattle.driver_model.specs.Drivers.{CommandContext, CommandHandler, handler_of}
 
 -- no command to a driver changes any
 abbrev pub CommandsKeepBytes : Type 0
 CommandsKeepBytes =
-    (driver : ℕ) (taker : Taker) → taker_of driver ≡ Some taker →
-    (around : Surroundings) (number a2 a3 : ℕ) (own : Own) → KeepsBytes own (taker around number a2 a3 own).own
+    (driver : ℕ) (taker : CommandHandler) → handler_of driver ≡ Some taker →
+    (around : CommandContext) (number a2 a3 : ℕ) (own : Own) → KeepsBytes own (taker around number a2 a3 own).own
 
 -- the read-write buffers of the console, of the random bytes and of the storage
 abbrev pub input_buffer : Own → ℕ × ℕ
 input_buffer own = held ReadWrite console.console 1 own
 
+-- the buffer into which random bytes are written: read-write buffer 0 of the source
 abbrev pub word_buffer : Own → ℕ × ℕ
 word_buffer own = held ReadWrite random.random 0 own
 
+-- the buffer into which storage is read: read-write buffer 0 of the storage
 abbrev pub stored_buffer : Own → ℕ × ℕ
 stored_buffer own = held ReadWrite storage.storage 0 own
 
 -- What a device answers to a process whose own is whole changes bytes inside the buffer alone that it held for the
--- device: bytes that came in, a random word, a storage request that was served. All other answers change none. A storage
+-- device: bytes that came in, a random word, a storage request that was served. All other answers change none. A
+-- storage
 -- request that fails writes nothing over the storage.
 pub record AnswersWriteInBuffers : Type 0 where
   pub alarmed : (now : ℕ) (own : Own) → KeepsBytes own (alarm.answered now own)

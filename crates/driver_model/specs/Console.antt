@@ -1,26 +1,30 @@
 -- The console (Tock's driver 0x1): a process has bytes of its read-only buffer 1 written, and bytes that come in read
 -- into its read-write buffer 1. One write of it and one read may wait at a time.
-use Rattle.std.specs.Prelude.{ℕ, ◌+◌, ◌-◌, ◌*◌, ◌==◌, Bool, true, false, min, if◌then◌else◌, List, [], ◌∷◌, drop, length, take, Option, None, Some, option_map, unwrap_or, Ok}
+use Rattle.std.specs.Prelude.{ℕ, ◌+◌, ◌-◌, ◌*◌, ◌==◌, Bool, true, false, min, if◌then◌else◌, List, [], ◌∷◌, drop}
+use Rattle.std.specs.Prelude.{length, take, Option, None, Some, option_map, unwrap_or, Ok}
 use Rattle.tk_base.specs.Call.{code_of}
-use Rattle.tk_base.specs.declared.call.ErrorCode.TheVariants.{Cancel, Size}
+use Rattle.tk_base.specs.declared.call.ErrorCode.TheVariants.{CANCEL, SIZE}
 use Rattle.tk_base.specs.declared.call.CallRule.TheVariants.{Empty, Nothing}
-use Rattle.grant_areas.specs.declared.kinds.PairKind.TheVariants.{ReadOnly, ReadWrite}
+use Rattle.tk_base.specs.declared.limits.TheConstants.{PRINT_LIMIT}
+use Rattle.grant_model.specs.declared.kinds.PairKind.TheVariants.{ReadOnly, ReadWrite}
 use Rattle.grant_values.specs.declared.console.WaitingRead.{WaitingRead}
 use Rattle.grant_values.specs.declared.console.WaitingWrite.{WaitingWrite}
+use Rattle.grant_values.specs.declared.drivers.Driver.TheVariants.{Console}
 use Rattle.grant_values.specs.Console.{console_of, console_words, read_of, write_of}
+use Rattle.grant_values.specs.Drivers.{number_of_driver}
 use Rattle.syscall_abi.specs.declared.reply.Reply.TheVariants.{Success}
-use Rattle.process_own.specs.Own.{Own}
-use Rattle.process_own.specs.Handed.{held}
-use Rattle.process_own.specs.Served.{bytes_at, scheduled, with_written}
-use Rattle.driver_model.specs.Commands.{Commanded, Leaves, Reads, Writes, accepted, refused, by_number}
-use Rattle.driver_model.specs.Requests.{Desk, asking, request_in, waiting_in, waiting_of, with_request}
+use Rattle.process_model.specs.Own.{Own}
+use Rattle.process_model.specs.Handed.{held}
+use Rattle.process_model.specs.Served.{bytes_at, own_scheduled, with_written}
+use Rattle.driver_model.specs.Commands.{Commanded, Leaves, Reads, Writes, accepting, refusing, by_number}
+use Rattle.driver_model.specs.Requests.{RequestKind, asking, request_in, waiting_in, waiting_of, with_request}
 
 -- the number of the driver
 abbrev pub console : ℕ
-console = 0x1
+console = number_of_driver Console
 
 -- where a process asks to write, and where to read; the one request stands beside the other
-abbrev pub console_writes : Desk WaitingWrite
+abbrev pub console_writes : RequestKind WaitingWrite
 console_writes = record {
   driver = console;
   told = write_of;
@@ -28,7 +32,8 @@ console_writes = record {
   line = Writes;
 }
 
-abbrev pub console_reads : Desk WaitingRead
+-- where a process asks for bytes that come in
+abbrev pub console_reads : RequestKind WaitingRead
 console_reads = record {
   driver = console;
   told = read_of;
@@ -37,23 +42,25 @@ console_reads = record {
 }
 
 -- a read of so many bytes begins to wait; one of no bytes is refused
-abbrev pub reading : ℕ → Own → Commanded
-reading count own = if count == 0 then refused Empty own else asking console_reads (record { length = count }) own
+abbrev pub asking_to_read : ℕ → Own → Commanded
+asking_to_read count own =
+    if count == 0 then refusing Empty own else asking console_reads (record { length = count }) own
 
 -- the read that waits is dropped: upcall 2 tells that it was cancelled
 abbrev pub without_read : Own → Own
-without_read own = with_request console_reads None (scheduled console 2 (code_of Cancel ∷ 0 ∷ 0 ∷ []) own)
+without_read own = with_request console_reads None (own_scheduled console 2 (code_of CANCEL ∷ 0 ∷ 0 ∷ []) own)
 
+-- a read that waits is dropped, and its process waits no more; refused where none waits
 abbrev pub cancelling : Option WaitingRead → Own → Commanded
-cancelling None own = refused Nothing own
+cancelling None own = refusing Nothing own
 cancelling (Some read) own = record { answer = Ok Success; own = without_read own; acts = Leaves Reads ∷ [] }
 
 -- its commands: the driver is there; write, and read, so many bytes; drop the read
 unfoldable pub commands : ℕ → Own → List (ℕ × Commanded)
 commands count own =
-    (0, accepted Success own)
+    (0, accepting Success own)
     ∷ (1, asking console_writes (record { length = count; taken = 0 }) own)
-    ∷ (2, reading count own)
+    ∷ (2, asking_to_read count own)
     ∷ (3, cancelling (request_in console_reads own) own)
     ∷ []
 
@@ -61,37 +68,40 @@ commands count own =
 unfoldable pub command : ℕ → ℕ → Own → Commanded
 command number count own = by_number own (commands count own) number
 
--- how many bytes of a write the UART takes next: at most 64 of those that are left; as many are to be taken as it asks
+-- how many bytes of a write the UART takes next: at most so many of those that are left; as many are to be taken as it
+-- asks
 -- for, and no more than the buffer has that is held now
 abbrev pub portion : WaitingWrite → Own → ℕ
-portion write own = min 64 (min write.length (held ReadOnly console 1 own).1 - write.taken)
+portion write own = min PRINT_LIMIT (min write.length (held ReadOnly console 1 own).1 - write.taken)
 
 -- a process of whose write they were taken
 abbrev pub taking : Own → WaitingWrite → Own
 taking own write = with_request console_writes (Some (record write { taken = write.taken + portion write own })) own
 
 -- a process whose write completes: upcall 1 tells how many bytes were taken
-abbrev pub writing : Own → WaitingWrite → Own
-writing own write = with_request console_writes None (scheduled console 1 (write.taken ∷ 0 ∷ 0 ∷ []) own)
+abbrev pub write_completing : Own → WaitingWrite → Own
+write_completing own write = with_request console_writes None (own_scheduled console 1 (write.taken ∷ 0 ∷ 0 ∷ []) own)
 
 -- What the UART tells a process: that it took the next bytes of its write; that it had taken all. Nothing changes where
 -- no write waits.
 abbrev pub taken : Own → Own
 taken own = unwrap_or (option_map (taking own) (waiting_in console_writes own)) own
 
+-- what the UART tells a process: that it had taken all bytes of its write, which completes
 abbrev pub write_done : Own → Own
-write_done own = unwrap_or (option_map (writing own) (waiting_in console_writes own)) own
+write_done own = unwrap_or (option_map (write_completing own) (waiting_in console_writes own)) own
 
 -- a buffer without bytes is told by TRD 104's code for a size
 abbrev pub read_status : Own → ℕ
-read_status own = if (held ReadWrite console 1 own).1 == 0 then code_of Size else 0
+read_status own = if (held ReadWrite console 1 own).1 == 0 then code_of SIZE else 0
 
--- a process whose read completes with bytes, which are moved to the start of the buffer that is held now: upcall 2 tells
+-- a process whose read completes with bytes, which are moved to the start of the buffer that is held now: upcall 2
+-- tells
 -- the status, and how many bytes were moved
 abbrev pub reading_in : List ℕ → Own → WaitingRead → Own
 reading_in bytes own read =
     with_request console_reads None
-    (scheduled console 2 (read_status own ∷ length bytes ∷ 0 ∷ []) (with_written console 1 0 bytes own))
+    (own_scheduled console 2 (read_status own ∷ length bytes ∷ 0 ∷ []) (with_written console 1 0 bytes own))
 
 -- What the UART tells a process: that bytes came in. Nothing changes where no read waits.
 abbrev pub input : List ℕ → Own → Own
@@ -104,6 +114,7 @@ pub record Sent : Type 0 where
   pub printed : List ℕ
   pub completed : Bool
 
+-- a step of the sending half that does nothing
 abbrev pub unsent : Own → Sent
 unsent own = record { own = own; printed = []; completed = false }
 
@@ -133,16 +144,18 @@ pub record Received : Type 0 where
   pub moved : List ℕ
   pub completed : Bool
 
+-- a step of the receiving half that does nothing
 abbrev pub unreceived : Own → Received
 unreceived own = record { own = own; moved = []; completed = false }
 
 -- the oldest bytes that came in, as many as a read asks for, and no more than the buffer has that is held now
-abbrev pub moving : List ℕ → WaitingRead → Own → List ℕ
-moving ring read own = take (min read.length (held ReadWrite console 1 own).1) ring
+abbrev pub bytes_moving : List ℕ → WaitingRead → Own → List ℕ
+bytes_moving ring read own = take (min read.length (held ReadWrite console 1 own).1) ring
 
+-- the bytes are moved into the read's buffer, and the read completes
 abbrev pub receiving : List ℕ → Own → WaitingRead → Received
 receiving ring own read =
-    let bytes = moving ring read own in
+    let bytes = bytes_moving ring read own in
     record { own = input bytes own; moved = bytes; completed = true }
 
 -- the step for a process of a life, with these bytes in the ring; nothing changes where it is not there, or no read of

@@ -1,14 +1,15 @@
--- What drivers keep of a process, whatever they do to it: where it lies, the order of its memory, and that ten upcalls wait
--- at most.
+-- What drivers keep of a process, whatever they do to it: where it lies, the order of its memory, and how many upcalls
+-- wait at most. The order is that of Levy et al., SOSP 2017, section 4; the limit is this board's own rule.
 use Rattle.std.specs.Prelude.{◌≡◌, ◌≤◌, ◌<◌, ℕ, ◌+◌, ◌-◌, IsTrue, List, [], ◌∷◌, length, true}
+use Rattle.tk_base.specs.declared.limits.TheConstants.{PENDING_LIMIT}
 use Rattle.grant_values.specs.Drivers.{cost_of}
-use Rattle.grant_areas.specs.Grants.{Grant, shape_of}
-use Rattle.grant_areas.specs.declared.kinds.PairKind.{PairKind}
-use Rattle.process_own.specs.Own.{Own}
-use Rattle.grant_areas.specs.Kinds.{count_of}
-use Rattle.process_own.specs.Handed.{HoldsInPlace, handing, has_place, may_hand}
-use Rattle.process_own.specs.Changes.{IsWhole}
-use Rattle.process_own.specs.Pairs.{HasShape}
+use Rattle.grant_model.specs.Grants.{Grant, shape_of}
+use Rattle.grant_model.specs.declared.kinds.PairKind.{PairKind}
+use Rattle.process_model.specs.Own.{Own}
+use Rattle.grant_model.specs.Kinds.{count_of}
+use Rattle.process_model.specs.Handed.{HoldsInPlace, handing, has_place, may_share}
+use Rattle.process_model.specs.Changes.{IsWhole}
+use Rattle.process_model.specs.Pairs.{HasShape}
 use Rattle.driver_model.specs.Laws.{StaysInPlace}
 use Rattle.driver_model.specs.Services.{OfEachService}
 
@@ -18,7 +19,8 @@ costs [] = 0
 costs (g ∷ gs) = cost_of (shape_of g.driver) + costs gs
 
 -- The places of a process's memory stand in their order: the start of the block, the mark below which the break may not
--- move, the break, and the kernel break, from which on the grants of the drivers that were entered fill the block to its
+-- move, the break, and the kernel break, from which on the grants of the drivers that were entered fill the block to
+-- its
 -- end (Levy et al., SOSP 2017).
 pub record IsInOrder (own : Own) : Type 0 where
   pub mark : own.layout.start ≤ own.layout.mark
@@ -29,10 +31,10 @@ pub record IsInOrder (own : Own) : Type 0 where
 abbrev pub KeepsOrder : Own → Own → Type 0
 KeepsOrder own o = IsInOrder own → IsInOrder o
 
--- ten upcalls wait at most, and one is dropped only where ten wait
+-- so many upcalls wait at most, and one is dropped only where as many wait
 pub record KeepsLimit (own o : Own) : Type 0 where
-  pub limit : length own.pending ≤ 10 → length o.pending ≤ 10
-  pub room : length own.pending < 10 → o.dropped ≡ own.dropped
+  pub limit : length own.pending ≤ PENDING_LIMIT → length o.pending ≤ PENDING_LIMIT
+  pub room : length own.pending < PENDING_LIMIT → o.dropped ≡ own.dropped
 
 -- a pair that is handed leaves where a process lies, its life, that it lives, its break and its dropped upcalls
 abbrev pub HandsInPlace : Own → Own → Type 0
@@ -43,7 +45,8 @@ HandsInPlace own o = o ≡ record own {
   pending = o.pending;
 }
 
--- So it is after each command, whichever driver takes it, and after each answer of a device. Memory stays in order where
+-- So it is after each command, whichever driver takes it, and after each answer of a device. Memory stays in order
+-- where
 -- a pair is handed to a driver that has a place.
 pub record DriversKeep : Type 0 where
   pub places : OfEachService StaysInPlace
@@ -58,7 +61,8 @@ pub record DriversKeep : Type 0 where
 abbrev pub HoldsBelowMark : Own → Type 0
 HoldsBelowMark own = HoldsInPlace (record own { layout = record own.layout { brk = own.layout.mark } })
 
--- A process's own in order, and whole: its bytes end at the kernel break, where its grants begin; each buffer that it has
+-- A process's own in order, and whole: its bytes end at the kernel break, where its grants begin; each buffer that it
+-- has
 -- allowed lies in accessible flash, or in its RAM below the mark; it has as many pairs as its drivers have numbers.
 pub record IsSettled (own : Own) : Type 0 where
   pub order : IsInOrder own
@@ -73,6 +77,6 @@ KeepsSettled own o = IsSettled own → IsSettled o
 pub record DriversKeepSettled : Type 0 where
   pub services : OfEachService KeepsSettled
   pub handed : (kind : PairKind) (driver number : ℕ) (pair : ℕ × ℕ) (own : Own) → has_place driver own ≡ true →
-      IsTrue (may_hand kind own.layout pair) → number < count_of kind (shape_of driver) →
+      IsTrue (may_share kind own.layout pair) → number < count_of kind (shape_of driver) →
       KeepsSettled own (handing kind driver number pair own)
   pub whole : (own : Own) → IsSettled own → IsWhole own

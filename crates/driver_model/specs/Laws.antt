@@ -1,19 +1,20 @@
 -- Laws of the drivers' definitions.
-use Rattle.std.specs.Prelude.{◌≡◌, ◌↔◌, ◌<◌, ◌≤◌, ℕ, ◌+◌, ◌-◌, ◌%◌, ◌^◌, ◌==◌, Bool, false, if◌then◌else◌, List, length, slice_index_or, slice_set, None, Some, Err, is_some, IfSome, IsTrue}
+use Rattle.std.specs.Prelude.{◌≡◌, ◌↔◌, ◌<◌, ◌≤◌, ℕ, ◌+◌, ◌-◌, ◌%◌, ◌^◌, ◌==◌, Bool, false, if◌then◌else◌, List, length}
+use Rattle.std.specs.Prelude.{slice_index_or, slice_set, None, Some, Err, is_some, IfSome, IsTrue}
 use Rattle.tk_base.specs.declared.call.CallRule.{CallRule}
 use Rattle.grant_values.specs.declared.alarm.Armed.{Armed}
-use Rattle.process_own.specs.Own.{Own}
+use Rattle.process_model.specs.Own.{Own}
 use Rattle.driver_model.specs.Alarm.{answered, due_slot, next_left, ticks_left}
-use Rattle.driver_model.specs.Leds.{bits_of, is_lit, with_led}
-use Rattle.driver_model.specs.Commands.{refused}
-use Rattle.driver_model.specs.Drivers.{Surroundings, Taker, taker_of}
+use Rattle.driver_model.specs.Leds.{led_bits, is_lit, with_led}
+use Rattle.driver_model.specs.Commands.{refusing}
+use Rattle.driver_model.specs.Drivers.{CommandContext, CommandHandler, handler_of}
 
 -- a command that any driver refuses changes nothing of what is the process's own, and asks nothing of the board
 abbrev pub RefusedByAnyDriver : Type 0
 RefusedByAnyDriver =
-    (driver : ℕ) (taker : Taker) (around : Surroundings) (number a2 a3 : ℕ) (own : Own) (rule : CallRule) →
-    taker_of driver ≡ Some taker → (taker around number a2 a3 own).answer ≡ Err rule →
-    taker around number a2 a3 own ≡ refused rule own
+    (driver : ℕ) (taker : CommandHandler) (around : CommandContext) (number a2 a3 : ℕ) (own : Own) (rule : CallRule) →
+    handler_of driver ≡ Some taker → (taker around number a2 a3 own).answer ≡ Err rule →
+    taker around number a2 a3 own ≡ refusing rule own
 
 -- a number is as it was, or one more
 pub record IsAtMostOneMore (before after : ℕ) : Type 0 where
@@ -23,8 +24,8 @@ pub record IsAtMostOneMore (before after : ℕ) : Type 0 where
 -- a command to any driver drops one upcall at most
 abbrev pub CommandDropsAtMostOne : Type 0
 CommandDropsAtMostOne =
-    (driver : ℕ) (taker : Taker) (around : Surroundings) (number a2 a3 : ℕ) (own : Own) →
-    taker_of driver ≡ Some taker → IsAtMostOneMore own.dropped (taker around number a2 a3 own).own.dropped
+    (driver : ℕ) (taker : CommandHandler) (around : CommandContext) (number a2 a3 : ℕ) (own : Own) →
+    handler_of driver ≡ Some taker → IsAtMostOneMore own.dropped (taker around number a2 a3 own).own.dropped
 
 -- no ticks are left until the next alarm exactly where some slot has an alarm that is due
 abbrev pub IsDueWhereNoneAreLeft : Type 0
@@ -52,8 +53,8 @@ StaysInPlace own o = o ≡ record own {
 -- so does each command to a driver
 abbrev pub CommandsStayInPlace : Type 0
 CommandsStayInPlace =
-    (driver : ℕ) (taker : Taker) → taker_of driver ≡ Some taker →
-    (around : Surroundings) (number a2 a3 : ℕ) (own : Own) → StaysInPlace own (taker around number a2 a3 own).own
+    (driver : ℕ) (taker : CommandHandler) → handler_of driver ≡ Some taker →
+    (around : CommandContext) (number a2 a3 : ℕ) (own : Own) → StaysInPlace own (taker around number a2 a3 own).own
 
 -- until as many ticks have passed as are left until the next alarm, none is due; none ever is, where none is armed
 abbrev pub QuietUntilNext : Type 0
@@ -77,13 +78,13 @@ AnAlarmLeavesTheRest =
 
 -- each LED of a list is a bit of their number
 abbrev pub EachLedIsItsBit : Type 0
-EachLedIsItsBit = (lit : List Bool) (n : ℕ) → slice_index_or lit n false ≡ is_lit (bits_of lit) n
+EachLedIsItsBit = (lit : List Bool) (n : ℕ) → slice_index_or lit n false ≡ is_lit (led_bits lit) n
 
 -- to turn an LED of a list is to turn its bit of their number
 abbrev pub TurnedWithItsBit : Type 0
 TurnedWithItsBit =
     (lit : List Bool) (n : ℕ) (on : Bool) → n < length lit →
-    bits_of (slice_set lit n on) ≡ with_led (bits_of lit) n on
+    led_bits (slice_set lit n on) ≡ with_led (led_bits lit) n on
 
 -- of the LEDs with one turned, that one is as it was turned, and all others are as they were
 abbrev pub OneLedTurns : Type 0

@@ -1,17 +1,20 @@
 -- The LEDs (Tock's driver 0x2): a process turns any LED of the board on or off. The driver keeps nothing of a process.
-use Rattle.std.specs.Prelude.{ℕ, ◌+◌, ◌-◌, ◌*◌, ◌/◌, ◌%◌, ◌^◌, ◌==◌, nat_lt, Bool, true, false, not, if◌then◌else◌, List, [], ◌∷◌, Ok}
+use Rattle.std.specs.Prelude.{ℕ, ◌+◌, ◌-◌, ◌*◌, ◌/◌, ◌%◌, ◌^◌, ◌==◌, nat_lt, Bool, true, false, not, if◌then◌else◌}
+use Rattle.std.specs.Prelude.{List, [], ◌∷◌, Ok}
 use Rattle.tk_base.specs.declared.call.CallRule.TheVariants.{Range}
 use Rattle.syscall_abi.specs.declared.reply.Reply.TheVariants.{Success, SuccessU32}
-use Rattle.process_own.specs.Own.{Own}
-use Rattle.driver_model.specs.Commands.{Act, Waits, Leaves, Lights, Switch, On, Off, Toggle, Commanded, accepted, refused, by_number}
+use Rattle.process_model.specs.Own.{Own}
+use Rattle.driver_model.specs.Commands.{BoardRequest, Waits, Leaves, Lights, Switch, On, Off, Toggle, Commanded}
+use Rattle.driver_model.specs.Commands.{accepting, refusing, by_number}
 
 -- the LEDs as one number: bit n is 1 where LED n is on
 abbrev pub bit_of : Bool → ℕ
 bit_of on = if on then 1 else 0
 
-abbrev pub bits_of : List Bool → ℕ
-bits_of [] = 0
-bits_of (on ∷ others) = bit_of on + 2 * bits_of others
+-- LEDs as one number, bit n for LED n
+abbrev pub led_bits : List Bool → ℕ
+led_bits [] = 0
+led_bits (on ∷ others) = bit_of on + 2 * led_bits others
 
 -- whether an LED is on
 abbrev pub is_lit : ℕ → ℕ → Bool
@@ -32,12 +35,12 @@ abbrev pub with_switched : ℕ → ℕ → Switch → ℕ
 with_switched leds n switch = with_led leds n (is_on_after switch (is_lit leds n))
 
 -- the LEDs after what the board is asked to do, one after another
-abbrev pub lit_by : Act → ℕ → ℕ
+abbrev pub lit_by : BoardRequest → ℕ → ℕ
 lit_by (Waits line) leds = leds
 lit_by (Leaves line) leds = leds
 lit_by (Lights led switch) leds = with_switched leds led switch
 
-abbrev pub lit_after : List Act → ℕ → ℕ
+abbrev pub lit_after : List BoardRequest → ℕ → ℕ
 lit_after [] leds = leds
 lit_after (act ∷ acts) leds = lit_after acts (lit_by act leds)
 
@@ -45,12 +48,12 @@ lit_after (act ∷ acts) leds = lit_after acts (lit_by act leds)
 abbrev pub switching : ℕ → ℕ → Switch → Own → Commanded
 switching count led switch own =
     if nat_lt led count then record { answer = Ok Success; own = own; acts = Lights led switch ∷ [] }
-    else refused Range own
+    else refusing Range own
 
 -- its commands: how many LEDs there are; turn one on; turn it off; turn it to what it is not
 unfoldable pub commands : ℕ → ℕ → Own → List (ℕ × Commanded)
 commands count led own =
-    (0, accepted (SuccessU32 count) own)
+    (0, accepting (SuccessU32 count) own)
     ∷ (1, switching count led On own)
     ∷ (2, switching count led Off own)
     ∷ (3, switching count led Toggle own)

@@ -5,6 +5,8 @@ pub mod Requests
 pub mod Console
 pub mod Random
 pub mod Storage
+pub mod Told
+pub mod Replies
 pub mod Drivers
 pub mod Laws
 pub mod Asked

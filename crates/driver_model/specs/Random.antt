@@ -1,23 +1,26 @@
 -- The source of random bytes (Tock's driver 0x40001): a process asks for a count of bytes, and they are written
 -- into its read-write buffer 0, a word at a time.
-use Rattle.std.specs.Prelude.{ℕ, ◌+◌, ◌-◌, Bool, true, false, min, nat_le, if◌then◌else◌, List, [], ◌∷◌, drop, length, slice_get, take, Option, None, Some, is_none, option_map, unwrap_or}
+use Rattle.std.specs.Prelude.{ℕ, ◌+◌, ◌-◌, Bool, true, false, min, nat_le, if◌then◌else◌, List, [], ◌∷◌, drop, length}
+use Rattle.std.specs.Prelude.{slice_get, take, Option, None, Some, is_none, option_map, unwrap_or}
 use Rattle.std.specs.Int.{w32, to_le_bytes}
 use Rattle.grant_values.specs.declared.random.RandomRequest.{RandomRequest}
+use Rattle.grant_values.specs.declared.drivers.Driver.TheVariants.{Random}
 use Rattle.grant_values.specs.Random.{random_of, random_words}
+use Rattle.grant_values.specs.Drivers.{number_of_driver}
 use Rattle.syscall_abi.specs.declared.reply.Reply.TheVariants.{Success}
-use Rattle.grant_areas.specs.declared.kinds.PairKind.TheVariants.{ReadWrite}
-use Rattle.process_own.specs.Own.{Own}
-use Rattle.process_own.specs.Handed.{held}
-use Rattle.process_own.specs.Served.{ram_at, scheduled, with_written}
-use Rattle.driver_model.specs.Commands.{Commanded, Randoms, accepted, by_number}
-use Rattle.driver_model.specs.Requests.{Desk, asking, waiting_of, with_request}
+use Rattle.grant_model.specs.declared.kinds.PairKind.TheVariants.{ReadWrite}
+use Rattle.process_model.specs.Own.{Own}
+use Rattle.process_model.specs.Handed.{held}
+use Rattle.process_model.specs.Served.{ram_at, own_scheduled, with_written}
+use Rattle.driver_model.specs.Commands.{Commanded, Randoms, accepting, by_number}
+use Rattle.driver_model.specs.Requests.{RequestKind, asking, waiting_of, with_request}
 
 -- the number of the driver
 abbrev pub random : ℕ
-random = 0x40001
+random = number_of_driver Random
 
 -- where a process asks for bytes: its request is all that it keeps
-abbrev pub randoms : Desk RandomRequest
+abbrev pub randoms : RequestKind RandomRequest
 randoms = record {
   driver = random;
   told = λ words. (random_of words).request;
@@ -28,7 +31,7 @@ randoms = record {
 -- its commands: the driver is there; a request for so many bytes
 unfoldable pub commands : ℕ → Own → List (ℕ × Commanded)
 commands count own =
-    (0, accepted Success own) ∷ (1, asking randoms (record { count = count; written = 0 }) own) ∷ []
+    (0, accepting Success own) ∷ (1, asking randoms (record { count = count; written = 0 }) own) ∷ []
 
 -- a command of a number with its first argument
 unfoldable pub command : ℕ → ℕ → Own → Commanded
@@ -49,7 +52,7 @@ pub record Progress : Type 0 where
 -- written
 abbrev pub completing : Bool → ℕ → ℕ → Own → Progress
 completing took outcome bytes own =
-    record { rest = None; own = scheduled random 0 (outcome ∷ bytes ∷ 0 ∷ []) own; took = took }
+    record { rest = None; own = own_scheduled random 0 (outcome ∷ bytes ∷ 0 ∷ []) own; took = took }
 
 -- a process with the first bytes of a word, the lowest first, after those that were written so far
 abbrev pub with_word : ℕ → ℕ → RandomRequest → Own → Own
@@ -73,15 +76,17 @@ progress word request own =
 
 -- What the source's answer to a process changes: what is the process's own; the words that are left; whether the
 -- request completed, so that the process waits no more.
-pub record Answered : Type 0 where
+pub record RandomAnswered : Type 0 where
   pub own : Own
   pub words : List ℕ
   pub completed : Bool
 
-abbrev pub unanswered : List ℕ → Own → Answered
+-- an answer that changes nothing
+abbrev pub unanswered : List ℕ → Own → RandomAnswered
 unanswered words own = record { own = own; words = words; completed = false }
 
-abbrev pub advanced : List ℕ → Progress → Answered
+-- what a step of a request leaves: the request as far as it waits still, the words without the one that it took
+abbrev pub advanced : List ℕ → Progress → RandomAnswered
 advanced words p = record {
   own = with_request randoms p.rest p.own;
   words = if p.took then drop 1 words else words;
@@ -90,7 +95,7 @@ advanced words p = record {
 
 -- the answer to a process of a life, with these words left; nothing changes where it is not there, or has no
 -- request
-unfoldable pub answered : List ℕ → ℕ → Own → Answered
+unfoldable pub answered : List ℕ → ℕ → Own → RandomAnswered
 answered words life own =
     let step = λ (request : RandomRequest). advanced words (progress (slice_get words 0) request own) in
     unwrap_or (option_map step (waiting_of randoms life own)) (unanswered words own)

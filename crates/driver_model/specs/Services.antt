@@ -1,16 +1,16 @@
 -- All that drivers do to a process: by its commands (TRD 104, "Command"), and by what their devices answer it.
 use Rattle.std.specs.Prelude.{◌≡◌, ℕ, Bool, List, Some}
-use Rattle.process_own.specs.Own.{Own}
+use Rattle.process_model.specs.Own.{Own}
 use Rattle.driver_model.specs.Alarm as alarm
 use Rattle.driver_model.specs.Console as console
 use Rattle.driver_model.specs.Random as random
 use Rattle.driver_model.specs.Storage as storage
-use Rattle.driver_model.specs.Drivers.{Surroundings, Taker, taker_of}
+use Rattle.driver_model.specs.Drivers.{CommandContext, CommandHandler, handler_of}
 
 -- what holds of what is a process's own before and after each of these
 pub record OfEachService (P : Own → Own → Type 0) : Type 0 where
-  pub command : (driver : ℕ) (taker : Taker) → taker_of driver ≡ Some taker →
-      (around : Surroundings) (number a2 a3 : ℕ) (own : Own) → P own (taker around number a2 a3 own).own
+  pub command : (driver : ℕ) (taker : CommandHandler) → handler_of driver ≡ Some taker →
+      (around : CommandContext) (number a2 a3 : ℕ) (own : Own) → P own (taker around number a2 a3 own).own
   pub alarmed : (now : ℕ) (own : Own) → P own (alarm.answered now own)
   pub taken : (own : Own) → P own (console.taken own)
   pub write_done : (own : Own) → P own (console.write_done own)

@@ -1,26 +1,29 @@
 -- The storage (driver 0x50001 in Tock's list of drivers): each slot has bytes of its own, which outlive its
 -- process. It asks to read some of them into its read-write buffer 0, or to write over some from its read-only
 -- buffer 0.
-use Rattle.std.specs.Prelude.{ℕ, ◌+◌, Bool, true, false, min, nat_le, if◌then◌else◌, List, [], ◌∷◌, length, slice_range, take, Option, None, Some, option_map, unwrap_or}
+use Rattle.std.specs.Prelude.{ℕ, ◌+◌, Bool, true, false, min, nat_le, if◌then◌else◌, List, [], ◌∷◌, length, slice_range}
+use Rattle.std.specs.Prelude.{take, Option, None, Some, option_map, unwrap_or}
 use Rattle.tk_base.specs.declared.call.CallRule.TheVariants.{Range}
-use Rattle.grant_areas.specs.declared.kinds.PairKind.TheVariants.{ReadOnly, ReadWrite}
+use Rattle.grant_model.specs.declared.kinds.PairKind.TheVariants.{ReadOnly, ReadWrite}
 use Rattle.grant_values.specs.declared.storage.StorageKind.{StorageKind}
 use Rattle.grant_values.specs.declared.storage.StorageKind.TheVariants.{Read, Write}
 use Rattle.grant_values.specs.declared.storage.StorageRequest.{StorageRequest}
+use Rattle.grant_values.specs.declared.drivers.Driver.TheVariants.{Storage}
 use Rattle.grant_values.specs.Storage.{storage_of, storage_words}
+use Rattle.grant_values.specs.Drivers.{number_of_driver}
 use Rattle.syscall_abi.specs.declared.reply.Reply.TheVariants.{Success, SuccessU32}
-use Rattle.process_own.specs.Own.{Own}
-use Rattle.process_own.specs.Handed.{held}
-use Rattle.process_own.specs.Served.{bytes_at, ram_at, scheduled, with_written}
-use Rattle.driver_model.specs.Commands.{Commanded, Stores, accepted, refused, by_number}
-use Rattle.driver_model.specs.Requests.{Desk, asking, waiting_of, with_request}
+use Rattle.process_model.specs.Own.{Own}
+use Rattle.process_model.specs.Handed.{held}
+use Rattle.process_model.specs.Served.{bytes_at, ram_at, own_scheduled, with_written}
+use Rattle.driver_model.specs.Commands.{Commanded, Stores, accepting, refusing, by_number}
+use Rattle.driver_model.specs.Requests.{RequestKind, asking, waiting_of, with_request}
 
 -- the number of the driver
 abbrev pub storage : ℕ
-storage = 0x50001
+storage = number_of_driver Storage
 
 -- where a process asks for its slot's bytes: its request, of either kind, is all that it keeps
-abbrev pub storages : Desk StorageRequest
+abbrev pub storages : RequestKind StorageRequest
 storages = record {
   driver = storage;
   told = λ words. (storage_of words).request;
@@ -32,13 +35,13 @@ storages = record {
 abbrev pub requesting : ℕ → StorageRequest → Own → Commanded
 requesting size request own =
     if nat_le (request.offset + request.length) size then asking storages request own
-    else refused Range own
+    else refusing Range own
 
 -- its commands: the driver is there; the bytes of a slot's storage; read, and write, at an offset so many bytes
 unfoldable pub commands : ℕ → ℕ → ℕ → Own → List (ℕ × Commanded)
 commands size a2 a3 own =
-    (0, accepted Success own)
-    ∷ (1, accepted (SuccessU32 size) own)
+    (0, accepting Success own)
+    ∷ (1, accepting (SuccessU32 size) own)
     ∷ (2, requesting size (record { kind = Read; offset = a2; length = a3 }) own)
     ∷ (3, requesting size (record { kind = Write; offset = a2; length = a3 }) own)
     ∷ []
@@ -49,7 +52,7 @@ command size number a2 a3 own = by_number own (commands size a2 a3 own) number
 
 -- What serving a request comes to: what is then the process's own, beside the request; and what is written over
 -- the slot's storage, from an offset on, if anything is.
-pub record Served : Type 0 where
+pub record StorageServed : Type 0 where
   pub own : Own
   pub written : Option (ℕ × List ℕ)
 
@@ -60,48 +63,50 @@ upcall_for Write = 1
 
 -- A request completes: its upcall tells how many bytes were moved, and how (0, or 1 for a fault).
 abbrev pub completing : StorageKind → ℕ → ℕ → Own → Own
-completing kind count outcome own = scheduled storage (upcall_for kind) (count ∷ outcome ∷ 0 ∷ []) own
+completing kind count outcome own = own_scheduled storage (upcall_for kind) (count ∷ outcome ∷ 0 ∷ []) own
 
 -- bytes of the slot's storage are copied to the start of the buffer that is held now, and no more than it has
-abbrev pub reading : List ℕ → StorageRequest → Own → Served
-reading bytes request own =
+abbrev pub reading_store : List ℕ → StorageRequest → Own → StorageServed
+reading_store bytes request own =
     let count = min request.length (length (ram_at own (held ReadWrite storage 0 own))) in
     let copied = slice_range bytes request.offset (request.offset + count) in
     record { own = completing Read count 0 (with_written storage 0 0 copied own); written = None }
 
 -- bytes from the start of the buffer that is held now, and no more than it has, are to be written over the storage
-abbrev pub writing : List ℕ → StorageRequest → Own → Served
-writing flash request own =
+abbrev pub writing_store : List ℕ → StorageRequest → Own → StorageServed
+writing_store flash request own =
     let buffer = bytes_at flash own (held ReadOnly storage 0 own) in
     let count = min request.length (length buffer) in
     record { own = completing Write count 0 own; written = Some (request.offset, take count buffer) }
 
-abbrev pub moving : StorageKind → List ℕ → List ℕ → StorageRequest → Own → Served
-moving Read flash bytes request own = reading bytes request own
-moving Write flash bytes request own = writing flash request own
+-- what serving a request moves and tells, by its kind
+abbrev pub moving : StorageKind → List ℕ → List ℕ → StorageRequest → Own → StorageServed
+moving Read flash bytes request own = reading_store bytes request own
+moving Write flash bytes request own = writing_store flash request own
 
 -- a request is served, with flash and the bytes of the slot's storage; on a fault it moves nothing
-abbrev pub served : Bool → List ℕ → List ℕ → StorageRequest → Own → Served
-served fault flash bytes request own =
+abbrev pub storage_served : Bool → List ℕ → List ℕ → StorageRequest → Own → StorageServed
+storage_served fault flash bytes request own =
     if fault then record { own = completing request.kind 0 1 own; written = None }
     else moving request.kind flash bytes request own
 
 -- What the storage's answer to a process changes: what is the process's own; what is written over the slot's
 -- storage; whether a request completed, so that the process waits no more.
-pub record Answered : Type 0 where
+pub record StorageAnswered : Type 0 where
   pub own : Own
   pub written : Option (ℕ × List ℕ)
   pub completed : Bool
 
-abbrev pub unanswered : Own → Answered
+-- an answer that changes nothing
+abbrev pub unanswered : Own → StorageAnswered
 unanswered own = record { own = own; written = None; completed = false }
 
 -- a request that was served waits no more
-abbrev pub answer_of : Served → Answered
-answer_of s = record { own = with_request storages None s.own; written = s.written; completed = true }
+abbrev pub storage_answer_of : StorageServed → StorageAnswered
+storage_answer_of s = record { own = with_request storages None s.own; written = s.written; completed = true }
 
 -- the answer to a process of a life; nothing changes where it is not there, or has no request
-unfoldable pub answered : Bool → List ℕ → List ℕ → ℕ → Own → Answered
+unfoldable pub answered : Bool → List ℕ → List ℕ → ℕ → Own → StorageAnswered
 answered fault flash bytes life own =
-    let serve = λ (request : StorageRequest). answer_of (served fault flash bytes request own) in
+    let serve = λ (request : StorageRequest). storage_answer_of (storage_served fault flash bytes request own) in
     unwrap_or (option_map serve (waiting_of storages life own)) (unanswered own)

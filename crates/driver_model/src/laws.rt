@@ -8,7 +8,7 @@ ghost use Rattle.driver_model.specs.Keeping.{DriversKeep, DriversKeepSettled};
 ghost use Rattle.driver_model.specs.Pairs.{DriversLeavePairs};
 ghost use Rattle.driver_model.specs.Upcalls.{DriversScheduleHeld};
 
-use process_own::{only_handing_changes_pairs, only_writes_change_bytes};
+use process_model::{only_handing_changes_pairs, only_writes_change_bytes};
 
 /// A command changes of what is a process's own its room for grants, its grants, what waits to be delivered and
 /// the count of dropped upcalls; where it lies, its life, and that it lives, stay.
@@ -103,8 +103,8 @@ pub fn drivers_write_in_buffers()
 }
 
 /// Whatever drivers do to a process, by a command or by a device's answer: where it lies, its life, and that it lives,
-/// stay; its memory stays in order, the grants of the drivers entered filling the block from the kernel break on; ten
-/// upcalls wait at most, and one is dropped only where ten wait (Levy et al., SOSP 2017; TRD 104, "Yield").
+/// stay; its memory stays in order, the grants of the drivers entered filling the block from the kernel break on; at
+/// most [`tk_base::PENDING_LIMIT`] upcalls wait, and one is dropped only where as many wait (Levy et al., SOSP 2017; TRD 104, "Yield").
 #[tactic(auto, using(crate::proofs::Held::drivers_keep))]
 pub fn drivers_keep_places_and_order()
     ensures { DriversKeep }

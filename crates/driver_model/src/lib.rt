@@ -4,6 +4,7 @@
 mod drivers;
 mod laws;
 mod lines;
+mod replies;
 
 pub use drivers::takes_commands;
 pub use laws::{
@@ -16,3 +17,4 @@ pub use laws::{
 pub use lines::{
     events_tell_steps, lines_follow_answers, lines_follow_commands, only_drivers_move_lines,
 };
+pub use replies::reply_of;

@@ -1,30 +1,53 @@
--- What a device's answer to the process that waits longest leaves.
-use Rattle.std.specs.Prelude.{◌≡◌, Bool, List, slice_get, Option, None, Some}
+-- What a device's answer to the process that waits longest leaves, and tells.
+use Rattle.std.specs.Prelude.{◌≡◌, Bool, List, slice_get, Some, Result, Ok, Err}
+use Rattle.tk_base.specs.declared.process.NotReady.{NotReady}
 use Rattle.tk_base.specs.declared.process.ProcessId.{ProcessId}
-use Rattle.process_own.specs.Own.{Own}
+use Rattle.board_devices.specs.declared.answer.Answer.{Answer}
+use Rattle.board_devices.specs.declared.answer.Kind.{Kind}
+use Rattle.board_devices.specs.declared.answer.Kind.TheVariants.{Taken, WriteDone, Input, Word, NoWord, Stored, Alarm}
+use Rattle.process_model.specs.Own.{Own}
+use Rattle.driver_model.specs.Told.{Telling}
 use Rattle.grant_enter.specs.Homes.{Homes, own_of, ChangesOnly}
+use Rattle.driver_requests.specs.declared.serve.Service.{Service}
 use Rattle.driver_requests.specs.Waiting.{waiting_still}
 
--- what an answer to a process comes to: what is then the process's own; the device; whether the request completed
+-- what devices tell, as kinds of an answer
+abbrev pub kinds : Telling Kind
+kinds = record {
+  alarmed = Alarm;
+  taken = Taken;
+  write_done = WriteDone;
+  input = λ bytes. Input (record { items = bytes });
+  word = Word;
+  no_word = NoWord;
+  stored = Stored;
+}
+
+-- what an answer to a process comes to: what it is told; what is then the process's own; the device; whether the
+-- request
+-- completed
 pub record Answered (D : Type 0) : Type 0 where
+  pub kind : Kind
   pub own : Own
   pub device : D
   pub completed : Bool
 
 -- a process got an answer; nothing of another one changes
-pub record IsAnswered {D : Type 0} (a : Answered D) (id : ProcessId) (old : Homes) (completed : Bool) (device : D)
+pub record IsAnswered {D : Type 0} (a : Answered D) (id : ProcessId) (old : Homes) (service : Service) (device : D)
     (new : Homes) : Type 0 where
-  pub completes : completed ≡ a.completed
+  pub tells : service.kind ≡ a.kind
+  pub completes : service.completed ≡ a.completed
   pub own : own_of new id.slot ≡ a.own
   pub leaves : device ≡ a.device
   pub rest : ChangesOnly id.slot old new
 
 -- The process that waited longest got its answer, and waits no more where its request completed; nothing else changed.
 -- Or none was answered, and nothing changed.
-abbrev pub Answers : {D : Type 0} → (ProcessId → Answered D) → List ProcessId → D → Homes → Option ProcessId
+abbrev pub AnswersFirst : {D : Type 0} → (ProcessId → Answered D) → List ProcessId → D → Homes → Result Answer NotReady
     → List ProcessId → D → Homes → Type 0
-Answers answer_to ids device old None ids' device' new = (ids' ≡ ids) × (device' ≡ device) × (new ≡ old)
-Answers answer_to ids device old (Some id) ids' device' new =
-    let a = answer_to id in
-    (slice_get ids 0 ≡ Some id) × (own_of new id.slot ≡ a.own) × (device' ≡ a.device)
-    × (ids' ≡ waiting_still a.completed id.slot ids) × ChangesOnly id.slot old new
+AnswersFirst answer_to ids device old (Err refusal) ids' device' new = (ids' ≡ ids) × (device' ≡ device) × (new ≡ old)
+AnswersFirst answer_to ids device old (Ok answer) ids' device' new =
+    let a = answer_to answer.to in
+    (slice_get ids 0 ≡ Some answer.to) × (answer.kind ≡ a.kind)
+    × (own_of new answer.to.slot ≡ a.own) × (device' ≡ a.device)
+    × (ids' ≡ waiting_still a.completed answer.to.slot ids) × ChangesOnly answer.to.slot old new

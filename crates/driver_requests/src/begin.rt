@@ -17,7 +17,7 @@ impl<R: Request + Drop> Visit<R::Value> for Begin<R> {
 
     ghost leaves = { λ begin value seen answer value' own.
         ((words : List ℕ) → value ≡ R.Value.value words
-        → R.Value.words value' ≡ R.desk.words_with (Some begin.request) words)
+        → R.Value.words value' ≡ R.request_kind.words_with (Some begin.request) words)
         × (own ≡ seen.own) };
 
     fn run(self, value: &mut R::Value, _entered: &mut Entered<'_>) {

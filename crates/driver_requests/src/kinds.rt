@@ -9,7 +9,7 @@ impl Request for WaitingWrite {
 
     type Value = Console;
 
-    ghost desk = { console_writes };
+    ghost request_kind = { console_writes };
 
     fn waiting_in(value: &Console) -> Option<WaitingWrite> {
         value.write
@@ -25,7 +25,7 @@ impl Request for WaitingRead {
 
     type Value = Console;
 
-    ghost desk = { console_reads };
+    ghost request_kind = { console_reads };
 
     fn waiting_in(value: &Console) -> Option<WaitingRead> {
         value.read
@@ -41,7 +41,7 @@ impl Request for RandomRequest {
 
     type Value = Random;
 
-    ghost desk = { randoms };
+    ghost request_kind = { randoms };
 
     fn waiting_in(value: &Random) -> Option<RandomRequest> {
         value.request
@@ -57,7 +57,7 @@ impl Request for StorageRequest {
 
     type Value = Storage;
 
-    ghost desk = { storages };
+    ghost request_kind = { storages };
 
     fn waiting_in(value: &Storage) -> Option<StorageRequest> {
         value.request

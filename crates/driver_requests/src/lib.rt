@@ -6,10 +6,12 @@
 
 mod begin;
 mod kinds;
-mod line;
+mod queue;
 mod request;
 mod serve;
+mod waiting;
 
-pub use line::Line;
+pub use queue::RequestQueue;
 pub use request::{Request, has_request};
-pub use serve::Serve;
+pub use serve::{Serve, Service};
+pub use waiting::Waiting;

@@ -10,22 +10,23 @@ use tk_base::ProcessId;
 /// A request of a process that waits for a driver's device. It waits in the grant that the process keeps for the
 /// driver (Levy et al., SOSP 2017, section 4), beside whatever else stands there.
 pub trait Request: Copy {
-    ghost use Rattle.driver_model.specs.Requests.{Desk};
+    ghost use Rattle.driver_model.specs.Requests.{RequestKind};
 
     /// What the driver keeps of a process.
     type Value: GrantValue;
 
     /// Where the request is kept, and the list in which its process waits.
-    ghost desk: { Desk Self };
+    ghost request_kind: { RequestKind Self };
 
     /// The request that waits in what the driver keeps, if one does.
     fn waiting_in(value: &Self::Value) -> Option<Self>
-        ensures { (kept : List ℕ) → value.now ≡ Self.Value.value kept → result ≡ desk.told kept };
+        ensures { (kept : List ℕ) → value.now ≡ Self.Value.value kept
+            → result ≡ request_kind.told kept };
 
     /// Has the request wait there. All else stays.
     fn wait_in(self, value: &mut Self::Value)
         ensures { (kept : List ℕ) → value.old ≡ Self.Value.value kept
-            → Self.Value.words value.new ≡ desk.words_with (Some self) kept };
+            → Self.Value.words value.new ≡ request_kind.words_with (Some self) kept };
 }
 
 /// Whether the process of an id is there, and a request of it waits.
@@ -34,9 +35,10 @@ pub fn has_request<R: Request, const UP: usize, const RO: usize, const RW: usize
     home: &Home,
     id: &ProcessId,
 ) -> bool
-    requires driver { grants.now.driver ≡ R.desk.driver }
+    requires driver { grants.now.driver ≡ R.request_kind.driver }
     requires slot { id.now.slot < length home.now.owns }
-    ensures { result ≡ is_some (waiting_of R.desk id.now.life (own_of home.now id.now.slot)) }
+    ensures { result
+        ≡ is_some (waiting_of R.request_kind id.now.life (own_of home.now id.now.slot)) }
 {
     match grants.peek(home, *id) {
         Ok(Some(value)) => R::waiting_in(&value).is_some(),

@@ -1,12 +1,14 @@
 -- The objects of a flash image. Each begins with a header (Tock Binary Format, "TBF Header Base"), and the next one
 -- stands where its total size ends. What an application must have beside is the board's own rule, after the formats
 -- of "Main", "Program" and "Fixed Addresses". Places are counted from the start of flash.
-use Rattle.std.specs.Prelude.{◌≡◌, ◌≤◌, ℕ, zero, suc, ◌+◌, ◌-◌, ◌%◌, ◌==◌, Bool, false, not, ◌||◌, ◌&&◌, nat_lt, nat_le, if◌then◌else◌, List, [], ◌∷◌, length, Option, Some, None, Result, Ok, Err}
+use Rattle.std.specs.Prelude.{◌≡◌, ◌≤◌, ℕ, zero, suc, ◌+◌, ◌-◌, ◌%◌, ◌==◌, Bool, false, not, ◌||◌, ◌&&◌, nat_lt, nat_le}
+use Rattle.std.specs.Prelude.{if◌then◌else◌, List, [], ◌∷◌, length, Option, Some, None, Result, Ok, Err}
 use Rattle.tk_base.specs.declared.access.TheConstants.{FLASH_START}
+use Rattle.tk_base.specs.declared.limits.TheConstants.{OBJECT_LIMIT}
 use Rattle.tbf_headers.specs.declared.fault.HeaderFault.{HeaderFault}
 use Rattle.tbf_headers.specs.declared.program.Main.{Main}
-use Rattle.tbf_headers.specs.Numbers.{half, word}
-use Rattle.tbf_headers.specs.Meaning.{Meaning, reading}
+use Rattle.tbf_headers.specs.Numbers.{half, word_at}
+use Rattle.tbf_headers.specs.Meaning.{Meaning, header_reading}
 use Rattle.tbf_headers.specs.Addresses.{after_protected, entry_of, accessible_start, accessible_end_of}
 use Rattle.tbf_headers.specs.Objects.{object_at}
 use Rattle.flash_walk.specs.declared.found.Found.{Found}
@@ -14,9 +16,10 @@ use Rattle.flash_walk.specs.declared.found.Verdict.{Verdict}
 use Rattle.flash_walk.specs.declared.found.Verdict.TheVariants.{Bad, Padding, Disabled, BadEntry, WrongFlash, App}
 
 -- the entry is outside accessible flash
-abbrev pub is_outside : ℕ → Meaning → Main → Bool
-is_outside start h m =
-    nat_lt (entry_of start h m) (accessible_start start h m) || nat_le (accessible_end_of start h m) (entry_of start h m)
+abbrev pub is_outside_flash : ℕ → Meaning → Main → Bool
+is_outside_flash start h m =
+    nat_lt (entry_of start h m) (accessible_start start h m)
+    || nat_le (accessible_end_of start h m) (entry_of start h m)
 
 -- the binary's end passes the object, or stands before the end of the protected bytes
 abbrev pub is_bad_binary_end : ℕ → ℕ → Option ℕ → Bool
@@ -28,7 +31,7 @@ abbrev pub has_bad_entry : ℕ → Meaning → Main → Bool
 has_bad_entry start h m =
     nat_lt h.total_size (h.header_size + m.protected)
     || is_bad_binary_end (h.header_size + m.protected) h.total_size m.binary_end || entry_of start h m % 2 == 1
-    || is_outside start h m
+    || is_outside_flash start h m
 
 -- the flash start that the application is linked for, where there is one, is not where it stands
 abbrev pub is_wrong_flash : ℕ → Option (ℕ × ℕ) → Bool
@@ -55,7 +58,7 @@ verdict_of start (Ok h) = object_verdict start h h.main
 
 -- the total size in the header at a place
 abbrev pub size_at : List ℕ → ℕ → ℕ
-size_at flash at = word flash (at + 4)
+size_at flash at = word_at flash (at + 4)
 
 -- the bytes of the object at a place
 abbrev pub object_bytes : List ℕ → ℕ → List ℕ
@@ -73,7 +76,7 @@ unfoldable pub found_at : List ℕ → ℕ → Found
 found_at flash at = record {
   offset = at;
   size = size_at flash at;
-  verdict = verdict_of (FLASH_START + at) (reading (object_bytes flash at));
+  verdict = verdict_of (FLASH_START + at) (header_reading (object_bytes flash at));
 }
 
 -- at most n objects from a place on
@@ -82,13 +85,13 @@ objects_from zero flash at = []
 objects_from (suc n) flash at =
     if ends_at flash at then [] else found_at flash at ∷ objects_from n flash (at + size_at flash at)
 
--- the objects of a flash image, of which at most 64 are found
+-- the objects of a flash image, of which so many are found at most
 abbrev pub objects : List ℕ → List Found
-objects flash = objects_from 64 flash 0
+objects flash = objects_from OBJECT_LIMIT flash 0
 
 -- what is known of each object that is found
 pub record IsObject (flash : List ℕ) (f : Found) : Type 0 where
   pub large : 16 ≤ f.size
   pub within : f.offset + f.size ≤ length flash
   pub aligned : f.offset % 4 ≡ 0
-  pub judged : f.verdict ≡ verdict_of (FLASH_START + f.offset) (reading (object_at flash f.offset f.size))
+  pub judged : f.verdict ≡ verdict_of (FLASH_START + f.offset) (header_reading (object_at flash f.offset f.size))

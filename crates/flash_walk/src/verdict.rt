@@ -1,8 +1,8 @@
 //! What is said of one object.
 ghost use Rattle.std.specs.Prelude.{◌≡◌, ◌+◌};
-ghost use Rattle.tbf_headers.specs.Meaning.{reading};
+ghost use Rattle.tbf_headers.specs.Meaning.{header_reading};
 ghost use Rattle.tbf_headers.specs.Shown.{shown};
-ghost use Rattle.flash_walk.specs.Image.{is_bad_binary_end, is_outside, has_bad_entry, is_wrong_flash, app_verdict, verdict_of};
+ghost use Rattle.flash_walk.specs.Image.{is_bad_binary_end, is_outside_flash, has_bad_entry, is_wrong_flash, app_verdict, verdict_of};
 
 use crate::found::Verdict;
 use tbf_headers::{AppHeader, read_header};
@@ -20,9 +20,9 @@ fn is_bad_end(protected_end: u64, total_size: u32, binary_end: Option<u32>) -> b
 
 /// Whether the entry is outside of accessible flash.
 fn is_entry_outside(object: Addr, app: &AppHeader<'_>) -> bool
-    ensures { result ≡ is_outside object (shown app.now.header) app.now.main }
+    ensures { result ≡ is_outside_flash object (shown app.now.header) app.now.main }
 {
-    let entry = app.entry(object);
+    let entry = app.header.entry(object);
     entry < app.accessible_start(object) || entry >= app.accessible_end(object)
 }
 
@@ -35,7 +35,7 @@ fn is_bad_entry(object: Addr, app: &AppHeader<'_>) -> bool
     let total_size = app.header.total_size;
     protected_end > u64::from(total_size)
         || is_bad_end(protected_end, total_size, app.main.binary_end)
-        || app.entry(object) % 2 == 1
+        || app.header.entry(object) % 2 == 1
         || is_entry_outside(object, app)
 }
 
@@ -67,7 +67,7 @@ fn verdict_on_app(object: Addr, app: &AppHeader<'_>) -> Verdict
 
 /// The first verdict that fits the bytes of an object at an address.
 pub fn verdict_on(bytes: &[u8], object: Addr) -> Verdict
-    ensures { result ≡ verdict_of object (reading bytes.now) }
+    ensures { result ≡ verdict_of object (header_reading bytes.now) }
 {
     match read_header(bytes) {
         Err(fault) => Verdict::Bad(fault),

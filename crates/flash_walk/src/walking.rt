@@ -6,7 +6,7 @@ use crate::found::Found;
 use crate::verdict::verdict_on;
 use arrayvec::ArrayVec;
 use tbf_headers::{half_at, object_at, word_at};
-use tk_base::{FLASH_LIMIT, FLASH_START};
+use tk_base::{FLASH_LIMIT, FLASH_START, OBJECT_LIMIT};
 
 /// The object at a place. None where fewer than 16 bytes are left, the version is not 2, or the
 /// total size is below 16, no multiple of 4 or beyond what is left.
@@ -15,7 +15,8 @@ fn object_from(flash: &[u8], at: usize) -> Option<Found>
     requires place { at ≤ length flash.now }
     requires aligned { at % 4 ≡ 0 }
     requires short { length flash.now ≤ FLASH_LIMIT }
-    ensures object { result ≡ (if ends_at flash.now at then None else Some (found_at flash.now at)) }
+    ensures object { result
+        ≡ (if ends_at flash.now at then None else Some (found_at flash.now at)) }
     ensures whole { IfSome result (λ f. (f.offset ≡ at) × (f.size % 4 ≡ 0) × IsObject flash.now f) }
 {
     let left = flash.len() - at;
@@ -38,7 +39,7 @@ fn object_from(flash: &[u8], at: usize) -> Option<Found>
 /// Finds the objects of a flash image, one after another from its first byte on (Tock Binary
 /// Format: each header's total size leads to the next one). The walk ends where no object stands, or
 /// with the 64th.
-pub fn walk(flash: &[u8], found: &mut ArrayVec<Found, 64>)
+pub fn walk(flash: &[u8], found: &mut ArrayVec<Found, OBJECT_LIMIT>)
     requires { length flash.now ≤ FLASH_LIMIT }
     ensures objects { found.new.items ≡ objects flash.now }
     // Each of them lies in flash, and its verdict is that on its own bytes.
@@ -46,7 +47,7 @@ pub fn walk(flash: &[u8], found: &mut ArrayVec<Found, 64>)
 {
     found.clear();
     let mut at = 0;
-    while found.len() < 64 {
+    while found.len() < OBJECT_LIMIT {
         let Some(object) = object_from(flash, at) else {
             return;
         };

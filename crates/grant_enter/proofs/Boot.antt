@@ -1,73 +1,96 @@
 -- Memory when it is made.
-use Rattle.std.proofs.Common.{◌≡◌, ℕ, suc, ◌+◌, ◌-◌, ◌<◌, ◌≤◌, true, List, [], ◌∷◌, ◌++◌, length, map, take, get_or, All, refl, sym, ap, ap₂, subst, ◌∙◌, add-one, arith}
+use Rattle.std.proofs.Common.{◌≡◌, ℕ, suc, ◌+◌, ◌-◌, ◌<◌, ◌≤◌, true, List, [], ◌∷◌, ◌++◌, length, map, take, get_or}
+use Rattle.std.proofs.Common.{All, refl, sym, ap, ap₂, subst, ◌∙◌, add-one, arith}
 use Rattle.std.specs.List.{AllPairs}
 use Rattle.std.specs.Prelude.{slice_index_or, slice_range}
 use Rattle.std.proofs.Math.Seq.{take-suc}
 use Rattle.std.proofs.lemmas.List.{map-append, take_all, get_or-map, length-map}
-use Rattle.process_layout.specs.Extents.{Extents}
+use Rattle.process_layout.specs.LayoutView.{LayoutView}
 use Rattle.board_memory.specs.Memory.{MemoryBytes}
-use Rattle.grant_areas.specs.Grants.{Grant}
-use Rattle.grant_areas.specs.Laid.{read_back}
-use Rattle.grant_areas.specs.Laws.{IsReadBack}
-use Rattle.process_own.specs.declared.place.Footprint.{Footprint}
-use Rattle.process_own.specs.Own.{Own, opened}
+use Rattle.grant_model.specs.Grants.{Grant}
+use Rattle.grant_model.specs.Encoding.{decode_grants}
+use Rattle.grant_model.specs.Laws.{IsReadBack}
+use Rattle.process_model.specs.declared.place.Footprint.{Footprint}
+use Rattle.process_model.specs.Own.{Own, opened}
 use Rattle.grant_enter.specs.declared.seat.Seat.{Seat}
 use Rattle.grant_enter.specs.declared.home.Home.TheInside.{Inside}
-use Rattle.grant_enter.specs.Homes.{IsSettled, CanMoveIn, EndsBefore, LiesBefore}
-use Rattle.grant_enter.specs.Seats.{AreSettled, IsHome, IsKept, IsSeated, first_seat, layouts_of, own_in, owns_in, homes_of}
+use Rattle.grant_enter.specs.Homes.{FitsMemory, CanMoveIn, EndsBefore, FootprintBefore}
+use Rattle.tk_base.specs.declared.limits.TheConstants.{FLASH_LIMIT}
+use Rattle.grant_enter.specs.Seats.{AreSettled, IsHome, IsKept, IsSeated, first_seat, layouts_of, own_in, owns_seated}
+use Rattle.grant_enter.specs.Seats.{homes_of}
 use Rattle.grant_enter.proofs.Windows.{zeros, length_zeros, zero_window}
 use Rattle.grant_enter.proofs.Moves.{no_bytes, none_back, none_kept}
 
 -- one more seat
-pub seats_more : (fs : List Footprint) (k : ℕ) (f : Footprint) (seats more : List Seat) (seat : Seat) → k < length fs → f ≡ slice_index_or fs k f → seats ≡ map first_seat (take k fs) → seat ≡ first_seat f → more ≡ seats ++ seat ∷ [] → more ≡ map first_seat (take (k + 1) fs)
+pub seats_more : (fs : List Footprint) (k : ℕ) (f : Footprint) (seats more : List Seat) (seat : Seat) → k < length fs
+    → f ≡ slice_index_or fs k f → seats ≡ map first_seat (take k fs) → seat ≡ first_seat f → more ≡ seats ++ seat ∷ []
+    → more ≡ map first_seat (take (k + 1) fs)
 seats_more fs k f seats more seat h read so made pushed =
-    let longer : take (k + 1) fs ≡ take k fs ++ get_or fs k f ∷ [] = ap (λ (n : ℕ). take n fs) (add-one k) ∙ take-suc fs k f h in
-    pushed ∙ ap₂ (λ (xs : List Seat) (x : Seat). xs ++ x ∷ []) so (made ∙ ap first_seat read) ∙ sym (map-append first_seat (take k fs) (get_or fs k f ∷ [])) ∙ sym (ap (map first_seat) longer)
+    let longer : take (k + 1) fs ≡ take k fs ++ get_or fs k f ∷ [] =
+    ap (λ (n : ℕ). take n fs) (add-one k) ∙ take-suc fs k f h in
+    pushed ∙ ap₂ (λ (xs : List Seat) (x : Seat). xs ++ x ∷ []) so (made ∙ ap first_seat read)
+    ∙ sym (map-append first_seat (take k fs) (get_or fs k f ∷ [])) ∙ sym (ap (map first_seat) longer)
 
 -- all of them
-pub seats_all : (fs : List Footprint) (k : ℕ) (seats : List Seat) → length fs ≤ k → seats ≡ map first_seat (take k fs) → seats ≡ map first_seat fs
+pub seats_all : (fs : List Footprint) (k : ℕ) (seats : List Seat) → length fs ≤ k → seats ≡ map first_seat (take k fs)
+    → seats ≡ map first_seat fs
 seats_all fs k seats h so = so ∙ ap (map first_seat) (take_all k fs h)
 
 layouts_again : (fs : List Footprint) → layouts_of (map first_seat fs) ≡ map (λ (f : Footprint). f.layout) fs
 layouts_again [] = refl
-layouts_again (f ∷ fs) = ap (λ (xs : List Extents). f.layout ∷ xs) (layouts_again fs)
+layouts_again (f ∷ fs) = ap (λ (xs : List LayoutView). f.layout ∷ xs) (layouts_again fs)
 
-module _ (law : IsReadBack) (flash : List ℕ) (ram : ℕ) (fs : List Footprint) (h : Inside) (memory : h.memory ≡ record { flash = flash; ram = zeros ram }) (seats : h.seats.items ≡ map first_seat fs) (settled : All (CanMoveIn (length flash) ram) fs) where
-  each_settled : All (IsSettled (length flash) ram) (map (λ (f : Footprint). f.layout) fs)
+module _ (law : IsReadBack) (flash : List ℕ) (ram : ℕ) (fs : List Footprint) (h : Inside)
+    (memory : h.memory ≡ record { flash = flash; ram = zeros ram }) (seats : h.seats.items ≡ map first_seat fs)
+    (settled : All (CanMoveIn (length flash) ram) fs) where
+  each_settled : All (FitsMemory (length flash) ram) (map (λ (f : Footprint). f.layout) fs)
   each_settled i d b =
       let within : i < length fs = omega (arith, length-map fs (λ (f : Footprint). f.layout)) in
       let e : Footprint = get_or fs i (record { object = record { address = 0; size = 0 }; layout = d }) in
-      subst (IsSettled (length flash) ram) (sym (get_or-map (λ (f : Footprint). f.layout) fs i (record { object = record { address = 0; size = 0 }; layout = d }) d within)) (settled i (record { object = record { address = 0; size = 0 }; layout = d }) within).settled
+      subst (FitsMemory (length flash) ram)
+      (sym (get_or-map (λ (f : Footprint). f.layout) fs i
+      (record { object = record { address = 0; size = 0 }; layout = d }) d within))
+      (settled i (record { object = record { address = 0; size = 0 }; layout = d }) within).settled
 
   seat_kept : (f : Footprint) → CanMoveIn (length flash) ram f → IsSeated (length flash) (zeros ram) (first_seat f)
   seat_kept f s = record {
     object = s.object;
-    kept = subst (IsKept f.layout) (sym (ap (λ (n : ℕ). slice_range (zeros ram) (n - 2147483648) (f.layout.end - 2147483648)) s.no_grants ∙ no_bytes (zeros ram) (f.layout.end - 2147483648))) (none_kept law f.layout);
+    kept = subst (IsKept f.layout) (sym (ap (λ (n : ℕ). slice_range (zeros ram) (n - 2147483648)
+        (f.layout.end - 2147483648)) s.no_grants ∙ no_bytes (zeros ram) (f.layout.end - 2147483648)))
+        (none_kept law f.layout);
   }
 
-  each_seated : (xs : List Footprint) → All (CanMoveIn (length flash) ram) xs → All (IsSeated (length flash) (zeros ram)) (map first_seat xs)
+  each_seated : (xs : List Footprint) → All (CanMoveIn (length flash) ram) xs
+      → All (IsSeated (length flash) (zeros ram)) (map first_seat xs)
   each_seated xs all i d b =
       let f : Footprint = record { object = d.object; layout = d.layout } in
       let within : i < length xs = omega (arith, length-map xs first_seat) in
-      subst (IsSeated (length flash) (zeros ram)) (sym (get_or-map first_seat xs i f d within)) (seat_kept (get_or xs i f) (all i f within))
+      subst (IsSeated (length flash) (zeros ram)) (sym (get_or-map first_seat xs i f d within))
+      (seat_kept (get_or xs i f) (all i f within))
 
-  pairs_apart : AllPairs LiesBefore fs → AllPairs EndsBefore (map (λ (f : Footprint). f.layout) fs)
+  pairs_apart : AllPairs FootprintBefore fs → AllPairs EndsBefore (map (λ (f : Footprint). f.layout) fs)
   pairs_apart apart i j d l b =
       let f : Footprint = record { object = record { address = 0; size = 0 }; layout = d } in
       let long : j < length fs = omega (arith, length-map fs (λ (f : Footprint). f.layout)) in
-      let first : get_or (map (λ (f : Footprint). f.layout) fs) i d ≡ (get_or fs i f).layout = get_or-map (λ (f : Footprint). f.layout) fs i f d (omega arith) in
-      let second : get_or (map (λ (f : Footprint). f.layout) fs) j d ≡ (get_or fs j f).layout = get_or-map (λ (f : Footprint). f.layout) fs j f d long in
-      subst (λ (e : Extents). EndsBefore (get_or (map (λ (f : Footprint). f.layout) fs) i d) e) (sym second) (subst (λ (e : Extents). EndsBefore e (get_or fs j f).layout) (sym first) (apart i j f l long))
+      let first : get_or (map (λ (f : Footprint). f.layout) fs) i d ≡ (get_or fs i f).layout =
+      get_or-map (λ (f : Footprint). f.layout) fs i f d (omega arith) in
+      let second : get_or (map (λ (f : Footprint). f.layout) fs) j d ≡ (get_or fs j f).layout =
+      get_or-map (λ (f : Footprint). f.layout) fs j f d long in
+      subst (λ (e : LayoutView). EndsBefore (get_or (map (λ (f : Footprint). f.layout) fs) i d) e) (sym second)
+      (subst (λ (e : LayoutView). EndsBefore e (get_or fs j f).layout) (sym first) (apart i j f l long))
 
-  pub home_booted : AllPairs LiesBefore fs → IsHome h
-  home_booted apart =
-      let layouts : layouts_of h.seats.items ≡ map (λ (f : Footprint). f.layout) fs = ap layouts_of seats ∙ layouts_again fs in
+  pub home_booted : length flash ≤ FLASH_LIMIT → AllPairs FootprintBefore fs → IsHome h
+  home_booted short apart =
+      let layouts : layouts_of h.seats.items ≡ map (λ (f : Footprint). f.layout) fs =
+      ap layouts_of seats ∙ layouts_again fs in
       let flash_is : length h.memory.flash ≡ length flash = ap (λ (m : MemoryBytes). length m.flash) memory in
       let ram_is : length h.memory.ram ≡ ram = ap (λ (m : MemoryBytes). length m.ram) memory ∙ length_zeros ram in
       record {
+        short = omega (arith, short, flash_is);
         settled = subst (AreSettled (length h.memory.flash) (length h.memory.ram)) (sym layouts)
             (subst (λ (n : ℕ). AreSettled n (length h.memory.ram) (map (λ (f : Footprint). f.layout) fs)) (sym flash_is)
-            (subst (λ (n : ℕ). AreSettled (length flash) n (map (λ (f : Footprint). f.layout) fs)) (sym ram_is) (record { each = each_settled; apart = pairs_apart apart })));
+            (subst (λ (n : ℕ). AreSettled (length flash) n (map (λ (f : Footprint). f.layout) fs)) (sym ram_is)
+            (record { each = each_settled; apart = pairs_apart apart })));
         seated = subst (λ (m : MemoryBytes). All (IsSeated (length m.flash) m.ram) h.seats.items) (sym memory)
             (subst (All (IsSeated (length flash) (zeros ram))) (sym seats) (each_seated fs settled));
       }
@@ -76,15 +99,29 @@ module _ (law : IsReadBack) (flash : List ℕ) (ram : ℕ) (fs : List Footprint)
   own_opened f s =
       let e = f.layout in
       let t = s.settled in
-      ap₂ (λ (a : List ℕ) (gs : List Grant). record { object = f.object; layout = e; ram = a; grants = gs; pending = []; life = 0; lives = true; dropped = 0 })
-      (zero_window ram (e.start - 2147483648) (e.kernel_break - 2147483648) (omega (arith, t.to, t.ordered.end)) ∙ ap zeros (omega (arith, t.from, t.ordered.block, t.ordered.grants)))
-      (ap (λ (n : ℕ). read_back (slice_range (zeros ram) (n - 2147483648) (e.end - 2147483648))) s.no_grants ∙ ap read_back (no_bytes (zeros ram) (e.end - 2147483648)) ∙ none_back law)
+      ap₂ (λ (a : List ℕ) (gs : List Grant). record {
+        object = f.object;
+        layout = e;
+        ram = a;
+        grants = gs;
+        pending =
+            [];
+        life = 0;
+        lives = true;
+        dropped = 0;
+      })
+      (zero_window ram (e.start - 2147483648) (e.kernel_break - 2147483648) (omega (arith, t.to, t.ordered.end))
+      ∙ ap zeros (omega (arith, t.from, t.ordered.block, t.ordered.grants)))
+      (ap (λ (n : ℕ). decode_grants (slice_range (zeros ram) (n - 2147483648) (e.end - 2147483648))) s.no_grants
+      ∙ ap decode_grants (no_bytes (zeros ram) (e.end - 2147483648)) ∙ none_back law)
 
-  all_opened : (xs : List Footprint) → All (CanMoveIn (length flash) ram) xs → owns_in (zeros ram) (map first_seat xs) ≡ map opened xs
+  all_opened : (xs : List Footprint) → All (CanMoveIn (length flash) ram) xs
+      → owns_seated (zeros ram) (map first_seat xs) ≡ map opened xs
   all_opened [] all = refl
-  all_opened (x ∷ xs) all = ap₂ ◌∷◌ (own_opened x (all 0 x (omega arith))) (all_opened xs (λ i d b. all (suc i) d (omega arith)))
+  all_opened (x ∷ xs) all =
+      ap₂ ◌∷◌ (own_opened x (all 0 x (omega arith))) (all_opened xs (λ i d b. all (suc i) d (omega arith)))
 
   pub homes_booted : homes_of h ≡ record { flash = flash; owns = map opened fs }
   homes_booted =
-      ap₂ (λ (m : MemoryBytes) (xs : List Seat). record { flash = m.flash; owns = owns_in m.ram xs }) memory seats
+      ap₂ (λ (m : MemoryBytes) (xs : List Seat). record { flash = m.flash; owns = owns_seated m.ram xs }) memory seats
       ∙ ap (λ (owns : List Own). record { flash = flash; owns = owns }) (all_opened fs settled)

@@ -1,5 +1,7 @@
 -- The buffers that a driver was allowed, in the memory that is lent.
-use Rattle.std.proofs.Common.{◌≡◌, ℕ, zero, suc, ◌+◌, ◌-◌, ◌<◌, ◌≤◌, ◌^◌, ◌==◌, ◌||◌, IsTrue, Bool, true, false, cond, List, [], ◌∷◌, length, take, drop, Option, None, Some, refl, sym, ap, subst, ◌∙◌, rules, arith}
+use Rattle.std.proofs.Common.{◌≡◌, ℕ, zero, suc, ◌+◌, ◌-◌, ◌<◌, ◌≤◌, ◌^◌, ◌==◌, ◌||◌, IsTrue, Bool, true, false, cond}
+use Rattle.std.proofs.Common.{List, [], ◌∷◌, length, take, drop, Option, None, Some, refl, sym, ap, subst, ◌∙◌, rules}
+use Rattle.std.proofs.Common.{arith}
 use Rattle.std.specs.Prelude.{slice_range, slice_index_or}
 use Rattle.std.specs.List.{AllByRecursion}
 use Rattle.std.proofs.lemmas.Bool.{eqb-true}
@@ -7,67 +9,79 @@ use Rattle.std.proofs.lemmas.Bool.Decides.{nat_tests}
 use Rattle.std.proofs.lemmas.Grind.{same_number_lists}
 use Rattle.std.proofs.lemmas.List.{places}
 use Rattle.tk_base.specs.declared.access.TheConstants.{FLASH_START, RAM_START}
-use Rattle.process_layout.specs.Extents.{Extents}
+use Rattle.process_layout.specs.LayoutView.{LayoutView}
 use Rattle.process_layout.specs.Interval.{lies_within}
-use Rattle.grant_areas.specs.declared.kinds.PairKind.TheVariants.{ReadOnly, ReadWrite}
-use Rattle.grant_areas.specs.Grants.{Grant, grant_of, pair_of}
+use Rattle.grant_model.specs.declared.kinds.PairKind.TheVariants.{ReadOnly, ReadWrite}
+use Rattle.grant_model.specs.Grants.{Grant, grant_of, pair_of}
 use Rattle.board_memory.specs.Memory.{MemoryBytes, ram_between}
-use Rattle.process_own.specs.Handed.{HoldsInPlace, held, may_hand, lies_in_ram, lies_in_flash}
-use Rattle.process_own.specs.Served.{bytes_at, ram_at}
+use Rattle.process_model.specs.Handed.{HoldsInPlace, held, may_share, lies_in_ram, lies_in_flash}
+use Rattle.process_model.specs.Served.{bytes_at, ram_at}
 use Rattle.grant_enter.specs.declared.seat.Seat.{Seat}
-use Rattle.grant_enter.specs.Buffers.{first_of, last_of}
-use Rattle.grant_enter.specs.Homes.{IsSettled}
+use Rattle.grant_enter.specs.Buffers.{buffer_start, last_of}
+use Rattle.grant_enter.specs.Homes.{FitsMemory}
 use Rattle.grant_enter.proofs.Holding.{wider}
 use Rattle.grant_enter.specs.Seats.{Holds, SitsIn, LiesBelowMark, MayBeRead, app_in, own_in, readable}
 
-all_by : (P : Grant → Type 0) (driver : ℕ) (g x : Grant) (gs : List Grant) (b : Bool) → P x → cond b (Some x) (grant_of driver gs) ≡ Some g → (grant_of driver gs ≡ Some g → P g) → P g
+all_by : (P : Grant → Type 0) (driver : ℕ) (g x : Grant) (gs : List Grant) (b : Bool) → P x
+    → cond b (Some x) (grant_of driver gs) ≡ Some g → (grant_of driver gs ≡ Some g → P g) → P g
 all_by P driver g x gs true p is on = let same : x ≡ g = cc in subst P same p
 all_by P driver g x gs false p is on = on is
 
 -- what holds of all grants holds of a driver's
-pub all_of : (P : Grant → Type 0) (driver : ℕ) (g : Grant) (gs : List Grant) → AllByRecursion P gs → grant_of driver gs ≡ Some g → P g
+pub all_of : (P : Grant → Type 0) (driver : ℕ) (g : Grant) (gs : List Grant) → AllByRecursion P gs
+    → grant_of driver gs ≡ Some g → P g
 all_of P driver g [] all is = absurd (cc)
 all_of P driver g (x ∷ gs) all is = all_by P driver g x gs (x.driver == driver) all.0 is (all_of P driver g gs all.1)
 
-pub pair_at : (P : ℕ × ℕ → Type 0) (ps : List (ℕ × ℕ)) (n : ℕ) → P (0, 0) → AllByRecursion P ps → P (slice_index_or ps n (0, 0))
+pub pair_at : (P : ℕ × ℕ → Type 0) (ps : List (ℕ × ℕ)) (n : ℕ) → P (0, 0) → AllByRecursion P ps
+    → P (slice_index_or ps n (0, 0))
 pair_at P [] n none all = none
 pair_at P (p ∷ ps) zero none all = all.0
 pair_at P (p ∷ ps) (suc n) none all = pair_at P ps n none all.1
 
-rw_by : (e : Extents) (n : ℕ) (o : Option Grant) → ((g : Grant) → o ≡ Some g → Holds e g) → LiesBelowMark e (pair_of ReadWrite n o)
+rw_by : (e : LayoutView) (n : ℕ) (o : Option Grant) → ((g : Grant) → o ≡ Some g → Holds e g)
+    → LiesBelowMark e (pair_of ReadWrite n o)
 rw_by e n None holds = λ some. absurd (omega arith)
 rw_by e n (Some g) holds = pair_at (LiesBelowMark e) g.rw n (λ some. absurd (omega arith)) (holds g refl).rw
 
-ro_by : (e : Extents) (n : ℕ) (o : Option Grant) → ((g : Grant) → o ≡ Some g → Holds e g) → MayBeRead e (pair_of ReadOnly n o)
+ro_by : (e : LayoutView) (n : ℕ) (o : Option Grant) → ((g : Grant) → o ≡ Some g → Holds e g)
+    → MayBeRead e (pair_of ReadOnly n o)
 ro_by e n None holds = λ some. absurd (omega arith)
 ro_by e n (Some g) holds = pair_at (MayBeRead e) g.ro n (λ some. absurd (omega arith)) (holds g refl).ro
 
 module _ (m : MemoryBytes) (seat : Seat) (t : SitsIn m seat) (driver n : ℕ) where
   pub rw_lies : LiesBelowMark seat.layout (held ReadWrite driver n (own_in m.ram seat))
-  rw_lies = let gs = (own_in m.ram seat).grants in rw_by seat.layout n (grant_of driver gs) (λ g is. all_of (Holds seat.layout) driver g gs t.seated.kept.held is)
+  rw_lies = let gs = (own_in m.ram seat).grants in
+      rw_by seat.layout n (grant_of driver gs) (λ g is. all_of (Holds seat.layout) driver g gs t.seated.kept.held is)
 
   pub ro_may : MayBeRead seat.layout (held ReadOnly driver n (own_in m.ram seat))
-  ro_may = let gs = (own_in m.ram seat).grants in ro_by seat.layout n (grant_of driver gs) (λ g is. all_of (Holds seat.layout) driver g gs t.seated.kept.held is)
+  ro_may = let gs = (own_in m.ram seat).grants in
+      ro_by seat.layout n (grant_of driver gs) (λ g is. all_of (Holds seat.layout) driver g gs t.seated.kept.held is)
 
 -- where a buffer lies, it may be allowed
-rw_allowed : (e : Extents) (pair : ℕ × ℕ) → e.mark ≤ e.brk → LiesBelowMark e pair → IsTrue (may_hand ReadWrite e pair)
+rw_allowed : (e : LayoutView) (pair : ℕ × ℕ) → e.mark ≤ e.brk → LiesBelowMark e pair
+    → IsTrue (may_share ReadWrite e pair)
 rw_allowed e pair below lies = by_size (pair.1 == 0) refl
   where
     by_size : (a : Bool) → pair.1 == 0 ≡ a → IsTrue (a || lies_in_ram e pair.0 pair.1)
     by_size true none = refl
-    by_size false none = let some : 0 < pair.1 = grind (arith, nat_tests) in let l = lies some in grind (arith, nat_tests)
+    by_size false none = let some : 0 < pair.1 = grind (arith, nat_tests) in let l = lies some in
+        grind (arith, nat_tests)
 
-ro_allowed : (e : Extents) (pair : ℕ × ℕ) → e.mark ≤ e.brk → MayBeRead e pair → IsTrue (may_hand ReadOnly e pair)
+ro_allowed : (e : LayoutView) (pair : ℕ × ℕ) → e.mark ≤ e.brk → MayBeRead e pair → IsTrue (may_share ReadOnly e pair)
 ro_allowed e pair below may = by_size (pair.1 == 0) refl
   where
     by_size : (a : Bool) → pair.1 == 0 ≡ a → IsTrue (a || lies_in_ram e pair.0 pair.1 || lies_in_flash e pair.0 pair.1)
     by_size true none = refl
-    by_size false none = let some : 0 < pair.1 = grind (arith, nat_tests) in wider e.start e.mark e.brk pair.0 pair.1 (lies_in_flash e pair.0 pair.1) below (may some)
+    by_size false none = let some : 0 < pair.1 = grind (arith, nat_tests) in
+        wider e.start e.mark e.brk pair.0 pair.1 (lies_in_flash e pair.0 pair.1) below (may some)
 
 pub in_place : (m : MemoryBytes) (seat : Seat) → SitsIn m seat → HoldsInPlace (own_in m.ram seat)
 in_place m seat t = record {
-  read_only = λ driver number. ro_allowed seat.layout (held ReadOnly driver number (own_in m.ram seat)) t.settled.ordered.buffers (ro_may m seat t driver number);
-  read_write = λ driver number. rw_allowed seat.layout (held ReadWrite driver number (own_in m.ram seat)) t.settled.ordered.buffers (rw_lies m seat t driver number);
+  read_only = λ driver number. ro_allowed seat.layout (held ReadOnly driver number (own_in m.ram seat))
+      t.settled.ordered.buffers (ro_may m seat t driver number);
+  read_write = λ driver number. rw_allowed seat.layout (held ReadWrite driver number (own_in m.ram seat))
+      t.settled.ordered.buffers (rw_lies m seat t driver number);
 }
 
 -- an interval that has no places has no bytes
@@ -75,19 +89,31 @@ pub no_range : (xs : List ℕ) (a b : ℕ) → b ≤ a → slice_range xs a b �
 no_range xs a b h = let z : b - a ≡ 0 = omega arith in ap (λ (n : ℕ). take n (drop a xs)) z
 
 -- bytes of a process's own, by their addresses
-pub own_window : (ram : List ℕ) (e : Extents) (at size : ℕ) → RAM_START ≤ e.start → e.start ≤ at → at + size ≤ e.kernel_break → e.kernel_break ≤ RAM_START + length ram → ram_between ram at (at + size) ≡ slice_range (app_in ram e) (at - e.start) (at - e.start + size)
-own_window ram e at size from low high to = same_number_lists _ _ (search (rules, places)) (λ k h. grind (arith, places))
+pub own_window : (ram : List ℕ) (e : LayoutView) (at size : ℕ) → RAM_START ≤ e.start → e.start ≤ at
+    → at + size ≤ e.kernel_break → e.kernel_break ≤ RAM_START + length ram
+    → ram_between ram at (at + size) ≡ slice_range (app_in ram e) (at - e.start) (at - e.start + size)
+own_window ram e at size from low high to =
+    same_number_lists _ _ (search (rules, places)) (λ k h. grind (arith, places))
 
 -- a buffer in RAM
-module _ (m : MemoryBytes) (seat : Seat) (s : IsSettled (length m.flash) (length m.ram) seat.layout) where
-  pub own_bytes : (buffer : ℕ × ℕ) → seat.layout.start ≤ buffer.0 → buffer.0 + buffer.1 ≤ seat.layout.brk → ram_between m.ram buffer.0 (buffer.0 + buffer.1) ≡ ram_at (own_in m.ram seat) buffer
-  own_bytes buffer low high = own_window m.ram seat.layout buffer.0 buffer.1 s.from low (omega (arith, s.ordered.grants)) (omega (arith, s.to, s.ordered.end))
+module _ (m : MemoryBytes) (seat : Seat) (s : FitsMemory (length m.flash) (length m.ram) seat.layout) where
+  pub own_bytes : (buffer : ℕ × ℕ) → seat.layout.start ≤ buffer.0 → buffer.0 + buffer.1 ≤ seat.layout.brk
+      → ram_between m.ram buffer.0 (buffer.0 + buffer.1) ≡ ram_at (own_in m.ram seat) buffer
+  own_bytes buffer low high =
+      own_window m.ram seat.layout buffer.0 buffer.1 s.from low (omega (arith, s.ordered.grants))
+      (omega (arith, s.to, s.ordered.end))
 
-  read_by : (buffer : ℕ × ℕ) (a b : Bool) → buffer.1 == 0 ≡ a → lies_in_ram seat.layout buffer.0 buffer.1 ≡ b → MayBeRead seat.layout buffer
-      → cond a [] (cond b (ram_between m.ram buffer.0 (buffer.0 + buffer.1)) (slice_range m.flash (buffer.0 - FLASH_START) (buffer.0 + buffer.1 - FLASH_START)))
-      ≡ cond b (ram_at (own_in m.ram seat) buffer) (slice_range m.flash (buffer.0 - FLASH_START) (buffer.0 - FLASH_START + buffer.1))
-  read_by buffer true true none is may = let z : buffer.1 ≡ 0 = eqb-true buffer.1 0 none in sym (no_range (own_in m.ram seat).ram (buffer.0 - seat.layout.start) (buffer.0 - seat.layout.start + buffer.1) (omega arith))
-  read_by buffer true false none is may = let z : buffer.1 ≡ 0 = eqb-true buffer.1 0 none in sym (no_range m.flash (buffer.0 - FLASH_START) (buffer.0 - FLASH_START + buffer.1) (omega arith))
+  read_by : (buffer : ℕ × ℕ) (a b : Bool) → buffer.1 == 0 ≡ a → lies_in_ram seat.layout buffer.0 buffer.1 ≡ b
+      → MayBeRead seat.layout buffer
+      → cond a [] (cond b (ram_between m.ram buffer.0 (buffer.0 + buffer.1))
+      (slice_range m.flash (buffer.0 - FLASH_START) (buffer.0 + buffer.1 - FLASH_START)))
+      ≡ cond b (ram_at (own_in m.ram seat) buffer)
+      (slice_range m.flash (buffer.0 - FLASH_START) (buffer.0 - FLASH_START + buffer.1))
+  read_by buffer true true none is may = let z : buffer.1 ≡ 0 = eqb-true buffer.1 0 none in
+      sym (no_range (own_in m.ram seat).ram (buffer.0 - seat.layout.start) (buffer.0 - seat.layout.start + buffer.1)
+      (omega arith))
+  read_by buffer true false none is may = let z : buffer.1 ≡ 0 = eqb-true buffer.1 0 none in
+      sym (no_range m.flash (buffer.0 - FLASH_START) (buffer.0 - FLASH_START + buffer.1) (omega arith))
   read_by buffer false true none is may = own_bytes buffer (grind (arith, nat_tests)) (grind (arith, nat_tests))
   read_by buffer false false none is may =
       let some : 0 < buffer.1 = grind (arith, nat_tests) in
@@ -95,21 +121,27 @@ module _ (m : MemoryBytes) (seat : Seat) (s : IsSettled (length m.flash) (length
       ap (slice_range m.flash (buffer.0 - FLASH_START)) (omega arith)
     where
       not_below : lies_within seat.layout.start seat.layout.mark buffer.0 buffer.1 ≡ true → FLASH_START ≤ buffer.0
-      not_below at = let h : buffer.0 + buffer.1 ≤ seat.layout.mark = grind (arith, nat_tests) in let l : seat.layout.start ≤ buffer.0 = grind (arith, nat_tests) in omega (arith, l, s.from)
+      not_below at = let h : buffer.0 + buffer.1 ≤ seat.layout.mark = grind (arith, nat_tests) in
+          let l : seat.layout.start ≤ buffer.0 = grind (arith, nat_tests) in omega (arith, l, s.from)
 
       by_flash : lies_in_flash seat.layout buffer.0 buffer.1 ≡ true → FLASH_START ≤ buffer.0
-      by_flash at = let l : seat.layout.flash_start ≤ buffer.0 = grind (arith, nat_tests) in omega (arith, l, s.flash_from)
+      by_flash at = let l : seat.layout.flash_start ≤ buffer.0 = grind (arith, nat_tests) in
+          omega (arith, l, s.flash_from)
 
-      which : (x y : Bool) → (x ≡ true → FLASH_START ≤ buffer.0) → (y ≡ true → FLASH_START ≤ buffer.0) → IsTrue (x || y) → FLASH_START ≤ buffer.0
+      which : (x y : Bool) → (x ≡ true → FLASH_START ≤ buffer.0) → (y ≡ true → FLASH_START ≤ buffer.0) → IsTrue (x || y)
+          → FLASH_START ≤ buffer.0
       which true y f g h = f refl
       which false true f g h = g refl
       which false false f g h = absurd (cc)
 
-      in_flash : IsTrue (lies_within seat.layout.start seat.layout.mark buffer.0 buffer.1 || lies_in_flash seat.layout buffer.0 buffer.1) → FLASH_START ≤ buffer.0
-      in_flash h = which (lies_within seat.layout.start seat.layout.mark buffer.0 buffer.1) (lies_in_flash seat.layout buffer.0 buffer.1) not_below by_flash h
+      in_flash : IsTrue (lies_within seat.layout.start seat.layout.mark buffer.0 buffer.1
+          || lies_in_flash seat.layout buffer.0 buffer.1) → FLASH_START ≤ buffer.0
+      in_flash h = which (lies_within seat.layout.start seat.layout.mark buffer.0 buffer.1)
+          (lies_in_flash seat.layout buffer.0 buffer.1) not_below by_flash h
 
   -- what is lent to be read
-  pub read_is : (buffer : ℕ × ℕ) → MayBeRead seat.layout buffer → readable m seat.layout buffer ≡ bytes_at m.flash (own_in m.ram seat) buffer
+  pub read_is : (buffer : ℕ × ℕ) → MayBeRead seat.layout buffer
+      → readable m seat.layout buffer ≡ bytes_at m.flash (own_in m.ram seat) buffer
   read_is buffer may = read_by buffer (buffer.1 == 0) (lies_in_ram seat.layout buffer.0 buffer.1) refl refl may
 
   -- where a read-write buffer lies in memory, which has no bytes where its size is 0
@@ -119,14 +151,17 @@ module _ (m : MemoryBytes) (seat : Seat) (s : IsSettled (length m.flash) (length
     pub to_high : to ≤ RAM_START + length m.ram
     pub bytes : ram_between m.ram from to ≡ ram_at (own_in m.ram seat) buffer
 
-  ends_by : (buffer : ℕ × ℕ) (a : Bool) → buffer.1 == 0 ≡ a → LiesBelowMark seat.layout buffer → EndsAt buffer (cond a seat.layout.start buffer.0) (cond a seat.layout.start (buffer.0 + buffer.1))
+  ends_by : (buffer : ℕ × ℕ) (a : Bool) → buffer.1 == 0 ≡ a → LiesBelowMark seat.layout buffer
+      → EndsAt buffer (cond a seat.layout.start buffer.0) (cond a seat.layout.start (buffer.0 + buffer.1))
   ends_by buffer true none lies =
       let z : buffer.1 ≡ 0 = eqb-true buffer.1 0 none in
       record {
         from_low = s.from;
         order = omega arith;
         to_high = omega (arith, s.to, s.ordered.block, s.ordered.grants, s.ordered.end);
-        bytes = no_range m.ram (seat.layout.start - RAM_START) (seat.layout.start - RAM_START) (omega arith) ∙ sym (no_range (own_in m.ram seat).ram (buffer.0 - seat.layout.start) (buffer.0 - seat.layout.start + buffer.1) (omega arith));
+        bytes = no_range m.ram (seat.layout.start - RAM_START) (seat.layout.start - RAM_START) (omega arith)
+            ∙ sym (no_range (own_in m.ram seat).ram (buffer.0 - seat.layout.start)
+            (buffer.0 - seat.layout.start + buffer.1) (omega arith));
       }
   ends_by buffer false none lies =
       let some : 0 < buffer.1 = grind (arith, nat_tests) in
@@ -138,7 +173,8 @@ module _ (m : MemoryBytes) (seat : Seat) (s : IsSettled (length m.flash) (length
         bytes = own_bytes buffer l.0 (omega (arith, s.ordered.buffers, l.1));
       }
 
-  pub ends_at : (buffer : ℕ × ℕ) → LiesBelowMark seat.layout buffer → EndsAt buffer (first_of seat.layout buffer) (last_of seat.layout buffer)
+  pub ends_at : (buffer : ℕ × ℕ) → LiesBelowMark seat.layout buffer
+      → EndsAt buffer (buffer_start seat.layout buffer) (last_of seat.layout buffer)
   ends_at buffer lies = ends_by buffer (buffer.1 == 0) refl lies
 
   pub small : (buffer : ℕ × ℕ) → LiesBelowMark seat.layout buffer → buffer.0 < 2 ^ 32 → buffer.0 + buffer.1 < 2 ^ 32
@@ -146,4 +182,5 @@ module _ (m : MemoryBytes) (seat : Seat) (s : IsSettled (length m.flash) (length
     where
       by_size : (a : Bool) → buffer.1 == 0 ≡ a → buffer.0 + buffer.1 < 2 ^ 32
       by_size true none = let z : buffer.1 ≡ 0 = eqb-true buffer.1 0 none in omega arith
-      by_size false none = let some : 0 < buffer.1 = grind (arith, nat_tests) in let l = lies some in omega (arith, l.1, s.fits, s.ordered.buffers, s.ordered.grants, s.ordered.end)
+      by_size false none = let some : 0 < buffer.1 = grind (arith, nat_tests) in let l = lies some in
+          omega (arith, l.1, s.fits, s.ordered.buffers, s.ordered.grants, s.ordered.end)

@@ -1,18 +1,19 @@
 -- Room for a driver's grant in a block, and the process that has entered the driver.
-use Rattle.std.proofs.Common.{◌≡◌, ℕ, ◌-◌, Bool, cond, List, ◌++◌, length, take, drop, Option, None, Some, Result, Ok, Err, refl, sym, ap, ap₂, subst, ◌∙◌, eq-eqb}
+use Rattle.std.proofs.Common.{◌≡◌, ℕ, ◌-◌, Bool, cond, List, ◌++◌, length, take, drop, Option, None, Some, Result, Ok}
+use Rattle.std.proofs.Common.{Err, refl, sym, ap, ap₂, subst, ◌∙◌, eq-eqb}
 use Rattle.std.specs.Prelude.{OnOk, option_map}
 use Rattle.std.specs.List.{AllByRecursion}
-use Rattle.process_layout.specs.Extents.{Extents}
+use Rattle.process_layout.specs.LayoutView.{LayoutView}
 use Rattle.process_layout.specs.Ordered.{IsOrdered}
-use Rattle.grant_areas.specs.Grants.{Grant, grant_of, entering, entered, fresh}
-use Rattle.grant_areas.specs.Laid.{read_back}
+use Rattle.grant_model.specs.Grants.{Grant, grant_of, entering, entered, fresh}
+use Rattle.grant_model.specs.Encoding.{decode_grants}
 use Rattle.grant_region.specs.Region.{Leaves, below, roomed}
 use Rattle.board_memory.specs.Memory.{MemoryBytes, ram_between, with_run}
-use Rattle.process_own.specs.Own.{Own}
-use Rattle.process_own.specs.Handed.{entering as own_entering}
-use Rattle.process_own.specs.Served.{kept}
+use Rattle.process_model.specs.Own.{Own}
+use Rattle.process_model.specs.Handed.{own_entering as own_entering}
+use Rattle.process_model.specs.Served.{kept}
 use Rattle.grant_enter.specs.declared.seat.Seat.{Seat}
-use Rattle.grant_enter.specs.Homes.{IsSettled}
+use Rattle.grant_enter.specs.Homes.{FitsMemory}
 use Rattle.grant_enter.specs.Seats.{Holds, MakesRoom, Reseats, SitsIn, kernel_in, own_in}
 use Rattle.grant_enter.proofs.Blocks.{regrants_in, room_in}
 use Rattle.grant_enter.proofs.Holding.{entering_holds}
@@ -23,15 +24,24 @@ on_both (Ok a) f p q = f p q
 on_both (Err e) f p q = tt
 
 -- room that is made in the two parts of a block is made in memory
-pub makes_room : (m : MemoryBytes) (e : Extents) → IsSettled (length m.flash) (length m.ram) e → (driver : ℕ) (f : Extents) (app app' kernel : List ℕ) → app ≡ take (e.kernel_break - e.start) (ram_between m.ram e.start e.end) → kernel ≡ drop (e.kernel_break - e.start) (ram_between m.ram e.start e.end) → IsOrdered f → f ≡ roomed driver e (grant_of driver (read_back kernel)) → Leaves f app app' kernel (entered driver (read_back kernel)) → MakesRoom driver m e (with_run m e.start (app' ++ kernel)) f
+pub makes_room : (m : MemoryBytes) (e : LayoutView) → FitsMemory (length m.flash) (length m.ram) e
+    → (driver : ℕ) (f : LayoutView) (app app' kernel : List ℕ)
+    → app ≡ take (e.kernel_break - e.start) (ram_between m.ram e.start e.end)
+    → kernel ≡ drop (e.kernel_break - e.start) (ram_between m.ram e.start e.end) → IsOrdered f
+    → f ≡ roomed driver e (grant_of driver (decode_grants kernel))
+    → Leaves f app app' kernel (entered driver (decode_grants kernel))
+    → MakesRoom driver m e (with_run m e.start (app' ++ kernel)) f
 makes_room m e s driver f app app' kernel a k o layout left = record {
   layout = room_in m e s driver f app app' kernel kernel a k layout;
-  grants = regrants_in m e s driver f app app' kernel kernel a k layout (λ xs. entered driver (read_back xs)) refl o left;
+  grants = regrants_in m e s driver f app app' kernel kernel a k layout (λ xs. entered driver (decode_grants xs)) refl o
+      left;
 }
 
 -- a driver that was entered has a grant
-has_grant : (driver : ℕ) (gs : List Grant) (o : Option Grant) → grant_of driver gs ≡ o → (g : Grant) × (grant_of driver (entering driver gs o) ≡ Some g)
-has_grant driver gs None is = (fresh driver, ap (λ (b : Bool). cond b (Some (fresh driver)) (grant_of driver gs)) (eq-eqb driver driver refl))
+has_grant : (driver : ℕ) (gs : List Grant) (o : Option Grant) → grant_of driver gs ≡ o
+    → (g : Grant) × (grant_of driver (entering driver gs o) ≡ Some g)
+has_grant driver gs None is =
+    (fresh driver, ap (λ (b : Bool). cond b (Some (fresh driver)) (grant_of driver gs)) (eq-eqb driver driver refl))
 has_grant driver gs (Some g) is = (g, is)
 
 -- so it keeps a value
@@ -41,17 +51,23 @@ keeps_one driver own none =
     let some : kept driver (own_entering driver own) ≡ Some g.0.value = ap (option_map (λ (g : Grant). g.value)) g.1 in
     cc
 
-module _ (driver : ℕ) (m : MemoryBytes) (seat : Seat) (m' : MemoryBytes) (f : Extents) (r : MakesRoom driver m seat.layout m' f) where
+module _ (driver : ℕ) (m : MemoryBytes) (seat : Seat) (m' : MemoryBytes) (f : LayoutView)
+    (r : MakesRoom driver m seat.layout m' f) where
   -- what is the process's own
   pub entered_own : own_in m'.ram (record seat { layout = f }) ≡ own_entering driver (own_in m.ram seat)
   entered_own =
       let own = own_in m.ram seat in
-      ap₂ (λ (a : List ℕ) (gs : List Grant). record own { layout = f; ram = a; grants = gs }) r.grants.app r.grants.tells.grants
-      ∙ ap (λ (x : Extents). record own { layout = x; ram = below x own.ram; grants = entered driver own.grants }) r.layout
+      ap₂ (λ (a : List ℕ) (gs : List Grant). record own { layout = f; ram = a; grants = gs }) r.grants.app
+      r.grants.tells.grants
+      ∙ ap (λ (x : LayoutView). record own { layout = x; ram = below x own.ram; grants = entered driver own.grants })
+      r.layout
 
   -- it is a seat as before
   pub entered_reseats : SitsIn m seat → Reseats m seat m' (record seat { layout = f })
   entered_reseats t =
-      let gs = read_back (kernel_in m.ram seat.layout) in
-      let held : AllByRecursion (Holds f) (entered driver gs) = subst (λ (x : Extents). AllByRecursion (Holds x) (entered driver gs)) (sym r.layout) (entering_holds seat.layout driver gs (grant_of driver gs) t.seated.kept.held) in
-      regranted m seat t driver m' f (entered driver gs) r.layout r.grants f.mark seat.pending r.grants.ordered.buffers held
+      let gs = decode_grants (kernel_in m.ram seat.layout) in
+      let held : AllByRecursion (Holds f) (entered driver gs) =
+      subst (λ (x : LayoutView). AllByRecursion (Holds x) (entered driver gs)) (sym r.layout)
+      (entering_holds seat.layout driver gs (grant_of driver gs) t.seated.kept.held) in
+      regranted m seat t driver m' f (entered driver gs) r.layout r.grants f.mark seat.pending r.grants.ordered.buffers
+      held

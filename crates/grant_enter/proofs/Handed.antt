@@ -2,14 +2,14 @@
 use Rattle.std.proofs.Common.{◌≡◌, ℕ, IsTrue, List, sym, ap, ap₂, subst, ◌∙◌}
 use Rattle.std.specs.List.{AllByRecursion}
 use Rattle.tk_base.specs.declared.upcall.Upcall.{Upcall}
-use Rattle.process_layout.specs.Extents.{Extents}
+use Rattle.process_layout.specs.LayoutView.{LayoutView}
 use Rattle.board_memory.specs.Memory.{MemoryBytes}
-use Rattle.grant_areas.specs.Grants.{Grant, grant_of}
-use Rattle.grant_areas.specs.Laid.{read_back}
+use Rattle.grant_model.specs.Grants.{Grant, grant_of}
+use Rattle.grant_model.specs.Encoding.{decode_grants}
 use Rattle.grant_region.specs.Region.{below}
 use Rattle.swap_tables.specs.Swaps.{swapped}
-use Rattle.process_own.specs.Own.{Own}
-use Rattle.process_own.specs.Handed.{handing, may_hand, marked, still_pending}
+use Rattle.process_model.specs.Own.{Own}
+use Rattle.process_model.specs.Handed.{handing, may_share, marked, still_pending}
 use Rattle.grant_enter.specs.declared.handing.Handover.{Handover}
 use Rattle.grant_enter.specs.declared.seat.Pending.{Pending}
 use Rattle.grant_enter.specs.declared.seat.Seat.{Seat}
@@ -18,24 +18,47 @@ use Rattle.grant_enter.proofs.Holding.{only_mark, mark_below, handed_holds, may_
 use Rattle.grant_enter.proofs.Regranted.{regranted}
 
 -- what the code leaves, in a seat that was settled
-module _ (m : MemoryBytes) (seat : Seat) (h : Handover) (m' : MemoryBytes) (f : Extents) (former : ℕ × ℕ) (sw : SwapsIn h m seat.layout m' f former) (pending : Pending) where
-  pub own_handed : pending.queue ≡ still_pending h.kind h.driver h.number seat.pending.queue → pending.dropped ≡ seat.pending.dropped → own_in m'.ram (record seat { layout = marked h.kind h.pair f; pending = pending }) ≡ handing h.kind h.driver h.number h.pair (own_in m.ram seat)
+module _ (m : MemoryBytes) (seat : Seat) (h : Handover) (m' : MemoryBytes) (f : LayoutView) (former : ℕ × ℕ)
+    (sw : SwapsIn h m seat.layout m' f former) (pending : Pending) where
+  pub own_handed : pending.queue ≡ still_pending h.kind h.driver h.number seat.pending.queue
+      → pending.dropped ≡ seat.pending.dropped
+      → own_in m'.ram (record seat { layout = marked h.kind h.pair f; pending = pending })
+      ≡ handing h.kind h.driver h.number h.pair (own_in m.ram seat)
   own_handed queue dropped =
       let gs = swapped h.kind h.driver h.number h.pair (kernel_in m.ram seat.layout) in
-      let made : Extents → List ℕ → List Grant → List Upcall → ℕ → Own = λ e a gs q d. record { object = seat.object; layout = marked h.kind h.pair e; ram = a; grants = gs; pending = q; life = seat.life; lives = seat.lives; dropped = d } in
+      let made : LayoutView → List ℕ → List Grant → List Upcall → ℕ
+      → Own = λ e a gs q d.
+      record {
+        object = seat.object;
+        layout = marked h.kind h.pair e;
+        ram = a;
+        grants = gs;
+        pending = q;
+        life =
+            seat.life;
+        lives = seat.lives;
+        dropped = d;
+      } in
       ap₂ (λ (a : List ℕ) (gs : List Grant). made f a gs pending.queue pending.dropped)
       (ap (app_in m'.ram) (only_mark h.kind h.pair f) ∙ sw.grants.app)
-      (ap (λ (e : Extents). read_back (kernel_in m'.ram e)) (only_mark h.kind h.pair f) ∙ sw.grants.tells.grants)
+      (ap (λ (e : LayoutView). decode_grants (kernel_in m'.ram e)) (only_mark h.kind h.pair f) ∙ sw.grants.tells.grants)
       ∙ ap₂ (made f (below f (app_in m.ram seat.layout)) gs) queue dropped
-      ∙ ap (λ (e : Extents). made e (below e (app_in m.ram seat.layout)) gs (still_pending h.kind h.driver h.number seat.pending.queue) seat.pending.dropped) sw.layout
+      ∙ ap (λ (e : LayoutView). made e (below e (app_in m.ram seat.layout)) gs
+      (still_pending h.kind h.driver h.number seat.pending.queue) seat.pending.dropped) sw.layout
 
   -- it is a seat as before
-  pub hand_reseats : SitsIn m seat → IsTrue (may_hand h.kind seat.layout h.pair) → Reseats m seat m' (record seat { layout = marked h.kind h.pair f; pending = pending })
+  pub hand_reseats : SitsIn m seat → IsTrue (may_share h.kind seat.layout h.pair)
+      → Reseats m seat m' (record seat { layout = marked h.kind h.pair f; pending = pending })
   hand_reseats t may =
       let kernel = kernel_in m.ram seat.layout in
       let gs = swapped h.kind h.driver h.number h.pair kernel in
       let mark = (marked h.kind h.pair f).mark in
-      let still = may_still h.kind h.driver h.pair seat.layout f (grant_of h.driver (read_back kernel)) sw.layout may in
-      let held = handed_holds h.kind h.driver h.number h.pair seat.layout f (read_back kernel) sw.layout still t.seated.kept.held in
-      subst (λ (e : Extents). Reseats m seat m' (record seat { layout = e; pending = pending })) (sym (only_mark h.kind h.pair f))
-      (regranted m seat t h.driver m' f gs sw.layout sw.grants mark pending (mark_below h.kind h.pair f sw.grants.ordered.buffers) (subst (λ (e : Extents). AllByRecursion (Holds e) gs) (only_mark h.kind h.pair f) held))
+      let still = may_still h.kind h.driver h.pair seat.layout f (grant_of h.driver (decode_grants kernel)) sw.layout
+      may in
+      let held = handed_holds h.kind h.driver h.number h.pair seat.layout f (decode_grants kernel) sw.layout still
+      t.seated.kept.held in
+      subst (λ (e : LayoutView). Reseats m seat m' (record seat { layout = e; pending = pending }))
+      (sym (only_mark h.kind h.pair f))
+      (regranted m seat t h.driver m' f gs sw.layout sw.grants mark pending
+      (mark_below h.kind h.pair f sw.grants.ordered.buffers)
+      (subst (λ (e : LayoutView). AllByRecursion (Holds e) gs) (only_mark h.kind h.pair f) held))

@@ -2,29 +2,37 @@
 use mir.Syntax.{named}
 use Rattle.std.specs.Prelude.{ℕ, ◌+◌, ◌≡◌, ◌≤◌, ◌==◌, [], List, length, if◌then◌else◌}
 use Rattle.std.specs.Borrow.{Lends, MutBor, Fml, u8, Array}
-use Rattle.process_layout.specs.Extents.{Extents}
+use Rattle.process_layout.specs.LayoutView.{LayoutView}
 use Rattle.board_memory.specs.Memory.{with_run}
-use Rattle.grant_areas.specs.declared.kinds.PairKind.TheVariants.{ReadOnly, ReadWrite}
-use Rattle.process_own.specs.Own.{Own}
-use Rattle.process_own.specs.Handed.{held}
-use Rattle.process_own.specs.Served.{bytes_at, over, ram_at, with_written, writing}
-use Rattle.grant_enter.specs.Seen.{Framed, IsLent, own_entered}
+use Rattle.grant_model.specs.declared.kinds.PairKind.TheVariants.{ReadOnly, ReadWrite}
+use Rattle.process_model.specs.Own.{Own}
+use Rattle.process_model.specs.Handed.{held}
+use Rattle.process_model.specs.Served.{bytes_at, ram_at, with_written, own_written}
+use Rattle.tk_base.specs.Bytes.{over}
+use Rattle.grant_enter.specs.Seen.{Framed, IsLent, own_entered, seen}
 use Rattle.grant_enter.specs.declared.entered.Entered.{Entered}
 use Rattle.grant_enter.specs.contracts.entered.Entered.{the_row}
 
 -- where the bytes of a buffer begin; where it has none, at the block's start
-abbrev pub first_of : Extents → ℕ × ℕ → ℕ
-first_of e buffer = if buffer.1 == 0 then e.start else buffer.0
+abbrev pub buffer_start : LayoutView → ℕ × ℕ → ℕ
+buffer_start e buffer = if buffer.1 == 0 then e.start else buffer.0
 
 -- where they end
-abbrev pub last_of : Extents → ℕ × ℕ → ℕ
+abbrev pub last_of : LayoutView → ℕ × ℕ → ℕ
 last_of e buffer = if buffer.1 == 0 then e.start else buffer.0 + buffer.1
+
+-- the buffers of a number that the process which was entered has allowed its driver
+abbrev pub ro_buffer : Entered → ℕ → ℕ × ℕ
+ro_buffer e n = held ReadOnly (seen e).driver n (own_entered e)
+
+abbrev pub rw_buffer : Entered → ℕ → ℕ × ℕ
+rw_buffer e n = held ReadWrite (seen e).driver n (own_entered e)
 
 -- a process whose read-write buffer has these bytes
 abbrev pub with_buffer : Entered → ℕ → List ℕ → Entered
 with_buffer e n bytes = record e {
   memory = record e.memory {
-    now = with_run e.memory.now (first_of e.seat.now.layout (held ReadWrite e.driver n (own_entered e))) bytes;
+    now = with_run e.memory.now (buffer_start e.seat.now.layout (rw_buffer e n)) bytes;
   };
 }
 
@@ -32,29 +40,30 @@ abbrev pub LendsBuffer : MutBor Entered → ℕ → MutBor (List ℕ) → Fml
 LendsBuffer entered n buffer =
     Lends (the_row (record { mir = named 1; lft = [] })) (Array u8 0) entered buffer (with_buffer entered.now n)
 
--- other bytes stand in a read-write buffer that was lent: the process's own has them there, it is lent as before, and no
+-- other bytes stand in a read-write buffer that was lent: the process's own has them there, it is lent as before, and
+-- no
 -- more has changed than a visitor may
 pub record HasBuffer (e : Entered) (n : ℕ) (bytes : List ℕ) : Type 0 where
-  pub own : own_entered (with_buffer e n bytes) ≡ with_written e.driver n 0 bytes (own_entered e)
+  pub own : own_entered (with_buffer e n bytes) ≡ with_written (seen e).driver n 0 bytes (own_entered e)
   pub lent : IsLent (with_buffer e n bytes)
   pub framed : Framed e (with_buffer e n bytes)
 
 abbrev pub ABufferIsWritten : Type 0
 ABufferIsWritten =
     (e : Entered) (n : ℕ) (bytes : List ℕ) → IsLent e
-    → length bytes ≡ length (ram_at (own_entered e) (held ReadWrite e.driver n (own_entered e))) → HasBuffer e n bytes
+    → length bytes ≡ length (ram_at (own_entered e) (rw_buffer e n)) → HasBuffer e n bytes
 
 -- the bytes of the buffers that a process has allowed a driver
 pub record BuffersAreWhole : Type 0 where
   -- there are as many as the process said
   pub read_only : (e : Entered) (n : ℕ) → IsLent e
-      → let buffer = held ReadOnly e.driver n (own_entered e) in
-      length (bytes_at e.memory.now.flash (own_entered e) buffer) ≡ buffer.1
+      → let buffer = ro_buffer e n in
+      length (bytes_at (seen e).flash (own_entered e) buffer) ≡ buffer.1
   pub read_write : (e : Entered) (n : ℕ) → IsLent e
-      → let buffer = held ReadWrite e.driver n (own_entered e) in
+      → let buffer = rw_buffer e n in
       length (ram_at (own_entered e) buffer) ≡ buffer.1
   -- to put some at a buffer's start, and to write that over the buffer, is to write these at its start
   pub front : (own : Own) (buffer : ℕ × ℕ) (bytes : List ℕ) → length bytes ≤ length (ram_at own buffer)
-      → writing buffer 0 (over (ram_at own buffer) 0 bytes) own ≡ writing buffer 0 bytes own
+      → own_written buffer 0 (over (ram_at own buffer) 0 bytes) own ≡ own_written buffer 0 bytes own
   -- to write a buffer's own bytes over it changes nothing
-  pub same : (own : Own) (buffer : ℕ × ℕ) → writing buffer 0 (ram_at own buffer) own ≡ own
+  pub same : (own : Own) (buffer : ℕ × ℕ) → own_written buffer 0 (ram_at own buffer) own ≡ own

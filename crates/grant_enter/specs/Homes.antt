@@ -1,24 +1,27 @@
--- What contracts see of the memory of all processes: flash, and by slot what is a process's own.
-use Rattle.std.specs.Prelude.{◌≡◌, ◌≢◌, ◌≤◌, ◌<◌, ℕ, zero, suc, ◌+◌, ◌-◌, ◌%◌, ◌^◌, true, if◌then◌else◌, List, [], length, slice_index_or, slice_set, Option, None, Some}
+-- What contracts see of the memory of all processes: flash, and by slot what is a process's own. A process has its
+-- block and its grants as in Levy et al., SOSP 2017, section 4.
+use Rattle.std.specs.Prelude.{◌≡◌, ◌≢◌, ◌≤◌, ◌<◌, ℕ, zero, suc, ◌+◌, ◌-◌, ◌%◌, ◌^◌, true, if◌then◌else◌, false, List}
+use Rattle.std.specs.Prelude.{[], length, slice_index_or, slice_set, Option, None, Some}
 use Rattle.std.specs.List.{AllByRecursion}
 use Rattle.tk_base.specs.declared.access.TheConstants.{FLASH_START, RAM_START}
 use Rattle.tk_base.specs.declared.process.ProcessId.{ProcessId}
 use Rattle.tk_base.specs.Regs.{Registers}
 use Rattle.rv32_model.specs.declared.turn_end.TurnEnd.{TurnEnd}
 use Rattle.rv32_model.specs.declared.turn_end.TurnEnd.TheVariants.{Went}
-use Rattle.process_layout.specs.Extents.{Extents}
+use Rattle.process_layout.specs.LayoutView.{LayoutView}
 use Rattle.process_layout.specs.Ordered.{IsOrdered}
-use Rattle.grant_areas.specs.Laid.{laid, IsSound}
-use Rattle.process_own.specs.declared.place.Footprint.{Footprint}
-use Rattle.process_own.specs.Own.{Own}
-use Rattle.process_own.specs.Flash.{HasObject}
-use Rattle.process_own.specs.Instruction.{Sees, instruction_of, with_write}
+use Rattle.grant_model.specs.Encoding.{encode_grants, IsSound}
+use Rattle.process_model.specs.declared.place.Footprint.{Footprint}
+use Rattle.process_model.specs.Own.{Own}
+use Rattle.process_model.specs.Flash.{HasObject}
+use Rattle.process_model.specs.Instruction.{Sees, instruction_of, with_write}
 
+-- the bytes of flash, and what is a process's own in each slot, slot 0 first
 pub record Homes : Type 0 where
   pub flash : List ℕ
   pub owns : List Own
 
--- what stands for a slot that there is not
+-- what stands for a slot in which no process was placed: none lives there
 abbrev pub nobody : Own
 nobody = record {
   object = record { address = 0; size = 0 };
@@ -27,7 +30,7 @@ nobody = record {
   grants = [];
   pending = [];
   life = 0;
-  lives = true;
+  lives = false;
   dropped = 0;
 }
 
@@ -50,7 +53,7 @@ ChangesOnly slot old new = new ≡ with_own old slot (own_of new slot)
 
 -- Where a process's memory may lie in so many bytes of flash and of RAM: the accessible flash in flash, in whole words
 -- and below RAM, the block in RAM.
-pub record IsSettled (flash ram : ℕ) (e : Extents) : Type 0 where
+pub record FitsMemory (flash ram : ℕ) (e : LayoutView) : Type 0 where
   pub ordered : IsOrdered e
   pub flash_from : FLASH_START ≤ e.flash_start
   pub flash_to : e.flash_end ≤ FLASH_START + flash
@@ -63,7 +66,7 @@ pub record IsSettled (flash ram : ℕ) (e : Extents) : Type 0 where
 
 -- where a process may begin its first life: it lies in flash and RAM, and has no grants yet
 pub record CanMoveIn (flash ram : ℕ) (f : Footprint) : Type 0 where
-  pub settled : IsSettled flash ram f.layout
+  pub settled : FitsMemory flash ram f.layout
   pub object : HasObject flash f.object f.layout
   pub no_grants : f.layout.kernel_break ≡ f.layout.end
 
@@ -73,20 +76,20 @@ pub record IsInPlace (own : Own) : Type 0 where
   pub ordered : IsOrdered own.layout
   pub apart : own.layout.flash_end ≤ own.layout.start
   pub ram : length own.ram ≡ own.layout.kernel_break - own.layout.start
-  pub kernel : length (laid own.grants) ≡ own.layout.end - own.layout.kernel_break
+  pub kernel : length (encode_grants own.grants) ≡ own.layout.end - own.layout.kernel_break
   pub sound : AllByRecursion IsSound own.grants
 
 -- one block ends before another begins
-abbrev pub EndsBefore : Extents → Extents → Type 0
+abbrev pub EndsBefore : LayoutView → LayoutView → Type 0
 EndsBefore a b = a.end ≤ b.start
 
-abbrev pub LiesBefore : Footprint → Footprint → Type 0
-LiesBefore a b = EndsBefore a.layout b.layout
+abbrev pub FootprintBefore : Footprint → Footprint → Type 0
+FootprintBefore a b = EndsBefore a.layout b.layout
 
 -- An instruction of a process: whatever bytes stand where it may not look, it is the one that its own bytes give, and
 -- of memory it leaves what it writes to its own RAM.
-abbrev pub Makes : List ℕ → Own → Registers → Own → Registers → TurnEnd → Type 0
-Makes flash own regs own_after regs_after end =
+abbrev pub MakesInstruction : List ℕ → Own → Registers → Own → Registers → TurnEnd → Type 0
+MakesInstruction flash own regs own_after regs_after end =
     (seen : ℕ → ℕ) → Sees flash own seen →
     let t = instruction_of own seen regs in
     (own_after ≡ with_write own t) × (regs_after ≡ t.regs) × (end ≡ t.end)

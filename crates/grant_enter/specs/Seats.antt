@@ -1,23 +1,26 @@
--- How the one RAM holds the blocks. Only proofs use this.
-use Rattle.std.specs.Prelude.{ℕ, ◌≡◌, ◌<◌, ◌≤◌, ◌+◌, ◌-◌, ◌==◌, ◌||◌, Bool, IsTrue, true, if◌then◌else◌, List, [], ◌∷◌, ◌++◌, length, map, take, drop, slice_range, All, AllPairs}
+-- How the one RAM holds the blocks. A home shows `homes_of`; the rest is for proofs alone. The two parts of a block are
+-- those of Levy et al., SOSP 2017, section 4.
+use Rattle.std.specs.Prelude.{ℕ, ◌≡◌, ◌<◌, ◌≤◌, ◌+◌, ◌-◌, ◌==◌, ◌||◌, Bool, IsTrue, true, if◌then◌else◌, List, [], ◌∷◌}
+use Rattle.std.specs.Prelude.{◌++◌, length, map, take, drop, slice_range, All, AllPairs}
 use Rattle.std.specs.List.{AllByRecursion}
 use Rattle.tk_base.specs.declared.access.TheConstants.{FLASH_START, RAM_START}
+use Rattle.tk_base.specs.declared.limits.TheConstants.{FLASH_LIMIT}
 use Rattle.tk_base.specs.declared.upcall.Upcall.{Upcall}
 use Rattle.upcall_queue.specs.Pending.{has_room}
-use Rattle.process_layout.specs.Extents.{Extents}
+use Rattle.process_layout.specs.LayoutView.{LayoutView}
 use Rattle.process_layout.specs.Interval.{lies_within}
 use Rattle.process_layout.specs.Ordered.{IsOrdered}
-use Rattle.grant_values.specs.Words.{bytes_of}
-use Rattle.grant_areas.specs.Grants.{Grant, grant_of, entered}
-use Rattle.grant_areas.specs.Laid.{IsLaid, Tells, read_back}
+use Rattle.grant_values.specs.Words.{bytes_of_words}
+use Rattle.grant_model.specs.Grants.{Grant, grant_of, entered}
+use Rattle.grant_model.specs.Encoding.{EncodesGrants, Tells, decode_grants}
 use Rattle.grant_region.specs.Region.{below, fits, roomed}
 use Rattle.swap_tables.specs.Swaps.{held_pair, swapped}
-use Rattle.process_own.specs.declared.place.Footprint.{Footprint}
-use Rattle.process_own.specs.Own.{Own}
-use Rattle.process_own.specs.Handed.{lies_in_ram}
-use Rattle.process_own.specs.Flash.{HasObject}
+use Rattle.process_model.specs.declared.place.Footprint.{Footprint}
+use Rattle.process_model.specs.Own.{Own}
+use Rattle.process_model.specs.Handed.{lies_in_ram}
+use Rattle.process_model.specs.Flash.{HasObject}
 use Rattle.board_memory.specs.Memory.{MemoryBytes, ram_between, with_run}
-use Rattle.grant_enter.specs.Homes.{Homes, IsSettled, EndsBefore}
+use Rattle.grant_enter.specs.Homes.{Homes, FitsMemory, EndsBefore}
 use Rattle.grant_enter.specs.Windows.{SameOutside}
 use Rattle.grant_enter.specs.declared.handing.Handover.{Handover}
 use Rattle.grant_enter.specs.declared.seat.Pending.{Pending}
@@ -39,7 +42,7 @@ owned seat app kernel = record {
   object = seat.object;
   layout = seat.layout;
   ram = app;
-  grants = read_back kernel;
+  grants = decode_grants kernel;
   pending = seat.pending.queue;
   life = seat.life;
   lives = seat.lives;
@@ -47,49 +50,52 @@ owned seat app kernel = record {
 }
 
 -- the two parts of a block in RAM
-abbrev pub app_in : List ℕ → Extents → List ℕ
+abbrev pub app_in : List ℕ → LayoutView → List ℕ
 app_in ram e = ram_between ram e.start e.kernel_break
 
-abbrev pub kernel_in : List ℕ → Extents → List ℕ
+-- the kernel's part of a block in RAM, from the kernel break on: the grants
+abbrev pub kernel_in : List ℕ → LayoutView → List ℕ
 kernel_in ram e = ram_between ram e.kernel_break e.end
 
 -- what is the own of a process whose block lies in RAM
 abbrev pub own_in : List ℕ → Seat → Own
 own_in ram seat = owned seat (app_in ram seat.layout) (kernel_in ram seat.layout)
 
-abbrev pub owns_in : List ℕ → List Seat → List Own
-owns_in ram seats = map (own_in ram) seats
+-- what is the own of the process in each slot
+abbrev pub owns_seated : List ℕ → List Seat → List Own
+owns_seated ram seats = map (own_in ram) seats
 
+-- what contracts see of the memory that a home keeps
 abbrev pub homes_of : Inside → Homes
-homes_of h = record { flash = h.memory.flash; owns = owns_in h.memory.ram h.seats.items }
+homes_of h = record { flash = h.memory.flash; owns = owns_seated h.memory.ram h.seats.items }
 
 -- layouts by slot: each lies in memory of so many bytes, and they lie one after another
-pub record AreSettled (flash ram : ℕ) (layouts : List Extents) : Type 0 where
-  pub each : All (IsSettled flash ram) layouts
+pub record AreSettled (flash ram : ℕ) (layouts : List LayoutView) : Type 0 where
+  pub each : All (FitsMemory flash ram) layouts
   pub apart : AllPairs EndsBefore layouts
 
-abbrev pub layouts_of : List Seat → List Extents
+abbrev pub layouts_of : List Seat → List LayoutView
 layouts_of seats = map (λ s. s.layout) seats
 
 -- a read-write buffer that has bytes lies below the mark
-abbrev pub LiesBelowMark : Extents → ℕ × ℕ → Type 0
+abbrev pub LiesBelowMark : LayoutView → ℕ × ℕ → Type 0
 LiesBelowMark e pair = 0 < pair.1 → (e.start ≤ pair.0) × (pair.0 + pair.1 ≤ e.mark)
 
 -- a read-only buffer that has bytes lies there, or in accessible flash
-abbrev pub MayBeRead : Extents → ℕ × ℕ → Type 0
+abbrev pub MayBeRead : LayoutView → ℕ × ℕ → Type 0
 MayBeRead e pair =
     0 < pair.1 → IsTrue (lies_within e.start e.mark pair.0 pair.1
     || lies_within e.flash_start e.flash_end pair.0 pair.1)
 
 -- the buffers of a grant lie where they may
-pub record Holds (e : Extents) (g : Grant) : Type 0 where
+pub record Holds (e : LayoutView) (g : Grant) : Type 0 where
   pub rw : AllByRecursion (LiesBelowMark e) g.rw
   pub ro : AllByRecursion (MayBeRead e) g.ro
 
 -- the bytes from the kernel break on are the areas of grants, whose buffers lie where they may
-pub record IsKept (e : Extents) (kernel : List ℕ) : Type 0 where
-  pub laid : IsLaid kernel
-  pub held : AllByRecursion (Holds e) (read_back kernel)
+pub record IsKept (e : LayoutView) (kernel : List ℕ) : Type 0 where
+  pub laid : EncodesGrants kernel
+  pub held : AllByRecursion (Holds e) (decode_grants kernel)
 
 -- a process in its seat, over so many bytes of flash and over RAM
 pub record IsSeated (flash : ℕ) (ram : List ℕ) (seat : Seat) : Type 0 where
@@ -97,16 +103,18 @@ pub record IsSeated (flash : ℕ) (ram : List ℕ) (seat : Seat) : Type 0 where
   pub kept : IsKept seat.layout (kernel_in ram seat.layout)
 
 -- memory has a process's block where a layout says: the layout is settled, and from its kernel break on grants are kept
-pub record HasBlock (m : MemoryBytes) (e : Extents) : Type 0 where
-  pub settled : IsSettled (length m.flash) (length m.ram) e
+pub record HasBlock (m : MemoryBytes) (e : LayoutView) : Type 0 where
+  pub settled : FitsMemory (length m.flash) (length m.ram) e
   pub kept : IsKept e (kernel_in m.ram e)
 
 -- a process sits in memory: the layout of its seat is settled, and it is seated
 pub record SitsIn (m : MemoryBytes) (seat : Seat) : Type 0 where
-  pub settled : IsSettled (length m.flash) (length m.ram) seat.layout
+  pub settled : FitsMemory (length m.flash) (length m.ram) seat.layout
   pub seated : IsSeated (length m.flash) m.ram seat
 
+-- flash is within its limit, and each process sits in its block, apart from the others
 pub record IsHome (h : Inside) : Type 0 where
+  pub short : length h.memory.flash ≤ FLASH_LIMIT
   pub settled : AreSettled (length h.memory.flash) (length h.memory.ram) (layouts_of h.seats.items)
   pub seated : All (IsSeated (length h.memory.flash) h.memory.ram) h.seats.items
 
@@ -121,7 +129,8 @@ pub record Reseats (m : MemoryBytes) (seat : Seat) (m' : MemoryBytes) (seat' : S
 
 -- A block that lay as a layout says lies as another one says, in memory that is the same elsewhere: the process's own
 -- bytes are as they were, as far as they are still its own, and these are its grants.
-pub record Regrants (m : MemoryBytes) (e : Extents) (m' : MemoryBytes) (e' : Extents) (gs : List Grant) : Type 0 where
+pub record Regrants (m : MemoryBytes) (e : LayoutView) (m' : MemoryBytes) (e' : LayoutView) (gs : List Grant) : Type
+    0 where
   pub ordered : IsOrdered e'
   pub flash : m'.flash ≡ m.flash
   pub elsewhere : SameOutside (e.start - RAM_START) (e.end - RAM_START) m.ram m'.ram
@@ -129,20 +138,20 @@ pub record Regrants (m : MemoryBytes) (e : Extents) (m' : MemoryBytes) (e' : Ext
   pub tells : Tells (kernel_in m'.ram e') gs
 
 -- a swap in a block of memory gives the former pair, and leaves the new one among the grants
-pub record SwapsIn (h : Handover) (m : MemoryBytes) (e : Extents) (m' : MemoryBytes) (e' : Extents)
+pub record SwapsIn (h : Handover) (m : MemoryBytes) (e : LayoutView) (m' : MemoryBytes) (e' : LayoutView)
     (answer : ℕ × ℕ) : Type 0 where
   pub former : answer ≡ held_pair h.kind h.driver h.number (kernel_in m.ram e)
-  pub layout : e' ≡ roomed h.driver e (grant_of h.driver (read_back (kernel_in m.ram e)))
+  pub layout : e' ≡ roomed h.driver e (grant_of h.driver (decode_grants (kernel_in m.ram e)))
   pub grants : Regrants m e m' e' (swapped h.kind h.driver h.number h.pair (kernel_in m.ram e))
 
 -- whether a driver is entered by the process of a block in RAM, or its grant fits
-abbrev pub fits_in : ℕ → List ℕ → Extents → Bool
-fits_in driver ram e = fits e driver (grant_of driver (read_back (kernel_in ram e)))
+abbrev pub fits_in : ℕ → List ℕ → LayoutView → Bool
+fits_in driver ram e = fits e driver (grant_of driver (decode_grants (kernel_in ram e)))
 
 -- room was made in a block of memory for a driver's grant, where there was none
-pub record MakesRoom (driver : ℕ) (m : MemoryBytes) (e : Extents) (m' : MemoryBytes) (e' : Extents) : Type 0 where
-  pub layout : e' ≡ roomed driver e (grant_of driver (read_back (kernel_in m.ram e)))
-  pub grants : Regrants m e m' e' (entered driver (read_back (kernel_in m.ram e)))
+pub record MakesRoom (driver : ℕ) (m : MemoryBytes) (e : LayoutView) (m' : MemoryBytes) (e' : LayoutView) : Type 0 where
+  pub layout : e' ≡ roomed driver e (grant_of driver (decode_grants (kernel_in m.ram e)))
+  pub grants : Regrants m e m' e' (entered driver (decode_grants (kernel_in m.ram e)))
 
 -- what is pending once an upcall was scheduled
 abbrev pub queued : Upcall → Pending → Pending
@@ -152,7 +161,7 @@ queued upcall pending =
     else record pending { dropped = pending.dropped + 1 })
 
 -- the bytes of a buffer that may be read, which has none where its size is 0
-abbrev pub readable : MemoryBytes → Extents → ℕ × ℕ → List ℕ
+abbrev pub readable : MemoryBytes → LayoutView → ℕ × ℕ → List ℕ
 readable m e buffer =
     if buffer.1 == 0 then []
     else (if lies_in_ram e buffer.0 buffer.1 then ram_between m.ram buffer.0 (buffer.0 + buffer.1)
@@ -160,8 +169,8 @@ readable m e buffer =
 
 -- the kernel's bytes of a block in which a value of so many bytes has other words, at a place from the kernel break on
 abbrev pub value_put : List ℕ → ℕ → ℕ → List ℕ → List ℕ
-value_put kernel at size words = take at kernel ++ (bytes_of words ++ drop size (drop at kernel))
+value_put kernel at size words = take at kernel ++ (bytes_of_words words ++ drop size (drop at kernel))
 
 -- memory in whose block it stands
-abbrev pub with_value_in : MemoryBytes → Extents → ℕ → ℕ → List ℕ → MemoryBytes
+abbrev pub with_value_in : MemoryBytes → LayoutView → ℕ → ℕ → List ℕ → MemoryBytes
 with_value_in m e at size words = with_run m e.kernel_break (value_put (kernel_in m.ram e) at size words)

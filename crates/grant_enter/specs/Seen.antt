@@ -5,9 +5,9 @@ use Rattle.std.specs.List.{AllByRecursion}
 use Rattle.tk_base.specs.declared.access.TheConstants.{RAM_START}
 use Rattle.tk_base.specs.declared.upcall.Counts.{Counts}
 use Rattle.grant_values.specs.Drivers.{counts_of}
-use Rattle.grant_areas.specs.Grants.{Grant, grant_of}
+use Rattle.grant_model.specs.Grants.{Grant, grant_of}
 use Rattle.board_memory.specs.Memory.{MemoryBytes}
-use Rattle.process_own.specs.Own.{Own}
+use Rattle.process_model.specs.Own.{Own}
 use Rattle.grant_enter.specs.Seats.{SitsIn, own_in}
 use Rattle.grant_enter.specs.declared.seat.Seat.{Seat}
 use Rattle.grant_enter.specs.declared.entered.Entered.{Entered}
@@ -22,7 +22,7 @@ pub record Seen : Type 0 where
 abbrev pub seen_of : ℕ → Counts → List ℕ → Own → Seen
 seen_of driver counts flash own = record { driver = driver; counts = counts; flash = flash; own = own }
 
--- what is the own of the process that was entered
+-- What contracts see of a process that was entered; they name none of its fields. Its own, and what its driver sees:
 abbrev pub own_entered : Entered → Own
 own_entered e = own_in e.memory.now.ram e.seat.now
 
@@ -55,9 +55,10 @@ pub record SameButIn (buffers : List (ℕ × ℕ)) (first : ℕ) (old new : List
   pub long : length new ≡ length old
   pub each : (k : ℕ) → LiesOutside (first + k) buffers → slice_index new k ≡ slice_index old k
 
--- a driver has changed of a process's own the bytes in its read-write buffers, what is pending and how many upcalls were
+-- a driver has changed of a process's own the bytes in its read-write buffers, what is pending and how many upcalls
+-- were
 -- dropped, and nothing else
-pub record Serves (driver : ℕ) (old new : Own) : Type 0 where
+pub record VisitorChanges (driver : ℕ) (old new : Own) : Type 0 where
   pub rest : new ≡ record old { ram = new.ram; pending = new.pending; dropped = new.dropped }
   pub bytes : SameButIn (rw_buffers driver old) old.layout.start old.ram new.ram
 

@@ -3,14 +3,15 @@ ghost use Rattle.std.specs.Prelude.{◌≡◌, ◌+◌, ◌-◌, ◌==◌, ◌<�
 ghost use Rattle.std.specs.Borrow.{sem};
 ghost use Rattle.tk_base.specs.declared.access.TheConstants.{FLASH_START, RAM_START};
 ghost use Rattle.board_memory.specs.Memory.{ram_between};
-ghost use Rattle.grant_areas.specs.declared.kinds.PairKind.TheVariants.{ReadOnly, ReadWrite};
-ghost use Rattle.process_own.specs.Handed.{held};
+ghost use Rattle.grant_model.specs.declared.kinds.PairKind.TheVariants.{ReadOnly, ReadWrite};
+ghost use Rattle.process_model.specs.Handed.{held};
 ghost use Rattle.upcall_queue.specs.Pending.{has_room};
-ghost use Rattle.process_own.specs.Served.{bytes_at, is_queued, over, ram_at, scheduled, upcall_of, with_written};
-ghost use Rattle.grant_enter.specs.Buffers.{LendsBuffer, first_of, last_of};
-ghost use Rattle.grant_enter.specs.Homes.{IsSettled};
+ghost use Rattle.process_model.specs.Served.{bytes_at, is_queued, ram_at, own_scheduled, upcall_of, with_written};
+ghost use Rattle.tk_base.specs.Bytes.{over};
+ghost use Rattle.grant_enter.specs.Buffers.{LendsBuffer, buffer_start, last_of};
+ghost use Rattle.grant_enter.specs.Homes.{FitsMemory};
 ghost use Rattle.grant_enter.specs.Seats.{MayBeRead, own_in, queued, readable};
-ghost use Rattle.grant_enter.specs.Seen.{Framed, IsLent, IsLentTo, own_entered};
+ghost use Rattle.grant_enter.specs.Seen.{Framed, IsLent, IsLentTo, own_entered, seen};
 
 use crate::kept::kernel_of;
 use crate::seat::{Pending, Seat};
@@ -57,7 +58,7 @@ fn flash_part(flash: &[u8], from: Addr, to: Addr) -> &[u8]
 
 /// The bytes of a buffer that may be read.
 fn buffer_at<'a>(memory: &'a Memory, layout: &Layout, at: Addr, size: u32) -> &'a [u8]
-    requires settled { IsSettled (length memory.now.flash) (length memory.now.ram) layout.now }
+    requires settled { FitsMemory (length memory.now.flash) (length memory.now.ram) layout.now }
     requires may { MayBeRead layout.now (at, size) }
     ensures { result.now ≡ readable memory.now layout.now (at, size) }
 {
@@ -73,7 +74,7 @@ fn buffer_at<'a>(memory: &'a Memory, layout: &Layout, at: Addr, size: u32) -> &'
 /// The addresses of a buffer: its first, and the first after it.
 fn ends_of(layout: &Layout, buffer: (u32, u32)) -> (Addr, Addr)
     requires { buffer.0 + buffer.1 < 2 ^ 32 }
-    ensures { result ≡ (first_of layout.now buffer, last_of layout.now buffer) }
+    ensures { result ≡ (buffer_start layout.now buffer, last_of layout.now buffer) }
 {
     let (at, size) = buffer;
     if size == 0 {
@@ -87,14 +88,15 @@ fn rw_ends(memory: &Memory, seat: &Seat, driver: u32, counts: &Counts, n: u32) -
     requires lent { IsLentTo driver counts.now memory.now seat.now }
     requires number { n < counts.now.rw }
     ensures ends { result ≡ (
-      first_of seat.now.layout (held ReadWrite driver n (own_in memory.now.ram seat.now)),
+      buffer_start seat.now.layout (held ReadWrite driver n (own_in memory.now.ram seat.now)),
       last_of seat.now.layout (held ReadWrite driver n (own_in memory.now.ram seat.now)),
     ) }
     ensures from { RAM_START ≤ result.0 }
     ensures order { result.0 ≤ result.1 }
     ensures to { result.1 ≤ RAM_START + length memory.now.ram }
     ensures bytes { ram_between memory.now.ram result.0 result.1
-        ≡ ram_at (own_in memory.now.ram seat.now) (held ReadWrite driver n (own_in memory.now.ram seat.now)) }
+        ≡ ram_at (own_in memory.now.ram seat.now)
+        (held ReadWrite driver n (own_in memory.now.ram seat.now)) }
 {
     let buffer = buffer_rw(kernel_of(memory, &seat.layout), driver, counts, n);
     ends_of(&seat.layout, buffer)
@@ -106,9 +108,9 @@ impl Entered<'_> {
     /// process has allowed none.
     pub fn read_only(&self, n: u32) -> &[u8]
         requires lent { IsLent self.now }
-        requires number { n < self.now.counts.ro }
-        ensures { result.now ≡ bytes_at self.now.memory.now.flash (own_entered self.now)
-            (held ReadOnly self.now.driver n (own_entered self.now)) }
+        requires number { n < (seen self.now).counts.ro }
+        ensures { result.now ≡ bytes_at (seen self.now).flash (own_entered self.now)
+            (held ReadOnly (seen self.now).driver n (own_entered self.now)) }
     {
         let (at, size) = buffer_ro(
             kernel_of(self.memory, &self.seat.layout),
@@ -123,10 +125,10 @@ impl Entered<'_> {
     /// Allow"), lent to be written; it has no bytes where the process has allowed none.
     pub fn read_write(&mut self, n: u32) -> &mut [u8]
         requires lent { IsLent self.old }
-        requires number { n < self.old.counts.rw }
+        requires number { n < (seen self.old).counts.rw }
         ensures* writes_back { sem 𝓛 (LendsBuffer self.entry n result) }
         ensures bytes { result.now ≡ ram_at (own_entered self.old)
-            (held ReadWrite self.old.driver n (own_entered self.old)) }
+            (held ReadWrite (seen self.old).driver n (own_entered self.old)) }
     {
         let (from, to) = rw_ends(self.memory, self.seat, self.driver, &self.counts, n);
         let memory = &mut *self.memory;
@@ -137,11 +139,11 @@ impl Entered<'_> {
     /// says how many.
     pub fn write(&mut self, n: u32, offset: u32, bytes: &[u8]) -> usize
         requires lent { IsLent self.old }
-        requires number { n < self.old.counts.rw }
+        requires number { n < (seen self.old).counts.rw }
         ensures count { result ≡ min (length bytes.now)
-            ((held ReadWrite self.old.driver n (own_entered self.old)).1 - offset) }
+            ((held ReadWrite (seen self.old).driver n (own_entered self.old)).1 - offset) }
         ensures own { own_entered self.new
-            ≡ with_written self.old.driver n offset bytes.now (own_entered self.old) }
+            ≡ with_written (seen self.old).driver n offset bytes.now (own_entered self.old) }
         // what a visitor owes
         ensures lent { IsLent self.new }
         ensures framed { Framed self.old self.new }
@@ -154,11 +156,13 @@ impl Entered<'_> {
     /// dropped and counted.
     pub fn schedule(&mut self, n: u32, args: [u32; 3]) -> bool
         requires lent { IsLent self.old }
-        requires number { n < self.old.counts.upcalls }
+        requires number { n < (seen self.old).counts.upcalls }
         requires dropped { (own_entered self.old).dropped + 1 < 2 ^ 32 }
         ensures answer { result
-            ≡ is_queued (upcall_of self.old.driver n args (own_entered self.old)) (own_entered self.old) }
-        ensures own { own_entered self.new ≡ scheduled self.old.driver n args (own_entered self.old) }
+            ≡ is_queued (upcall_of (seen self.old).driver n args (own_entered self.old))
+            (own_entered self.old) }
+        ensures own { own_entered self.new
+            ≡ own_scheduled (seen self.old).driver n args (own_entered self.old) }
         // what a visitor owes
         ensures lent { IsLent self.new }
         ensures framed { Framed self.old self.new }
@@ -183,7 +187,8 @@ impl Entered<'_> {
 /// Puts bytes into a buffer from an offset on, as many as fit, and says how many.
 fn put_from(buffer: &mut [u8], offset: usize, bytes: &[u8]) -> usize
     ensures count { result ≡ min (length bytes.now) (length buffer.old - offset) }
-    ensures buffer { buffer.new ≡ over buffer.old offset (take (length buffer.old - offset) bytes.now) }
+    ensures buffer { buffer.new
+        ≡ over buffer.old offset (take (length buffer.old - offset) bytes.now) }
 {
     if offset >= buffer.len() {
         return 0;

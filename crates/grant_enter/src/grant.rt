@@ -1,8 +1,8 @@
 //! The grants of a driver.
-ghost use Rattle.std.specs.Prelude.{◌≡◌, ◌<◌, not, length, is_ok, IfOk, Some, option_map};
+ghost use Rattle.std.specs.Prelude.{◌≡◌, not, is_ok, IfOk, Some, option_map};
 ghost use Rattle.grant_values.specs.Drivers.{counting, counts_of};
-ghost use Rattle.process_own.specs.Handed.{entering};
-ghost use Rattle.process_own.specs.Served.{kept};
+ghost use Rattle.process_model.specs.Handed.{own_entering};
+ghost use Rattle.process_model.specs.Served.{kept};
 ghost use Rattle.grant_enter.specs.Homes.{ChangesOnly, own_of};
 ghost use Rattle.grant_enter.specs.Visits.{Asks, Enters, Visits, is_stale};
 
@@ -45,8 +45,8 @@ impl<T: GrantValue, const UP: usize, const RO: usize, const RW: usize> Grant<T, 
     /// is kept. What it leaves by its own contract is then the process's; all else of the process, and all of
     /// another slot, stays.
     ///
-    /// It is stale exactly where the process has ended or is in another life; otherwise there is no room
-    /// exactly where the driver is not entered and the kernel break less the cost of its grant is below
+    /// It is stale exactly where the process has ended or is in another life, or none was placed in the slot;
+    /// otherwise there is no room exactly where the driver is not entered and the kernel break less the cost of its grant is below
     /// the break. Then nothing changes.
     pub fn enter<V: Visit<T> + Drop>(
         &self,
@@ -54,9 +54,8 @@ impl<T: GrantValue, const UP: usize, const RO: usize, const RW: usize> Grant<T, 
         id: ProcessId,
         visitor: V,
     ) -> Result<V::Answer, EnterError>
-        requires slot { id.slot < length home.old.owns }
         requires asks { Asks (V.asks visitor) T.value self.now.driver (counting UP RO RW T.SIZE)
-            home.old.flash (entering self.now.driver (own_of home.old id.slot)) }
+            home.old.flash (own_entering self.now.driver (own_of home.old id.slot)) }
         ensures enters { Enters (V.leaves visitor) T.value T.words self.now.driver
             (counting UP RO RW T.SIZE) id.life home.old.flash
             (own_of home.old id.slot) result (own_of home.new id.slot) }
@@ -68,15 +67,14 @@ impl<T: GrantValue, const UP: usize, const RO: usize, const RW: usize> Grant<T, 
     /// Visits the grant that a process keeps for the driver, as [`Grant::enter`], and makes nothing. The
     /// answer is None exactly where the process has not entered the driver in this life.
     ///
-    /// It is stale exactly where the process has ended or is in another life. Where no visitor was run
-    /// nothing changes.
+    /// It is stale exactly where the process has ended or is in another life, or none was placed in the slot.
+    /// Where no visitor was run nothing changes.
     pub fn visit<V: Visit<T> + Drop>(
         &self,
         home: &mut Home,
         id: ProcessId,
         visitor: V,
     ) -> Result<Option<V::Answer>, Stale>
-        requires slot { id.slot < length home.old.owns }
         requires asks { Asks (V.asks visitor) T.value self.now.driver (counting UP RO RW T.SIZE)
             home.old.flash (own_of home.old id.slot) }
         ensures visits { Visits (V.leaves visitor) T.value T.words self.now.driver
@@ -88,9 +86,9 @@ impl<T: GrantValue, const UP: usize, const RO: usize, const RW: usize> Grant<T, 
     }
 
     /// The value that a process keeps for the driver; None exactly where it has not entered the driver in
-    /// this life. It is stale exactly where the process has ended or is in another life.
+    /// this life. It is stale exactly where the process has ended or is in another life, or none was placed in
+    /// the slot.
     pub fn peek(&self, home: &Home, id: ProcessId) -> Result<Option<T>, Stale>
-        requires slot { id.slot < length home.now.owns }
         ensures stale { is_ok result ≡ not (is_stale id.life (own_of home.now id.slot)) }
         ensures kept { IfOk result
             (λ value. value ≡ option_map T.value (kept self.now.driver (own_of home.now id.slot))) }

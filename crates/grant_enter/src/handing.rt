@@ -1,13 +1,13 @@
 //! What a process hands to a driver, in its seat.
 ghost use Rattle.std.specs.Prelude.{◌≡◌, IsTrue, is_ok, IfOk, OnOk, OnErr};
-ghost use Rattle.swap_tables.specs.Swaps.{CanSwap, IsPair, SwapOutcome, has_place};
-ghost use Rattle.process_own.specs.Handed.{handing, has_place as has_place_in, held, marked, may_hand, raised, still_pending};
+ghost use Rattle.swap_tables.specs.Swaps.{CanSwap, IsPair, SwapOutcome, grant_fits};
+ghost use Rattle.process_model.specs.Handed.{handing, has_place as has_place_in, held, marked, may_share, raised, still_pending};
 ghost use Rattle.process_layout.specs.Ordered.{IsOrdered};
 ghost use Rattle.grant_enter.specs.Seats.{HasBlock, Reseats, SitsIn, SwapsIn, kernel_in, own_in};
 
 use crate::seat::{Pending, Seat};
-use board_memory::{Block, Halves, Memory};
-use grant_areas::PairKind;
+use board_memory::{Block, Memory, SplitBlock};
+use grant_model::PairKind;
 use grant_region::NoRoom;
 use process_layout::Layout;
 use swap_tables::{swap_ro, swap_rw, swap_upcall};
@@ -66,12 +66,12 @@ fn swap_in(
     requires block { HasBlock memory.old layout.old }
     requires pair { IsPair handover.kind handover.driver handover.counts handover.number }
     ensures room { is_ok result
-        ≡ has_place layout.old handover.driver (kernel_in memory.old.ram layout.old) }
+        ≡ grant_fits layout.old handover.driver (kernel_in memory.old.ram layout.old) }
     ensures swapped { IfOk result (SwapsIn handover memory.old layout.old memory.new layout.new) }
     ensures refused { OnErr result ((memory.new ≡ memory.old) × (layout.new ≡ layout.old)) }
 {
     let Block { bytes, cut, .. } = memory.lend_block(layout);
-    let Halves { app, kernel } = Halves::of(bytes, cut);
+    let SplitBlock { app, kernel } = SplitBlock::of(bytes, cut);
     let former = swap(handover, layout, app, kernel);
     in_order(layout);
     former
@@ -110,7 +110,7 @@ pub(crate) fn hand_at(
 ) -> Result<(u32, u32), NoRoom>
     requires sits { SitsIn memory.old seat.old }
     requires pair { IsPair handover.kind handover.driver handover.counts handover.number }
-    requires may { IsTrue (may_hand handover.kind seat.old.layout handover.pair) }
+    requires may { IsTrue (may_share handover.kind seat.old.layout handover.pair) }
     ensures room { is_ok result ≡ has_place_in handover.driver (own_in memory.old.ram seat.old) }
     ensures former { IfOk result (λ former. former
         ≡ held handover.kind handover.driver handover.number (own_in memory.old.ram seat.old)) }

@@ -1,14 +1,15 @@
 //! The memory of all processes.
-ghost use Rattle.std.specs.Prelude.{◌≡◌, ◌==◌, ◌≤◌, ◌<◌, ◌+◌, ◌%◌, ◌^◌, ℕ, not, slice_get, All, AllPairs, IsTrue, length, map, option_map, is_ok, IfOk, OnOk, OnErr, vec_len};
+ghost use Rattle.std.specs.Prelude.{◌≡◌, ◌==◌, ◌≤◌, ◌<◌, ◌+◌, ◌%◌, ◌^◌, ℕ, nat_lt, not, slice_get, All, AllPairs, IsTrue, length, map, option_map, is_ok, IfOk, OnOk, OnErr, vec_len};
 ghost use Rattle.std.specs.Bool.{OnTrue, OnFalse};
-ghost use Rattle.process_layout.specs.Extents.{permits_break};
-ghost use Rattle.board_memory.specs.Registers.{Protect};
-ghost use Rattle.process_own.specs.Own.{block_of, opened, with_moved_break, restarted, ended, without_first};
-ghost use Rattle.process_own.specs.Flag.{with_flag};
-ghost use Rattle.process_own.specs.Handed.{HoldsInPlace, entering, handing, has_place, held, may_hand};
-ghost use Rattle.process_own.specs.Served.{kept};
+ghost use Rattle.tk_base.specs.declared.limits.TheConstants.{FLASH_LIMIT};
+ghost use Rattle.process_layout.specs.LayoutView.{permits_break};
+ghost use Rattle.board_memory.specs.Registers.{process_registers, Protect};
+ghost use Rattle.process_model.specs.Own.{block_of, opened, with_moved_break, own_restarted, own_ended, without_first};
+ghost use Rattle.process_model.specs.Flag.{with_flag};
+ghost use Rattle.process_model.specs.Handed.{HoldsInPlace, own_entering, handing, has_place, held, may_share};
+ghost use Rattle.process_model.specs.Served.{kept};
 ghost use Rattle.swap_tables.specs.Swaps.{IsPair};
-ghost use Rattle.grant_enter.specs.Homes.{own_of, living, ChangesOnly, IsInPlace, IsStopped, CanMoveIn, LiesBefore, Makes, MakesAll};
+ghost use Rattle.grant_enter.specs.Homes.{own_of, living, ChangesOnly, IsInPlace, IsStopped, CanMoveIn, FootprintBefore, MakesInstruction, MakesAll};
 ghost use Rattle.grant_enter.specs.Visits.{Asks, Enters, IsCounted, Visits, is_stale};
 
 use crate::flag::put_flag_at;
@@ -17,16 +18,16 @@ use crate::instruction::{instruction_laws, turn_in, turns_in};
 use crate::seat::Seat;
 use crate::visit::{EnterError, Stale, Visit, block_at, enter_seat, peek_seat, visit_seat};
 use board_memory::{Memory, set_process};
-use grant_areas::{PairKind, what_is_laid_is_read_back};
+use grant_model::{PairKind, what_is_laid_is_read_back};
 use grant_region::NoRoom;
 use grant_values::GrantValue;
 use pmp_regions::Pmp;
 use process_layout::Layout;
-use process_own::Footprint;
+use process_model::Footprint;
 use rv32_model::{TurnEnd, sees_only_permitted, writes_are_permitted};
-use std::alloc::{AllocError, Global};
+use std::alloc::Global;
 use std::marker::Model;
-use tk_base::{Addr, Counts, ProcessId, Regs, Slot, Upcall, a_store_is_put};
+use tk_base::{Addr, Counts, NoMemory, ProcessId, Regs, Slot, Upcall, a_store_is_put};
 
 /// The memory of the processes, and what the kernel keeps of each beside its registers: where its memory
 /// lies, which life it is in, whether it lives, how many upcalls it missed (Levy et al., SOSP 2017).
@@ -54,16 +55,17 @@ impl Model for Home {
 
 impl Home {
     /// Memory with these bytes in flash, and so many bytes of RAM, in which each process has its block, slot
-    /// 0 first. All blocks are zero, and each process lives its first life and has no grants. It fails where
-    /// there is no memory.
+    /// 0 first. All blocks are zero, and each process lives its first life and has no grants. The one error
+    /// is want of memory; flash is dropped then.
     pub fn new(
         alloc: Global,
         flash: Vec<u8>,
         ram: u32,
         footprints: &[Footprint],
-    ) -> Result<Home, AllocError>
+    ) -> Result<Home, NoMemory>
+        requires short { vec_len flash ≤ FLASH_LIMIT }
         requires settled { All (CanMoveIn (vec_len flash) ram) footprints.now }
-        requires apart { AllPairs LiesBefore footprints.now }
+        requires apart { AllPairs FootprintBefore footprints.now }
         ensures { IfOk result
             (λ home. home ≡ record { flash = flash.items; owns = map opened footprints.now }) }
     {
@@ -71,7 +73,9 @@ impl Home {
         let memory = Memory::new(alloc, flash, ram)?;
         let mut seats = Vec::new(alloc);
         for footprint in footprints {
-            seats.push(Seat::first(footprint))?;
+            let Ok(()) = seats.push(Seat::first(footprint)) else {
+                return Err(NoMemory);
+            };
         }
         Ok(Home { memory, seats })
     }
@@ -107,11 +111,14 @@ impl Home {
         self.seats[slot.index()].pending.dropped
     }
 
-    /// Sets the protection registers for the process in a slot: they deny what its layout denies, and
-    /// permit it to store in its accessible RAM alone.
+    /// Sets the protection registers for the process in a slot (the privileged RISC-V manual, "Physical
+    /// Memory Protection"): the first two entries for its accessible flash, two for its accessible RAM,
+    /// the others off. So they deny what its layout denies, and permit it to store in its accessible
+    /// RAM alone.
     pub fn protect(&self, slot: Slot, pmp: &mut Pmp)
         requires { slot < length self.now.owns }
-        ensures { Protect pmp.new (own_of self.now slot).layout }
+        ensures registers { pmp.new ≡ process_registers (own_of self.now slot).layout }
+        ensures protect { Protect pmp.new (own_of self.now slot).layout }
     {
         set_process(pmp, &self.seats[slot.index()].layout);
     }
@@ -140,7 +147,7 @@ impl Home {
         requires to { brk ≤ (own_of self.old slot).layout.end }
         requires aligned { brk % 4 ≡ 0 }
         requires life { (own_of self.old slot).life + 1 < 2 ^ 32 }
-        ensures own { own_of self.new slot ≡ restarted brk (own_of self.old slot) }
+        ensures own { own_of self.new slot ≡ own_restarted brk (own_of self.old slot) }
         ensures rest { ChangesOnly slot self.old self.new }
     {
         what_is_laid_is_read_back();
@@ -153,12 +160,14 @@ impl Home {
     }
 
     /// Ends the process in a slot: it lives no more, and its pending upcalls are gone. Its memory stays as it
-    /// is, and nothing of another slot changes.
+    /// is, and nothing of another slot changes. Where no process was placed in the slot nothing changes.
     pub fn end(&mut self, slot: Slot)
-        requires { slot < length self.old.owns }
-        ensures own { own_of self.new slot ≡ ended (own_of self.old slot) }
+        ensures own { own_of self.new slot ≡ own_ended (own_of self.old slot) }
         ensures rest { ChangesOnly slot self.old self.new }
     {
+        if !self.is_placed(slot) {
+            return;
+        }
         let seat = &mut self.seats[slot.index()];
         seat.pending.queue.clear();
         seat.lives = false;
@@ -183,9 +192,10 @@ impl Home {
     ) -> Result<(u32, u32), NoRoom>
         requires slot { slot < length self.old.owns }
         requires pair { IsPair kind driver counts.now number }
-        requires may { IsTrue (may_hand kind (own_of self.old slot).layout pair) }
+        requires may { IsTrue (may_share kind (own_of self.old slot).layout pair) }
         ensures room { is_ok result ≡ has_place driver (own_of self.old slot) }
-        ensures former { IfOk result (λ former. former ≡ held kind driver number (own_of self.old slot)) }
+        ensures former { IfOk result (λ former.
+            former ≡ held kind driver number (own_of self.old slot)) }
         ensures handed { OnOk result
             (own_of self.new slot ≡ handing kind driver number pair (own_of self.old slot)) }
         ensures refused { OnErr result (self.new ≡ self.old) }
@@ -200,6 +210,13 @@ impl Home {
             pair,
         };
         hand_at(&mut self.memory, seat, handover)
+    }
+
+    /// Whether a process was placed in a slot.
+    fn is_placed(&self, slot: Slot) -> bool
+        ensures { result ≡ nat_lt slot (length self.now.owns) }
+    {
+        slot.index() < self.seats.len()
     }
 
     /// The process that lives in a slot, in its present life. None exactly where none lives there.
@@ -250,14 +267,16 @@ impl Home {
         counts: Counts,
         visitor: V,
     ) -> Result<V::Answer, EnterError>
-        requires slot { id.slot < length self.old.owns }
         requires counted { IsCounted driver counts T.SIZE }
         requires asks { Asks (V.asks visitor) T.value driver counts self.old.flash
-            (entering driver (own_of self.old id.slot)) }
-        ensures enters { Enters (V.leaves visitor) T.value T.words driver counts id.life self.old.flash
-            (own_of self.old id.slot) result (own_of self.new id.slot) }
+            (own_entering driver (own_of self.old id.slot)) }
+        ensures enters { Enters (V.leaves visitor) T.value T.words driver counts id.life
+            self.old.flash (own_of self.old id.slot) result (own_of self.new id.slot) }
         ensures rest { ChangesOnly id.slot self.old self.new }
     {
+        if !self.is_placed(id.slot) {
+            return Err(EnterError::Stale);
+        }
         let seat = &mut self.seats[id.slot.index()];
         enter_seat::<T, V>(&mut self.memory, seat, id.life, driver, counts, visitor)
     }
@@ -270,14 +289,16 @@ impl Home {
         counts: Counts,
         visitor: V,
     ) -> Result<Option<V::Answer>, Stale>
-        requires slot { id.slot < length self.old.owns }
         requires counted { IsCounted driver counts T.SIZE }
         requires asks { Asks (V.asks visitor) T.value driver counts self.old.flash
             (own_of self.old id.slot) }
-        ensures visits { Visits (V.leaves visitor) T.value T.words driver counts id.life self.old.flash
-            (own_of self.old id.slot) result (own_of self.new id.slot) }
+        ensures visits { Visits (V.leaves visitor) T.value T.words driver counts id.life
+            self.old.flash (own_of self.old id.slot) result (own_of self.new id.slot) }
         ensures rest { ChangesOnly id.slot self.old self.new }
     {
+        if !self.is_placed(id.slot) {
+            return Err(Stale);
+        }
         let seat = &mut self.seats[id.slot.index()];
         visit_seat::<T, V>(&mut self.memory, seat, id.life, driver, counts, visitor)
     }
@@ -289,12 +310,14 @@ impl Home {
         driver: u32,
         counts: Counts,
     ) -> Result<Option<T>, Stale>
-        requires slot { id.slot < length self.now.owns }
         requires counted { IsCounted driver counts T.SIZE }
         ensures stale { is_ok result ≡ not (is_stale id.life (own_of self.now id.slot)) }
         ensures kept { IfOk result
             (λ value. value ≡ option_map T.value (kept driver (own_of self.now id.slot))) }
     {
+        if !self.is_placed(id.slot) {
+            return Err(Stale);
+        }
         let seat = &self.seats[id.slot.index()];
         peek_seat::<T>(&self.memory, seat, id.life, driver, counts)
     }
@@ -317,6 +340,14 @@ impl Home {
         let _seats = &self.seats;
     }
 
+    /// As always, the object of each process ends at an address. The function does nothing.
+    pub fn objects_end_at_addresses(&self)
+        ensures { (slot : ℕ) → slot < length self.now.owns
+            → let object = (own_of self.now slot).object in object.address + object.size < 2 ^ 32 }
+    {
+        let _seats = &self.seats;
+    }
+
     /// As always, what is a process's own lies in its place. The function does nothing.
     pub fn owns_lie_in_place(&self)
         ensures { (slot : ℕ) → slot < length self.now.owns → IsInPlace (own_of self.now slot) }
@@ -330,7 +361,7 @@ impl Home {
     pub fn instruct(&mut self, slot: Slot, pmp: &Pmp, regs: &mut Regs) -> TurnEnd
         requires slot { slot < length self.old.owns }
         requires protect { Protect pmp.now (own_of self.old slot).layout }
-        ensures made { Makes self.old.flash (own_of self.old slot) regs.old
+        ensures made { MakesInstruction self.old.flash (own_of self.old slot) regs.old
             (own_of self.new slot) regs.new result }
         ensures rest { ChangesOnly slot self.old self.new }
         // as always

@@ -2,7 +2,7 @@
 ghost use Rattle.std.specs.Prelude.{◌≡◌, ◌≤◌, length};
 ghost use Rattle.tk_base.specs.declared.access.TheConstants.{RAM_START};
 ghost use Rattle.board_memory.specs.Bytes.{StoresLieIn};
-ghost use Rattle.process_own.specs.Instruction.{ram_after};
+ghost use Rattle.process_model.specs.Instruction.{ram_after};
 ghost use Rattle.grant_enter.specs.Reach.{InstructionLaws, GoesUnder, StopsUnder, turn_under};
 
 use board_memory::{Memory, View, a_store_in_ram_is_put, bytes_tell_the_ram};
@@ -39,8 +39,10 @@ fn turns_over(regs: &mut Regs, flash: &[u8], ram: &mut [u8], pmp: &Pmp, most: u3
 pub(crate) fn turns_in(regs: &mut Regs, memory: &mut Memory, pmp: &Pmp, most: u32) -> Stretch
     requires { StoresLieIn (length memory.old.ram) pmp.now }
     ensures most { result.went ≤ most }
-    ensures goes { GoesUnder pmp.now memory.old.flash result.went regs.old memory.old.ram regs.new memory.new.ram }
-    ensures stops { StopsUnder pmp.now memory.old.flash most result.went result.end regs.new memory.new.ram }
+    ensures goes { GoesUnder pmp.now memory.old.flash result.went regs.old memory.old.ram regs.new
+        memory.new.ram }
+    ensures stops { StopsUnder pmp.now memory.old.flash most result.went result.end regs.new
+        memory.new.ram }
     ensures long { length memory.new.ram ≡ length memory.old.ram }
     ensures rest { memory.new ≡ record memory.old { ram = memory.new.ram } }
 {
@@ -59,7 +61,8 @@ pub(crate) fn turn_in(regs: &mut Regs, memory: &mut Memory, pmp: &Pmp) -> TurnEn
     ensures regs { regs.new ≡ (turn_under pmp.now memory.old.flash memory.old.ram regs.old).regs }
     ensures end { result ≡ (turn_under pmp.now memory.old.flash memory.old.ram regs.old).end }
     ensures memory { memory.new ≡ record memory.old {
-      ram = ram_after RAM_START (turn_under pmp.now memory.old.flash memory.old.ram regs.old).write memory.old.ram;
+      ram = ram_after RAM_START (turn_under pmp.now memory.old.flash memory.old.ram regs.old).write
+          memory.old.ram;
     } }
 {
     one_is_the_turn();

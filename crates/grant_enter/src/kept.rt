@@ -2,17 +2,17 @@
 ghost use Rattle.std.specs.Prelude.{◌≡◌, ◌+◌, ◌<◌, ◌≤◌, ◌^◌, ◌++◌, length, take, drop, Some, None, IfSome, IfNone};
 ghost use Rattle.std.specs.List.{AllByRecursion};
 ghost use Rattle.grant_values.specs.Drivers.{counts_of};
-ghost use Rattle.grant_values.specs.Words.{IsWord, bytes_of, words_of};
-ghost use Rattle.grant_areas.specs.Grants.{grant_of};
-ghost use Rattle.grant_areas.specs.Laid.{IsLaid, read_back};
-ghost use Rattle.grant_areas.specs.Laws.{IsValue, value_bytes};
+ghost use Rattle.grant_values.specs.Words.{IsWord, bytes_of_words, words_of};
+ghost use Rattle.grant_model.specs.Grants.{grant_of};
+ghost use Rattle.grant_model.specs.Encoding.{EncodesGrants, decode_grants};
+ghost use Rattle.grant_model.specs.Laws.{IsValue, value_bytes};
 ghost use Rattle.process_layout.specs.Ordered.{IsOrdered};
-ghost use Rattle.grant_enter.specs.Homes.{IsSettled};
+ghost use Rattle.grant_enter.specs.Homes.{FitsMemory};
 ghost use Rattle.grant_enter.specs.Seats.{HasBlock, kernel_in, value_put, with_value_in};
 
 use crate::handing::in_order;
 use board_memory::Memory;
-use grant_areas::{areas_are_found, values_are_found};
+use grant_model::{areas_are_found, values_are_found};
 use grant_region::area;
 use grant_values::GrantValue;
 use process_layout::Layout;
@@ -20,11 +20,11 @@ use tk_base::{Addr, Counts};
 
 /// At which place of the areas the value of a driver begins; None where the driver is not entered.
 pub(crate) fn value_place(kernel: &[u8], driver: u32, counts: &Counts) -> Option<usize>
-    requires laid { IsLaid kernel.now }
+    requires laid { EncodesGrants kernel.now }
     requires small { length kernel.now < 2 ^ 32 }
     requires counts { counts_of driver ≡ Some counts.now }
     ensures found { IfSome result (λ at. IsValue kernel.now at (value_bytes driver) driver) }
-    ensures absent { IfNone result (grant_of driver (read_back kernel.now) ≡ None) }
+    ensures absent { IfNone result (grant_of driver (decode_grants kernel.now) ≡ None) }
 {
     areas_are_found();
     values_are_found();
@@ -45,7 +45,8 @@ pub(crate) fn value_at<T: GrantValue>(kernel: &[u8], at: usize) -> T
 fn put_value<T: GrantValue>(kernel: &mut [u8], at: usize, value: &T)
     requires { at + T.SIZE ≤ length kernel.old }
     ensures bytes { kernel.new
-        ≡ take at kernel.old ++ (bytes_of (T.words value.now) ++ drop T.SIZE (drop at kernel.old)) }
+        ≡ take at kernel.old ++ (bytes_of_words (T.words value.now)
+        ++ drop T.SIZE (drop at kernel.old)) }
     ensures size { length (T.words value.now) ≡ T.count }
     ensures fits { AllByRecursion IsWord (T.words value.now) }
     ensures back { T.value (T.words value.now) ≡ value.now }
@@ -56,10 +57,11 @@ fn put_value<T: GrantValue>(kernel: &mut [u8], at: usize, value: &T)
 
 /// Keeps a value at its place in the areas of a process's block. All else of memory stays.
 pub(crate) fn keep_value<T: GrantValue>(memory: &mut Memory, layout: &Layout, at: usize, value: &T)
-    requires settled { IsSettled (length memory.old.flash) (length memory.old.ram) layout.now }
+    requires settled { FitsMemory (length memory.old.flash) (length memory.old.ram) layout.now }
     requires within { at + T.SIZE ≤ length (kernel_in memory.old.ram layout.now) }
     ensures kept { memory.new ≡ with_value_in memory.old layout.now at T.SIZE (T.words value.now) }
-    ensures long { length (value_put (kernel_in memory.old.ram layout.now) at T.SIZE (T.words value.now))
+    ensures long { length (value_put (kernel_in memory.old.ram layout.now) at T.SIZE
+        (T.words value.now))
         ≡ length (kernel_in memory.old.ram layout.now) }
     ensures size { length (T.words value.now) ≡ T.count }
     ensures fits { AllByRecursion IsWord (T.words value.now) }
@@ -82,7 +84,7 @@ fn kernel_ends(layout: &Layout) -> (Addr, Addr)
 pub(crate) fn kernel_of<'a>(memory: &'a Memory, layout: &Layout) -> &'a [u8]
     requires { HasBlock memory.now layout.now }
     ensures bytes { result.now ≡ kernel_in memory.now.ram layout.now }
-    ensures laid { IsLaid result.now }
+    ensures laid { EncodesGrants result.now }
     ensures small { length result.now < 2 ^ 32 }
 {
     in_order(layout);

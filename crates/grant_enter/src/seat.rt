@@ -3,7 +3,7 @@ ghost use Rattle.std.specs.Prelude.{◌≡◌};
 ghost use Rattle.grant_enter.specs.Seats.{first_seat};
 
 use process_layout::Layout;
-use process_own::{Footprint, Object};
+use process_model::{Footprint, Object};
 use upcall_queue::Queue;
 
 /// What is scheduled for a process.

@@ -2,12 +2,12 @@
 ghost use Rattle.std.specs.Prelude.{◌≡◌, ◌==◌, ◌&&◌, not, ◌<◌, ◌^◌, length, option_map, is_ok, IfOk, OnOk, OnErr, IfSome, IfNone, Some, None};
 ghost use Rattle.process_layout.specs.Ordered.{IsOrdered};
 ghost use Rattle.grant_values.specs.Drivers.{counts_of};
-ghost use Rattle.grant_areas.specs.Grants.{grant_of};
-ghost use Rattle.grant_areas.specs.Laid.{IsLaid, read_back};
+ghost use Rattle.grant_model.specs.Grants.{grant_of};
+ghost use Rattle.grant_model.specs.Encoding.{EncodesGrants, decode_grants};
 ghost use Rattle.grant_region.specs.Region.{Costs};
-ghost use Rattle.process_own.specs.Own.{Own, block_of};
-ghost use Rattle.process_own.specs.Handed.{entering};
-ghost use Rattle.process_own.specs.Served.{kept};
+ghost use Rattle.process_model.specs.Own.{Own, block_of};
+ghost use Rattle.process_model.specs.Handed.{own_entering};
+ghost use Rattle.process_model.specs.Served.{kept};
 ghost use Rattle.grant_enter.specs.Seats.{HasBlock, MakesRoom, Reseats, SitsIn, fits_in, own_in};
 ghost use Rattle.grant_enter.specs.Seen.{Seen, Framed, IsLent, IsLentTo, ServesIn, seen, own_entered, seen_of};
 ghost use Rattle.grant_enter.specs.Visits.{Asks, Enters, IsCounted, Visited, Visits, is_stale};
@@ -16,8 +16,8 @@ use crate::entered::Entered;
 use crate::handing::in_order;
 use crate::kept::{keep_value, kernel_of, value_at, value_place};
 use crate::seat::Seat;
-use board_memory::{Block, Halves, Memory};
-use grant_areas::Area;
+use board_memory::{Block, Memory, SplitBlock};
+use grant_model::Area;
 use grant_region::{NoRoom, make_room};
 use grant_values::{GrantValue, cost_of, counts};
 use process_layout::Layout;
@@ -39,7 +39,8 @@ pub trait Visit<T> {
     fn run(self, value: &mut T, entered: &mut Entered<'_>) -> Self::Answer
         requires lent { IsLent entered.old }
         requires asks { asks self value.old (seen entered.old) }
-        ensures leaves { leaves self value.old (seen entered.old) result value.new (own_entered entered.new) }
+        ensures leaves { leaves self value.old (seen entered.old) result value.new
+            (own_entered entered.new) }
         ensures framed { Framed entered.old entered.new };
 }
 
@@ -48,11 +49,11 @@ pub trait Visit<T> {
 pub enum EnterError {
     /// The driver is not entered, and the kernel break less the cost of its grant is below the break.
     NoRoom,
-    /// The process has ended, or is in another life.
+    /// The process has ended, or is in another life, or none was placed in the slot.
     Stale,
 }
 
-/// The process of an id is not there: it has ended, or is in another life.
+/// The process of an id is not there: it has ended, or is in another life, or none was placed in the slot.
 #[derive(Clone, Copy, Debug, PartialEq, Eq)]
 pub struct Stale;
 
@@ -94,8 +95,9 @@ pub(crate) fn visit_at<T: GrantValue, V: Visit<T> + Drop>(
     requires counted { IsCounted driver counts T.SIZE }
     requires asks { Asks (V.asks visitor) T.value driver counts memory.old.flash
         (own_in memory.old.ram seat.old) }
-    ensures visited { IfSome result (λ answer. Visited (V.leaves visitor) T.value T.words driver counts
-        memory.old.flash (own_in memory.old.ram seat.old) answer (own_in memory.new.ram seat.new)) }
+    ensures visited { IfSome result
+        (λ answer. Visited (V.leaves visitor) T.value T.words driver counts memory.old.flash
+        (own_in memory.old.ram seat.old) answer (own_in memory.new.ram seat.new)) }
     ensures none { IfNone result (kept driver (own_in memory.old.ram seat.old) ≡ None) }
     ensures same { IfNone result ((memory.new ≡ memory.old) × (seat.new ≡ seat.old)) }
     ensures reseats { Reseats memory.old seat.old memory.new seat.new }
@@ -132,7 +134,7 @@ fn make_room_in(
     ensures refused { OnErr result ((memory.new ≡ memory.old) × (layout.new ≡ layout.old)) }
 {
     let Block { bytes, cut, .. } = memory.lend_block(layout);
-    let Halves { app, kernel } = Halves::of(bytes, cut);
+    let SplitBlock { app, kernel } = SplitBlock::of(bytes, cut);
     let made = make_room(layout, app, kernel, driver, driver_cost(driver, counts));
     in_order(layout);
     made
@@ -157,7 +159,7 @@ pub(crate) fn enter_seat<T: GrantValue, V: Visit<T> + Drop>(
     requires sits { SitsIn memory.old seat.old }
     requires counted { IsCounted driver counts T.SIZE }
     requires asks { Asks (V.asks visitor) T.value driver counts memory.old.flash
-        (entering driver (own_in memory.old.ram seat.old)) }
+        (own_entering driver (own_in memory.old.ram seat.old)) }
     ensures enters { Enters (V.leaves visitor) T.value T.words driver counts life
         memory.old.flash (own_in memory.old.ram seat.old) result (own_in memory.new.ram seat.new) }
     ensures reseats { Reseats memory.old seat.old memory.new seat.new }
@@ -219,10 +221,11 @@ pub(crate) fn peek_seat<T: GrantValue>(
 
 /// The value that is kept for a driver in the areas.
 fn kept_in<T: GrantValue>(kernel: &[u8], driver: u32, counts: &Counts) -> Option<T>
-    requires laid { IsLaid kernel.now }
+    requires laid { EncodesGrants kernel.now }
     requires small { length kernel.now < 2 ^ 32 }
     requires counted { IsCounted driver counts.now T.SIZE }
-    ensures { result ≡ option_map (λ g. T.value g.value) (grant_of driver (read_back kernel.now)) }
+    ensures { result
+        ≡ option_map (λ g. T.value g.value) (grant_of driver (decode_grants kernel.now)) }
 {
     let at = value_place(kernel, driver, counts)?;
     Some(value_at::<T>(kernel, at))

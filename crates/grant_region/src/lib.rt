@@ -6,6 +6,7 @@ mod laws;
 mod region;
 mod room;
 
+pub use grant_model::Area;
 pub use laws::parts_join;
 pub use region::area;
 pub use room::{NoRoom, make_area, make_room};

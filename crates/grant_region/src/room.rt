@@ -1,13 +1,13 @@
 //! Room for one more area.
 ghost use Rattle.std.specs.Prelude.{◌≡◌, ◌-◌, ◌<◌, ◌^◌, length, [], ◌∷◌, is_ok, Some, IfOk, IfErr, OnOk};
-ghost use Rattle.grant_areas.specs.Grants.{fresh, entered, grant_of};
-ghost use Rattle.grant_areas.specs.Laid.{read_back, area_of, Tells};
-ghost use Rattle.grant_region.specs.Region.{Costs, AreParts, has_room, with_room, fits, roomed};
+ghost use Rattle.grant_model.specs.Grants.{fresh, entered, grant_of};
+ghost use Rattle.grant_model.specs.Encoding.{decode_grants, area_of, Tells};
+ghost use Rattle.grant_region.specs.Region.{Costs, AreParts, has_space, with_room, fits, roomed};
 ghost use Rattle.grant_region.specs.Region.{Leaves, LeavesArea, Refuses};
 
 use crate::laws::parts_join;
 use crate::region::area;
-use grant_areas::{Area, areas_are_found, what_is_laid_is_read_back};
+use grant_model::{Area, areas_are_found, what_is_laid_is_read_back};
 use grant_values::{put_word, words_in_bytes};
 use process_layout::Layout;
 use tk_base::Addr;
@@ -39,13 +39,14 @@ pub fn make_room(
     requires parts { AreParts layout.old app.old kernel.now }
     requires small { length kernel.now < 2 ^ 32 }
     requires cost { Costs driver cost }
-    ensures room { is_ok result ≡ fits layout.old driver (grant_of driver (read_back kernel.now)) }
+    ensures room { is_ok result
+        ≡ fits layout.old driver (grant_of driver (decode_grants kernel.now)) }
     ensures layout { OnOk result
-        (layout.new ≡ roomed driver layout.old (grant_of driver (read_back kernel.now))) }
+        (layout.new ≡ roomed driver layout.old (grant_of driver (decode_grants kernel.now))) }
     ensures made { OnOk result
-        (Leaves layout.new app.old app.new kernel.now (entered driver (read_back kernel.now))) }
+        (Leaves layout.new app.old app.new kernel.now (entered driver (decode_grants kernel.now))) }
     ensures area { IfOk result
-        (λ a. Some a ≡ area_of driver (entered driver (read_back kernel.now))) }
+        (λ a. Some a ≡ area_of driver (entered driver (decode_grants kernel.now))) }
     ensures refused { IfErr result (Refuses layout.old layout.new app.old app.new) }
 {
     areas_are_found();
@@ -66,7 +67,7 @@ pub fn make_room(
 pub fn make_area(layout: &mut Layout, app: &mut [u8], driver: u32, cost: u32) -> Result<(), NoRoom>
     requires size { length app.old ≡ layout.old.kernel_break - layout.old.start }
     requires cost { Costs driver cost }
-    ensures room { is_ok result ≡ has_room layout.old cost }
+    ensures room { is_ok result ≡ has_space layout.old cost }
     ensures layout { OnOk result (layout.new ≡ with_room cost layout.old) }
     ensures made { OnOk result (LeavesArea layout.new app.old app.new (fresh driver)) }
     ensures refused { IfErr result (Refuses layout.old layout.new app.old app.new) }

@@ -2,24 +2,40 @@
 -- numbers are those of Tock's list of drivers).
 use Rattle.std.specs.Prelude.{ℕ, ◌+◌, ◌*◌, ◌/◌, ◌==◌, List, [], ◌∷◌, find, Option, option_map}
 use Rattle.tk_base.specs.declared.upcall.Counts.{Counts}
+use Rattle.grant_values.specs.declared.drivers.Driver.{Driver}
+use Rattle.grant_values.specs.declared.drivers.Driver.TheVariants.{Alarm, Console, Leds, Random, Storage}
 
+-- each driver's number
+abbrev pub number_of_driver : Driver → ℕ
+number_of_driver Alarm = 0x0
+number_of_driver Console = 0x1
+number_of_driver Leds = 0x2
+number_of_driver Random = 0x40001
+number_of_driver Storage = 0x50001
+
+-- all drivers
+unfoldable pub drivers : List Driver
+drivers = Alarm ∷ Console ∷ Leds ∷ Random ∷ Storage ∷ []
+
+-- the driver of a number; none where there is no such driver
+abbrev pub driver_of : ℕ → Option Driver
+driver_of number = find (λ driver. number_of_driver driver == number) drivers
+
+-- so many upcalls, read-only and read-write buffers, and bytes of a value
 abbrev pub counting : ℕ → ℕ → ℕ → ℕ → Counts
-counting upcalls ro rw value = record { upcalls = upcalls; ro = ro; rw = rw; value = value }
+counting upcalls ro rw value = record { upcalls = upcalls; ro = ro; rw = rw; ur = 0; value = value }
 
--- each driver's number; its upcalls, read-only buffers and read-write buffers, and the bytes of its value: the
--- alarm, the console, the LEDs, which keep nothing, the source of random words, the storage
-unfoldable pub drivers : List (ℕ × Counts)
-drivers =
-    (0x0, counting 1 0 0 24)
-    ∷ (0x1, counting 3 2 2 32)
-    ∷ (0x2, counting 0 0 0 0)
-    ∷ (0x40001, counting 1 0 1 24)
-    ∷ (0x50001, counting 2 1 1 24)
-    ∷ []
+-- each driver's upcalls, read-only buffers and read-write buffers, and the bytes of its value; the LEDs keep nothing
+abbrev pub counts_by : Driver → Counts
+counts_by Alarm = counting 1 0 0 24
+counts_by Console = counting 3 2 2 32
+counts_by Leds = counting 0 0 0 0
+counts_by Random = counting 1 0 1 24
+counts_by Storage = counting 2 1 1 24
 
--- the counts of a driver; none where there is no such driver
+-- the counts of the driver of a number; none where there is no such driver
 unfoldable pub counts_of : ℕ → Option Counts
-counts_of driver = option_map (λ row. row.1) (find (λ row. row.0 == driver) drivers)
+counts_of number = option_map counts_by (driver_of number)
 
 -- a number of bytes rounded up to a multiple of 8
 abbrev pub rounded_to_8 : ℕ → ℕ

@@ -3,15 +3,15 @@
 use Rattle.std.specs.Prelude.{ℕ, ◌==◌, if◌then◌else◌, Option, None, Some}
 
 -- 1 where a request waits, 0 where none does
-abbrev pub flag_of : {R : Type 0} → Option R → ℕ
-flag_of None = 0
-flag_of (Some request) = 1
+abbrev pub waits_flag : {R : Type 0} → Option R → ℕ
+waits_flag None = 0
+waits_flag (Some request) = 1
 
 -- a word of the request that waits; 0 where none does
-abbrev pub word_of : {R : Type 0} → (R → ℕ) → Option R → ℕ
-word_of word None = 0
-word_of word (Some request) = word request
+abbrev pub request_word : {R : Type 0} → (R → ℕ) → Option R → ℕ
+request_word word None = 0
+request_word word (Some request) = word request
 
 -- the request that waits, by its first word: none where that is 0
-abbrev pub waiting : {R : Type 0} → ℕ → R → Option R
-waiting flag request = if flag == 0 then None else Some request
+abbrev pub waiting_request : {R : Type 0} → ℕ → R → Option R
+waiting_request flag request = if flag == 0 then None else Some request

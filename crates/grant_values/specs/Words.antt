@@ -8,8 +8,8 @@ abbrev pub IsWord : ℕ → Type 0
 IsWord w = w < 2 ^ 32
 
 -- the bytes of words
-abbrev pub bytes_of : List ℕ → List ℕ
-bytes_of words = flat_map (to_le_bytes w32) words
+abbrev pub bytes_of_words : List ℕ → List ℕ
+bytes_of_words words = flat_map (to_le_bytes w32) words
 
 -- the words of bytes; up to three bytes at the end are in none
 unfoldable pub words_of : List ℕ → List ℕ
@@ -22,7 +22,7 @@ words_of [] = []
 -- how words stand in bytes
 pub record WordsInBytes : Type 0 where
   -- the words that were written are read back
-  pub back : (words : List ℕ) → AllByRecursion IsWord words → words_of (bytes_of words) ≡ words
+  pub back : (words : List ℕ) → AllByRecursion IsWord words → words_of (bytes_of_words words) ≡ words
   -- each word takes four bytes
-  pub size : (words : List ℕ) → length (bytes_of words) ≡ 4 * length words
+  pub size : (words : List ℕ) → length (bytes_of_words words) ≡ 4 * length words
   pub count : (bytes : List ℕ) → length (words_of bytes) ≡ length bytes / 4

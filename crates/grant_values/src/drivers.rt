@@ -1,6 +1,6 @@
 //! The drivers, with what each keeps of a process.
-ghost use Rattle.std.specs.Prelude.{◌≡◌, ◌<◌, ◌^◌, IfSome};
-ghost use Rattle.grant_values.specs.Drivers.{cost_of, counts_of};
+ghost use Rattle.std.specs.Prelude.{◌≡◌, ◌<◌, ◌^◌, IfSome, Some};
+ghost use Rattle.grant_values.specs.Drivers.{cost_of, counts_by, counts_of, driver_of, number_of_driver};
 
 use crate::alarm::Alarm;
 use crate::console::Console;
@@ -10,45 +10,101 @@ use crate::value::GrantValue;
 use tk_base::Counts;
 
 /// The alarm's number.
-pub const ALARM: u32 = 0x0;
+const ALARM: u32 = 0x0;
 
 /// The console's number.
-pub const CONSOLE: u32 = 0x1;
+const CONSOLE: u32 = 0x1;
 
 /// The number of the LEDs.
-pub const LED: u32 = 0x2;
+const LEDS: u32 = 0x2;
 
 /// The number of the source of random words.
-pub const RANDOM: u32 = 0x4_0001;
+const RANDOM: u32 = 0x4_0001;
 
 /// The storage's number.
-pub const STORAGE: u32 = 0x5_0001;
+const STORAGE: u32 = 0x5_0001;
 
-/// How many upcalls and buffers a driver has, and how many bytes it keeps of each process. None
-/// exactly where there is no driver of that number. The LEDs are a driver that keeps nothing.
-#[tactic(auto, unfolding(crate::specs::Drivers::counts_of, crate::specs::Drivers::drivers))]
+/// A driver of the board. Commands and grants name it by its number, as Tock's list of drivers does.
+#[derive(Clone, Copy, Debug, PartialEq, Eq)]
+pub enum Driver {
+    /// The alarm.
+    Alarm,
+    /// The console.
+    Console,
+    /// The LEDs, which keep nothing of a process.
+    Leds,
+    /// The source of random words.
+    Random,
+    /// The storage of the slots.
+    Storage,
+}
+
+impl Driver {
+    /// The driver of that number. None exactly where there is no such driver.
+    #[tactic(auto, unfolding(crate::specs::Drivers::drivers))]
+    pub fn of(number: u32) -> Option<Driver>
+        ensures { result ≡ driver_of number }
+    {
+        match number {
+            ALARM => Some(Driver::Alarm),
+            CONSOLE => Some(Driver::Console),
+            LEDS => Some(Driver::Leds),
+            RANDOM => Some(Driver::Random),
+            STORAGE => Some(Driver::Storage),
+            _ => None,
+        }
+    }
+
+    /// The driver's number, by which [`Driver::of`] finds it.
+    #[tactic(auto, unfolding(crate::specs::Drivers::drivers))]
+    pub fn number(self) -> u32
+        ensures number { result ≡ number_of_driver self }
+        ensures found { driver_of result ≡ Some self }
+    {
+        match self {
+            Driver::Alarm => ALARM,
+            Driver::Console => CONSOLE,
+            Driver::Leds => LEDS,
+            Driver::Random => RANDOM,
+            Driver::Storage => STORAGE,
+        }
+    }
+
+    /// How many upcalls and buffers the driver has, and how many bytes it keeps of each process.
+    pub fn counts(self) -> Counts
+        ensures counts { result ≡ counts_by self }
+        ensures cost_fits { cost_of result < 2 ^ 32 }
+    {
+        match self {
+            Driver::Alarm => counting(1, 0, 0, Alarm::SIZE),
+            Driver::Console => counting(3, 2, 2, Console::SIZE),
+            Driver::Leds => counting(0, 0, 0, 0),
+            Driver::Random => counting(1, 0, 1, Random::SIZE),
+            Driver::Storage => counting(2, 1, 1, Storage::SIZE),
+        }
+    }
+}
+
+/// How many upcalls and buffers the driver of a number has, and how many bytes it keeps of each
+/// process. None exactly where there is no driver of that number.
+#[tactic(auto, unfolding(crate::specs::Drivers::counts_of))]
 pub fn counts(driver: u32) -> Option<Counts>
     ensures counts { result ≡ counts_of driver }
     ensures cost_fits { IfSome result (λ c. cost_of c < 2 ^ 32) }
 {
-    match driver {
-        ALARM => Some(counting(1, 0, 0, Alarm::SIZE)),
-        CONSOLE => Some(counting(3, 2, 2, Console::SIZE)),
-        LED => Some(counting(0, 0, 0, 0)),
-        RANDOM => Some(counting(1, 0, 1, Random::SIZE)),
-        STORAGE => Some(counting(2, 1, 1, Storage::SIZE)),
-        _ => None,
-    }
+    let driver = Driver::of(driver)?;
+    Some(driver.counts())
 }
 
 /// The counts of one row of the table.
 fn counting(upcalls: u32, ro: u32, rw: u32, value: u32) -> Counts
-    ensures { result ≡ record { upcalls = upcalls; ro = ro; rw = rw; value = value } }
+    ensures { result ≡ record { upcalls = upcalls; ro = ro; rw = rw; ur = 0; value = value } }
 {
     Counts {
         upcalls,
         ro,
         rw,
+        ur: 0,
         value,
     }
 }

@@ -13,7 +13,7 @@ mod words;
 
 pub use alarm::{Alarm, Armed};
 pub use console::{Console, WaitingRead, WaitingWrite};
-pub use drivers::{ALARM, CONSOLE, LED, RANDOM, STORAGE, cost_of, counts};
+pub use drivers::{Driver, cost_of, counts};
 pub use laws::words_in_bytes;
 pub use random::{Random, RandomRequest};
 pub use storage::{Storage, StorageKind, StorageRequest};

@@ -1,5 +1,7 @@
 -- What an edit of one object leaves of an image.
-use Rattle.std.proofs.Common.{◌≡◌, ℕ, ◌+◌, ◌-◌, ◌<◌, ◌≤◌, ◌==◌, Bool, true, false, cond, ◌⊎◌, inl, inr, List, map, length, drop, slice_index, Option, Some, None, option_and_then, Result, Ok, refl, sym, ap, ◌∙◌, subst, arith}
+use Rattle.std.proofs.Common.{◌≡◌, ℕ, ◌+◌, ◌-◌, ◌<◌, ◌≤◌, ◌==◌, Bool, true, false, cond, ◌⊎◌, inl, inr, List, map}
+use Rattle.std.proofs.Common.{length, drop, slice_index, Option, Some, None, option_and_then, Result, Ok, refl, sym, ap}
+use Rattle.std.proofs.Common.{◌∙◌, subst, arith}
 use Rattle.std.proofs.lemmas.Bool.{eqb-true, cases_lt}
 use Rattle.std.proofs.lemmas.List.{get_or-take, get_or-drop}
 use Rattle.tk_base.specs.declared.access.Width.TheVariants.{Half, Word}
@@ -7,43 +9,50 @@ use Rattle.tk_base.specs.Bus.{put}
 use Rattle.tk_base.specs.Numbers.{rounded_up}
 use Rattle.tk_base.specs.Laws.{AStoreIsPut}
 use Rattle.tbf_headers.specs.declared.fault.HeaderFault.{HeaderFault}
-use Rattle.tbf_headers.specs.Numbers.{half, word}
+use Rattle.tbf_headers.specs.Numbers.{half, word_at}
 use Rattle.tbf_headers.specs.Tlv.{length_at}
-use Rattle.tbf_headers.specs.Meaning.{Meaning, reading, meaning_of, header_of}
+use Rattle.tbf_headers.specs.Meaning.{Meaning, header_reading, meaning_of, header_of}
 use Rattle.flash_walk.specs.declared.found.Found.{Found}
 use Rattle.flash_walk.specs.Image.{objects}
-use Rattle.image_make.specs.Edits.{with_enabled, flagged, mended, replaced, padded, name_place, renamed}
+use Rattle.image_make.specs.Edits.{with_enabled, with_flags, mended, replaced, padded, name_place, renamed}
 use Rattle.image_make.specs.Images.{object_found, with_reading}
-use Rattle.image_make.specs.Outcomes.{bytes_of, IsSoundObject, enabled, if_as_long, given}
+use Rattle.image_make.specs.Outcomes.{found_bytes, IsSoundObject, sound_found, enabled, if_as_long, with_name}
 use Rattle.image_make.specs.Laws.{AreBytes}
 use Rattle.image_make.specs.Edited.{EnabledIsWalked, GivenIsWalked}
 use Rattle.image_make.proofs.Likeness.{IsLike, half_below, word_below, like_join, like_wider, put_like}
 use Rattle.image_make.proofs.Readings.{mended_like, flags_are_read, take_bytes, sound_where_read}
 use Rattle.image_make.proofs.Renames.{named, names_are_read, drop_bytes}
-use Rattle.image_make.proofs.Walked.{one_object_changes, replaced_like, byte_inside, byte_before, byte_after, found_passes}
+use Rattle.image_make.proofs.Walked.{one_object_changes, replaced_like, byte_inside, byte_before, byte_after}
+use Rattle.image_make.proofs.Walked.{found_passes}
 use Rattle.image_make.proofs.Sound.{sound_is}
 
-bytes_are : (flash : List ℕ) (f : Found) → AreBytes flash → AreBytes (bytes_of f flash)
-bytes_are flash f bytes = take_bytes (f.offset + f.size - f.offset) (drop f.offset flash) (drop_bytes f.offset flash bytes)
+bytes_are : (flash : List ℕ) (f : Found) → AreBytes flash → AreBytes (found_bytes f flash)
+bytes_are flash f bytes = take_bytes (f.offset + f.size - f.offset) (drop f.offset flash)
+    (drop_bytes f.offset flash bytes)
 
-flagged_like : AStoreIsPut → (object : List ℕ) (flags : ℕ) → 16 ≤ length object → IsLike 8 16 object (flagged flags object)
-unfolding flagged
+flagged_like : AStoreIsPut → (object : List ℕ) (flags : ℕ) → 16 ≤ length object
+    → IsLike 8 16 object (with_flags flags object)
+unfolding with_flags
 flagged_like stores object flags h =
     let p = put object 8 Word flags in
-    let one : IsLike 8 16 object p = like_wider 8 12 8 16 object p (omega arith) (omega arith) (put_like stores object 8 Word flags (omega arith)) in
+    let one : IsLike 8 16 object p = like_wider 8 12 8 16 object p (omega arith) (omega arith)
+    (put_like stores object 8 Word flags (omega arith)) in
     let size = one.size in
-    like_join 8 16 object p (mended p) one (like_wider 12 16 8 16 p (mended p) (omega arith) (omega arith) (mended_like stores p (omega arith)))
+    like_join 8 16 object p (mended p) one (like_wider 12 16 8 16 p (mended p) (omega arith) (omega arith)
+    (mended_like stores p (omega arith)))
 
 with_enabled_below : (on : Bool) (flags : ℕ) → flags < 4294967296 → with_enabled on flags < 4294967296
 with_enabled_below true flags h = omega arith
 with_enabled_below false flags h = omega arith
 
-word_limit : (xs : List ℕ) (at : ℕ) → AreBytes xs → word xs at < 4294967296
+word_limit : (xs : List ℕ) (at : ℕ) → AreBytes xs → word_at xs at < 4294967296
 word_limit xs at bytes =
     let a = bytes at in let b = bytes (at + 1) in let c = bytes (at + 2) in let d = bytes (at + 3) in omega arith
 
 -- a byte of an image in which an object was replaced, outside of what differs between the objects
-replaced_byte : (flash : List ℕ) (f : Found) (object : List ℕ) (k : ℕ) → IsSoundObject flash f → length object ≡ f.size → ((j : ℕ) → k ≡ f.offset + j → slice_index object j ≡ slice_index (bytes_of f flash) j) → slice_index (replaced flash f.offset object) k ≡ slice_index flash k
+replaced_byte : (flash : List ℕ) (f : Found) (object : List ℕ) (k : ℕ) → IsSoundObject flash f → length object ≡ f.size
+    → ((j : ℕ) → k ≡ f.offset + j → slice_index object j ≡ slice_index (found_bytes f flash) j)
+    → slice_index (replaced flash f.offset object) k ≡ slice_index flash k
 replaced_byte flash f object k s size same =
     let within = s.within in
     elim (cases_lt k f.offset) [
@@ -64,53 +73,87 @@ replaced_byte flash f object k s size same =
 record Makes (flash : List ℕ) (f : Found) (object : List ℕ) (m : Meaning) : Type 0 where
   size : length object ≡ f.size
   version : half object 0 ≡ 2
-  total : word object 4 ≡ f.size
-  read : reading object ≡ Ok m
+  total : word_at object 4 ≡ f.size
+  read : header_reading object ≡ Ok m
 
-found_again : (flash : List ℕ) (at : ℕ) (f : Found) → object_found at (objects flash) ≡ Some f → object_found f.offset (objects flash) ≡ Some f
+found_again : (flash : List ℕ) (at : ℕ) (f : Found) → object_found at (objects flash) ≡ Some f
+    → object_found f.offset (objects flash) ≡ Some f
 found_again flash at f e =
     let same : f.offset ≡ at = eqb-true _ _ (found_passes (λ x. x.offset == at) (objects flash) f e) in
     subst (λ (p : ℕ). object_found p (objects flash) ≡ Some f) (sym same) e
 
-walked_again : (flash : List ℕ) (at : ℕ) (f : Found) (object : List ℕ) (m : Meaning) → object_found at (objects flash) ≡ Some f → Makes flash f object m → objects (replaced flash f.offset object) ≡ map (with_reading f.offset (Ok m)) (objects flash)
+walked_again : (flash : List ℕ) (at : ℕ) (f : Found) (object : List ℕ) (m : Meaning)
+    → object_found at (objects flash) ≡ Some f → Makes flash f object m
+    → objects (replaced flash f.offset object) ≡ map (with_reading f.offset (Ok m)) (objects flash)
 walked_again flash at f object m e made =
     one_object_changes flash object f.offset f (found_again flash at f e) made.size made.version made.total
     ∙ ap (λ (r : Result Meaning HeaderFault). map (with_reading f.offset r) (objects flash)) made.read
 
+-- an object that is found and has no fault
+record Whole (flash : List ℕ) (at : ℕ) (f : Found) : Type 0 where
+  found : object_found at (objects flash) ≡ Some f
+  sound : IsSoundObject flash f
+  bytes : AreBytes (found_bytes f flash)
+  large : 16 ≤ length (found_bytes f flash)
+
+whole_is : (flash : List ℕ) (at : ℕ) (f : Found) → AreBytes flash → sound_found at (objects flash) ≡ Some f
+    → Whole flash at f
+whole_is flash at f bytes e =
+    let parts = sound_is flash at f e in
+    let large = parts.1.large in
+    let long = parts.1.long in
+    record { found = parts.0; sound = parts.1; bytes = bytes_are flash f bytes; large = omega arith }
+
+-- what an edit leaves of an image, by the object that it makes and what that is read as
+record Leaves (flash : List ℕ) (f : Found) (object : List ℕ) (m : Meaning) : Type 0 where
+  size : length (replaced flash f.offset object) ≡ length flash
+  bytes : (k : ℕ) → ((j : ℕ) → k ≡ f.offset + j → slice_index object j ≡ slice_index (found_bytes f flash) j)
+      → slice_index (replaced flash f.offset object) k ≡ slice_index flash k
+  walked : objects (replaced flash f.offset object) ≡ map (with_reading f.offset (Ok m)) (objects flash)
+
+edit_leaves : (flash : List ℕ) (at : ℕ) (f : Found) (object : List ℕ) (m : Meaning) → Whole flash at f
+    → Makes flash f object m → Leaves flash f object m
+edit_leaves flash at f object m w made =
+    let within = w.sound.within in
+    let size = made.size in
+    record {
+      size = (replaced_like flash object f.offset (omega arith)).size;
+      bytes = λ k same. replaced_byte flash f object k w.sound made.size same;
+      walked = walked_again flash at f object m w.found made;
+    }
+
 pub enabled_is_walked : AStoreIsPut → EnabledIsWalked
 unfolding enabled
 enabled_is_walked stores on flash at f bytes e =
-    let parts = sound_is flash at f e in
-    let s = parts.1 in
-    let object = bytes_of f flash in
-    let within = s.within in
-    let large = s.large in
-    let long = s.long in
-    let are = bytes_are flash f bytes in
-    let flags = with_enabled on (word (bytes_of f flash) 8) in
-    let new = flagged flags (bytes_of f flash) in
-    let like : IsLike 8 16 (bytes_of f flash) new = flagged_like stores (bytes_of f flash) flags (omega arith) in
-    let size : length new ≡ f.size = like.size ∙ s.long in
-    let made : Makes flash f new (record (meaning_of (bytes_of f flash)) { flags = flags }) = record {
-      size = size;
-      version = half_below 8 16 object new 0 like (omega arith) ∙ s.version;
-      total = word_below 8 16 object new 4 like (omega arith) ∙ s.total;
-      read = flags_are_read stores (bytes_of f flash) flags (meaning_of (bytes_of f flash)) are (with_enabled_below on (word (bytes_of f flash) 8) (word_limit (bytes_of f flash) 8 are)) s.read;
+    let w = whole_is flash at f bytes e in
+    let object = found_bytes f flash in
+    let flags = with_enabled on (word_at object 8) in
+    let new = with_flags flags object in
+    let m = record (meaning_of object) { flags = flags } in
+    let like : IsLike 8 16 object new = flagged_like stores object flags w.large in
+    let made : Makes flash f new m = record {
+      size = like.size ∙ w.sound.long;
+      version = half_below 8 16 object new 0 like (omega arith) ∙ w.sound.version;
+      total = word_below 8 16 object new 4 like (omega arith) ∙ w.sound.total;
+      read = flags_are_read stores object flags (meaning_of object) w.bytes
+          (with_enabled_below on (word_at object 8) (word_limit object 8 w.bytes)) w.sound.read;
     } in
+    let left = edit_leaves flash at f new m w made in
     record {
-      size = (replaced_like flash new f.offset (omega arith)).size;
-      bytes = λ k out. replaced_byte flash f new k s size (λ j same. elim out [
+      size = left.size;
+      bytes = λ k out. left.bytes k (λ j same. elim out [
         | inl low ↦ like.below j (omega arith)
         | inr high ↦ like.above j (omega arith)
       ]);
-      walked = walked_again flash at f new (record (meaning_of (bytes_of f flash)) { flags = flags }) parts.0 made;
+      walked = left.walked;
     }
 
 some_of_test : (b : Bool) (x at : ℕ) → cond b (Some x) None ≡ Some at → (b ≡ true) × (x ≡ at)
 some_of_test true x at e = (refl, cc)
 some_of_test false x at e = cc
 
-place_parts : (name object : List ℕ) (o : Option ℕ) (at : ℕ) → option_and_then (if_as_long name object) o ≡ Some at → (o ≡ Some at) × (rounded_up (length name) ≡ rounded_up (length_at (header_of object) at))
+place_parts : (name object : List ℕ) (o : Option ℕ) (at : ℕ) → option_and_then (if_as_long name object) o ≡ Some at
+    → (o ≡ Some at) × (rounded_up (length name) ≡ rounded_up (length_at (header_of object) at))
 place_parts name object None at e = cc
 place_parts name object (Some x) at e =
     let parts = some_of_test (rounded_up (length name) == rounded_up (length_at (header_of object) x)) x at e in
@@ -120,14 +163,19 @@ place_parts name object (Some x) at e =
 record Renamed (object new name : List ℕ) (at : ℕ) : Type 0 where
   size : length new ≡ length object
   version : half new 0 ≡ half object 0
-  total : word new 4 ≡ word object 4
-  bytes : (j : ℕ) → (j < 12) ⊎ (16 ≤ j) → (j < at + 2) ⊎ (at + 4 + rounded_up (length name) ≤ j) → slice_index new j ≡ slice_index object j
+  total : word_at new 4 ≡ word_at object 4
+  bytes : (j : ℕ) → (j < 12) ⊎ (16 ≤ j) → (j < at + 2) ⊎ (at + 4 + rounded_up (length name) ≤ j)
+      → slice_index new j ≡ slice_index object j
 
-renamed_is : AStoreIsPut → (object name : List ℕ) (at : ℕ) (m : Meaning) → AreBytes object → AreBytes name → length name ≤ 32 → 16 ≤ length object → reading object ≡ Ok m → name_place object ≡ Some at → rounded_up (length name) ≡ rounded_up (length_at (header_of object) at) → Renamed object (renamed at name object) name at
+renamed_is : AStoreIsPut → (object name : List ℕ) (at : ℕ) (m : Meaning) → AreBytes object → AreBytes name
+    → length name ≤ 32 → 16 ≤ length object → header_reading object ≡ Ok m → name_place object ≡ Some at
+    → rounded_up (length name) ≡ rounded_up (length_at (header_of object) at)
+    → Renamed object (renamed at name object) name at
 unfolding renamed
 renamed_is stores object name at m bytes letters few long read place same =
     let changed = replaced (put object (at + 2) Half (length name)) (at + 4) (padded name) in
-    let c = named stores object name at bytes letters (omega arith) (sound_where_read object m read).0.well place same in
+    let c = named stores object name at bytes letters (omega arith) (sound_where_read object m read).0.well place
+    same in
     let l = c.like in
     let low = c.low in
     let size_c : length changed ≡ length object = l.size in
@@ -135,8 +183,10 @@ renamed_is stores object name at m bytes letters few long read place same =
     let k : IsLike 12 16 changed (mended changed) = mended_like stores changed (omega arith) in
     record {
       size = k.size ∙ l.size;
-      version = half_below 12 16 changed (mended changed) 0 k (omega arith) ∙ half_below (at + 2) b object changed 0 l (omega arith);
-      total = word_below 12 16 changed (mended changed) 4 k (omega arith) ∙ word_below (at + 2) b object changed 4 l (omega arith);
+      version = half_below 12 16 changed (mended changed) 0 k (omega arith)
+          ∙ half_below (at + 2) b object changed 0 l (omega arith);
+      total = word_below 12 16 changed (mended changed) 4 k (omega arith)
+          ∙ word_below (at + 2) b object changed 4 l (omega arith);
       bytes = λ j sum tlv.
           elim sum [
             | inl h ↦ k.below j h
@@ -149,33 +199,31 @@ renamed_is stores object name at m bytes letters few long read place same =
     }
 
 pub given_is_walked : AStoreIsPut → GivenIsWalked
-unfolding given
+unfolding with_name
 given_is_walked stores name flash offset f at bytes letters few e place =
-    let parts = sound_is flash offset f e in
-    let s = parts.1 in
-    let object = bytes_of f flash in
-    let within = s.within in
-    let large = s.large in
-    let long = s.long in
-    let are = bytes_are flash f bytes in
-    let where_ = place_parts name (bytes_of f flash) (name_place (bytes_of f flash)) at place in
-    let new = renamed at name (bytes_of f flash) in
-    let r : Renamed (bytes_of f flash) new name at = renamed_is stores (bytes_of f flash) name at (meaning_of (bytes_of f flash)) are letters few (omega arith) s.read where_.0 where_.1 in
-    let size : length new ≡ f.size = r.size ∙ s.long in
-    let made : Makes flash f new (record (meaning_of (bytes_of f flash)) { name = Some name }) = record {
-      size = size;
-      version = r.version ∙ s.version;
-      total = r.total ∙ s.total;
-      read = names_are_read stores (bytes_of f flash) name at (meaning_of (bytes_of f flash)) are letters (omega arith) s.read where_.0 where_.1;
+    let w = whole_is flash offset f bytes e in
+    let object = found_bytes f flash in
+    let there = place_parts name object (name_place object) at place in
+    let new = renamed at name object in
+    let m = record (meaning_of object) { name = Some name } in
+    let r : Renamed object new name at = renamed_is stores object name at (meaning_of object) w.bytes letters few
+    w.large w.sound.read there.0 there.1 in
+    let made : Makes flash f new m = record {
+      size = r.size ∙ w.sound.long;
+      version = r.version ∙ w.sound.version;
+      total = r.total ∙ w.sound.total;
+      read = names_are_read stores object name at (meaning_of object) w.bytes letters (omega arith) w.sound.read
+          there.0 there.1;
     } in
+    let left = edit_leaves flash offset f new m w made in
     record {
-      size = (replaced_like flash new f.offset (omega arith)).size;
-      bytes = λ k sum tlv. replaced_byte flash f new k s size (λ j same. r.bytes j (elim sum [
+      size = left.size;
+      bytes = λ k sum tlv. left.bytes k (λ j same. r.bytes j (elim sum [
         | inl h ↦ inl (omega arith)
         | inr h ↦ inr (omega arith)
       ]) (elim tlv [
         | inl h ↦ inl (omega arith)
         | inr h ↦ inr (omega arith)
       ]));
-      walked = walked_again flash offset f new (record (meaning_of (bytes_of f flash)) { name = Some name }) parts.0 made;
+      walked = left.walked;
     }

@@ -1,5 +1,6 @@
 -- Lists of bytes that are alike but for a range of places.
-use Rattle.std.proofs.Common.{◌≡◌, ℕ, ◌+◌, ◌-◌, ◌*◌, ◌/◌, ◌%◌, ◌<◌, ◌≤◌, nat_lt, nat_le, ◌&&◌, min, cond, ◌⊎◌, inl, inr, List, length, take, drop, slice_index, slice_range, refl, sym, ap, ◌∙◌, arith}
+use Rattle.std.proofs.Common.{◌≡◌, ℕ, ◌+◌, ◌-◌, ◌*◌, ◌/◌, ◌%◌, ◌<◌, ◌≤◌, nat_lt, nat_le, ◌&&◌, min, cond, ◌⊎◌, inl, inr}
+use Rattle.std.proofs.Common.{List, length, take, drop, slice_index, slice_range, refl, sym, ap, ◌∙◌, arith}
 use Rattle.std.proofs.lemmas.Bool.Decides.{nat_tests}
 use Rattle.std.proofs.lemmas.Bool.{cases_lt}
 use Rattle.std.proofs.lemmas.List.{length-take, length-drop, get_or-take, get_or-drop, get_or_past, ext_get_or}
@@ -8,7 +9,7 @@ use Rattle.tk_base.specs.declared.access.Width.TheVariants.{Half, Word}
 use Rattle.tk_base.specs.Access.{width_bytes}
 use Rattle.tk_base.specs.Bus.{put, byte_of}
 use Rattle.tk_base.specs.Laws.{AStoreIsPut}
-use Rattle.tbf_headers.specs.Numbers.{half, word}
+use Rattle.tbf_headers.specs.Numbers.{half, word_at}
 
 -- ys is xs but for the bytes from a to b
 pub record IsLike (a b : ℕ) (xs ys : List ℕ) : Type 0 where
@@ -22,36 +23,49 @@ half_above a b xs ys p l h = cc (l.above p h, l.above (p + 1) (omega arith))
 pub half_below : (a b : ℕ) (xs ys : List ℕ) (p : ℕ) → IsLike a b xs ys → p + 2 ≤ a → half ys p ≡ half xs p
 half_below a b xs ys p l h = cc (l.below p (omega arith), l.below (p + 1) (omega arith))
 
-pub word_above : (a b : ℕ) (xs ys : List ℕ) (p : ℕ) → IsLike a b xs ys → b ≤ p → word ys p ≡ word xs p
+pub word_above : (a b : ℕ) (xs ys : List ℕ) (p : ℕ) → IsLike a b xs ys → b ≤ p → word_at ys p ≡ word_at xs p
 word_above a b xs ys p l h =
     cc (l.above p h, l.above (p + 1) (omega arith), l.above (p + 2) (omega arith), l.above (p + 3) (omega arith))
 
-pub word_below : (a b : ℕ) (xs ys : List ℕ) (p : ℕ) → IsLike a b xs ys → p + 4 ≤ a → word ys p ≡ word xs p
+pub word_below : (a b : ℕ) (xs ys : List ℕ) (p : ℕ) → IsLike a b xs ys → p + 4 ≤ a → word_at ys p ≡ word_at xs p
 word_below a b xs ys p l h =
-    cc (l.below p (omega arith), l.below (p + 1) (omega arith), l.below (p + 2) (omega arith), l.below (p + 3) (omega arith))
+    cc (
+      l.below p (omega arith),
+      l.below (p + 1) (omega arith),
+      l.below (p + 2) (omega arith),
+      l.below (p + 3)
+          (omega arith),
+    )
 
 -- the same bytes in a range are the same range
-pub range_same : (xs ys : List ℕ) (p q : ℕ) → length ys ≡ length xs → ((k : ℕ) → p ≤ k → k < q → slice_index ys k ≡ slice_index xs k) → slice_range ys p q ≡ slice_range xs p q
+pub range_same : (xs ys : List ℕ) (p q : ℕ) → length ys ≡ length xs
+    → ((k : ℕ) → p ≤ k → k < q → slice_index ys k ≡ slice_index xs k) → slice_range ys p q ≡ slice_range xs p q
 range_same xs ys p q size each =
-    let ly : length (slice_range ys p q) ≡ min (q - p) (length ys - p) = length-take (q - p) (drop p ys) ∙ ap (λ n. min (q - p) n) (length-drop p ys) in
-    let lx : length (slice_range xs p q) ≡ min (q - p) (length xs - p) = length-take (q - p) (drop p xs) ∙ ap (λ n. min (q - p) n) (length-drop p xs) in
+    let ly : length (slice_range ys p q) ≡ min (q - p) (length ys - p) = length-take (q - p) (drop p ys)
+    ∙ ap (λ n. min (q - p) n) (length-drop p ys) in
+    let lx : length (slice_range xs p q) ≡ min (q - p) (length xs - p) = length-take (q - p) (drop p xs)
+    ∙ ap (λ n. min (q - p) n) (length-drop p xs) in
     ext_get_or 0 (slice_range ys p q) (slice_range xs p q) (omega arith)
     (λ i h.
     get_or-take (q - p) (drop p ys) i 0 (omega arith) ∙ get_or-drop p ys i 0
     ∙ each (p + i) (omega arith) (omega arith)
     ∙ sym (get_or-take (q - p) (drop p xs) i 0 (omega arith) ∙ get_or-drop p xs i 0))
 
-pub range_above : (a b : ℕ) (xs ys : List ℕ) (p q : ℕ) → IsLike a b xs ys → b ≤ p → slice_range ys p q ≡ slice_range xs p q
+pub range_above : (a b : ℕ) (xs ys : List ℕ) (p q : ℕ) → IsLike a b xs ys → b ≤ p
+    → slice_range ys p q ≡ slice_range xs p q
 range_above a b xs ys p q l h = range_same xs ys p q l.size (λ k low high. l.above k (omega arith))
 
-pub range_below : (a b : ℕ) (xs ys : List ℕ) (p q : ℕ) → IsLike a b xs ys → q ≤ a → slice_range ys p q ≡ slice_range xs p q
+pub range_below : (a b : ℕ) (xs ys : List ℕ) (p q : ℕ) → IsLike a b xs ys → q ≤ a
+    → slice_range ys p q ≡ slice_range xs p q
 range_below a b xs ys p q l h = range_same xs ys p q l.size (λ k low high. l.below k (omega arith))
 
-taken : (n : ℕ) (xs ys : List ℕ) (k : ℕ) → slice_index ys k ≡ slice_index xs k → slice_index (take n ys) k ≡ slice_index (take n xs) k
+taken : (n : ℕ) (xs ys : List ℕ) (k : ℕ) → slice_index ys k ≡ slice_index xs k
+    → slice_index (take n ys) k ≡ slice_index (take n xs) k
 taken n xs ys k e =
     elim (cases_lt k n) [
       | inl h ↦ get_or-take n ys k 0 h ∙ e ∙ sym (get_or-take n xs k 0 h)
-      | inr h ↦ get_or_past (take n ys) k 0 (omega (arith, length-take n ys)) ∙ sym (get_or_past (take n xs) k 0 (omega (arith, length-take n xs)))
+      | inr h ↦ get_or_past (take n ys) k 0 (omega (arith, length-take n ys))
+          ∙ sym (get_or_past (take n xs) k 0 (omega (arith, length-take n xs)))
     ]
 
 -- and so are their fronts
@@ -83,7 +97,8 @@ inside : (n at k v x : ℕ) → at ≤ k → k < at + n → (cond (nat_le at k &
 inside n at k v x low high = grind (arith, nat_tests)
 
 -- a number that is put changes its own bytes alone
-pub put_like : AStoreIsPut → (xs : List ℕ) (at : ℕ) (width : Width) (v : ℕ) → at + width_bytes width ≤ length xs → IsLike at (at + width_bytes width) xs (put xs at width v)
+pub put_like : AStoreIsPut → (xs : List ℕ) (at : ℕ) (width : Width) (v : ℕ) → at + width_bytes width ≤ length xs
+    → IsLike at (at + width_bytes width) xs (put xs at width v)
 put_like stores xs at width v h =
     let law = stores xs at width v h in
     record {
@@ -92,29 +107,38 @@ put_like stores xs at width v h =
       above = λ k high. law.each k ∙ outside (width_bytes width) at k _ _ (inr high);
     }
 
-put_byte : AStoreIsPut → (xs : List ℕ) (at : ℕ) (width : Width) (v j k : ℕ) → at + width_bytes width ≤ length xs → k ≡ at + j → j < width_bytes width → slice_index (put xs at width v) k ≡ byte_of v j
+put_byte : AStoreIsPut → (xs : List ℕ) (at : ℕ) (width : Width) (v j k : ℕ) → at + width_bytes width ≤ length xs
+    → k ≡ at + j → j < width_bytes width → slice_index (put xs at width v) k ≡ byte_of v j
 put_byte stores xs at width v j k h e small =
     let law = stores xs at width v h in
     law.each k ∙ inside (width_bytes width) at k _ _ (omega arith) (omega arith)
     ∙ ap (λ i. byte_of v i) (let d : k - at ≡ j = omega arith in d)
 
-four : (v : ℕ) → v < 4294967296 → v % 256 + 256 * (v / 256 % 256) + 65536 * (v / 65536 % 256) + 16777216 * (v / 16777216 % 256) ≡ v
+four : (v : ℕ) → v < 4294967296
+    → v % 256 + 256 * (v / 256 % 256) + 65536 * (v / 65536 % 256) + 16777216 * (v / 16777216 % 256) ≡ v
 four v h = omega arith
 
 -- a word is read back
-pub word_put : AStoreIsPut → (xs : List ℕ) (at v : ℕ) → at + 4 ≤ length xs → v < 4294967296 → word (put xs at Word v) at ≡ v
+pub word_put : AStoreIsPut → (xs : List ℕ) (at v : ℕ) → at + 4 ≤ length xs → v < 4294967296
+    → word_at (put xs at Word v) at ≡ v
 word_put stores xs at v h small =
-    let b0 : slice_index (put xs at Word v) at ≡ v % 256 = put_byte stores xs at Word v 0 at h (omega arith) (omega arith) ∙ (omega arith) in
-    let b1 : slice_index (put xs at Word v) (at + 1) ≡ v / 256 % 256 = put_byte stores xs at Word v 1 (at + 1) h refl (omega arith) in
-    let b2 : slice_index (put xs at Word v) (at + 2) ≡ v / 65536 % 256 = put_byte stores xs at Word v 2 (at + 2) h refl (omega arith) in
-    let b3 : slice_index (put xs at Word v) (at + 3) ≡ v / 16777216 % 256 = put_byte stores xs at Word v 3 (at + 3) h refl (omega arith) in
+    let b0 : slice_index (put xs at Word v) at ≡ v % 256 = put_byte stores xs at Word v 0 at h (omega arith)
+    (omega arith) ∙ (omega arith) in
+    let b1 : slice_index (put xs at Word v) (at + 1) ≡ v / 256 % 256
+    = put_byte stores xs at Word v 1 (at + 1) h refl (omega arith) in
+    let b2 : slice_index (put xs at Word v) (at + 2) ≡ v / 65536 % 256
+    = put_byte stores xs at Word v 2 (at + 2) h refl (omega arith) in
+    let b3 : slice_index (put xs at Word v) (at + 3) ≡ v / 16777216 % 256
+    = put_byte stores xs at Word v 3 (at + 3) h refl (omega arith) in
     omega (arith, four v small)
 
 -- and so is a half
 pub half_put : AStoreIsPut → (xs : List ℕ) (at v : ℕ) → at + 2 ≤ length xs → v < 65536 → half (put xs at Half v) at ≡ v
 half_put stores xs at v h small =
-    let b0 : slice_index (put xs at Half v) at ≡ v % 256 = put_byte stores xs at Half v 0 at h (omega arith) (omega arith) ∙ (omega arith) in
-    let b1 : slice_index (put xs at Half v) (at + 1) ≡ v / 256 % 256 = put_byte stores xs at Half v 1 (at + 1) h refl (omega arith) in
+    let b0 : slice_index (put xs at Half v) at ≡ v % 256 = put_byte stores xs at Half v 0 at h (omega arith)
+    (omega arith) ∙ (omega arith) in
+    let b1 : slice_index (put xs at Half v) (at + 1) ≡ v / 256 % 256
+    = put_byte stores xs at Half v 1 (at + 1) h refl (omega arith) in
     omega arith
 
 -- a number in a front
@@ -122,10 +146,13 @@ pub half_take : (n : ℕ) (xs : List ℕ) (p : ℕ) → p + 2 ≤ n → half (ta
 half_take n xs p h = cc (get_or-take n xs p 0 (omega arith), get_or-take n xs (p + 1) 0 (omega arith))
 
 -- a range of a front
-pub range_take : (n : ℕ) (xs : List ℕ) (p q : ℕ) → q ≤ n → n ≤ length xs → slice_range (take n xs) p q ≡ slice_range xs p q
+pub range_take : (n : ℕ) (xs : List ℕ) (p q : ℕ) → q ≤ n → n ≤ length xs
+    → slice_range (take n xs) p q ≡ slice_range xs p q
 range_take n xs p q h long =
-    let lt : length (slice_range (take n xs) p q) ≡ min (q - p) (length (take n xs) - p) = length-take (q - p) (drop p (take n xs)) ∙ ap (λ m. min (q - p) m) (length-drop p (take n xs)) in
-    let lx : length (slice_range xs p q) ≡ min (q - p) (length xs - p) = length-take (q - p) (drop p xs) ∙ ap (λ m. min (q - p) m) (length-drop p xs) in
+    let lt : length (slice_range (take n xs) p q) ≡ min (q - p) (length (take n xs) - p)
+    = length-take (q - p) (drop p (take n xs)) ∙ ap (λ m. min (q - p) m) (length-drop p (take n xs)) in
+    let lx : length (slice_range xs p q) ≡ min (q - p) (length xs - p) = length-take (q - p) (drop p xs)
+    ∙ ap (λ m. min (q - p) m) (length-drop p xs) in
     let front : length (take n xs) ≡ n = (let l = length-take n xs in omega arith) in
     ext_get_or 0 (slice_range (take n xs) p q) (slice_range xs p q) (omega arith)
     (λ i small.

@@ -1,21 +1,26 @@
 -- Files packed one after another.
-use Rattle.std.proofs.Common.{◌≡◌, ℕ, zero, suc, ◌+◌, ◌%◌, ◌≤◌, Bool, true, false, cond, inl, inr, List, [], ◌∷◌, ◌++◌, map, length, All, Option, Some, None, Result, Ok, refl, sym, ap, ◌∙◌, arith, append_assoc, append-nil}
+use Rattle.std.proofs.Common.{◌≡◌, ℕ, zero, suc, ◌+◌, ◌%◌, ◌≤◌, Bool, true, false, cond, inl, inr, List, [], ◌∷◌, ◌++◌}
+use Rattle.std.proofs.Common.{map, length, All, Option, Some, None, Result, Ok, refl, sym, ap, ◌∙◌, arith, append_assoc}
+use Rattle.std.proofs.Common.{append-nil}
 use Rattle.std.proofs.lemmas.Bool.{ltb-false, cases_Bool}
 use Rattle.std.proofs.lemmas.List.{length-append, length-map}
 use Rattle.std.proofs.lemmas.List.Elements.{All-weaker}
 use Rattle.tk_base.specs.declared.access.TheConstants.{FLASH_START}
-use Rattle.tbf_headers.specs.Meaning.{reading}
+use Rattle.tk_base.specs.declared.limits.TheConstants.{OBJECT_LIMIT}
+use Rattle.tbf_headers.specs.Meaning.{header_reading}
 use Rattle.tbf_headers.specs.Objects.{object_at}
 use Rattle.flash_walk.specs.declared.found.Found.{Found}
 use Rattle.flash_walk.specs.Image.{objects, objects_from, ends_at, size_at, object_bytes, verdict_of, IsObject}
 use Rattle.image_make.specs.declared.packs.PackFault.{PackFault}
 use Rattle.image_make.specs.declared.packs.PackFault.TheVariants.{Objects, Size}
 use Rattle.image_make.specs.Images.{covered, packed, moved, but_link}
-use Rattle.image_make.specs.Packs.{pack_refusal, pack_next, pack_from, one_after_another, PackIsWalked, KeepsVerdict, ObjectsMove}
+use Rattle.image_make.specs.Packs.{pack_refusal, pack_next, pack_from, one_after_another, PackIsWalked, KeepsVerdict}
+use Rattle.image_make.specs.Packs.{ObjectsMove}
 use Rattle.image_make.proofs.Walked.{stands, from_end, from_more, from_none}
 use Rattle.image_make.proofs.Moves.{packed_is_walked, length_packed, verdicts_move, covered_more}
 
-ok_next : (o : Option PackFault) (rest : Result (List ℕ) PackFault) (image : List ℕ) → pack_next o rest ≡ Ok image → (o ≡ None) × (rest ≡ Ok image)
+ok_next : (o : Option PackFault) (rest : Result (List ℕ) PackFault) (image : List ℕ) → pack_next o rest ≡ Ok image
+    → (o ≡ None) × (rest ≡ Ok image)
 ok_next None rest image e = (refl, e)
 ok_next (Some fault) rest image e = cc
 
@@ -24,32 +29,39 @@ none_refused true b e = cc
 none_refused false b e = refl
 
 -- behind an image that is wholly walked
-pack_walked : (files : List (List ℕ)) (n : ℕ) (before image : List ℕ) → n ≡ length (objects before) → covered (objects before) ≡ length before → pack_from n before files ≡ Ok image → objects image ≡ objects before ++ one_after_another (length before) files
+pack_walked : (files : List (List ℕ)) (n : ℕ) (before image : List ℕ) → n ≡ length (objects before)
+    → covered (objects before) ≡ length before → pack_from n before files ≡ Ok image
+    → objects image ≡ objects before ++ one_after_another (length before) files
 unfolding pack_from one_after_another
-pack_walked [] n before image count whole e = ap objects (let same : image ≡ before = cc in same) ∙ sym (append-nil (objects before))
+pack_walked [] n before image count whole e = ap objects (let same : image ≡ before = cc in same)
+    ∙ sym (append-nil (objects before))
 pack_walked (file ∷ files) n before image count whole e =
     let parts = ok_next (pack_refusal n before file) _ image e in
-    let few : n + length (objects file) ≤ 64 = ltb-false _ _ (none_refused _ _ parts.0) in
+    let few : n + length (objects file) ≤ OBJECT_LIMIT = ltb-false _ _ (none_refused _ _ parts.0) in
     let p = packed_is_walked before file whole (omega arith) in
     let counted : length (objects (before ++ packed file)) ≡ length (objects before) + length (objects file) =
-    ap length p.walked ∙ length-append (objects before) (map (moved (length before) file) (objects file)) ∙ ap (λ k. length (objects before) + k) (length-map (objects file) (moved (length before) file)) in
-    let long : length (before ++ packed file) ≡ length before + covered (objects file) = length-append before (packed file) ∙ ap (λ k. length before + k) (length_packed file) in
+    ap length p.walked ∙ length-append (objects before) (map (moved (length before) file) (objects file))
+    ∙ ap (λ k. length (objects before) + k) (length-map (objects file) (moved (length before) file)) in
+    let long : length (before ++ packed file) ≡ length before + covered (objects file)
+    = length-append before (packed file) ∙ ap (λ k. length before + k) (length_packed file) in
     pack_walked files (n + length (objects file)) (before ++ packed file) image (omega arith) p.whole parts.1
     ∙ ap (λ k. objects (before ++ packed file) ++ one_after_another k files) long
     ∙ ap (λ xs. xs ++ one_after_another (length before + covered (objects file)) files) p.walked
-    ∙ append_assoc (objects before) (map (moved (length before) file) (objects file)) (one_after_another (length before + covered (objects file)) files)
+    ∙ append_assoc (objects before) (map (moved (length before) file) (objects file))
+    (one_after_another (length before + covered (objects file)) files)
 
 nothing : objects [] ≡ []
-nothing = from_end 64 [] 0 refl
+nothing = from_end OBJECT_LIMIT [] 0 refl
 
 pub pack_is_walked : PackIsWalked
 pack_is_walked files image e =
     pack_walked files 0 [] image (sym (ap length nothing)) (ap covered nothing) e
     ∙ ap (λ xs. xs ++ one_after_another 0 files) nothing
 
-moved_verdict : (distance : ℕ) (file : List ℕ) (f : Found) → distance % 4 ≡ 0 → IsObject file f → KeepsVerdict distance file f
+moved_verdict : (distance : ℕ) (file : List ℕ) (f : Found) → distance % 4 ≡ 0 → IsObject file f
+    → KeepsVerdict distance file f
 moved_verdict distance file f h o =
-    let r = reading (object_at file f.offset f.size) in
+    let r = header_reading (object_at file f.offset f.size) in
     let start : FLASH_START + (distance + f.offset) ≡ distance + (FLASH_START + f.offset) = omega arith in
     ap (λ (p : ℕ). but_link (verdict_of p r)) start
     ∙ verdicts_move distance (FLASH_START + f.offset) r h
@@ -64,12 +76,15 @@ covered_aligned (suc n) b p =
           let s = stands b p f in
           let even = s.aligned in
           let rest = covered_aligned n b (p + size_at b p) in
-          let total : covered (objects_from (suc n) b p) ≡ size_at b p + covered (objects_from n b (p + size_at b p)) = ap covered (from_more n b p f) ∙ covered_more p (size_at b p) (object_bytes b p) (objects_from n b (p + size_at b p)) in
+          let total : covered (objects_from (suc n) b p) ≡ size_at b p + covered (objects_from n b (p + size_at b p))
+          = ap covered (from_more n b p f) ∙ covered_more p (size_at b p) (object_bytes b p)
+          (objects_from n b (p + size_at b p)) in
           omega arith
     ]
 
 pub objects_move : (file : List ℕ) → All (IsObject file) (objects file) → ObjectsMove file
 objects_move file each = record {
-  verdicts = λ distance h. All-weaker (IsObject file) (KeepsVerdict distance file) (λ f o. moved_verdict distance file f h o) (objects file) each;
-  aligned = covered_aligned 64 file 0;
+  verdicts = λ distance h. All-weaker (IsObject file) (KeepsVerdict distance file)
+      (λ f o. moved_verdict distance file f h o) (objects file) each;
+  aligned = covered_aligned OBJECT_LIMIT file 0;
 }

@@ -1,15 +1,16 @@
 -- Ten hostile applications by number, each in a flash image before one that exits with 7.
-use Rattle.std.specs.Prelude.{ℕ, zero, suc, ◌+◌, ◌*◌, ◌-◌, ◌^◌, ◌==◌, if◌then◌else◌, List, [], ◌∷◌, ◌++◌, length, codes, Option, None, Some}
+use Rattle.std.specs.Prelude.{ℕ, zero, suc, ◌+◌, ◌*◌, ◌-◌, ◌^◌, ◌==◌, if◌then◌else◌, List, [], ◌∷◌, ◌++◌, length, codes}
+use Rattle.std.specs.Prelude.{Option, None, Some}
 use Rattle.std.specs.Option.{option_map}
 use Rattle.image_make.specs.declared.assembler.Register.TheVariants.{Zero, S0, A0, A1, A2, A3, A4}
 use Rattle.image_make.specs.declared.assembler.Instruction.{Instruction}
 use Rattle.image_make.specs.declared.assembler.Instruction.TheVariants.{Word, Addi, Li, Mv, Jalr, Sw, Ecall}
-use Rattle.image_make.specs.Program.{header_of}
+use Rattle.image_make.specs.Program.{header_words}
 use Rattle.image_make.specs.Generator.{assembled}
 
 -- the object of an application: its header of 32 bytes, and the words of its program
-abbrev pub application : List Instruction → List ℕ
-application code = assembled (header_of (32 + 4 * length code)) ++ assembled code
+abbrev pub application_object : List Instruction → List ℕ
+application_object code = assembled (header_words (32 + 4 * length code)) ++ assembled code
 
 -- It exits with the completion code 7; then come 16 bytes of zero.
 abbrev pub exit_7 : List Instruction
@@ -57,7 +58,7 @@ attack_script number = if number == 5 then codes "at 50 input 41" else []
 
 -- the flash image of a program
 abbrev pub attack_flash : List Instruction → List ℕ
-attack_flash code = application code ++ application exit_7
+attack_flash code = application_object code ++ application_object exit_7
 
 -- flash image and script of a number, where there is such an attack
 abbrev pub attack_files : ℕ → Option (List ℕ × List ℕ)

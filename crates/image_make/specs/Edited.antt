@@ -1,13 +1,13 @@
 -- What an edit leaves of an image, in bytes and as it is walked.
 use Rattle.std.specs.Prelude.{◌≡◌, ◌<◌, ◌≤◌, ◌⊎◌, ℕ, ◌+◌, Bool, List, length, map, slice_index, Some, Ok}
 use Rattle.tk_base.specs.Numbers.{rounded_up}
-use Rattle.tbf_headers.specs.Numbers.{word}
+use Rattle.tbf_headers.specs.Numbers.{word_at}
 use Rattle.tbf_headers.specs.Meaning.{meaning_of}
 use Rattle.flash_walk.specs.declared.found.Found.{Found}
 use Rattle.flash_walk.specs.Image.{objects}
 use Rattle.image_make.specs.Edits.{with_enabled}
 use Rattle.image_make.specs.Images.{with_reading}
-use Rattle.image_make.specs.Outcomes.{sound_found, bytes_of, enabled, place_for, given}
+use Rattle.image_make.specs.Outcomes.{sound_found, found_bytes, enabled, place_for, with_name}
 use Rattle.image_make.specs.Laws.{AreBytes}
 
 -- a place outside of a range
@@ -18,21 +18,31 @@ IsOutside from to k = (k < from) ⊎ (to ≤ k)
 -- alone, and walked as before, but that the flags of that object are read so
 pub record IsEnabled (on : Bool) (flash : List ℕ) (f : Found) : Type 0 where
   pub size : length (enabled on flash f) ≡ length flash
-  pub bytes : (k : ℕ) → IsOutside (f.offset + 8) (f.offset + 16) k → slice_index (enabled on flash f) k ≡ slice_index flash k
+  pub bytes : (k : ℕ) → IsOutside (f.offset + 8) (f.offset + 16) k
+      → slice_index (enabled on flash f) k ≡ slice_index flash k
   pub walked :
-      objects (enabled on flash f) ≡
-      map (with_reading f.offset (Ok (record (meaning_of (bytes_of f flash)) { flags = with_enabled on (word (bytes_of f flash) 8) }))) (objects flash)
+      let object = found_bytes f flash in
+      let flags = with_enabled on (word_at object 8) in
+      objects (enabled on flash f)
+      ≡ map (with_reading f.offset (Ok (record (meaning_of object) { flags = flags }))) (objects flash)
 
 abbrev pub EnabledIsWalked : Type 0
-EnabledIsWalked = (on : Bool) (flash : List ℕ) (at : ℕ) (f : Found) → AreBytes flash → sound_found at (objects flash) ≡ Some f → IsEnabled on flash f
+EnabledIsWalked =
+    (on : Bool) (flash : List ℕ) (at : ℕ) (f : Found) → AreBytes flash → sound_found at (objects flash) ≡ Some f
+    → IsEnabled on flash f
 
 -- the same of an image whose object gets another name
 pub record IsGiven (name flash : List ℕ) (f : Found) (at : ℕ) : Type 0 where
-  pub size : length (given name flash f at) ≡ length flash
-  pub bytes : (k : ℕ) → IsOutside (f.offset + 12) (f.offset + 16) k → IsOutside (f.offset + at + 2) (f.offset + at + 4 + rounded_up (length name)) k → slice_index (given name flash f at) k ≡ slice_index flash k
-  pub walked : objects (given name flash f at) ≡ map (with_reading f.offset (Ok (record (meaning_of (bytes_of f flash)) { name = Some name }))) (objects flash)
+  pub size : length (with_name name flash f at) ≡ length flash
+  pub bytes : (k : ℕ) → IsOutside (f.offset + 12) (f.offset + 16) k
+      → IsOutside (f.offset + at + 2) (f.offset + at + 4 + rounded_up (length name)) k
+      → slice_index (with_name name flash f at) k ≡ slice_index flash k
+  pub walked : objects (with_name name flash f at)
+      ≡ map (with_reading f.offset (Ok (record (meaning_of (found_bytes f flash)) { name = Some name })))
+      (objects flash)
 
 abbrev pub GivenIsWalked : Type 0
 GivenIsWalked =
     (name flash : List ℕ) (offset : ℕ) (f : Found) (at : ℕ) → AreBytes flash → AreBytes name → length name ≤ 32 →
-    sound_found offset (objects flash) ≡ Some f → place_for name (bytes_of f flash) ≡ Some at → IsGiven name flash f at
+    sound_found offset (objects flash) ≡ Some f → place_for name (found_bytes f flash) ≡ Some at
+    → IsGiven name flash f at

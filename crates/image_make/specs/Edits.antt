@@ -1,5 +1,6 @@
 -- What the image tool writes in place of an object of a flash image (Tock Binary Format, "TBF Header Base").
-use Rattle.std.specs.Prelude.{ℕ, ◌+◌, ◌-◌, ◌*◌, ◌/◌, Bool, true, false, List, ◌++◌, length, take, drop, replicate, Option}
+use Rattle.std.specs.Prelude.{ℕ, ◌+◌, ◌-◌, ◌*◌, ◌/◌, Bool, true, false, List, ◌++◌, length, take, drop, replicate}
+use Rattle.std.specs.Prelude.{Option}
 use Rattle.tk_base.specs.declared.access.Width.TheVariants.{Half, Word}
 use Rattle.tk_base.specs.Bus.{put}
 use Rattle.tk_base.specs.Numbers.{rounded_up}
@@ -17,8 +18,8 @@ unfoldable pub mended : List ℕ → List ℕ
 mended object = put object 12 Word (checksum (header_of object))
 
 -- an object with other flags
-unfoldable pub flagged : ℕ → List ℕ → List ℕ
-flagged flags object = mended (put object 8 Word flags)
+unfoldable pub with_flags : ℕ → List ℕ → List ℕ
+with_flags flags object = mended (put object 8 Word flags)
 
 -- an image with other bytes at a place
 unfoldable pub replaced : List ℕ → ℕ → List ℕ → List ℕ

@@ -1,14 +1,15 @@
--- The files of a soak run: eight applications and a script, from the draws that follow a number.
+-- The files of a soak run: eight applications and a script, from the draws that follow a number. They are this tool's
+-- own.
 use Rattle.std.specs.Prelude.{ℕ, zero, suc, ◌+◌, ◌*◌, ◌/◌, ◌%◌, ◌^◌, List, [], ◌∷◌, ◌++◌, codes, decimal, flat_map}
 use Rattle.std.specs.Int.{to_le_bytes, w32}
 use Rattle.tk_outside.specs.Text.{hex_digits}
 use Rattle.image_make.specs.declared.assembler.Instruction.{Instruction}
-use Rattle.image_make.specs.Assembler.{word_of}
-use Rattle.image_make.specs.Program.{program, header_of}
+use Rattle.image_make.specs.Assembler.{instruction_word}
+use Rattle.image_make.specs.Program.{program, header_words}
 
 -- the draw after a draw, or after the number
-abbrev pub drawn : ℕ → ℕ
-drawn x = (x * 1664525 + 1013904223) % 2 ^ 32
+abbrev pub next_draw : ℕ → ℕ
+next_draw x = (x * 1664525 + 1013904223) % 2 ^ 32
 
 -- the number of the application, and four digits of a draw, as a line
 unfoldable pub message : ℕ → ℕ → List ℕ
@@ -16,29 +17,30 @@ message k d = codes "p" ++ (48 + k) ∷ codes " " ++ hex_digits 4 (d / 2 ^ 16) +
 
 -- the bytes of words, each with its lowest byte first
 abbrev pub assembled : List Instruction → List ℕ
-assembled code = flat_map (λ instruction. to_le_bytes w32 (word_of instruction)) code
+assembled code = flat_map (λ instruction. to_le_bytes w32 (instruction_word instruction)) code
 
 -- the object of application k, from the four draws after a draw: for its rounds, its spins, its exit code and its
 -- message
 unfoldable pub object_of : ℕ → ℕ → List ℕ
 object_of k x =
-    let d1 = drawn x in
-    let d2 = drawn d1 in
-    let d3 = drawn d2 in
-    assembled (header_of 172) ++ assembled (program (1 + d1 / 2 ^ 22) (1 + d2 / 2 ^ 22) (d3 / 2 ^ 24)) ++ message k (drawn d3)
+    let d1 = next_draw x in
+    let d2 = next_draw d1 in
+    let d3 = next_draw d2 in
+    assembled (header_words 172) ++ assembled (program (1 + d1 / 2 ^ 22) (1 + d2 / 2 ^ 22) (d3 / 2 ^ 24))
+    ++ message k (next_draw d3)
 
 -- the draw after four
 abbrev pub fourth : ℕ → ℕ
-fourth x = drawn (drawn (drawn (drawn x)))
+fourth x = next_draw (next_draw (next_draw (next_draw x)))
 
 -- so many objects from application k on, after a draw
-unfoldable pub objects : ℕ → ℕ → ℕ → List ℕ
-objects zero k x = []
-objects (suc n) k x = object_of k x ++ objects n (k + 1) (fourth x)
+unfoldable pub soak_objects : ℕ → ℕ → ℕ → List ℕ
+soak_objects zero k x = []
+soak_objects (suc n) k x = object_of k x ++ soak_objects n (k + 1) (fourth x)
 
 -- the flash image of a number
 abbrev pub soak_flash : ℕ → List ℕ
-soak_flash number = objects 8 0 (drawn number)
+soak_flash number = soak_objects 8 0 (next_draw number)
 
 -- the script that a draw gives
 abbrev pub script_line : ℕ → List ℕ
@@ -46,4 +48,4 @@ script_line d = codes "slice " ++ decimal (1 + d / 2 ^ 26) ++ codes "\n"
 
 -- the script of a number
 abbrev pub soak_script : ℕ → List ℕ
-soak_script number = script_line (drawn number)
+soak_script number = script_line (next_draw number)

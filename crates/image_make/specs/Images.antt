@@ -1,9 +1,10 @@
--- What the walk over an image finds after an edit of one object, and after another image is appended.
+-- What the walk over an image finds after an edit of one object, and after another image is appended. The walk is that
+-- of the Tock Binary Format, "TBF Header Base"; the edits are this tool's own.
 use Rattle.std.specs.Prelude.{ℕ, ◌+◌, ◌==◌, if◌then◌else◌, List, take, find, Option, Result}
 use Rattle.std.specs.List.{sum_by}
 use Rattle.tk_base.specs.declared.access.TheConstants.{FLASH_START}
 use Rattle.tbf_headers.specs.declared.fault.HeaderFault.{HeaderFault}
-use Rattle.tbf_headers.specs.Meaning.{Meaning, reading}
+use Rattle.tbf_headers.specs.Meaning.{Meaning, header_reading}
 use Rattle.tbf_headers.specs.Objects.{object_at}
 use Rattle.flash_walk.specs.declared.found.Found.{Found}
 use Rattle.flash_walk.specs.declared.found.Verdict.{Verdict}
@@ -15,8 +16,9 @@ abbrev pub object_found : ℕ → List Found → Option Found
 object_found offset found = find (λ f. f.offset == offset) found
 
 -- what is found where the object at an offset has these bytes
-abbrev pub with_bytes : ℕ → List ℕ → Found → Found
-with_bytes at object f = if f.offset == at then record f { verdict = verdict_of (FLASH_START + at) (reading object) } else f
+abbrev pub found_with_bytes : ℕ → List ℕ → Found → Found
+found_with_bytes at object f =
+    if f.offset == at then record f { verdict = verdict_of (FLASH_START + at) (header_reading object) } else f
 
 -- what is found where the header of the object at an offset is read as this
 abbrev pub with_reading : ℕ → Result Meaning HeaderFault → Found → Found
@@ -34,7 +36,7 @@ packed file = take (covered (objects file)) file
 abbrev pub moved : ℕ → List ℕ → Found → Found
 moved distance file f = record f {
   offset = distance + f.offset;
-  verdict = verdict_of (FLASH_START + (distance + f.offset)) (reading (object_at file f.offset f.size));
+  verdict = verdict_of (FLASH_START + (distance + f.offset)) (header_reading (object_at file f.offset f.size));
 }
 
 -- a verdict that takes no heed of the address that an application is linked for

@@ -1,6 +1,8 @@
--- What packing a file behind an image leaves of it, and where it is refused.
-use Rattle.std.specs.Prelude.{◌≡◌, ◌≤◌, ℕ, ◌+◌, ◌%◌, nat_lt, All, if◌then◌else◌, List, [], ◌∷◌, ◌++◌, length, map, Option, Some, None, unwrap_or, Result, Ok, Err}
-use Rattle.tk_base.specs.declared.limits.TheConstants.{FLASH_LIMIT}
+-- What packing a file behind an image leaves of it, and where it is refused. How files are put together is this tool's
+-- own.
+use Rattle.std.specs.Prelude.{◌≡◌, ◌≤◌, ℕ, ◌+◌, ◌%◌, nat_lt, All, if◌then◌else◌, List, [], ◌∷◌, ◌++◌, length, map}
+use Rattle.std.specs.Prelude.{Option, Some, None, unwrap_or, Result, Ok, Err}
+use Rattle.tk_base.specs.declared.limits.TheConstants.{FLASH_LIMIT, OBJECT_LIMIT}
 use Rattle.flash_walk.specs.declared.found.Found.{Found}
 use Rattle.flash_walk.specs.Image.{objects}
 use Rattle.image_make.specs.declared.packs.PackFault.{PackFault}
@@ -10,7 +12,7 @@ use Rattle.image_make.specs.Images.{covered, packed, moved, but_link}
 -- why a file is not packed, behind so many objects and these bytes
 abbrev pub pack_refusal : ℕ → List ℕ → List ℕ → Option PackFault
 pack_refusal count image file =
-    if nat_lt 64 (count + length (objects file)) then Some Objects
+    if nat_lt OBJECT_LIMIT (count + length (objects file)) then Some Objects
     else (if nat_lt FLASH_LIMIT (length image + covered (objects file)) then Some Size else None)
 
 -- a file is packed, and the objects counted
@@ -20,7 +22,7 @@ pub record IsPacked (n : ℕ) (xs file : List ℕ) (m : ℕ) (ys : List ℕ) : T
   pub count : m ≡ n + length (objects file)
 
 -- or it is refused, and nothing has changed; where nothing refuses it, for want of memory
-pub record IsRefused (n : ℕ) (xs file : List ℕ) (m : ℕ) (ys : List ℕ) (fault : PackFault) : Type 0 where
+pub record IsPackRefused (n : ℕ) (xs file : List ℕ) (m : ℕ) (ys : List ℕ) (fault : PackFault) : Type 0 where
   pub cause : unwrap_or (pack_refusal n xs file) Memory ≡ fault
   pub image : ys ≡ xs
   pub count : m ≡ n
@@ -30,6 +32,7 @@ abbrev pub pack_next : Option PackFault → Result (List ℕ) PackFault → Resu
 pack_next None rest = rest
 pack_next (Some fault) rest = Err fault
 
+-- Files behind an image that has so many objects, one after another: the first one that is refused decides.
 unfoldable pub pack_from : ℕ → List ℕ → List (List ℕ) → Result (List ℕ) PackFault
 pack_from count image [] = Ok image
 pack_from count image (file ∷ files) =
@@ -47,7 +50,8 @@ one_after_another distance (file ∷ files) =
 
 -- what is packed is walked as the files one after another
 abbrev pub PackIsWalked : Type 0
-PackIsWalked = (files : List (List ℕ)) (image : List ℕ) → pack files ≡ Ok image → objects image ≡ one_after_another 0 files
+PackIsWalked =
+    (files : List (List ℕ)) (image : List ℕ) → pack files ≡ Ok image → objects image ≡ one_after_another 0 files
 
 -- moved by a multiple of 4, an object keeps its verdict, but to or from WrongFlash
 abbrev pub KeepsVerdict : ℕ → List ℕ → Found → Type 0

@@ -1,5 +1,5 @@
 -- The program of a soak application: it writes its message to the console and waits for the end of the write, in so
--- many rounds, and spins before each next round; then it exits.
+-- many rounds, and spins before each next round; then it exits. It is this tool's own.
 use Rattle.std.specs.Prelude.{ℕ, ◌-◌, ◌^◌, List, [], ◌∷◌, bit_xor}
 use Rattle.image_make.specs.declared.assembler.Register.TheVariants.{Zero, Ra, T0, S0, S1, A0, A1, A2, A3, A4}
 use Rattle.image_make.specs.declared.assembler.Instruction.{Instruction}
@@ -33,8 +33,8 @@ program rounds spins code =
 -- The header of an application of so many bytes (Tock Binary Format, "TBF Header Base" and "Main"): version 2 and 32
 -- bytes of header; the bytes in all; enabled; the checksum, which is the exclusive or of the other words; an element
 -- Main of 12 bytes, with init offset 0, no protected bytes and 256 bytes of RAM.
-unfoldable pub header_of : ℕ → List Instruction
-header_of size =
+unfoldable pub header_words : ℕ → List Instruction
+header_words size =
     Word 0x00200002 ∷ Word size ∷ Word 1
     ∷ Word (bit_xor (bit_xor (bit_xor (bit_xor 0x00200002 size) 1) 0x000C0001) 0x00000100)
     ∷ Word 0x000C0001 ∷ Word 0 ∷ Word 0 ∷ Word 0x00000100 ∷ []

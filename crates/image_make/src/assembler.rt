@@ -1,7 +1,7 @@
 //! The instructions that the programs are made of, and their words (RISC-V unprivileged manual, "RV32I
 //! Base Integer Instruction Set" and "RISC-V Assembly Programmer's Handbook").
 ghost use Rattle.std.specs.Prelude.{◌≡◌, ◌<◌};
-ghost use Rattle.image_make.specs.Assembler.{number_of, i_type, b_type, s_type, word_of};
+ghost use Rattle.image_make.specs.Assembler.{register_number, i_type, b_type, s_type, instruction_word};
 
 /// The registers that the programs use, by their names in the calling convention.
 #[derive(Clone, Copy)]
@@ -21,7 +21,7 @@ pub enum Register {
 impl Register {
     /// The register's number, from 0 to 31.
     fn number(self) -> u32
-        ensures number { result ≡ number_of self }
+        ensures number { result ≡ register_number self }
         ensures below { result < 32 }
     {
         match self {
@@ -111,7 +111,7 @@ fn s_type(opcode: u32, funct3: u32, rs2: Register, rs1: Register, offset: u32) -
 impl Instruction {
     /// The instruction's word.
     pub fn word(self) -> u32
-        ensures { result ≡ word_of self }
+        ensures { result ≡ instruction_word self }
     {
         match self {
             Instruction::Word(word) => word,

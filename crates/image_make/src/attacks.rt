@@ -1,7 +1,7 @@
 //! Hostile applications.
 ghost use Rattle.std.specs.Prelude.{◌≡◌, ◌≤◌, ◌<◌, ◌++◌, ◌↔◌, length, None, IfOk, IfSome, OnOk};
 ghost use Rattle.std.specs.Option.{option_map};
-ghost use Rattle.image_make.specs.Attacks.{application, attack, attack_files, attack_script};
+ghost use Rattle.image_make.specs.Attacks.{application_object, attack, attack_files, attack_script};
 
 use crate::assembler::Instruction::{self, Addi, Ecall, Jalr, Li, Mv, Sw, Word};
 use crate::assembler::Register::{A0, A1, A2, A3, A4, S0, Zero};
@@ -121,7 +121,7 @@ fn script_of(number: u32) -> &'static [u8]
 /// Appends the object of an application with this program.
 fn put_application(flash: &mut Vec<u8>, code: &[Instruction]) -> Result<(), AllocError>
     requires { length code.now ≤ 9 }
-    ensures { OnOk result (flash.new.items ≡ flash.old.items ++ application code.now) }
+    ensures { OnOk result (flash.new.items ≡ flash.old.items ++ application_object code.now) }
 {
     put_code(flash, &header_of(32 + 4 * code.len() as u32))?;
     put_code(flash, code)

@@ -1,6 +1,6 @@
 //! Random draws.
 ghost use Rattle.std.specs.Prelude.{◌≡◌};
-ghost use Rattle.image_make.specs.Generator.{drawn};
+ghost use Rattle.image_make.specs.Generator.{next_draw};
 
 use std::marker::Model;
 
@@ -28,7 +28,7 @@ impl Draws {
 
     /// The next draw.
     pub fn draw(&mut self) -> u32
-        ensures value { result ≡ drawn self.old }
+        ensures value { result ≡ next_draw self.old }
         ensures last { self.new ≡ result }
     {
         self.last = self

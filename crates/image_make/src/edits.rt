@@ -2,13 +2,13 @@
 ghost use Rattle.std.specs.Prelude.{◌≡◌, ◌+◌, ◌%◌, ◌<◌, ◌≤◌, length, IfSome, IfOk, MatchResult, Some, None, Ok, false, true};
 ghost use Rattle.std.specs.List.{list_all};
 ghost use Rattle.tk_base.specs.Numbers.{rounded_up};
-ghost use Rattle.tbf_headers.specs.Numbers.{half, word};
-ghost use Rattle.tbf_headers.specs.Meaning.{reading, meaning_of};
+ghost use Rattle.tbf_headers.specs.Numbers.{half, word_at};
+ghost use Rattle.tbf_headers.specs.Meaning.{header_reading, meaning_of};
 ghost use Rattle.tbf_headers.specs.Objects.{object_at};
 ghost use Rattle.flash_walk.specs.Image.{objects, IsObject};
-ghost use Rattle.image_make.specs.Edits.{mended, flagged, with_enabled, padded, renamed};
+ghost use Rattle.image_make.specs.Edits.{mended, with_flags, with_enabled, padded, renamed};
 ghost use Rattle.image_make.specs.Images.{object_found};
-ghost use Rattle.image_make.specs.Outcomes.{is_bad, sound_found, IsSoundObject, bytes_of, enabled, enabling, is_visible, may_name, place_for, IsNamePlace, given, renaming, Edits};
+ghost use Rattle.image_make.specs.Outcomes.{has_fault, sound_found, IsSoundObject, found_bytes, enabled, enabling, is_visible, may_name, place_for, IsNamePlace, with_name, renaming, Edits};
 
 use arrayvec::ArrayVec;
 use flash_walk::{Found, Verdict, walk};
@@ -28,7 +28,7 @@ pub enum EditFault {
 
 /// Whether a header has a fault.
 fn is_faulty(verdict: Verdict) -> bool
-    ensures { result ≡ is_bad verdict }
+    ensures { result ≡ has_fault verdict }
 {
     match verdict {
         Verdict::Bad(_) => true,
@@ -79,11 +79,11 @@ fn mend(object: &mut [u8])
 }
 
 /// Puts other flags, and mends the checksum.
-#[tactic(auto, unfolding(crate::specs::Edits::flagged))]
+#[tactic(auto, unfolding(crate::specs::Edits::with_flags))]
 fn put_flags(object: &mut [u8], flags: u32)
     requires long { 16 ≤ length object.old }
     requires header { half object.old 2 ≤ length object.old }
-    ensures { object.new ≡ flagged flags object.old }
+    ensures { object.new ≡ with_flags flags object.old }
 {
     a_store_is_put();
     put_number(object, 8, Width::Word, flags);
@@ -101,7 +101,7 @@ fn flags_of(flags: u32, on: bool) -> u32
 fn enable(object: &mut [u8], on: bool)
     requires long { 16 ≤ length object.old }
     requires header { half object.old 2 ≤ length object.old }
-    ensures { object.new ≡ flagged (with_enabled on (word object.old 8)) object.old }
+    ensures { object.new ≡ with_flags (with_enabled on (word_at object.old 8)) object.old }
 {
     let flags = flags_of(word_at(object, 8), on);
     put_flags(object, flags);
@@ -168,7 +168,7 @@ fn rounded(length: usize) -> usize
 /// name.
 fn place_of_name(object: &[u8], name: &[u8]) -> Option<usize>
     requires long { 16 ≤ length object.now }
-    requires read { reading object.now ≡ Ok (meaning_of object.now) }
+    requires read { header_reading object.now ≡ Ok (meaning_of object.now) }
     requires header { half object.now 2 ≤ length object.now }
     requires aligned { half object.now 2 % 4 ≡ 0 }
     requires few { length name.now ≤ 32 }
@@ -209,12 +209,12 @@ fn put_name(object: &mut [u8], at: usize, name: &[u8])
 }
 
 /// Gives an object that was found another package name.
-#[tactic(auto, unfolding(crate::specs::Outcomes::given))]
+#[tactic(auto, unfolding(crate::specs::Outcomes::with_name))]
 fn rename_object(flash: &mut [u8], object: &Found, at: usize, name: &[u8])
     requires sound { IsSoundObject flash.old object.now }
-    requires place { IsNamePlace (bytes_of object.now flash.old) name.now at }
+    requires place { IsNamePlace (found_bytes object.now flash.old) name.now at }
     requires few { length name.now ≤ 32 }
-    ensures { flash.new ≡ given name.now flash.old object.now at }
+    ensures { flash.new ≡ with_name name.now flash.old object.now at }
 {
     let from = object.offset as usize;
     put_name(&mut flash[from..from + object.size as usize], at, name);

@@ -1,7 +1,7 @@
 //! The two files.
 ghost use Rattle.std.specs.Prelude.{◌≡◌, ◌<◌, ◌≤◌, ◌++◌, IfOk, OnOk, length};
-ghost use Rattle.image_make.specs.Program.{header_of};
-ghost use Rattle.image_make.specs.Generator.{fourth, message, assembled, object_of, objects, soak_flash, script_line, soak_script};
+ghost use Rattle.image_make.specs.Program.{header_words};
+ghost use Rattle.image_make.specs.Generator.{fourth, message, assembled, object_of, soak_objects, soak_flash, script_line, soak_script};
 
 use crate::assembler::Instruction::{self, Word};
 use crate::draws::Draws;
@@ -36,9 +36,9 @@ fn message(k: u8, draw: u32) -> [u8; 8]
 }
 
 /// The header of an application of so many bytes (Tock Binary Format, "TBF Header Base" and "Main").
-#[tactic(auto, unfolding(crate::specs::Program::header_of))]
+#[tactic(auto, unfolding(crate::specs::Program::header_words))]
 pub fn header_of(size: u32) -> [Instruction; 8]
-    ensures { result ≡ header_of size }
+    ensures { result ≡ header_words size }
 {
     [
         Word(0x0020_0002),
@@ -80,7 +80,7 @@ fn put_object(flash: &mut Vec<u8>, k: u8, draws: &mut Draws) -> Result<(), Alloc
 
 /// The flash image, after the first draw.
 fn flash_after(alloc: Global, draws: &mut Draws) -> Result<Vec<u8>, AllocError>
-    ensures { IfOk result (λ flash. flash.items ≡ objects 8 0 draws.old) }
+    ensures { IfOk result (λ flash. flash.items ≡ soak_objects 8 0 draws.old) }
 {
     let mut flash = Vec::with_capacity(alloc, OBJECT_SIZE * APPLICATIONS as usize)?;
     for k in 0..APPLICATIONS {

@@ -1,17 +1,18 @@
 //! Packs flash images one behind another.
 ghost use Rattle.std.specs.Prelude.{◌≡◌, ◌≤◌, length, MatchResult, OnOk};
+ghost use Rattle.tk_base.specs.declared.limits.TheConstants.{OBJECT_LIMIT};
 ghost use Rattle.flash_walk.specs.Image.{objects};
 ghost use Rattle.image_make.specs.Images.{covered, packed};
-ghost use Rattle.image_make.specs.Packs.{IsPacked, IsRefused};
+ghost use Rattle.image_make.specs.Packs.{IsPacked, IsPackRefused};
 
 use arrayvec::ArrayVec;
 use flash_walk::{Found, walk};
-use tk_base::FLASH_LIMIT;
+use tk_base::{FLASH_LIMIT, OBJECT_LIMIT};
 
 /// Why a file is not packed: the first of these that holds.
 #[derive(Clone, Copy, Debug, PartialEq, Eq)]
 pub enum PackFault {
-    /// There would be more than 64 objects.
+    /// There would be more objects than [`OBJECT_LIMIT`].
     Objects,
     /// There would be more than 1 MiB.
     Size,
@@ -35,7 +36,7 @@ fn covered_by(found: &[Found]) -> usize
 fn extent(file: &[u8]) -> (u32, usize)
     requires { length file.now ≤ FLASH_LIMIT }
     ensures count { result.0 ≡ length (objects file.now) }
-    ensures few { result.0 ≤ 64 }
+    ensures few { result.0 ≤ OBJECT_LIMIT }
     ensures size { result.1 ≡ covered (objects file.now) }
     ensures within { result.1 ≤ length file.now }
 {
@@ -47,22 +48,23 @@ fn extent(file: &[u8]) -> (u32, usize)
 /// Appends the bytes of a file that the walk over it covers, and counts its objects. What stands behind
 /// the last object is left out. On a refusal nothing has changed.
 ///
-/// [`PackFault::Objects`] where there would be more than 64 objects, else [`PackFault::Size`] where there
+/// [`PackFault::Objects`] where there would be more than [`OBJECT_LIMIT`] objects, else [`PackFault::Size`] where there
 /// would be more than 1,048,576 bytes, else [`PackFault::Memory`] where there was no memory.
 #[tactic(auto, unfolding(crate::specs::Images::packed))]
 pub fn pack_one(image: &mut Vec<u8>, file: &[u8], objects: &mut u32) -> Result<(), PackFault>
-    requires few { objects.old ≤ 64 }
+    requires few { objects.old ≤ OBJECT_LIMIT }
     requires image { length image.old.items ≤ FLASH_LIMIT }
     requires file { length file.now ≤ FLASH_LIMIT }
     ensures packs { MatchResult result
         (λ _. IsPacked objects.old image.old.items file.now objects.new image.new.items)
-        (λ fault. IsRefused objects.old image.old.items file.now objects.new image.new.items fault) }
-    ensures few_objects { OnOk result (objects.new ≤ 64) }
+        (λ fault. IsPackRefused objects.old image.old.items file.now objects.new image.new.items
+        fault) }
+    ensures few_objects { OnOk result (objects.new ≤ OBJECT_LIMIT) }
     ensures short_image { OnOk result (length image.new.items ≤ FLASH_LIMIT) }
 {
     let (found, size) = extent(file);
     let count = *objects + found;
-    if count > 64 {
+    if count as usize > OBJECT_LIMIT {
         return Err(PackFault::Objects);
     }
     if image.len() + size > FLASH_LIMIT {

@@ -1,16 +1,17 @@
 -- A yield that does not wait, and calls that follow one another on the same slot.
-use Rattle.std.proofs.Common.{◌≡◌, ℕ, ◌==◌, Bool, true, false, not, List, [], ◌∷◌, length, refl, sym, ap, ap₂, subst, ◌∙◌, arith}
+use Rattle.std.proofs.Common.{◌≡◌, ℕ, ◌==◌, Bool, true, false, not, List, [], ◌∷◌, length, refl, sym, ap, ap₂, subst}
+use Rattle.std.proofs.Common.{◌∙◌, arith}
 use Rattle.std.proofs.lemmas.Bool.{eqb-true}
 use Rattle.std.proofs.lemmas.List.{set-set}
 use Rattle.tk_base.specs.declared.upcall.Upcall.{Upcall}
-use Rattle.process_own.specs.Own.{Own}
+use Rattle.process_model.specs.Own.{Own}
 use Rattle.process_record.specs.declared.process.Process.{Process}
 use Rattle.process_record.specs.declared.outcome.Outcome.TheVariants.{Delivered, GoesOn}
 use Rattle.process_record.specs.Process.{after_call}
 use Rattle.grant_enter.specs.Homes.{Homes, ChangesOnly, own_of, with_own}
 use Rattle.kernel_model.specs.Record.{Record}
-use Rattle.kernel_model.specs.Calls.{deliver, deliver_by, flagged, yield_now}
-use Rattle.kernel_calls.specs.Outcomes.{ComesTo, Stays}
+use Rattle.kernel_model.specs.Calls.{deliver, deliver_by, flag_written, yield_now}
+use Rattle.kernel_calls.specs.Outcomes.{ServingComesTo, KeepsObject}
 
 -- what changes one slot, and then the same one, changes that one alone
 pub changes_twice : (slot : ℕ) (a b c : Homes) → ChangesOnly slot a b → ChangesOnly slot b c → ChangesOnly slot a c
@@ -18,10 +19,13 @@ changes_twice slot a b c first second =
     second ∙ ap (λ (h : Homes). with_own h slot (own_of c slot)) first
     ∙ ap (λ (owns : List Own). record a { owns = owns }) (set-set a.owns slot (own_of b slot) (own_of c slot))
 
-pub stays_after : (p q r : Process) → q ≡ after_call p → Stays q r → Stays p r
-stays_after p q r is stays = subst (λ (x : Process). Stays x r → Stays p r) (sym is) (λ s. record { object = s.object; turns = s.turns; restarts = s.restarts }) stays
+pub stays_after : (p q r : Process) → q ≡ after_call p → KeepsObject q r → KeepsObject p r
+stays_after p q r is stays =
+    subst (λ (x : Process). KeepsObject x r → KeepsObject p r) (sym is)
+    (λ s. record { object = s.object; turns = s.turns; restarts = s.restarts }) stays
 
-pub now_none : (r : Record) (at : ℕ) (pending : List Upcall) → not (length pending == 0) ≡ false → ComesTo (yield_now r at pending) (flagged r at 0) GoesOn
+pub now_none : (r : Record) (at : ℕ) (pending : List Upcall) → not (length pending == 0) ≡ false
+    → ServingComesTo (yield_now r at pending) (flag_written r at 0) GoesOn
 now_none r at [] none = refl
 now_none r at (u ∷ us) none = absurd (some (length (u ∷ us) == 0) refl none)
   where
@@ -29,6 +33,8 @@ now_none r at (u ∷ us) none = absurd (some (length (u ∷ us) == 0) refl none)
     some true zero_is e = let none_is : length (u ∷ us) ≡ 0 = eqb-true (length (u ∷ us)) 0 zero_is in omega arith
     some false zero_is e = absurd (cc)
 
-pub now_some : (r s : Record) (at : ℕ) (pending : List Upcall) → not (length pending == 0) ≡ true → s ≡ flagged r at 1 → s.own.pending ≡ pending → ComesTo (yield_now r at pending) (deliver s) Delivered
+pub now_some : (r s : Record) (at : ℕ) (pending : List Upcall) → not (length pending == 0) ≡ true
+    → s ≡ flag_written r at 1 → s.own.pending ≡ pending → ServingComesTo (yield_now r at pending) (deliver s) Delivered
 now_some r s at [] some is same = absurd (cc)
-now_some r s at (u ∷ us) some is same = ap (λ (x : Record). record { after = x; outcome = Delivered; acts = [] }) (sym (ap₂ deliver_by is same))
+now_some r s at (u ∷ us) some is same =
+    ap (λ (x : Record). record { after = x; outcome = Delivered; acts = [] }) (sym (ap₂ deliver_by is same))

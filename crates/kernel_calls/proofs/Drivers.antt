@@ -1,40 +1,50 @@
 -- What serving a call comes to, where it is for no driver to answer.
-use Rattle.std.proofs.Common.{◌≡◌, ℕ, Bool, true, false, ◌&&◌, if◌then◌else◌, List, [], Option, None, Some, is_some, refl, sym, ap, ◌∙◌}
+use Rattle.std.proofs.Common.{◌≡◌, ℕ, Bool, true, false, ◌&&◌, if◌then◌else◌, List, [], Option, None, Some, is_some}
+use Rattle.std.proofs.Common.{refl, sym, ap, ◌∙◌}
 use Rattle.tk_base.specs.declared.call.CallRule.TheVariants.{NoDriver, Permission}
 use Rattle.syscall_abi.specs.declared.call.Call.{Call}
 use Rattle.syscall_abi.specs.declared.call.Call.TheVariants.{Command}
 use Rattle.syscall_abi.specs.declared.reply.Reply.{Reply}
 use Rattle.process_record.specs.declared.outcome.Outcome.{Outcome}
-use Rattle.process_record.specs.declared.outcome.Outcome.TheVariants.{Replied, ToDriver, Waits, Delivered, GoesOn, Ended, Again}
+use Rattle.process_record.specs.declared.outcome.Outcome.TheVariants.{Replied, ToDriver, Waits, Delivered, GoesOn}
+use Rattle.process_record.specs.declared.outcome.Outcome.TheVariants.{Ended, Again}
 use Rattle.process_record.specs.declared.process.Process.{Process}
-use Rattle.driver_model.specs.Drivers.{Surroundings, Taker, taker_of}
+use Rattle.driver_model.specs.Drivers.{CommandContext, CommandHandler, handler_of}
 use Rattle.grant_enter.specs.Homes.{Homes, own_of}
 use Rattle.kernel_model.specs.Record.{Record, with_process}
-use Rattle.kernel_model.specs.Calls.{Served, by_class, failure_of, permits, refused, refused_with, served, taken_by}
+use Rattle.kernel_model.specs.Calls.{Served, by_class, failure_of, object_permits, refused, refused_with, served}
+use Rattle.kernel_model.specs.Calls.{taken_by}
 use Rattle.kernel_model.specs.Laws.{NoneIsLeft}
 use Rattle.kernel_calls.specs.Own.{object_in}
-use Rattle.kernel_calls.specs.Outcomes.{acts_for, ComesTo, ServesAt, is_for_driver, is_taken, record_at}
+use Rattle.kernel_calls.specs.Outcomes.{acts_for, ServingComesTo, ServesAt, is_for_driver, is_driver_command}
+use Rattle.kernel_calls.specs.Outcomes.{record_of_slot}
 use Rattle.kernel_calls.proofs.Starts.{of_object}
 
 -- a command that no driver takes
-pub no_driver : (around : Surroundings) (r : Record) (call : Call) (driver number a2 a3 : ℕ) → call ≡ Command driver number a2 a3 → is_taken call ≡ false → by_class around r call ≡ refused r NoDriver
+pub no_driver : (around : CommandContext) (r : Record) (call : Call) (driver number a2 a3 : ℕ)
+    → call ≡ Command driver number a2 a3 → is_driver_command call ≡ false → by_class around r call ≡ refused r NoDriver
 unfolding by_class
-no_driver around r call driver number a2 a3 is free = ap (by_class around r) is ∙ by_taker (taker_of driver) (ap is_taken (sym is) ∙ free)
+no_driver around r call driver number a2 a3 is free =
+    ap (by_class around r) is ∙ by_taker (handler_of driver) (ap is_driver_command (sym is) ∙ free)
   where
-    by_taker : (o : Option Taker) → is_some o ≡ false → taken_by around number a2 a3 r o ≡ refused r NoDriver
+    by_taker : (o : Option CommandHandler) → is_some o ≡ false → taken_by around number a2 a3 r o ≡ refused r NoDriver
     by_taker None free = refl
     by_taker (Some taker) free = absurd (cc)
 
 -- a call that is served is left to no driver
 comes_so : (law : NoneIsLeft) (slot : ℕ) (home home_after : Homes) (p q : Process) (call : Call) (o : Outcome)
     → is_for_driver (object_in home.flash p.object) call ≡ false
-    → ((around : Surroundings) (storage : List ℕ) → ComesTo (served around (record_at home slot p storage) call) (record_at home_after slot q storage) o)
+    → ((around : CommandContext) (storage : List ℕ)
+    → ServingComesTo (served around (record_of_slot home slot p storage) call)
+    (record_of_slot home_after slot q storage) o)
     → ServesAt slot home p call home_after q o
-comes_so law slot home home_after p q call ToDriver free comes = absurd (law nothing (record_at home slot p []) call (ap (λ (s : Served). s.outcome) (comes nothing [])))
+comes_so law slot home home_after p q call ToDriver free comes =
+    absurd (law nothing (record_of_slot home slot p []) call (ap (λ (s : Served). s.outcome) (comes nothing [])))
   where
-    nothing : Surroundings
+    nothing : CommandContext
     nothing = record { now = 0; leds = 0; storage = 0 }
-comes_so law slot home home_after p q call (Replied reply rule) free comes = record { not_for_driver = free; comes = comes }
+comes_so law slot home home_after p q call (Replied reply rule) free comes =
+    record { not_for_driver = free; comes = comes }
 comes_so law slot home home_after p q call Waits free comes = record { not_for_driver = free; comes = comes }
 comes_so law slot home home_after p q call Delivered free comes = record { not_for_driver = free; comes = comes }
 comes_so law slot home home_after p q call GoesOn free comes = record { not_for_driver = free; comes = comes }
@@ -42,27 +52,34 @@ comes_so law slot home home_after p q call Ended free comes = record { not_for_d
 comes_so law slot home home_after p q call Again free comes = record { not_for_driver = free; comes = comes }
 
 -- a call that is not permitted
-pub not_permitted : (law : NoneIsLeft) (slot : ℕ) (home : Homes) (p q : Process) (call : Call) (o : Outcome) (failure : Reply)
-    → permits (object_in home.flash p.object) call ≡ false → failure ≡ failure_of call Permission → q.object ≡ p.object
-    → ((r : Record) → ComesTo (refused_with (with_process r p) Permission failure) (with_process r q) o)
+pub not_permitted : (law : NoneIsLeft) (slot : ℕ) (home : Homes) (p q : Process) (call : Call) (o : Outcome)
+    (failure : Reply)
+    → object_permits (object_in home.flash p.object) call ≡ false → failure ≡ failure_of call Permission
+    → q.object ≡ p.object
+    → ((r : Record) → ServingComesTo (refused_with (with_process r p) Permission failure) (with_process r q) o)
     → ServesAt slot home p call home q o
 unfolding served
 not_permitted law slot home p q call o failure forbidden is same refuses =
-    comes_so law slot home home p q call o (ap (λ (b : Bool). b && is_taken call) forbidden)
-    (λ around storage. let r = record_at home slot p storage in
-    ap (λ (b : Bool). if b then by_class around r call else refused_with r Permission (failure_of call Permission)) forbidden
+    comes_so law slot home home p q call o (ap (λ (b : Bool). b && is_driver_command call) forbidden)
+    (λ around storage. let r = record_of_slot home slot p storage in
+    ap (λ (b : Bool). if b then by_class around r call else refused_with r Permission (failure_of call Permission))
+    forbidden
     ∙ ap (refused_with r Permission) (sym is)
     ∙ refuses r
-    ∙ ap (λ (s : Record). record { after = s; outcome = o; acts = acts_for o }) (of_object home.flash p q (own_of home slot) storage same))
+    ∙ ap (λ (s : Record). record { after = s; outcome = o; acts = acts_for o })
+    (of_object home.flash p q (own_of home slot) storage same))
 
 -- one that is, and that is for no driver to answer
 pub permitted_so : (law : NoneIsLeft) (slot : ℕ) (home home_after : Homes) (p q : Process) (call : Call) (o : Outcome)
-    → permits (object_in home.flash p.object) call ≡ true → is_taken call ≡ false
-    → ((around : Surroundings) (storage : List ℕ) → ComesTo (by_class around (record_at home slot p storage) call) (record_at home_after slot q storage) o)
+    → object_permits (object_in home.flash p.object) call ≡ true → is_driver_command call ≡ false
+    → ((around : CommandContext) (storage : List ℕ)
+    → ServingComesTo (by_class around (record_of_slot home slot p storage) call)
+    (record_of_slot home_after slot q storage) o)
     → ServesAt slot home p call home_after q o
 unfolding served
 permitted_so law slot home home_after p q call o permitted free comes =
-    comes_so law slot home home_after p q call o (ap (λ (b : Bool). b && is_taken call) permitted ∙ free)
-    (λ around storage. let r = record_at home slot p storage in
-    ap (λ (b : Bool). if b then by_class around r call else refused_with r Permission (failure_of call Permission)) permitted
+    comes_so law slot home home_after p q call o (ap (λ (b : Bool). b && is_driver_command call) permitted ∙ free)
+    (λ around storage. let r = record_of_slot home slot p storage in
+    ap (λ (b : Bool). if b then by_class around r call else refused_with r Permission (failure_of call Permission))
+    permitted
     ∙ comes around storage)

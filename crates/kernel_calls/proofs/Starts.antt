@@ -4,46 +4,67 @@ use Rattle.std.proofs.lemmas.Bool.Decides.{nat_tests}
 use Rattle.tk_base.specs.declared.call.CallRule.{CallRule}
 use Rattle.tk_base.specs.declared.call.CallRule.TheVariants.{NoOperation}
 use Rattle.tbf_headers.specs.declared.program.Main.{Main}
-use Rattle.tbf_headers.specs.Meaning.{Meaning, reading}
-use Rattle.process_layout.specs.Extents.{Extents, first_break}
-use Rattle.process_own.specs.Own.{Own, restarted as own_restarted}
+use Rattle.tbf_headers.specs.Meaning.{Meaning, header_reading}
+use Rattle.process_layout.specs.LayoutView.{LayoutView, first_break}
+use Rattle.process_model.specs.Own.{Own, own_restarted as own_restarted}
 use Rattle.syscall_abi.specs.declared.reply.Reply.{Reply}
-use Rattle.process_own.specs.declared.place.Object.{Object}
+use Rattle.process_model.specs.declared.place.Object.{Object}
 use Rattle.process_record.specs.declared.outcome.Outcome.{Outcome}
 use Rattle.process_record.specs.declared.process.Process.{Process}
 use Rattle.process_record.specs.Process.{restarted}
 use Rattle.kernel_model.specs.Record.{Record, with_process}
-use Rattle.kernel_model.specs.Calls.{answered, refused, exit, restart, restarted_by, restarted_main}
+use Rattle.kernel_model.specs.Calls.{driver_answered, refused, exit, restart, restarted_by, restarted_main}
 use Rattle.kernel_calls.specs.Own.{object_in, record_in}
-use Rattle.kernel_calls.specs.Outcomes.{acts_for, ComesTo}
+use Rattle.kernel_calls.specs.Outcomes.{acts_for, ServingComesTo}
 
 -- a record that keeps its object
-pub of_object : (flash : List ℕ) (p q : Process) (own : Own) (storage : List ℕ) → q.object ≡ p.object → with_process (record_in flash p own storage) q ≡ record_in flash q own storage
-of_object flash p q own storage same = ap (λ (x : Object). record { process = q; object = object_in flash x; own = own; storage = storage }) (sym same)
+pub of_object : (flash : List ℕ) (p q : Process) (own : Own) (storage : List ℕ) → q.object ≡ p.object
+    → with_process (record_in flash p own storage) q ≡ record_in flash q own storage
+of_object flash p q own storage same =
+    ap (λ (x : Object). record { process = q; object = object_in flash x; own = own; storage = storage }) (sym same)
 
 -- what a reply leaves of the record
-pub given : (flash : List ℕ) (p q : Process) (own : Own) (storage : List ℕ) (answer : Result Reply CallRule) (o : Outcome) → q.object ≡ p.object → ComesTo (answered (with_process (record_in flash p own storage) p) answer) (with_process (record_in flash p own storage) q) o → ComesTo (answered (record_in flash p own storage) answer) (record_in flash q own storage) o
-given flash p q own storage answer o same gives = gives ∙ ap (λ (s : Record). record { after = s; outcome = o; acts = acts_for o }) (of_object flash p q own storage same)
+pub given : (flash : List ℕ) (p q : Process) (own : Own) (storage : List ℕ) (answer : Result Reply CallRule)
+    (o : Outcome) → q.object ≡ p.object
+    → ServingComesTo (driver_answered (with_process (record_in flash p own storage) p) answer)
+    (with_process (record_in flash p own storage) q) o
+    → ServingComesTo (driver_answered (record_in flash p own storage) answer) (record_in flash q own storage) o
+given flash p q own storage answer o same gives =
+    gives ∙ ap (λ (s : Record). record { after = s; outcome = o; acts = acts_for o })
+    (of_object flash p q own storage same)
 
 pub no_exit : (r : Record) (kind code : ℕ) → kind ≢ 0 → kind ≢ 1 → exit r kind code ≡ refused r NoOperation
 unfolding exit
 no_exit r kind code zeroth first = grind (arith, nat_tests)
 
 -- the start by a header that was read
-pub starts_again : (flash read_from : List ℕ) (p q : Process) (own own_after : Own) (storage : List ℕ) (h g : Meaning) (m : Main) (main : Option Main) (e : Extents) (brk : ℕ)
-    → read_from ≡ flash → reading (object_in read_from p.object) ≡ Ok h → h.main ≡ Some m → g ≡ h → e ≡ own.layout → brk ≡ first_break e.start m.minimum_ram
+pub starts_again : (flash read_from : List ℕ) (p q : Process) (own own_after : Own) (storage : List ℕ) (h g : Meaning)
+    (m : Main) (main : Option Main) (e : LayoutView) (brk : ℕ)
+    → read_from ≡ flash → header_reading (object_in read_from p.object) ≡ Ok h → h.main ≡ Some m → g ≡ h
+    → e ≡ own.layout → brk ≡ first_break e.start m.minimum_ram
     → q ≡ restarted p g m e.start (e.end - e.start) brk → own_after ≡ own_restarted brk own → q.object ≡ p.object
     → record_in flash q own_after storage ≡ restart (record_in flash p own storage)
 unfolding restart
 starts_again flash read_from p q own own_after storage h g m main e brk whole read has same place at is left object =
     let r = record_in flash p own storage in
-    let reads : reading r.object ≡ Ok h = ap (λ (f : List ℕ). reading (object_in f p.object)) (sym whole) ∙ read in
-    let brk_is : brk ≡ first_break own.layout.start m.minimum_ram = at ∙ ap (λ (x : Extents). first_break x.start m.minimum_ram) place in
-    let process : q ≡ restarted p h m own.layout.start (own.layout.end - own.layout.start) (first_break own.layout.start m.minimum_ram)
+    let reads : header_reading r.object ≡ Ok h =
+    ap (λ (f : List ℕ). header_reading (object_in f p.object)) (sym whole) ∙ read in
+    let brk_is : brk ≡ first_break own.layout.start m.minimum_ram =
+    at ∙ ap (λ (x : LayoutView). first_break x.start m.minimum_ram) place in
+    let process : q
+    ≡ restarted p h m own.layout.start (own.layout.end - own.layout.start)
+    (first_break own.layout.start m.minimum_ram)
     = is ∙ ap (λ (x : Meaning). restarted p x m e.start (e.end - e.start) brk) same
-    ∙ ap (λ (x : Extents). restarted p h m x.start (x.end - x.start) brk) place
+    ∙ ap (λ (x : LayoutView). restarted p h m x.start (x.end - x.start) brk) place
     ∙ ap (restarted p h m own.layout.start (own.layout.end - own.layout.start)) brk_is in
-    let own_is : own_after ≡ own_restarted (first_break own.layout.start m.minimum_ram) own = left ∙ ap (λ (n : ℕ). own_restarted n own) brk_is in
+    let own_is : own_after ≡ own_restarted (first_break own.layout.start m.minimum_ram) own =
+    left ∙ ap (λ (n : ℕ). own_restarted n own) brk_is in
     ap (λ (o : Object). record { process = q; object = object_in flash o; own = own_after; storage = storage }) object
-    ∙ ap₂ (λ (x : Process) (o : Own). record { process = x; object = object_in flash p.object; own = o; storage = storage }) process own_is
+    ∙ ap₂ (λ (x : Process) (o : Own). record {
+      process = x;
+      object = object_in flash p.object;
+      own = o;
+      storage =
+          storage;
+    }) process own_is
     ∙ sym (ap (restarted_by r) reads ∙ ap (restarted_main r h) has)

@@ -1,51 +1,53 @@
 -- What serving a system call leaves, and what comes of it: TRD 104, "System Call API".
-use Rattle.std.specs.Prelude.{◌≡◌, ℕ, ◌+◌, ◌<◌, ◌≤◌, ◌^◌, nat_lt, Bool, true, false, ◌&&◌, if◌then◌else◌, List, [], length, Option, None, Some, Result, Ok, Err}
+use Rattle.std.specs.Prelude.{◌≡◌, ℕ, ◌+◌, ◌<◌, ◌≤◌, ◌^◌, nat_lt, Bool, true, false, ◌&&◌, if◌then◌else◌, List, []}
+use Rattle.std.specs.Prelude.{length, Option, None, Some, Result, Ok, Err}
 use Rattle.tk_base.specs.declared.call.CallRule.{CallRule}
 use Rattle.syscall_abi.specs.declared.call.Call.{Call}
 use Rattle.syscall_abi.specs.declared.call.Call.TheVariants.{Yield, Subscribe, Command, AllowRw, AllowRo, Memop, Exit}
-use Rattle.process_own.specs.Own.{Own}
+use Rattle.process_model.specs.Own.{Own}
 use Rattle.process_record.specs.declared.outcome.Outcome.{Outcome}
-use Rattle.process_record.specs.declared.outcome.Outcome.TheVariants.{Replied, ToDriver, Waits, Delivered, GoesOn, Ended, Again}
+use Rattle.process_record.specs.declared.outcome.Outcome.TheVariants.{Replied, ToDriver, Waits, Delivered, GoesOn}
+use Rattle.process_record.specs.declared.outcome.Outcome.TheVariants.{Ended, Again}
 use Rattle.process_record.specs.declared.process.Process.{Process}
-use Rattle.driver_model.specs.Commands.{Act, gone}
-use Rattle.driver_model.specs.Drivers.{Surroundings, takes_commands}
+use Rattle.driver_model.specs.Commands.{BoardRequest, leaving_all}
+use Rattle.driver_model.specs.Drivers.{CommandContext, takes_commands}
 use Rattle.grant_enter.specs.Homes.{ChangesOnly, Homes, own_of}
 use Rattle.kernel_model.specs.Record.{Record}
-use Rattle.kernel_model.specs.Calls.{Served, deliver, permits, served}
+use Rattle.kernel_model.specs.Calls.{Served, deliver, object_permits, served}
 use Rattle.kernel_calls.specs.Own.{IsOwn, object_in, record_in}
 
 -- what the board is to do for a call that the kernel serves itself, by what comes of it: one whose process ends or
 -- starts again waits in no list any more
-abbrev pub acts_for : Outcome → List Act
+abbrev pub acts_for : Outcome → List BoardRequest
 acts_for (Replied reply rule) = []
 acts_for ToDriver = []
 acts_for Waits = []
 acts_for Delivered = []
 acts_for GoesOn = []
-acts_for Ended = gone
-acts_for Again = gone
+acts_for Ended = leaving_all
+acts_for Again = leaving_all
 
 -- serving a call comes to a record and an outcome, and asks of the board what goes with that
-abbrev pub ComesTo : Served → Record → Outcome → Type 0
-ComesTo served s outcome = served ≡ record { after = s; outcome = outcome; acts = acts_for outcome }
+abbrev pub ServingComesTo : Served → Record → Outcome → Type 0
+ServingComesTo served s outcome = served ≡ record { after = s; outcome = outcome; acts = acts_for outcome }
 
 -- the record of the process in a slot, with its storage
-abbrev pub record_at : Homes → ℕ → Process → List ℕ → Record
-record_at home slot process storage = record_in home.flash process (own_of home slot) storage
+abbrev pub record_of_slot : Homes → ℕ → Process → List ℕ → Record
+record_of_slot home slot process storage = record_in home.flash process (own_of home slot) storage
 
 -- whether a call is a command to a driver that takes commands
-abbrev pub is_taken : Call → Bool
-is_taken (Yield number a1 a2) = false
-is_taken (Subscribe driver number function app) = false
-is_taken (Command driver command a2 a3) = takes_commands driver
-is_taken (AllowRw driver number address size) = false
-is_taken (AllowRo driver number address size) = false
-is_taken (Memop operation argument) = false
-is_taken (Exit kind code) = false
+abbrev pub is_driver_command : Call → Bool
+is_driver_command (Yield number a1 a2) = false
+is_driver_command (Subscribe driver number function app) = false
+is_driver_command (Command driver command a2 a3) = takes_commands driver
+is_driver_command (AllowRw driver number address size) = false
+is_driver_command (AllowRo driver number address size) = false
+is_driver_command (Memop operation argument) = false
+is_driver_command (Exit kind code) = false
 
 -- whether a call of a process with that object is for its driver to answer: it is permitted, too
 abbrev pub is_for_driver : List ℕ → Call → Bool
-is_for_driver object call = permits object call && is_taken call
+is_for_driver object call = object_permits object call && is_driver_command call
 
 -- a call that is left to its driver: nothing has changed
 pub record IsLeft (home home_after : Homes) (process process_after : Process) (call : Call) : Type 0 where
@@ -53,14 +55,15 @@ pub record IsLeft (home home_after : Homes) (process process_after : Process) (c
   pub home_stays : home_after ≡ home
   pub process_stays : process_after ≡ process
 
--- a call of the process in a slot that the kernel serves itself: it comes to what its definition says, whatever a driver
+-- a call of the process in a slot that the kernel serves itself: it comes to what its definition says, whatever a
+-- driver
 -- would see of the board, and whatever the process's storage is
 pub record IsServed (slot : ℕ) (home home_after : Homes) (process process_after : Process) (call : Call)
     (outcome : Outcome) : Type 0 where
   pub not_for_driver : is_for_driver (object_in home.flash process.object) call ≡ false
-  pub comes : (around : Surroundings) (storage : List ℕ) →
-      ComesTo (served around (record_at home slot process storage) call)
-      (record_at home_after slot process_after storage) outcome
+  pub comes : (around : CommandContext) (storage : List ℕ) →
+      ServingComesTo (served around (record_of_slot home slot process storage) call)
+      (record_of_slot home_after slot process_after storage) outcome
 
 -- what holds where a call is left to its driver, and what at every other outcome
 abbrev pub LeftOrServed : Type 0 → (Outcome → Type 0) → Outcome → Type 0
@@ -79,7 +82,7 @@ ServesAt slot home process call home_after process_after outcome =
     (IsServed slot home home_after process process_after call) outcome
 
 -- no call moves a process's object or is a turn; one may start the process again
-pub record Stays (p q : Process) : Type 0 where
+pub record KeepsObject (p q : Process) : Type 0 where
   pub object : q.object ≡ p.object
   pub turns : q.turns ≡ p.turns
   pub restarts : q.restarts ≤ p.restarts + 1
@@ -99,24 +102,31 @@ broken_by (Ok answer) = None
 broken_by (Err rule) = Some rule
 
 -- the process is that of the slot, with what is its own
-pub record IsAt (at : ℕ) (home : Homes) (process : Process) : Type 0 where
+pub record IsOfSlot (at : ℕ) (home : Homes) (process : Process) : Type 0 where
   pub slot : at < length home.owns
   pub own : IsOwn home.flash process (own_of home at)
 
+-- a call begins at most one life
+abbrev pub LivesOn : Own → Own → Type 0
+LivesOn old new = new.life ≤ old.life + 1
+
 -- what serving a call leaves: the process is still that of the slot, and no other slot's own has changed
-pub record Keeps (slot : ℕ) (home : Homes) (process : Process) (home_after : Homes)
+pub record KeepsSlot (slot : ℕ) (home : Homes) (process : Process) (home_after : Homes)
     (process_after : Process) : Type 0 where
   pub own : IsOwn home_after.flash process_after (own_of home_after slot)
-  pub stays : Stays process process_after
+  pub stays : KeepsObject process process_after
+  pub lives_on : LivesOn (own_of home slot) (own_of home_after slot)
   pub rest : ChangesOnly slot home home_after
 
 -- what a definition of a call says of the process in a slot, whatever its storage is, is what serving it comes to
 abbrev pub ComesAt : ℕ → Homes → Process → (Record → Served) → Homes → Process → Outcome → Type 0
 ComesAt slot home process served home_after process_after outcome =
     (storage : List ℕ) →
-    ComesTo (served (record_at home slot process storage)) (record_at home_after slot process_after storage) outcome
+    ServingComesTo (served (record_of_slot home slot process storage))
+    (record_of_slot home_after slot process_after storage) outcome
 
 -- what a delivery leaves of the process in a slot, whatever its storage is
 abbrev pub DeliversAt : ℕ → Homes → Process → Homes → Process → Type 0
 DeliversAt slot home process home_after process_after =
-    (storage : List ℕ) → record_at home_after slot process_after storage ≡ deliver (record_at home slot process storage)
+    (storage : List ℕ)
+    → record_of_slot home_after slot process_after storage ≡ deliver (record_of_slot home slot process storage)

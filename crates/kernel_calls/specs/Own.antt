@@ -1,19 +1,21 @@
 -- A process with its own object (Levy et al., SOSP 2017; Tock Binary Format, "Main" and "Program").
-use Rattle.std.specs.Prelude.{◌≡◌, ℕ, ◌+◌, ◌-◌, ◌^◌, ◌<◌, ◌≤◌, Bool, true, false, List, length, Option, None, Some, Result, Ok, Err, IsOk}
+use Rattle.std.specs.Prelude.{◌≡◌, ℕ, ◌+◌, ◌-◌, ◌^◌, ◌<◌, ◌≤◌, Bool, true, false, List, length, Option, None, Some}
+use Rattle.std.specs.Prelude.{Result, Ok, Err, IsOk}
 use Rattle.tk_base.specs.declared.access.TheConstants.{FLASH_START}
 use Rattle.tbf_headers.specs.declared.fault.HeaderFault.{HeaderFault}
 use Rattle.tbf_headers.specs.declared.program.Main.{Main}
-use Rattle.tbf_headers.specs.Meaning.{Meaning, reading}
+use Rattle.tbf_headers.specs.Meaning.{Meaning, header_reading}
 use Rattle.tbf_headers.specs.Addresses.{after_protected, entry_of}
 use Rattle.tbf_headers.specs.Objects.{object_at}
-use Rattle.process_layout.specs.Extents.{Extents, first_break}
-use Rattle.process_own.specs.Own.{Own}
-use Rattle.process_own.specs.Flash.{HasObject}
-use Rattle.process_own.specs.declared.place.Object.{Object}
+use Rattle.process_layout.specs.LayoutView.{LayoutView, first_break}
+use Rattle.process_model.specs.Own.{Own}
+use Rattle.process_model.specs.Flash.{HasObject}
+use Rattle.process_model.specs.declared.place.Object.{Object}
 use Rattle.process_record.specs.declared.process.Process.{Process}
 use Rattle.process_record.specs.declared.process.State.{State}
 use Rattle.process_record.specs.declared.process.State.TheVariants.{Running, Yielded, Faulted, Terminated}
 use Rattle.kernel_model.specs.Record.{Record}
+use Rattle.kernel_model.specs.Lives.{is_alive}
 
 -- the bytes of a process's object in flash
 abbrev pub object_in : List ℕ → Object → List ℕ
@@ -29,18 +31,18 @@ record_in flash process own storage = record {
 }
 
 -- an application's start has addresses below 2^32, and its block holds the RAM that it needs at least
-pub record CanStart (address : ℕ) (e : Extents) (h : Meaning) (m : Main) : Type 0 where
+pub record CanStart (address : ℕ) (e : LayoutView) (h : Meaning) (m : Main) : Type 0 where
   pub entry : entry_of address h m < 2 ^ 32
   pub protected : after_protected address h m < 2 ^ 32
   pub fits : first_break e.start m.minimum_ram ≤ e.end
 
 -- a header with a Program or a Main TLV
-abbrev pub HasStart : ℕ → Extents → Meaning → Option Main → Type 0
+abbrev pub HasStart : ℕ → LayoutView → Meaning → Option Main → Type 0
 HasStart address e h None = ⊥
 HasStart address e h (Some m) = CanStart address e h m
 
 -- the bytes of an object at an address are those of an application that can start
-abbrev pub IsApplication : ℕ → Extents → Result Meaning HeaderFault → Type 0
+abbrev pub IsApplication : ℕ → LayoutView → Result Meaning HeaderFault → Type 0
 IsApplication address e (Err fault) = ⊥
 IsApplication address e (Ok h) = HasStart address e h h.main
 
@@ -48,25 +50,15 @@ IsApplication address e (Ok h) = HasStart address e h h.main
 pub record HasHeader (flash : List ℕ) (object : Object) : Type 0 where
   pub from : FLASH_START ≤ object.address
   pub to : object.address + object.size ≤ FLASH_START + length flash
-  pub read : IsOk (reading (object_in flash object))
+  pub read : IsOk (header_reading (object_in flash object))
 
--- the object lies in flash, has an end below 2^32, holds the accessible flash, and is an application that can start
-pub record IsOwnObject (flash : List ℕ) (object : Object) (e : Extents) : Type 0 where
+-- the object lies in flash, holds the accessible flash, and is an application that can start
+pub record IsOwnObject (flash : List ℕ) (object : Object) (e : LayoutView) : Type 0 where
   pub lies : HasObject (length flash) object e
-  pub below : object.address + object.size < 2 ^ 32
-  pub application : IsApplication object.address e (reading (object_in flash object))
+  pub application : IsApplication object.address e (header_reading (object_in flash object))
 
--- a process lives while it runs or waits (TRD 104, "Yield", "Exit")
-abbrev pub is_alive : State → Bool
-is_alive Running = true
-is_alive Yielded = true
-is_alive Faulted = false
-is_alive (Terminated code) = false
-
--- A process with its own object and what is kept of it: it lives exactly while it runs or waits, and its life is the
--- count of its restarts.
+-- a process with its own object and what is kept of it: it lives exactly while it runs or waits
 pub record IsOwn (flash : List ℕ) (process : Process) (own : Own) : Type 0 where
   pub object : IsOwnObject flash process.object own.layout
   pub object_is : own.object ≡ process.object
   pub lives : own.lives ≡ is_alive process.state
-  pub life : own.life ≡ process.restarts

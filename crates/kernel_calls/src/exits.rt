@@ -3,7 +3,7 @@ ghost use Rattle.std.specs.Prelude.{◌≡◌, ◌+◌, ◌<◌, ◌^◌, ℕ, L
 ghost use Rattle.grant_enter.specs.Homes.{own_of, ChangesOnly};
 ghost use Rattle.kernel_model.specs.Calls.{exit, restart};
 ghost use Rattle.kernel_calls.specs.Own.{IsOwn};
-ghost use Rattle.kernel_calls.specs.Outcomes.{record_at, ComesAt, IsAt, Keeps, Stays};
+ghost use Rattle.kernel_calls.specs.Outcomes.{record_of_slot, ComesAt, IsOfSlot, KeepsSlot, LivesOn, KeepsObject};
 
 use crate::headers::header_of;
 use crate::replies::give;
@@ -16,29 +16,39 @@ pub fn restart_process(home: &mut Home, process: &mut Process, slot: Slot)
     requires slot { slot < length home.old.owns }
     requires own { IsOwn home.old.flash process.old (own_of home.old slot) }
     requires count { process.old.restarts + 1 < 2 ^ 32 }
-    ensures restarted { (storage : List ℕ) → record_at home.new slot process.new storage
-        ≡ restart (record_at home.old slot process.old storage) }
+    requires life { (own_of home.old slot).life + 1 < 2 ^ 32 }
+    ensures restarted { (storage : List ℕ) → record_of_slot home.new slot process.new storage
+        ≡ restart (record_of_slot home.old slot process.old storage) }
     ensures own { IsOwn home.new.flash process.new (own_of home.new slot) }
-    ensures stays { Stays process.old process.new }
+    ensures stays { KeepsObject process.old process.new }
+    ensures lives_on { LivesOn (own_of home.old slot) (own_of home.new slot) }
     ensures rest { ChangesOnly slot home.old home.new }
 {
     let header = header_of(home.flash(), &process.object);
-    let Some(app) = header.app() else {
+    let Some(main) = header.main else {
         unreachable!()
     };
     let layout = home.layout(slot);
-    let brk = layout.first_break(app.main.minimum_ram);
-    process.restart(&app, layout.start, layout.end - layout.start, brk);
+    let brk = layout.first_break(main.minimum_ram);
+    process.restart(&header, layout.start, layout.end - layout.start, brk);
     home.restart(slot, brk);
 }
 
 /// Ends the process in a slot with a completion code, starts it again, or refuses another kind of exit.
 #[tactic(auto, unfolding(kernel_model::specs::Calls::exit))]
-pub fn leave(home: &mut Home, process: &mut Process, slot: Slot, kind: u32, code: u32) -> Outcome
-    requires at { IsAt slot home.old process.old }
+pub fn exit_call(
+    home: &mut Home,
+    process: &mut Process,
+    slot: Slot,
+    kind: u32,
+    code: u32,
+) -> Outcome
+    requires at { IsOfSlot slot home.old process.old }
     requires count { process.old.restarts + 1 < 2 ^ 32 }
-    ensures serves { ComesAt slot home.old process.old (λ r. exit r kind code) home.new process.new result }
-    ensures keeps { Keeps slot home.old process.old home.new process.new }
+    requires life { (own_of home.old slot).life + 1 < 2 ^ 32 }
+    ensures serves { ComesAt slot home.old process.old (λ r. exit r kind code) home.new process.new
+        result }
+    ensures keeps { KeepsSlot slot home.old process.old home.new process.new }
 {
     match kind {
         0 => {

@@ -1,17 +1,17 @@
 //! The header of a process's own object.
 ghost use Rattle.std.specs.Prelude.{◌≡◌, Ok};
-ghost use Rattle.tbf_headers.specs.Meaning.{reading};
+ghost use Rattle.tbf_headers.specs.Meaning.{header_reading};
 ghost use Rattle.tbf_headers.specs.Shown.{shown};
 ghost use Rattle.kernel_calls.specs.Own.{object_in, HasHeader};
 
-use process_own::Object;
+use process_model::Object;
 use tbf_headers::{Header, object_at, read_header};
 use tk_base::FLASH_START;
 
 /// The header of an object in flash.
 pub fn header_of<'a>(flash: &'a [u8], object: &Object) -> Header<'a>
     requires { HasHeader flash.now object.now }
-    ensures { reading (object_in flash.now object.now) ≡ Ok (shown result) }
+    ensures { header_reading (object_in flash.now object.now) ≡ Ok (shown result) }
 {
     let bytes = object_at(flash, object.address - FLASH_START, object.size);
     let Ok(header) = read_header(bytes) else {

@@ -12,6 +12,7 @@ mod swaps;
 mod yields;
 
 pub use exits::restart_process;
-pub use replies::give;
+pub use process_record::Outcome;
+pub use replies::give_reply;
 pub use serving::kernel_call;
 pub use yields::deliver;

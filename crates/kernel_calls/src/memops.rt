@@ -1,11 +1,11 @@
 //! Memop: a process asks about its memory, or moves its break (TRD 104, "Memop").
 ghost use Rattle.std.specs.Prelude.{◌≡◌, ◌+◌, ◌<◌, ℕ, List, length};
-ghost use Rattle.process_own.specs.Own.{Own};
+ghost use Rattle.process_model.specs.Own.{Own};
 ghost use Rattle.grant_enter.specs.Homes.{own_of, ChangesOnly};
-ghost use Rattle.kernel_model.specs.Record.{Record, with_own};
-ghost use Rattle.kernel_model.specs.Calls.{answered, break_moved, moved_by, region, region_end, memop};
-ghost use Rattle.kernel_calls.specs.Own.{record_in, HasHeader, IsOwnObject};
-ghost use Rattle.kernel_calls.specs.Outcomes.{as_address, record_at, MovesBreak};
+ghost use Rattle.kernel_model.specs.Record.{Record, record_with_own};
+ghost use Rattle.kernel_model.specs.Calls.{driver_answered, break_moved, moved_by, region, region_end, memop};
+ghost use Rattle.kernel_calls.specs.Own.{record_in, HasHeader, IsOwn};
+ghost use Rattle.kernel_calls.specs.Outcomes.{as_address, record_of_slot, MovesBreak};
 
 use crate::headers::header_of;
 use grant_enter::Home;
@@ -28,8 +28,9 @@ fn move_break(
     reply: Reply,
 ) -> Result<Reply, CallRule>
     requires { slot < length home.old.owns }
-    ensures answer { (r : Record) → answered (with_own r (own_of home.new slot)) result
-        ≡ break_moved (with_own r (own_of home.old slot)) place reply }
+    ensures answer { (r : Record)
+        → driver_answered (record_with_own r (own_of home.new slot)) result
+        ≡ break_moved (record_with_own r (own_of home.old slot)) place reply }
     ensures stays { MovesBreak (own_of home.old slot) (own_of home.new slot) }
     ensures rest { ChangesOnly slot home.old home.new }
 {
@@ -42,8 +43,9 @@ fn move_break(
 /// The address at which region n of a process's object starts, mod 2^32.
 fn region_start_of(flash: &[u8], process: &Process, n: u32) -> Result<Reply, CallRule>
     requires { HasHeader flash.now process.now.object }
-    ensures { (own : Own) (storage : List ℕ) → let r = record_in flash.now process.now own storage in
-        answered r result ≡ region_end r (λ region. region.0) (region r n) }
+    ensures { (own : Own) (storage : List ℕ)
+        → let r = record_in flash.now process.now own storage in
+        driver_answered r result ≡ region_end r (λ region. region.0) (region r n) }
 {
     let header = header_of(flash, &process.object);
     let (offset, _) = header.region(n).ok_or(CallRule::Index)?;
@@ -54,8 +56,9 @@ fn region_start_of(flash: &[u8], process: &Process, n: u32) -> Result<Reply, Cal
 /// The address at which region n of a process's object ends, mod 2^32.
 fn region_end_of(flash: &[u8], process: &Process, n: u32) -> Result<Reply, CallRule>
     requires { HasHeader flash.now process.now.object }
-    ensures { (own : Own) (storage : List ℕ) → let r = record_in flash.now process.now own storage in
-        answered r result ≡ region_end r (λ region. region.0 + region.1) (region r n) }
+    ensures { (own : Own) (storage : List ℕ)
+        → let r = record_in flash.now process.now own storage in
+        driver_answered r result ≡ region_end r (λ region. region.0 + region.1) (region r n) }
 {
     let header = header_of(flash, &process.object);
     let (offset, size) = header.region(n).ok_or(CallRule::Index)?;
@@ -65,7 +68,7 @@ fn region_end_of(flash: &[u8], process: &Process, n: u32) -> Result<Reply, CallR
 
 /// Does an operation of memop for the process in a slot, or says which rule refuses it.
 #[tactic(auto, unfolding(kernel_model::specs::Calls::memop, kernel_model::specs::Calls::memops))]
-pub fn operate(
+pub fn memop_call(
     home: &mut Home,
     process: &Process,
     slot: Slot,
@@ -73,12 +76,14 @@ pub fn operate(
     argument: u32,
 ) -> Result<Reply, CallRule>
     requires slot { slot < length home.old.owns }
-    requires object { IsOwnObject home.old.flash process.now.object (own_of home.old slot).layout }
-    ensures answer { (storage : List ℕ) → answered (record_at home.new slot process.now storage) result
-        ≡ memop (record_at home.old slot process.now storage) operation argument }
+    requires own { IsOwn home.old.flash process.now (own_of home.old slot) }
+    ensures answer { (storage : List ℕ)
+        → driver_answered (record_of_slot home.new slot process.now storage) result
+        ≡ memop (record_of_slot home.old slot process.now storage) operation argument }
     ensures stays { MovesBreak (own_of home.old slot) (own_of home.new slot) }
     ensures rest { ChangesOnly slot home.old home.new }
 {
+    home.objects_end_at_addresses();
     let object = &process.object;
     let layout = home.layout(slot);
     match operation {

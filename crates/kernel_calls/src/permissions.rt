@@ -1,10 +1,10 @@
 //! Whether the object of a process permits a call (Tock Binary Format, "Permissions").
 ghost use Rattle.std.specs.Prelude.{◌≡◌};
-ghost use Rattle.kernel_model.specs.Calls.{permits};
+ghost use Rattle.kernel_model.specs.Calls.{object_permits};
 ghost use Rattle.kernel_calls.specs.Own.{object_in, HasHeader};
 
 use crate::headers::header_of;
-use process_own::Object;
+use process_model::Object;
 use syscall_abi::Call;
 use syscall_filter::filter;
 
@@ -12,13 +12,10 @@ use syscall_filter::filter;
 /// forbid: yield, memop and exit are always permitted.
 pub fn is_permitted(flash: &[u8], object: &Object, call: &Call) -> bool
     requires { HasHeader flash.now object.now }
-    ensures { result ≡ permits (object_in flash.now object.now) call.now }
+    ensures { result ≡ object_permits (object_in flash.now object.now) call.now }
 {
-    match *call {
-        Call::Yield { .. } | Call::Memop { .. } | Call::Exit { .. } => true,
-        Call::Subscribe { .. }
-        | Call::Command { .. }
-        | Call::AllowRw { .. }
-        | Call::AllowRo { .. } => filter(&header_of(flash, object), call).is_ok(),
+    match call.driver() {
+        None => true,
+        Some(_) => filter(&header_of(flash, object), call).is_ok(),
     }
 }

@@ -1,8 +1,9 @@
 //! What a process gets back for a system call.
 ghost use Rattle.std.specs.Prelude.{◌≡◌, []};
 ghost use Rattle.kernel_model.specs.Record.{Record, with_process};
-ghost use Rattle.kernel_model.specs.Calls.{answered, failure_of, refused_with};
-ghost use Rattle.kernel_calls.specs.Outcomes.{acts_for, ComesTo};
+ghost use Rattle.kernel_model.specs.Calls.{driver_answered, failed_swap, failure_of, refused_with};
+ghost use Rattle.kernel_calls.specs.Given.{given};
+ghost use Rattle.kernel_calls.specs.Outcomes.{acts_for, ServingComesTo};
 
 use process_record::{Outcome, Process};
 use syscall_abi::{Call, Reply};
@@ -13,43 +14,44 @@ use tk_base::CallRule;
 pub(crate) fn failure(call: &Call, rule: CallRule) -> Reply
     ensures { result ≡ failure_of call.now rule }
 {
-    let error = rule.error();
     match *call {
-        Call::Subscribe { function, app, .. } => Reply::FailureU32U32(error, function, app),
+        Call::Subscribe { function, app, .. } => failed_swap((function, app), rule),
         Call::AllowRw { address, size, .. } | Call::AllowRo { address, size, .. } => {
-            Reply::FailureU32U32(error, address, size)
+            failed_swap((address, size), rule)
         }
         Call::Yield { .. } | Call::Command { .. } | Call::Memop { .. } | Call::Exit { .. } => {
-            Reply::Failure(error)
+            Reply::Failure(rule.error())
         }
     }
+}
+
+/// The failure of a subscribe or an allow that breaks a rule: the passed pair comes back.
+pub(crate) fn failed_swap(pair: (u32, u32), rule: CallRule) -> Reply
+    ensures { result ≡ failed_swap pair rule }
+{
+    let (first, second) = pair;
+    Reply::FailureU32U32(rule.error(), first, second)
 }
 
 /// Refuses the call that a process made, by the rule that it broke, with a failure (TRD 104, "Return Values").
 /// The refusal is recorded.
 pub(crate) fn refuse(process: &mut Process, rule: CallRule, failure: Reply) -> Outcome
-    ensures refuses { (r : Record) → ComesTo (refused_with (with_process r process.old) rule failure)
+    ensures refuses { (r : Record)
+        → ServingComesTo (refused_with (with_process r process.old) rule failure)
         (with_process r process.new) result }
     ensures acts { acts_for result ≡ [] }
     ensures stays { process.new
         ≡ record process.old { regs = process.new.regs; refusal = process.new.refusal } }
 {
     process.refuse(rule, &failure);
-    Outcome::Replied {
-        reply: failure,
-        rule: Some(rule),
-    }
+    Outcome::Replied(failure, Some(rule))
 }
 
 /// Replies to the call that a process made, or refuses it by the rule that it broke, with a failure of that
 /// rule's error and nothing else (TRD 104, "Return Values").
-///
-/// A command that [`kernel_call`](crate::kernel_call) left to its driver ([`Outcome::ToDriver`]) is first answered
-/// by the driver's capsule, over the home, and that answer is then given here, once, with the process as
-/// `kernel_call` left it. The process goes on after the call: the reply is in its registers, pc is past the
-/// `ecall`, and a refusal is recorded. What comes back is the outcome to be shown in place of `ToDriver`.
-pub fn give(process: &mut Process, answer: Result<Reply, CallRule>) -> Outcome
-    ensures gives { (r : Record) → ComesTo (answered (with_process r process.old) answer)
+pub(crate) fn give(process: &mut Process, answer: Result<Reply, CallRule>) -> Outcome
+    ensures gives { (r : Record)
+        → ServingComesTo (driver_answered (with_process r process.old) answer)
         (with_process r process.new) result }
     ensures acts { acts_for result ≡ [] }
     ensures stays { process.new
@@ -58,11 +60,33 @@ pub fn give(process: &mut Process, answer: Result<Reply, CallRule>) -> Outcome
     match answer {
         Ok(reply) => {
             process.reply(&reply);
-            Outcome::Replied { reply, rule: None }
+            Outcome::Replied(reply, None)
         }
         Err(rule) => {
             let failure = Reply::Failure(rule.error());
             refuse(process, rule, failure)
         }
+    }
+}
+
+/// Gives a process the reply to the call that it made, with the rule that refuses it, if one does.
+///
+/// A command that [`kernel_call`](crate::kernel_call) left to its driver ([`Outcome::ToDriver`]) is first answered
+/// by the driver's capsule, over the home, and that answer is then given here, once, with the process as
+/// `kernel_call` left it. The process goes on after the call: the reply is in its registers, pc is past the
+/// `ecall`, and a refusal is recorded. What comes back is the outcome to be shown in place of `ToDriver`.
+pub fn give_reply(process: &mut Process, reply: Reply, rule: Option<CallRule>) -> Outcome
+    ensures gives { (r : Record) → ServingComesTo (given (with_process r process.old) (reply, rule))
+        (with_process r process.new) result }
+    ensures acts { acts_for result ≡ [] }
+    ensures stays { process.new
+        ≡ record process.old { regs = process.new.regs; refusal = process.new.refusal } }
+{
+    match rule {
+        None => {
+            process.reply(&reply);
+            Outcome::Replied(reply, None)
+        }
+        Some(rule) => refuse(process, rule, reply),
     }
 }

@@ -1,20 +1,20 @@
 //! The system calls that the kernel serves itself.
 ghost use Rattle.std.specs.Prelude.{◌≡◌, ◌+◌, ◌<◌, ◌^◌, length, false, true};
-ghost use Rattle.driver_model.specs.Drivers.{Surroundings};
+ghost use Rattle.driver_model.specs.Drivers.{CommandContext};
 ghost use Rattle.grant_enter.specs.Homes.{own_of, ChangesOnly};
 ghost use Rattle.kernel_model.specs.Calls.{by_class, memop};
 ghost use Rattle.kernel_calls.specs.Own.{IsOwn};
-ghost use Rattle.kernel_calls.specs.Outcomes.{is_taken, ComesAt, IsAt, Keeps, ServesAt, Stays};
+ghost use Rattle.kernel_calls.specs.Outcomes.{is_driver_command, ComesAt, IsOfSlot, KeepsSlot, LivesOn, ServesAt, KeepsObject};
 
-use crate::exits::leave;
-use crate::memops::operate;
+use crate::exits::exit_call;
+use crate::memops::memop_call;
 use crate::permissions::is_permitted;
 use crate::replies::{failure, give, refuse};
 use crate::swaps::swap;
-use crate::yields::give_way;
+use crate::yields::yield_call;
 use driver_model::takes_commands;
-use grant_areas::PairKind;
 use grant_enter::Home;
+use grant_model::PairKind;
 use kernel_model::no_call_is_left;
 use process_record::{Outcome, Process};
 use syscall_abi::Call;
@@ -22,7 +22,7 @@ use tk_base::{CallRule, Slot};
 
 /// Whether a call is a command to a driver that takes commands.
 fn is_taken(call: &Call) -> bool
-    ensures { result ≡ is_taken call.now }
+    ensures { result ≡ is_driver_command call.now }
 {
     match *call {
         Call::Command { driver, .. } => takes_commands(driver),
@@ -38,28 +38,29 @@ fn serve_memop(
     operation: u32,
     argument: u32,
 ) -> Outcome
-    requires { IsAt slot home.old process.old }
+    requires { IsOfSlot slot home.old process.old }
     ensures serves { ComesAt slot home.old process.old (λ r. memop r operation argument)
         home.new process.new result }
-    ensures keeps { Keeps slot home.old process.old home.new process.new }
+    ensures keeps { KeepsSlot slot home.old process.old home.new process.new }
 {
-    let answer = operate(home, process, slot, operation, argument);
+    let answer = memop_call(home, process, slot, operation, argument);
     give(process, answer)
 }
 
 /// Serves a call that is permitted and that no driver is to answer; a command that no driver takes is refused.
 #[tactic(auto, unfolding(kernel_model::specs::Calls::by_class))]
 fn serve(home: &mut Home, process: &mut Process, slot: Slot, call: &Call) -> Outcome
-    requires at { IsAt slot home.old process.old }
+    requires at { IsOfSlot slot home.old process.old }
     requires lives { (own_of home.old slot).lives ≡ true }
     requires count { process.old.restarts + 1 < 2 ^ 32 }
-    requires call { is_taken call.now ≡ false }
-    ensures serves { (around : Surroundings) → ComesAt slot home.old process.old
+    requires life { (own_of home.old slot).life + 1 < 2 ^ 32 }
+    requires call { is_driver_command call.now ≡ false }
+    ensures serves { (around : CommandContext) → ComesAt slot home.old process.old
         (λ r. by_class around r call.now) home.new process.new result }
-    ensures keeps { Keeps slot home.old process.old home.new process.new }
+    ensures keeps { KeepsSlot slot home.old process.old home.new process.new }
 {
     match *call {
-        Call::Yield { number, a1, .. } => give_way(home, process, slot, number, a1),
+        Call::Yield { number, a1, .. } => yield_call(home, process, slot, number, a1),
         Call::Subscribe {
             driver,
             number,
@@ -92,7 +93,7 @@ fn serve(home: &mut Home, process: &mut Process, slot: Slot, call: &Call) -> Out
             operation,
             argument,
         } => serve_memop(home, process, slot, operation, argument),
-        Call::Exit { kind, code } => leave(home, process, slot, kind, code),
+        Call::Exit { kind, code } => exit_call(home, process, slot, kind, code),
     }
 }
 
@@ -104,8 +105,8 @@ fn serve(home: &mut Home, process: &mut Process, slot: Slot, call: &Call) -> Out
 ///
 /// A command (TRD 104, "Command") to a driver that takes commands is left to that driver: the answer is
 /// [`ToDriver`](Outcome::ToDriver), exactly then, and nothing has changed. The board has the driver's capsule
-/// answer it, and hands what it answered to [`give`]. A command to any other driver is refused with
-/// [`NoDriver`](tk_base::CallRule::NoDriver). What every other call comes to rests on no driver, clock or
+/// answer it, and hands what it answered to [`give_reply`](crate::give_reply). A command to any other driver is
+/// refused with [`NoDriver`](tk_base::CallRule::NoDriver). What every other call comes to rests on no driver, clock or
 /// device, and asks nothing of the board.
 ///
 /// Yield 0 (TRD 104, "Yield") delivers the first pending upcall, or goes on where there is none, and tells by
@@ -134,9 +135,11 @@ pub fn kernel_call(home: &mut Home, process: &mut Process, slot: Slot, call: &Ca
     requires own { IsOwn home.old.flash process.old (own_of home.old slot) }
     requires lives { (own_of home.old slot).lives ≡ true }
     requires count { process.old.restarts + 1 < 2 ^ 32 }
+    requires life { (own_of home.old slot).life + 1 < 2 ^ 32 }
     ensures serves { ServesAt slot home.old process.old call.now home.new process.new result }
     ensures own { IsOwn home.new.flash process.new (own_of home.new slot) }
-    ensures stays { Stays process.old process.new }
+    ensures stays { KeepsObject process.old process.new }
+    ensures lives_on { LivesOn (own_of home.old slot) (own_of home.new slot) }
     ensures rest { ChangesOnly slot home.old home.new }
 {
     no_call_is_left();

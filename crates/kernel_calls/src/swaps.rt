@@ -1,14 +1,14 @@
 //! Subscribe and the allows: a process hands upcalls and buffers to drivers (TRD 104, "Subscribe", "Read-Only
 //! Allow", "Read-Write Allow").
 ghost use Rattle.std.specs.Prelude.{◌≡◌, ◌<◌, length, IfOk, OnOk, OnErr};
-ghost use Rattle.process_own.specs.Handed.{handing, held, may_hand};
+ghost use Rattle.process_model.specs.Handed.{handing, held, may_share};
 ghost use Rattle.grant_enter.specs.Homes.{own_of, ChangesOnly};
 ghost use Rattle.kernel_model.specs.Calls.{swap, swap_refusal};
-ghost use Rattle.kernel_calls.specs.Outcomes.{broken_by, ComesAt, IsAt, Keeps};
+ghost use Rattle.kernel_calls.specs.Outcomes.{broken_by, ComesAt, IsOfSlot, KeepsSlot};
 
-use crate::replies::{give, refuse};
-use grant_areas::PairKind;
+use crate::replies::{failed_swap, give, refuse};
 use grant_enter::Home;
+use grant_model::PairKind;
 use grant_values::counts;
 use process_layout::Layout;
 use process_record::{Outcome, Process};
@@ -17,8 +17,8 @@ use tk_base::{CallRule, Slot};
 
 /// Whether a process may hand a pair: a null upcall, or a function of which 4 bytes lie in accessible RAM or
 /// flash; a buffer without bytes, or one that lies in accessible RAM, or, read-only, in accessible flash.
-fn may_hand(kind: PairKind, layout: &Layout, pair: (u32, u32)) -> bool
-    ensures { result ≡ may_hand kind layout.now pair }
+fn may_share(kind: PairKind, layout: &Layout, pair: (u32, u32)) -> bool
+    ensures { result ≡ may_share kind layout.now pair }
 {
     let (at, size) = pair;
     match kind {
@@ -32,7 +32,7 @@ fn may_hand(kind: PairKind, layout: &Layout, pair: (u32, u32)) -> bool
 }
 
 /// Hands a pair of the process in a slot to a driver and gives the former one, or says which rule refuses it.
-#[tactic(auto, unfolding(kernel_model::specs::Calls::swap_refusal, grant_areas::specs::Grants::shape_of))]
+#[tactic(auto, unfolding(kernel_model::specs::Calls::swap_refusal, grant_model::specs::Grants::shape_of))]
 fn hand(
     home: &mut Home,
     slot: Slot,
@@ -42,8 +42,10 @@ fn hand(
     pair: (u32, u32),
 ) -> Result<(u32, u32), CallRule>
     requires { slot < length home.old.owns }
-    ensures refusal { broken_by result ≡ swap_refusal kind driver number pair (own_of home.old slot) }
-    ensures former { IfOk result (λ former. former ≡ held kind driver number (own_of home.old slot)) }
+    ensures refusal { broken_by result
+        ≡ swap_refusal kind driver number pair (own_of home.old slot) }
+    ensures former { IfOk result (λ former.
+        former ≡ held kind driver number (own_of home.old slot)) }
     ensures handed { OnOk result
         (own_of home.new slot ≡ handing kind driver number pair (own_of home.old slot)) }
     ensures refused { OnErr result (home.new ≡ home.old) }
@@ -56,7 +58,7 @@ fn hand(
         return Err(CallRule::NoNumber);
     }
     let layout = home.layout(slot);
-    if !may_hand(kind, &layout, pair) {
+    if !may_share(kind, &layout, pair) {
         return Err(CallRule::Outside);
     }
     match home.hand(slot, kind, driver, &counts, number, pair) {
@@ -76,17 +78,13 @@ pub fn swap(
     number: u32,
     pair: (u32, u32),
 ) -> Outcome
-    requires { IsAt slot home.old process.old }
+    requires { IsOfSlot slot home.old process.old }
     ensures serves { ComesAt slot home.old process.old (λ r. swap r kind driver number pair)
         home.new process.new result }
-    ensures keeps { Keeps slot home.old process.old home.new process.new }
+    ensures keeps { KeepsSlot slot home.old process.old home.new process.new }
 {
     match hand(home, slot, kind, driver, number, pair) {
         Ok((first, second)) => give(process, Ok(Reply::SuccessU32U32(first, second))),
-        Err(rule) => {
-            let (first, second) = pair;
-            let reply = Reply::FailureU32U32(rule.error(), first, second);
-            refuse(process, rule, reply)
-        }
+        Err(rule) => refuse(process, rule, failed_swap(pair, rule)),
     }
 }

@@ -2,9 +2,9 @@
 ghost use Rattle.std.specs.Prelude.{◌≡◌, ◌<◌, ℕ, List, length, true};
 ghost use Rattle.process_record.specs.Process.{after_call};
 ghost use Rattle.grant_enter.specs.Homes.{own_of, ChangesOnly};
-ghost use Rattle.kernel_model.specs.Calls.{flagged, yield_now, yielding};
+ghost use Rattle.kernel_model.specs.Calls.{flag_written, yield_now, yielding};
 ghost use Rattle.kernel_calls.specs.Own.{IsOwn};
-ghost use Rattle.kernel_calls.specs.Outcomes.{record_at, ComesAt, DeliversAt, IsAt, Keeps, Stays};
+ghost use Rattle.kernel_calls.specs.Outcomes.{record_of_slot, ComesAt, DeliversAt, IsOfSlot, KeepsSlot, LivesOn, KeepsObject};
 
 use grant_enter::Home;
 use process_record::{Outcome, Process};
@@ -19,7 +19,8 @@ pub fn deliver(home: &mut Home, process: &mut Process, slot: Slot)
     ensures delivers { DeliversAt slot home.old process.old home.new process.new }
     ensures layout { (own_of home.new slot).layout ≡ (own_of home.old slot).layout }
     ensures own { IsOwn home.new.flash process.new (own_of home.new slot) }
-    ensures stays { Stays process.old process.new }
+    ensures stays { KeepsObject process.old process.new }
+    ensures lives_on { LivesOn (own_of home.old slot) (own_of home.new slot) }
     ensures rest { ChangesOnly slot home.old home.new }
 {
     if let Some(upcall) = home.take_pending(slot) {
@@ -29,12 +30,13 @@ pub fn deliver(home: &mut Home, process: &mut Process, slot: Slot)
 
 /// Writes the flag of a yield of the process in a slot, and moves its pc past the `ecall`.
 fn flag(home: &mut Home, process: &mut Process, slot: Slot, at: Addr, byte: u8)
-    requires { IsAt slot home.old process.old }
-    ensures flags { (storage : List ℕ) → record_at home.new slot process.new storage
-        ≡ flagged (record_at home.old slot process.old storage) at byte }
+    requires { IsOfSlot slot home.old process.old }
+    ensures flags { (storage : List ℕ) → record_of_slot home.new slot process.new storage
+        ≡ flag_written (record_of_slot home.old slot process.old storage) at byte }
     ensures own { IsOwn home.new.flash process.new (own_of home.new slot) }
     ensures lives { (own_of home.new slot).lives ≡ (own_of home.old slot).lives }
     ensures pending { (own_of home.new slot).pending ≡ (own_of home.old slot).pending }
+    ensures life { (own_of home.new slot).life ≡ (own_of home.old slot).life }
     ensures process { process.new ≡ after_call process.old }
     ensures rest { ChangesOnly slot home.old home.new }
 {
@@ -44,11 +46,11 @@ fn flag(home: &mut Home, process: &mut Process, slot: Slot, at: Addr, byte: u8)
 
 /// A yield that does not wait.
 fn yield_at_once(home: &mut Home, process: &mut Process, slot: Slot, at: Addr) -> Outcome
-    requires at { IsAt slot home.old process.old }
+    requires at { IsOfSlot slot home.old process.old }
     requires lives { (own_of home.old slot).lives ≡ true }
     ensures serves { ComesAt slot home.old process.old (λ r. yield_now r at r.own.pending)
         home.new process.new result }
-    ensures keeps { Keeps slot home.old process.old home.new process.new }
+    ensures keeps { KeepsSlot slot home.old process.old home.new process.new }
 {
     if !home.has_pending(slot) {
         flag(home, process, slot, at, 0);
@@ -62,18 +64,18 @@ fn yield_at_once(home: &mut Home, process: &mut Process, slot: Slot, at: Addr) -
 /// Serves a yield of the process in a slot: 0 does not wait, and 1 waits for an upcall; with any other number
 /// the process goes on.
 #[tactic(auto, unfolding(kernel_model::specs::Calls::yielding))]
-pub fn give_way(
+pub fn yield_call(
     home: &mut Home,
     process: &mut Process,
     slot: Slot,
     number: u32,
     at: Addr,
 ) -> Outcome
-    requires at { IsAt slot home.old process.old }
+    requires at { IsOfSlot slot home.old process.old }
     requires lives { (own_of home.old slot).lives ≡ true }
     ensures serves { ComesAt slot home.old process.old (λ r. yielding r number at)
         home.new process.new result }
-    ensures keeps { Keeps slot home.old process.old home.new process.new }
+    ensures keeps { KeepsSlot slot home.old process.old home.new process.new }
 {
     match number {
         0 => yield_at_once(home, process, slot, at),

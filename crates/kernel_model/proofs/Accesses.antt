@@ -1,5 +1,6 @@
 -- Each access of a turn, and what it is denied for, is of its instruction; and no other label tells any.
-use Rattle.std.proofs.Common.{◌≡◌, inl, inr, sym, ap, ◌∙◌, arith, ℕ, zero, suc, ◌<◌, ◌==◌, List, [], ◌∷◌, find, slice_get, Option, None, Some, refl}
+use Rattle.std.proofs.Common.{◌≡◌, inl, inr, sym, ap, ◌∙◌, arith, ℕ, zero, suc, ◌<◌, ◌==◌, List, [], ◌∷◌, find}
+use Rattle.std.proofs.Common.{slice_get, Option, None, Some, refl}
 use Rattle.std.specs.Prelude.{All, IfSome}
 use Rattle.std.specs.Option.{option_map}
 use Rattle.std.proofs.lemmas.List.Elements.{All-nil, All-cons}
@@ -13,29 +14,32 @@ use Rattle.tk_base.specs.declared.upcall.Upcall.{Upcall as Scheduled}
 use Rattle.rv32_model.specs.declared.turn_end.TurnEnd.{TurnEnd}
 use Rattle.rv32_model.specs.declared.turn_end.TurnEnd.TheVariants as ends
 use Rattle.rv32_model.specs.declared.instr.Instr.TheVariants.{Ecall}
-use Rattle.rv32_model.specs.Laws.{AccessesArePermitted, CallsAreOfEcall, DataIsAligned, DenialsAreDue, IsAt}
-use Rattle.rv32_model.specs.UserTurn.{Touch, denied_at}
+use Rattle.rv32_model.specs.Laws.{AccessesArePermitted, CallsAreOfEcall, DataIsAligned, DenialsAreDue, IsInstrAt}
+use Rattle.rv32_model.specs.UserTurn.{MemoryAccess, denied_at}
 use Rattle.syscall_abi.specs.declared.call.Call.{Call as SystemCall}
-use Rattle.syscall_abi.specs.Call.{call_of, class, table}
-use Rattle.process_own.specs.Permission.{denied}
+use Rattle.syscall_abi.specs.Call.{call_of, class, class_table}
+use Rattle.process_model.specs.Permission.{denied}
 use Rattle.process_record.specs.declared.process.State.{State}
 use Rattle.process_record.specs.declared.process.State.TheVariants.{Running, Yielded, Faulted, Terminated}
 use Rattle.kernel_model.specs.Record.{Record, byte_at, instruction, with_effect}
 use Rattle.kernel_model.specs.declared.settings.Settings.{Settings}
-use Rattle.kernel_model.specs.Turn.{Told, calls, counted, delivery, ended, turn_in, turned}
-use Rattle.kernel_model.specs.World.{Stepped, World, carried_out, deed_of, labels, ran}
-use Rattle.kernel_model.specs.Accesses.{EachAccessIsPermitted, EachDenialIsDue, IsDue, IsPermitted, OfTurn, StepsAreGuarded}
+use Rattle.kernel_model.specs.Turn.{TurnTrace, calls, turn_counted, delivery, at_turn_end, turn_in, turned}
+use Rattle.kernel_model.specs.World.{Stepped, World, carried_out, device_step_of, labels, ran}
+use Rattle.kernel_model.specs.Accesses.{EachAccessIsPermitted, EachDenialIsDue, DenialIsDue, IsPermitted, OfTurn}
+use Rattle.kernel_model.specs.Accesses.{StepsAreGuarded}
 use Rattle.kernel_model.specs.Replay.{after_all}
 use Rattle.kernel_model.proofs.Labels.{done_labels}
 use Rattle.kernel_model.proofs.Places.{of_stepped}
 
 -- a turn lists the accesses of its instruction, or none
-module _ (P : Touch → Type 0) where
-  by_call : (settings : Settings) (time : ℕ) (r : Record) (accesses : List Touch) (call : Option SystemCall) → All P accesses → All P (calls settings time r accesses call).told.accesses
+module _ (P : MemoryAccess → Type 0) where
+  by_call : (settings : Settings) (time : ℕ) (r : Record) (accesses : List MemoryAccess) (call : Option SystemCall)
+      → All P accesses → All P (calls settings time r accesses call).told.accesses
   by_call settings time r accesses None each = All-nil P
   by_call settings time r accesses (Some call) each = each
 
-  by_end : (settings : Settings) (time : ℕ) (r : Record) (accesses : List Touch) (end : TurnEnd) → All P accesses → All P (ended settings time r accesses end).told.accesses
+  by_end : (settings : Settings) (time : ℕ) (r : Record) (accesses : List MemoryAccess) (end : TurnEnd) → All P accesses
+      → All P (at_turn_end settings time r accesses end).told.accesses
   by_end settings time r accesses ends.Went each = each
   by_end settings time r accesses ends.Call each = by_call settings time r accesses (call_of r.process.regs) each
   by_end settings time r accesses (ends.Trap denial) each = All-nil P
@@ -44,27 +48,33 @@ module _ (P : Touch → Type 0) where
   by_delivery r [] = All-nil P
   by_delivery r (upcall ∷ more) = All-nil P
 
-  by_state : (settings : Settings) (time : ℕ) (state : State) (r : Record) → All P (instruction r).accesses → All P (turn_in settings time state r).told.accesses
-  by_state settings time Running r each = let t = instruction r in by_end settings time (with_effect (counted r) t) t.accesses t.end each
+  by_state : (settings : Settings) (time : ℕ) (state : State) (r : Record) → All P (instruction r).accesses
+      → All P (turn_in settings time state r).told.accesses
+  by_state settings time Running r each = let t = instruction r in
+      by_end settings time (with_effect (turn_counted r) t) t.accesses t.end each
   by_state settings time Yielded r each = by_delivery r r.own.pending
   by_state settings time Faulted r each = All-nil P
   by_state settings time (Terminated code) r each = All-nil P
 
 -- those of an instruction are permitted
-instruction_permitted : AccessesArePermitted → DataIsAligned → (r : Record) → All (IsPermitted r.own) (instruction r).accesses
+instruction_permitted : AccessesArePermitted → DataIsAligned → (r : Record)
+    → All (IsPermitted r.own) (instruction r).accesses
 instruction_permitted permitted aligned r k t within = record {
   permitted = permitted (denied r.own.layout) (byte_at r) r.process.regs k t within;
   aligned = aligned (denied r.own.layout) (byte_at r) r.process.regs k t within;
 }
 
-turn_permitted : AccessesArePermitted → DataIsAligned → (settings : Settings) (time : ℕ) (r : Record) → All (IsPermitted r.own) (turned settings time r).told.accesses
+turn_permitted : AccessesArePermitted → DataIsAligned → (settings : Settings) (time : ℕ) (r : Record)
+    → All (IsPermitted r.own) (turned settings time r).told.accesses
 unfolding turned
 turn_permitted permitted aligned settings time r =
     by_state (IsPermitted r.own) settings time r.process.state r (instruction_permitted permitted aligned r)
 
 -- a class for which there is no call is above 6
-above_all : (regs : Registers) (n : ℕ) → option_map (λ (row : ℕ × SystemCall). row.1) (find (λ (row : ℕ × SystemCall). row.0 == n) (table regs)) ≡ None → 6 < n
-unfolding table
+above_all : (regs : Registers) (n : ℕ)
+    → option_map (λ (row : ℕ × SystemCall). row.1) (find (λ (row : ℕ × SystemCall). row.0 == n) (class_table regs))
+    ≡ None → 6 < n
+unfolding class_table
 above_all regs zero e = absurd (cc)
 above_all regs (suc zero) e = absurd (cc)
 above_all regs (suc (suc zero)) e = absurd (cc)
@@ -80,8 +90,10 @@ unknown_class regs e = above_all regs (class regs) e
 
 -- a denial is one of the instruction's, or that of a call of an unknown class
 module _ (law : DenialsAreDue) (of_ecall : CallsAreOfEcall) (settings : Settings) (time : ℕ) where
-  call_due : (r s : Record) (accesses : List Touch) (call : Option SystemCall) → call_of s.process.regs ≡ call → s.process.regs ≡ r.process.regs
-      → IsAt (denied r.own.layout) (byte_at r) r.process.regs.pc (Some Ecall) → IfSome (calls settings time s accesses call).told.denial (IsDue r)
+  call_due : (r s : Record) (accesses : List MemoryAccess) (call : Option SystemCall) → call_of s.process.regs ≡ call
+      → s.process.regs ≡ r.process.regs
+      → IsInstrAt (denied r.own.layout) (byte_at r) r.process.regs.pc (Some Ecall)
+      → IfSome (calls settings time s accesses call).told.denial (DenialIsDue r)
   call_due r s accesses None is same ecall = inr (record {
     instruction = ecall;
     class = unknown_class r.process.regs (ap call_of (sym same) ∙ is);
@@ -89,32 +101,38 @@ module _ (law : DenialsAreDue) (of_ecall : CallsAreOfEcall) (settings : Settings
   })
   call_due r s accesses (Some call) is same ecall = tt
 
-  end_due : (r s : Record) (accesses : List Touch) (end : TurnEnd) → ((d : Denial) → end ≡ ends.Trap d → IsDue r d)
-      → (end ≡ ends.Call → IsAt (denied r.own.layout) (byte_at r) r.process.regs.pc (Some Ecall) × (s.process.regs ≡ r.process.regs))
-      → IfSome (ended settings time s accesses end).told.denial (IsDue r)
+  end_due : (r s : Record) (accesses : List MemoryAccess) (end : TurnEnd)
+      → ((d : Denial) → end ≡ ends.Trap d → DenialIsDue r d)
+      → (end ≡ ends.Call
+      → IsInstrAt (denied r.own.layout) (byte_at r) r.process.regs.pc (Some Ecall)
+      × (s.process.regs ≡ r.process.regs))
+      → IfSome (at_turn_end settings time s accesses end).told.denial (DenialIsDue r)
   end_due r s accesses ends.Went due ecall = tt
-  end_due r s accesses ends.Call due ecall = let is = ecall refl in call_due r s accesses (call_of s.process.regs) refl is.1 is.0
+  end_due r s accesses ends.Call due ecall = let is = ecall refl in
+      call_due r s accesses (call_of s.process.regs) refl is.1 is.0
   end_due r s accesses (ends.Trap denial) due ecall = due denial refl
 
-  delivery_due : (r : Record) (pending : List Scheduled) → IfSome (delivery r pending).told.denial (IsDue r)
+  delivery_due : (r : Record) (pending : List Scheduled) → IfSome (delivery r pending).told.denial (DenialIsDue r)
   delivery_due r [] = tt
   delivery_due r (upcall ∷ more) = tt
 
-  state_due : (state : State) (r : Record) → IfSome (turn_in settings time state r).told.denial (IsDue r)
+  state_due : (state : State) (r : Record) → IfSome (turn_in settings time state r).told.denial (DenialIsDue r)
   state_due Running r =
       let t = instruction r in
-      end_due r (with_effect (counted r) t) t.accesses t.end (λ d trapped. inl (law (denied r.own.layout) (byte_at r) r.process.regs d trapped))
+      end_due r (with_effect (turn_counted r) t) t.accesses t.end
+      (λ d trapped. inl (law (denied r.own.layout) (byte_at r) r.process.regs d trapped))
       (λ calls. let is = of_ecall (denied r.own.layout) (byte_at r) r.process.regs calls in (is.0, is.1))
   state_due Yielded r = delivery_due r r.own.pending
   state_due Faulted r = tt
   state_due (Terminated code) r = tt
 
-  turn_due : (r : Record) → IfSome (turned settings time r).told.denial (IsDue r)
+  turn_due : (r : Record) → IfSome (turned settings time r).told.denial (DenialIsDue r)
   unfolding turned
   turn_due r = state_due r.process.state r
 
 -- what holds of each turn holds of each label
-module _ (P : Record → Told → Type 0) (w : World) (each : (r : Record) → P r (turned w.settings w.clock.time r).told) where
+module _ (P : Record → TurnTrace → Type 0) (w : World)
+    (each : (r : Record) → P r (turned w.settings w.clock.time r).told) where
   ran_labels : (slot : ℕ) (o : Option Record) → slice_get w.records slot ≡ o → All (OfTurn P w) (ran w slot o).labels
   ran_labels slot None is = All-nil (OfTurn P w)
   ran_labels slot (Some r) is = All-cons (OfTurn P w) _ [] (r, is, each r) (All-nil (OfTurn P w))
@@ -122,21 +140,25 @@ module _ (P : Record → Told → Type 0) (w : World) (each : (r : Record) → P
   choice_labels : (choice : Choice) → All (OfTurn P w) (carried_out w choice).labels
   unfolding carried_out
   choice_labels (Run slot) = ran_labels slot (slice_get w.records slot) refl
-  choice_labels (Device device) = done_labels (OfTurn P w) (λ slot event. tt) (λ slot bytes. tt) w (deed_of w device)
+  choice_labels (Device device) =
+      done_labels (OfTurn P w) (λ slot event. tt) (λ slot bytes. tt) w (device_step_of w device)
   choice_labels (Pass ticks) = All-nil (OfTurn P w)
 
   step_labels : (choice : Choice) → All (OfTurn P w) (labels w choice)
-  step_labels choice = of_stepped (λ (s : Stepped). All (OfTurn P w) s.labels) w choice (All-nil (OfTurn P w)) (λ ready. choice_labels choice)
+  step_labels choice =
+      of_stepped (λ (s : Stepped). All (OfTurn P w) s.labels) w choice (All-nil (OfTurn P w))
+      (λ ready. choice_labels choice)
 
 pub each_access_is_permitted : AccessesArePermitted → DataIsAligned → EachAccessIsPermitted
 each_access_is_permitted permitted aligned w choices choice =
     let v = after_all w choices in
-    step_labels (λ r told. All (IsPermitted r.own) told.accesses) v (turn_permitted permitted aligned v.settings v.clock.time) choice
+    step_labels (λ r told. All (IsPermitted r.own) told.accesses) v
+    (turn_permitted permitted aligned v.settings v.clock.time) choice
 
 pub each_denial_is_due : DenialsAreDue → CallsAreOfEcall → EachDenialIsDue
 each_denial_is_due law of_ecall w choices choice =
     let v = after_all w choices in
-    step_labels (λ r told. IfSome told.denial (IsDue r)) v (turn_due law of_ecall v.settings v.clock.time) choice
+    step_labels (λ r told. IfSome told.denial (DenialIsDue r)) v (turn_due law of_ecall v.settings v.clock.time) choice
 
 pub steps_are_guarded : AccessesArePermitted → DataIsAligned → DenialsAreDue → CallsAreOfEcall → StepsAreGuarded
 steps_are_guarded permitted aligned law of_ecall w choice = record {

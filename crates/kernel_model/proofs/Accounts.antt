@@ -6,7 +6,7 @@ use Rattle.tk_base.specs.declared.process.Choice.{Choice}
 use Rattle.tk_base.specs.declared.process.Choice.TheVariants.{Run, Device, Pass}
 use Rattle.kernel_model.specs.Record.{Record}
 use Rattle.kernel_model.specs.Turn.{turned}
-use Rattle.kernel_model.specs.World.{Stepped, TurnOf, World, after, carried_out, deed_of, done, labels, ran}
+use Rattle.kernel_model.specs.World.{Stepped, TurnOf, World, after, carried_out, device_step_of, done, labels, ran}
 use Rattle.kernel_model.specs.Shown.{IsShownIn, shown_by}
 use Rattle.kernel_model.proofs.Labels.{done_labels}
 use Rattle.kernel_model.proofs.Places.{of_stepped}
@@ -19,7 +19,8 @@ use Rattle.kernel_model.specs.Refused.{RefusalsChangeLittle}
 use Rattle.kernel_model.specs.Replay.{chosen}
 
 -- the turn of a step is shown
-choice_shown : (w : World) (choice : Choice) → let ls = (carried_out w choice).labels in All (IsShownIn (shown_by ls)) ls
+choice_shown : (w : World) (choice : Choice) → let ls = (carried_out w choice).labels in
+    All (IsShownIn (shown_by ls)) ls
 unfolding carried_out shown_by
 choice_shown w (Run slot) = by_record (slice_get w.records slot)
   where
@@ -27,23 +28,32 @@ choice_shown w (Run slot) = by_record (slice_get w.records slot)
     by_record None = All-nil (IsShownIn (shown_by []))
     by_record (Some r) =
         let ls = (ran w slot (Some r)).labels in
-        All-cons (IsShownIn (shown_by ls)) (TurnOf slot w.clock.time (turned w.settings w.clock.time r).told) [] (refl, refl, refl) (All-nil (IsShownIn (shown_by ls)))
-choice_shown w (Device device) = done_labels (IsShownIn (shown_by (done w (deed_of w device)).labels)) (λ slot event. tt) (λ slot bytes. tt) w (deed_of w device)
+        All-cons (IsShownIn (shown_by ls)) (TurnOf slot w.clock.time (turned w.settings w.clock.time r).told) []
+        (refl, refl, refl) (All-nil (IsShownIn (shown_by ls)))
+choice_shown w (Device device) =
+    done_labels (IsShownIn (shown_by (done w (device_step_of w device)).labels)) (λ slot event. tt) (λ slot bytes. tt) w
+    (device_step_of w device)
 choice_shown w (Pass ticks) = All-nil (IsShownIn (shown_by []))
 
 step_shown : (w : World) (choice : Choice) → All (IsShownIn (shown_by (labels w choice))) (labels w choice)
-step_shown w choice = of_stepped (λ (s : Stepped). All (IsShownIn (shown_by s.labels)) s.labels) w choice (All-nil (IsShownIn (shown_by []))) (λ ready. choice_shown w choice)
+step_shown w choice =
+    of_stepped (λ (s : Stepped). All (IsShownIn (shown_by s.labels)) s.labels) w choice
+    (All-nil (IsShownIn (shown_by []))) (λ ready. choice_shown w choice)
 
 -- what follows of each step follows of all
-follows_throughout : (P Q : World → Choice → Type 0) → ((w : World) (choice : Choice) → P w choice → Q w choice) → (w : World) (choices : List Choice) → Throughout P w choices → Throughout Q w choices
+follows_throughout : (P Q : World → Choice → Type 0) → ((w : World) (choice : Choice) → P w choice → Q w choice)
+    → (w : World) (choices : List Choice) → Throughout P w choices → Throughout Q w choices
 follows_throughout P Q each w [] all = tt
-follows_throughout P Q each w (choice ∷ choices) all = (each w choice all.0, follows_throughout P Q each (after w choice) choices all.1)
+follows_throughout P Q each w (choice ∷ choices) all =
+    (each w choice all.0, follows_throughout P Q each (after w choice) choices all.1)
 
-pub steps_are_accounted_for : StepsHaveCauses → StepsAreGuarded → RefusalsChangeLittle → PrintsAreOfBuffers → StepsAreAccountedFor
+pub steps_are_accounted_for : StepsHaveCauses → StepsAreGuarded → RefusalsChangeLittle → PrintsAreOfBuffers
+    → StepsAreAccountedFor
 steps_are_accounted_for causes guarded refused prints = record {
   any = λ w choice whole. with_causes w choice (causes.any w choice whole);
   turn = λ w slot. with_causes w (Run slot) (causes.turn w slot);
-  stretch = λ k w later is. follows_throughout EachChangeHasACause IsAccountedFor with_causes w (chosen k w) (causes.stretch k w later is);
+  stretch = λ k w later is. follows_throughout EachChangeHasACause IsAccountedFor with_causes w (chosen k w)
+      (causes.stretch k w later is);
   all = follows_throughout EachChangeHasACause IsAccountedFor with_causes;
 }
   where

@@ -1,5 +1,7 @@
 -- The cause of each change that a step makes of a process's bytes, among its labels.
-use Rattle.std.proofs.Common.{◌≡◌, ◌⊎◌, inl, inr, ℕ, zero, suc, ◌++◌, ◌==◌, Bool, true, false, List, [], ◌∷◌, slice_get, slice_index, Option, None, Some, IfSome, refl, sym, ap, subst, ◌∙◌, arith, eqb-true, eq-eqb}
+use Rattle.std.proofs.Common.{◌≡◌, ◌⊎◌, inl, inr, ℕ, zero, suc, ◌++◌, ◌==◌, Bool, true, false, List, [], ◌∷◌, slice_get}
+use Rattle.std.proofs.Common.{slice_index, Option, None, Some, IfSome, refl, sym, ap, subst, ◌∙◌, arith, eqb-true}
+use Rattle.std.proofs.Common.{eq-eqb}
 use Rattle.std.proofs.Math.Logic.{⊎_map}
 use Rattle.std.specs.List.{Any}
 use Rattle.std.specs.Prelude.{All}
@@ -8,15 +10,18 @@ use Rattle.std.proofs.lemmas.List.Elements.{All-nil, All-cons, All-head, All-tai
 use Rattle.std.proofs.lemmas.Bool.{false≢true}
 use Rattle.tk_base.specs.declared.process.Choice.{Choice}
 use Rattle.tk_base.specs.declared.process.Choice.TheVariants.{Run, Device, Pass}
-use Rattle.process_own.specs.Changes.{ChangesAt, IsWhole}
+use Rattle.process_model.specs.Changes.{ChangesAt, IsWhole}
 use Rattle.driver_model.specs.Bytes.{AnswersWriteInBuffers}
 use Rattle.kernel_model.specs.Record.{Record}
 use Rattle.kernel_model.specs.Turn.{Event, Turned, apply, turned}
-use Rattle.kernel_model.specs.World.{Answer, Answered, Deed, Label, Stepped, TurnOf, World, after, carried_out, deed_of, done, labels, labels_of, printing, ran, records_after, stepped, unmade}
-use Rattle.kernel_model.specs.Run.{next, on_choice, round, stays as stays_at, goes_on}
+use Rattle.kernel_model.specs.World.{Answer, Answered, DeviceStep, Label, Stepped, TurnOf, World, after, carried_out}
+use Rattle.kernel_model.specs.World.{device_step_of, done, labels, labels_of, printing, ran, records_after, stepped}
+use Rattle.kernel_model.specs.World.{unmade}
+use Rattle.kernel_model.specs.Run.{next, on_choice, round, stays as stays_at, runs_on}
 use Rattle.kernel_model.specs.Stretch.{IsQuietTurn}
 use Rattle.kernel_model.specs.Replay.{chosen, events, replay}
-use Rattle.kernel_model.specs.Causes.{AllHaveCauses, AnswerHasCauses, EachChangeHasACause, IsCause, IsDoneByTurn, IsStorageCause, StepsHaveCauses, StorageChangesAt, TurnHasCauses, TurnsHaveCauses}
+use Rattle.kernel_model.specs.Causes.{AllHaveCauses, AnswerHasCauses, EachChangeHasACause, IsCause, IsDoneByTurn}
+use Rattle.kernel_model.specs.Causes.{IsStorageCause, StepsHaveCauses, StorageChangesAt, TurnHasCauses, TurnsHaveCauses}
 use Rattle.kernel_model.proofs.Answered.{answer_has_causes}
 use Rattle.kernel_model.proofs.Places.{of_stepped, ran-other, ran-own, told-other, told-own}
 use Rattle.kernel_model.proofs.Replays.{one_step}
@@ -26,7 +31,8 @@ use Rattle.kernel_model.proofs.Steps.{IsAnswer, TellsNoTurn, deed_tells}
 same_record : (o : Option Record) (x y : Record) → o ≡ Some x → o ≡ Some y → x ≡ y
 same_record o x y e f = let both : Some x ≡ Some y = sym e ∙ f in cc
 
--- what holds of a step's labels and of the record after it, where it does if the record stays, after its turn, and after
+-- what holds of a step's labels and of the record after it, where it does if the record stays, after its turn, and
+-- after
 -- an answer to it
 module _ (w : World) (slot : ℕ) (r : Record) (is : slice_get w.records slot ≡ Some r) (P : List Label → Record → Type 0)
     (stays : (labels : List Label) → P labels r) where
@@ -36,12 +42,14 @@ module _ (w : World) (slot : ℕ) (r : Record) (is : slice_get w.records slot �
 
   -- after an answer to it
   abbrev ByAnswer : Type 0
-  ByAnswer = (event : Event) (rest : List Label) → IsAnswer event → P (Answered slot event ∷ rest) (apply w.settings event r)
+  ByAnswer = (event : Event) (rest : List Label) → IsAnswer event
+      → P (Answered slot event ∷ rest) (apply w.settings event r)
 
   abbrev Leads : Stepped → Type 0
   Leads x = (s : Record) → slice_get x.after.records slot ≡ Some s → P x.labels s
 
-  at_record : (labels : List Label) (x s : Record) (o : Option Record) → o ≡ Some x → o ≡ Some s → P labels x → P labels s
+  at_record : (labels : List Label) (x s : Record) (o : Option Record) → o ≡ Some x → o ≡ Some s → P labels x
+      → P labels s
   at_record labels x s o e f holds = subst (P labels) (same_record o x s e f) holds
 
   apart : (a b : ℕ) → (a == b) ≡ false → b ≡ a → ⊥
@@ -59,13 +67,16 @@ module _ (w : World) (slot : ℕ) (r : Record) (is : slice_get w.records slot �
       by_slot true same_is =
           let same : other ≡ slot = eqb-true other slot same_is in
           let at_slot : slice_get w.records slot ≡ Some q = ap (slice_get w.records) (sym same) ∙ e in
-          let left : slice_get (ran w other (Some q)).after.records slot ≡ Some (t q).after = ap (slice_get (ran w other (Some q)).after.records) (sym same) ∙ ran-own w other (Some q) e in
+          let left : slice_get (ran w other (Some q)).after.records slot ≡ Some (t q).after =
+          ap (slice_get (ran w other (Some q)).after.records) (sym same) ∙ ran-own w other (Some q) e in
           subst (λ (n : ℕ). P (TurnOf n w.clock.time (t q).told ∷ []) s) (sym same)
           (at_record (TurnOf slot w.clock.time (t q).told ∷ []) (t q).after s _ left f
-          (subst (λ (x : Record). P (TurnOf slot w.clock.time (t x).told ∷ []) (t x).after) (same_record _ r q is at_slot) turn))
+          (subst (λ (x : Record). P (TurnOf slot w.clock.time (t x).told ∷ []) (t x).after)
+          (same_record _ r q is at_slot) turn))
       by_slot false e_is = at_record _ r s _ (ran-other w other slot (Some q) (apart other slot e_is) ∙ is) f (stays _)
 
-  of_told : ByAnswer → (deed : Deed) (o : Option Answer) → IfSome o (λ a. IsAnswer a.event) → (s : Record) → slice_get (records_after w o) slot ≡ Some s → P (labels_of deed o) s
+  of_told : ByAnswer → (deed : DeviceStep) (o : Option Answer) → IfSome o (λ a. IsAnswer a.event) → (s : Record)
+      → slice_get (records_after w o) slot ≡ Some s → P (labels_of deed o) s
   of_told answer deed None tells s f = at_record [] r s _ is f (stays [])
   of_told answer deed (Some a) tells s f = by_slot (a.slot == slot) refl
     where
@@ -76,11 +87,16 @@ module _ (w : World) (slot : ℕ) (r : Record) (is : slice_get w.records slot �
       by_slot true same_is =
           let same : a.slot ≡ slot = eqb-true a.slot slot same_is in
           let left : slice_get (records_after w (Some a)) slot ≡ Some (apply w.settings a.event r)
-          = ap (slice_get (records_after w (Some a))) (sym same) ∙ told-own w a (slice_get w.records a.slot) refl ∙ ap (λ (n : ℕ). option_map (apply w.settings a.event) (slice_get w.records n)) same ∙ ap (option_map (apply w.settings a.event)) is in
-          subst (λ (n : ℕ). P (Answered n a.event ∷ rest) s) (sym same) (at_record (Answered slot a.event ∷ rest) (apply w.settings a.event r) s _ left f (answer a.event rest tells))
-      by_slot false e = at_record _ r s _ (told-other w a slot (slice_get w.records a.slot) (apart a.slot slot e) ∙ is) f (stays _)
+          = ap (slice_get (records_after w (Some a))) (sym same) ∙ told-own w a (slice_get w.records a.slot) refl
+          ∙ ap (λ (n : ℕ). option_map (apply w.settings a.event) (slice_get w.records n)) same
+          ∙ ap (option_map (apply w.settings a.event)) is in
+          subst (λ (n : ℕ). P (Answered n a.event ∷ rest) s) (sym same)
+          (at_record (Answered slot a.event ∷ rest) (apply w.settings a.event r) s _ left f
+          (answer a.event rest tells))
+      by_slot false e =
+          at_record _ r s _ (told-other w a slot (slice_get w.records a.slot) (apart a.slot slot e) ∙ is) f (stays _)
 
-  of_done : ByAnswer → (o : Option Deed) → TellsNoTurn o → Leads (done w o)
+  of_done : ByAnswer → (o : Option DeviceStep) → TellsNoTurn o → Leads (done w o)
   of_done answer None tells s f = at_record [] r s _ is f (stays [])
   of_done answer (Some deed) tells s f = of_told answer deed deed.told tells s f
 
@@ -89,12 +105,15 @@ module _ (w : World) (slot : ℕ) (r : Record) (is : slice_get w.records slot �
 
   of_run : ByTurn → (other : ℕ) → Leads (stepped w (Run other))
   unfolding carried_out
-  of_run turn other = of_stepped Leads w (Run other) of_none (λ ready. of_ran turn other (slice_get w.records other) refl)
+  of_run turn other =
+      of_stepped Leads w (Run other) of_none (λ ready. of_ran turn other (slice_get w.records other) refl)
 
   of_step : ByTurn → ByAnswer → (choice : Choice) → Leads (stepped w choice)
   unfolding carried_out
   of_step turn answer (Run other) = of_run turn other
-  of_step turn answer (Device device) = of_stepped Leads w (Device device) of_none (λ ready. of_done answer (deed_of w device) (deed_tells w device))
+  of_step turn answer (Device device) =
+      of_stepped Leads w (Device device) of_none
+      (λ ready. of_done answer (device_step_of w device) (deed_tells w device))
   of_step turn answer (Pass ticks) = of_stepped Leads w (Pass ticks) of_none (λ ready. of_none)
 
 -- the first of some labels has the cause
@@ -109,32 +128,42 @@ record Caused (slot : ℕ) (r : Record) (labels : List Label) (s : Record) : Typ
 caused_same : (slot : ℕ) (r : Record) (labels : List Label) → Caused slot r labels r
 caused_same slot r labels = record { own = λ at before after. inl refl; storage = λ k within. inl refl }
 
-caused_turn : (slot time : ℕ) (r : Record) (t : Turned) → TurnHasCauses r t.after t.told → Caused slot r (TurnOf slot time t.told ∷ []) t.after
+caused_turn : (slot time : ℕ) (r : Record) (t : Turned) → TurnHasCauses r t.after t.told
+    → Caused slot r (TurnOf slot time t.told ∷ []) t.after
 caused_turn slot time r t causes = record {
   own = λ at before after. by_cause at (causes.own at before after);
   storage = λ k within. inl (ap (λ (xs : List ℕ). slice_index xs k) causes.storage);
 }
   where
-    by_cause : (at : ℕ) {A : Type 0} → A ⊎ IsDoneByTurn r t.after t.told at → A ⊎ Any (IsCause slot r t.after at) (TurnOf slot time t.told ∷ [])
+    by_cause : (at : ℕ) {A : Type 0} → A ⊎ IsDoneByTurn r t.after t.told at
+        → A ⊎ Any (IsCause slot r t.after at) (TurnOf slot time t.told ∷ [])
     by_cause at (inl same) = inl same
     by_cause at (inr cause) = inr (first (IsCause slot r t.after at) (TurnOf slot time t.told) [] (refl, cause))
 
-caused_answer : (slot : ℕ) (event : Event) (rest : List Label) (r s : Record) → AnswerHasCauses event r s → Caused slot r (Answered slot event ∷ rest) s
+caused_answer : (slot : ℕ) (event : Event) (rest : List Label) (r s : Record) → AnswerHasCauses event r s
+    → Caused slot r (Answered slot event ∷ rest) s
 caused_answer slot event rest r s causes = record {
-  own = λ at before after. ⊎_map (λ same. same) (λ inside. first (IsCause slot r s at) (Answered slot event) rest (refl, inside)) (causes.own at before after);
-  storage = λ k within. ⊎_map (λ same. same) (λ covers. first (IsStorageCause slot r k) (Answered slot event) rest (refl, covers)) (causes.storage k within);
+  own = λ at before after.
+      ⊎_map (λ same. same) (λ inside. first (IsCause slot r s at) (Answered slot event) rest (refl, inside))
+      (causes.own at before after);
+  storage = λ k within. ⊎_map (λ same. same)
+      (λ covers. first (IsStorageCause slot r k) (Answered slot event) rest (refl, covers)) (causes.storage k within);
 }
 
 -- where the step is none of its events, its record stays
-stays_else : (w : World) (choice : Choice) (slot : ℕ) (r s : Record) → slice_get w.records slot ≡ Some r → slice_get (after w choice).records slot ≡ Some s → events slot w choice ≡ [] → s ≡ r
+stays_else : (w : World) (choice : Choice) (slot : ℕ) (r s : Record) → slice_get w.records slot ≡ Some r
+    → slice_get (after w choice).records slot ≡ Some s → events slot w choice ≡ [] → s ≡ r
 stays_else w choice slot r s is left none =
     same_record (slice_get (after w choice).records slot) s r left
-    (one_step w choice slot ∙ ap (λ (h : List Event). option_map (replay w.settings h) (slice_get w.records slot)) none ∙ ap (option_map (replay w.settings [])) is)
+    (one_step w choice slot ∙ ap (λ (h : List Event). option_map (replay w.settings h) (slice_get w.records slot)) none
+    ∙ ap (option_map (replay w.settings [])) is)
 
 -- a step of which all labels are quiet turns answers nobody
-quiet_step : TurnsHaveCauses → (w : World) (choice : Choice) → All IsQuietTurn (labels w choice) → EachChangeHasACause w choice
+quiet_step : TurnsHaveCauses → (w : World) (choice : Choice) → All IsQuietTurn (labels w choice)
+    → EachChangeHasACause w choice
 quiet_step turns w choice quiet slot r s is left =
-    let caused = of_step w slot r is (λ ls s. All IsQuietTurn ls → Caused slot r ls s) (λ ls each. caused_same slot r ls)
+    let caused = of_step w slot r is (λ ls s. All IsQuietTurn ls → Caused slot r ls s)
+    (λ ls each. caused_same slot r ls)
     (λ each. caused_turn slot w.clock.time r (turned w.settings w.clock.time r) (turns w.settings w.clock.time r))
     (λ event rest tells each. absurd (each 0 (Answered slot event) (omega arith))) choice s left quiet in
     record { own = caused.own; storage = caused.storage; others = stays_else w choice slot r s is left }
@@ -150,8 +179,10 @@ unfolding round chosen
 quiet_steps turns zero w quiet = tt
 quiet_steps turns (suc k) w quiet = by_choice (next w) quiet (λ choice. quiet_steps turns k (after w choice))
   where
-    by_choice : (o : Option Choice) → All IsQuietTurn (on_choice (stays_at w) (λ choice. goes_on (round k) (stepped w choice)) o).labels
-        → ((choice : Choice) → All IsQuietTurn (round k (after w choice)).labels → AllHaveCauses (after w choice) (chosen k (after w choice)))
+    by_choice : (o : Option Choice)
+        → All IsQuietTurn (on_choice (stays_at w) (λ choice. runs_on (round k) (stepped w choice)) o).labels
+        → ((choice : Choice) → All IsQuietTurn (round k (after w choice)).labels
+        → AllHaveCauses (after w choice) (chosen k (after w choice)))
         → AllHaveCauses w (on_choice [] (λ choice. choice ∷ chosen k (after w choice)) o)
     by_choice None each later = tt
     by_choice (Some choice) each later =
@@ -164,13 +195,18 @@ steps_have_causes turns answers = record {
       let caused = of_run w slot r is (Caused slot r) (caused_same slot r) (by_turn w slot r) other s left in
       record { own = caused.own; storage = caused.storage; others = stays_else w (Run other) slot r s is left };
   any = λ w choice whole slot r s is left.
-      let caused = of_step w slot r is (Caused slot r) (caused_same slot r) (by_turn w slot r) (by_answer w slot r (whole slot r is)) choice s left in
+      let caused = of_step w slot r is (Caused slot r) (caused_same slot r) (by_turn w slot r)
+      (by_answer w slot r (whole slot r is)) choice s left in
       record { own = caused.own; storage = caused.storage; others = stays_else w choice slot r s is left };
   stretch = λ k w later stretch. quiet_steps turns k w stretch.quiet;
 }
   where
-    by_turn : (w : World) (slot : ℕ) (r : Record) → let t = turned w.settings w.clock.time r in Caused slot r (TurnOf slot w.clock.time t.told ∷ []) t.after
-    by_turn w slot r = caused_turn slot w.clock.time r (turned w.settings w.clock.time r) (turns w.settings w.clock.time r)
+    by_turn : (w : World) (slot : ℕ) (r : Record) → let t = turned w.settings w.clock.time r in
+        Caused slot r (TurnOf slot w.clock.time t.told ∷ []) t.after
+    by_turn w slot r =
+        caused_turn slot w.clock.time r (turned w.settings w.clock.time r) (turns w.settings w.clock.time r)
 
-    by_answer : (w : World) (slot : ℕ) (r : Record) → IsWhole r.own → (event : Event) (rest : List Label) → IsAnswer event → Caused slot r (Answered slot event ∷ rest) (apply w.settings event r)
-    by_answer w slot r whole event rest tells = caused_answer slot event rest r _ (answer_has_causes answers w.settings event r tells whole)
+    by_answer : (w : World) (slot : ℕ) (r : Record) → IsWhole r.own → (event : Event) (rest : List Label)
+        → IsAnswer event → Caused slot r (Answered slot event ∷ rest) (apply w.settings event r)
+    by_answer w slot r whole event rest tells =
+        caused_answer slot event rest r _ (answer_has_causes answers w.settings event r tells whole)

@@ -1,5 +1,6 @@
 -- The cause of each change of a process's bytes: by its turn, by the end of its instruction and by its call.
-use Rattle.std.proofs.Common.{◌≡◌, ◌⊎◌, inl, inr, ℕ, ◌+◌, ◌==◌, Bool, true, false, cond, ◌&&◌, List, [], ◌∷◌, Option, None, Some, Result, Ok, Err, refl, ap, ◌∙◌}
+use Rattle.std.proofs.Common.{◌≡◌, ◌⊎◌, inl, inr, ℕ, ◌+◌, ◌==◌, Bool, true, false, cond, ◌&&◌, List, [], ◌∷◌, Option}
+use Rattle.std.proofs.Common.{None, Some, Result, Ok, Err, refl, ap, ◌∙◌}
 use Rattle.std.specs.Prelude.{IsTrue}
 use Rattle.std.specs.List.{list_any}
 use Rattle.tk_base.specs.declared.access.Denial.{Denial}
@@ -10,38 +11,42 @@ use Rattle.fault_policy.specs.declared.Action.TheVariants.{Stop, Restart}
 use Rattle.fault_policy.specs.Policy.{decision}
 use Rattle.tbf_headers.specs.declared.fault.HeaderFault.{HeaderFault}
 use Rattle.tbf_headers.specs.declared.program.Main.{Main}
-use Rattle.tbf_headers.specs.Meaning.{Meaning, reading}
-use Rattle.grant_areas.specs.declared.kinds.PairKind.{PairKind}
-use Rattle.grant_areas.specs.declared.kinds.PairKind.TheVariants.{Upcall, ReadOnly, ReadWrite}
+use Rattle.tbf_headers.specs.Meaning.{Meaning, header_reading}
+use Rattle.grant_model.specs.declared.kinds.PairKind.{PairKind}
+use Rattle.grant_model.specs.declared.kinds.PairKind.TheVariants.{Upcall, ReadOnly, ReadWrite}
 use Rattle.rv32_model.specs.declared.turn_end.TurnEnd.{TurnEnd}
 use Rattle.rv32_model.specs.declared.turn_end.TurnEnd.TheVariants as ends
 use Rattle.rv32_model.specs.Laws.{stores_at}
-use Rattle.rv32_model.specs.UserTurn.{Touch, UserTurn}
+use Rattle.rv32_model.specs.UserTurn.{MemoryAccess, UserTurn}
 use Rattle.syscall_abi.specs.declared.call.Call.{Call as SystemCall}
 use Rattle.syscall_abi.specs.declared.call.Call.TheVariants.{Yield, Subscribe, Command, AllowRw, AllowRo, Memop, Exit}
 use Rattle.syscall_abi.specs.declared.reply.Reply.{Reply}
 use Rattle.tk_base.specs.Regs.{Registers}
 use Rattle.syscall_abi.specs.Call.{call_of, class}
-use Rattle.process_own.specs.Changes.{ChangesAt, KeepsBytes, OnlyWritesChangeBytes, own_byte}
-use Rattle.process_own.specs.Flag.{flag_place}
+use Rattle.process_model.specs.Changes.{ChangesAt, KeepsBytes, OnlyWritesChangeBytes, own_byte}
+use Rattle.process_model.specs.Flag.{flag_place}
 use Rattle.driver_model.specs.Bytes.{CommandsKeepBytes}
 use Rattle.driver_model.specs.Commands.{Commanded}
-use Rattle.driver_model.specs.Drivers.{Surroundings, Taker, taker_of}
+use Rattle.driver_model.specs.Drivers.{CommandContext, CommandHandler, handler_of}
 use Rattle.process_record.specs.declared.outcome.Outcome.TheVariants.{GoesOn, Waits}
 use Rattle.process_record.specs.declared.process.Process.{Process}
 use Rattle.process_record.specs.declared.process.State.{State}
 use Rattle.process_record.specs.declared.process.State.TheVariants.{Running, Yielded, Faulted, Terminated}
 use Rattle.process_record.specs.Process.{after_call, after_fault, waiting}
-use Rattle.kernel_model.specs.Record.{Record, byte_at, instruction, with_effect, with_own, with_process}
+use Rattle.kernel_model.specs.Record.{Record, byte_at, instruction, with_effect, record_with_own, with_process}
 use Rattle.kernel_model.specs.declared.settings.Settings.{Settings}
-use Rattle.kernel_model.specs.Calls.{Served, answered, by_class, exit, memop, permits, restart, restarted_by, restarted_main, served, swap_by, swap_refusal, taken_by, yield_now, yielding}
-use Rattle.kernel_model.specs.Turn.{Turned, calls, counted, delivery, ended, faulted, flag_of, idle, instructed, made, settled, surroundings, turned, turn_in, unknown_call}
+use Rattle.kernel_model.specs.Calls.{Served, driver_answered, by_class, exit, memop, object_permits, restart}
+use Rattle.kernel_model.specs.Calls.{restarted_by, restarted_main, served, swap_by, swap_refusal, taken_by, yield_now}
+use Rattle.kernel_model.specs.Calls.{yielding}
+use Rattle.kernel_model.specs.Turn.{Turned, calls, turn_counted, delivery, at_turn_end, faulted, yield_flag_of, idle}
+use Rattle.kernel_model.specs.Turn.{instructed, made, settled, surroundings, turned, turn_in, unknown_call}
 use Rattle.kernel_model.specs.Histories.{ends_life, is_exit}
 use Rattle.kernel_model.specs.Causes.{IsDoneByTurn, TurnHasCauses, TurnsHaveCauses}
 use Rattle.kernel_model.proofs.Classes.{of_registers}
 use Rattle.kernel_model.proofs.Memops.{by_test, memop_gives}
 
--- what a call, or a fault, leaves of a process's bytes: they change at the flag, or as it starts again where it ends a life
+-- what a call, or a fault, leaves of a process's bytes: they change at the flag, or as it starts again where it ends a
+-- life
 record Changes (r : Record) (flag : Option ℕ) (ends : Bool) (s : Record) : Type 0 where
   own : ChangesAt (λ at. (flag ≡ Some at) ⊎ ((ends ≡ true) × (s.process.restarts ≡ r.process.restarts + 1))) r.own s.own
   storage : s.storage ≡ r.storage
@@ -51,15 +56,17 @@ abbrev Leaves : Record → Option ℕ → Served → Type 0
 Leaves r flag s = Changes r flag (is_exit (made r.process.regs s.outcome)) s.after
 
 -- none change
-kept : (r s : Record) (flag : Option ℕ) {ends : Bool} → KeepsBytes r.own s.own → s.storage ≡ r.storage → Changes r flag ends s
+kept : (r s : Record) (flag : Option ℕ) {ends : Bool} → KeepsBytes r.own s.own → s.storage ≡ r.storage
+    → Changes r flag ends s
 kept r s flag same storage = record { own = λ at before after. inl (same at before after); storage = storage }
 
-same_own : (r : Record) (flag : Option ℕ) {ends : Bool} (process : Process) → Changes r flag ends (with_process r process)
+same_own : (r : Record) (flag : Option ℕ) {ends : Bool} (process : Process)
+    → Changes r flag ends (with_process r process)
 same_own r flag process = kept r (with_process r process) flag (λ at before after. refl) refl
 
 restarts_so : (r : Record) (flag : Option ℕ) (ends : Bool) → ends ≡ true → Changes r flag ends (restart r)
 unfolding restart
-restarts_so r flag ends is = by_reading (reading r.object)
+restarts_so r flag ends is = by_reading (header_reading r.object)
   where
     by_main : (h : Meaning) (m : Option Main) → Changes r flag ends (restarted_main r h m)
     by_main h None = kept r r flag (λ at before after. refl) refl
@@ -73,38 +80,49 @@ restarts_so r flag ends is = by_reading (reading r.object)
 exit_class : (regs : Registers) (kind code : ℕ) → call_of regs ≡ Some (Exit kind code) → class regs ≡ 6
 exit_class regs kind code =
     of_registers (λ (o : Option SystemCall). o ≡ Some (Exit kind code) → class regs ≡ 6) regs
-    (λ is e. absurd (cc)) (λ is e. absurd (cc)) (λ is e. absurd (cc)) (λ is e. absurd (cc)) (λ is e. absurd (cc)) (λ is e. absurd (cc)) (λ is e. is) (λ e. absurd (cc))
+    (λ is e. absurd (cc)) (λ is e. absurd (cc)) (λ is e. absurd (cc)) (λ is e. absurd (cc)) (λ is e. absurd (cc))
+    (λ is e. absurd (cc)) (λ is e. is) (λ e. absurd (cc))
 
 at_flag : {A B C : Type 0} → A ⊎ B → A ⊎ (B ⊎ C)
 at_flag (inl same) = inl same
 at_flag (inr flag) = inr (inl flag)
 
-module _ (law : OnlyWritesChangeBytes) (commands : CommandsKeepBytes) (around : Surroundings) (r : Record) where
+module _ (law : OnlyWritesChangeBytes) (commands : CommandsKeepBytes) (around : CommandContext) (r : Record) where
   of_yield_now : (at : ℕ) (pending : List Scheduled) → Leaves r (flag_place at r.own) (yield_now r at pending)
   of_yield_now at [] = record { own = λ a before after. at_flag (law.flag at 0 r.own a before after); storage = refl }
-  of_yield_now at (upcall ∷ more) = record { own = λ a before after. at_flag (law.flag at 1 r.own a before after); storage = refl }
+  of_yield_now at (upcall ∷ more) =
+      record { own = λ a before after. at_flag (law.flag at 1 r.own a before after); storage = refl }
 
   of_yield : (number at : ℕ) → Leaves r (cond (number == 0) (flag_place at r.own) None) (yielding r number at)
   unfolding yielding
   of_yield number at = by_number (number == 0)
     where
-      by_one : (one : Bool) → Leaves r None (cond one (record { after = with_process r (waiting r.process); outcome = Waits; acts = [] }) (record { after = with_process r (after_call r.process); outcome = GoesOn; acts = [] }))
+      by_one : (one : Bool)
+          → Leaves r None (cond one (record { after = with_process r (waiting r.process); outcome = Waits; acts = [] })
+          (record { after = with_process r (after_call r.process); outcome = GoesOn; acts = [] }))
       by_one true = same_own r None (waiting r.process)
       by_one false = same_own r None (after_call r.process)
 
-      by_number : (b : Bool) → Leaves r (cond b (flag_place at r.own) None) (cond b (yield_now r at r.own.pending) (cond (number == 1) (record { after = with_process r (waiting r.process); outcome = Waits; acts = [] }) (record { after = with_process r (after_call r.process); outcome = GoesOn; acts = [] })))
+      by_number : (b : Bool)
+          → Leaves r (cond b (flag_place at r.own) None)
+          (cond b (yield_now r at r.own.pending)
+          (cond (number == 1) (record { after = with_process r (waiting r.process); outcome = Waits; acts = [] })
+          (record { after = with_process r (after_call r.process); outcome = GoesOn; acts = [] })))
       by_number true = of_yield_now at r.own.pending
       by_number false = by_one (number == 1)
 
-  of_swap : (kind : PairKind) (driver number : ℕ) (pair : ℕ × ℕ) (o : Option CallRule) → Leaves r None (swap_by r kind driver number pair o)
+  of_swap : (kind : PairKind) (driver number : ℕ) (pair : ℕ × ℕ) (o : Option CallRule)
+      → Leaves r None (swap_by r kind driver number pair o)
   of_swap kind driver number pair None = kept r _ None (law.handing kind driver number pair r.own) refl
   of_swap kind driver number pair (Some rule) = same_own r None _
 
-  of_answer : (c : Commanded) (answer : Result Reply CallRule) → KeepsBytes r.own c.own → Leaves r None (answered (with_own r c.own) answer)
+  of_answer : (c : Commanded) (answer : Result Reply CallRule) → KeepsBytes r.own c.own
+      → Leaves r None (driver_answered (record_with_own r c.own) answer)
   of_answer c (Ok reply) same = kept r _ None same refl
   of_answer c (Err rule) same = kept r _ None same refl
 
-  of_taken : (driver number a2 a3 : ℕ) (o : Option Taker) → taker_of driver ≡ o → Leaves r None (taken_by around number a2 a3 r o)
+  of_taken : (driver number a2 a3 : ℕ) (o : Option CommandHandler) → handler_of driver ≡ o
+      → Leaves r None (taken_by around number a2 a3 r o)
   of_taken driver number a2 a3 None is = same_own r None _
   of_taken driver number a2 a3 (Some taker) is =
       let c = taker around number a2 a3 r.own in
@@ -119,21 +137,28 @@ module _ (law : OnlyWritesChangeBytes) (commands : CommandsKeepBytes) (around : 
   unfolding exit
   of_exit kind code six =
       by_test (Leaves r None) (kind == 0) _ _ (kept r _ None (λ at before after. refl) refl)
-      (by_test (Leaves r None) (kind == 1) _ _ (restarts_so r None _ (ap (λ (n : ℕ). n == 6 && true) six)) (same_own r None _))
+      (by_test (Leaves r None) (kind == 1) _ _ (restarts_so r None _ (ap (λ (n : ℕ). n == 6 && true) six))
+      (same_own r None _))
 
-  of_class : (call : SystemCall) → call_of r.process.regs ≡ Some call → Leaves r (flag_of r call) (by_class around r call)
+  of_class : (call : SystemCall) → call_of r.process.regs ≡ Some call
+      → Leaves r (yield_flag_of r call) (by_class around r call)
   unfolding by_class
   of_class (Yield number a1 a2) is = of_yield number a1
-  of_class (Subscribe driver number function app) is = of_swap Upcall driver number (function, app) (swap_refusal Upcall driver number (function, app) r.own)
-  of_class (Command driver number a2 a3) is = of_taken driver number a2 a3 (taker_of driver) refl
-  of_class (AllowRw driver number address size) is = of_swap ReadWrite driver number (address, size) (swap_refusal ReadWrite driver number (address, size) r.own)
-  of_class (AllowRo driver number address size) is = of_swap ReadOnly driver number (address, size) (swap_refusal ReadOnly driver number (address, size) r.own)
+  of_class (Subscribe driver number function app) is =
+      of_swap Upcall driver number (function, app) (swap_refusal Upcall driver number (function, app) r.own)
+  of_class (Command driver number a2 a3) is = of_taken driver number a2 a3 (handler_of driver) refl
+  of_class (AllowRw driver number address size) is =
+      of_swap ReadWrite driver number (address, size) (swap_refusal ReadWrite driver number (address, size) r.own)
+  of_class (AllowRo driver number address size) is =
+      of_swap ReadOnly driver number (address, size) (swap_refusal ReadOnly driver number (address, size) r.own)
   of_class (Memop operation argument) is = of_memop operation argument
   of_class (Exit kind code) is = of_exit kind code (exit_class r.process.regs kind code is)
 
-  of_served : (call : SystemCall) → call_of r.process.regs ≡ Some call → Leaves r (flag_of r call) (served around r call)
+  of_served : (call : SystemCall) → call_of r.process.regs ≡ Some call
+      → Leaves r (yield_flag_of r call) (served around r call)
   unfolding served
-  of_served call is = by_test (Leaves r (flag_of r call)) (permits r.object call) _ _ (of_class call is) (same_own r _ _)
+  of_served call is =
+      by_test (Leaves r (yield_flag_of r call)) (object_permits r.object call) _ _ (of_class call is) (same_own r _ _)
 
 of_fault : (settings : Settings) (r : Record) (denial : Denial) → Changes r None true (faulted settings r denial).after
 of_fault settings r denial = by_action (decision settings.policy r.process.restarts)
@@ -143,22 +168,26 @@ of_fault settings r denial = by_action (decision settings.policy r.process.resta
 
     by_action : (action : Action) → Changes r None true (settled s action)
     by_action Stop = kept r _ None (λ at before after. refl) refl
-    by_action Restart = let changes = restarts_so s None true refl in record { own = changes.own; storage = changes.storage }
+    by_action Restart = let changes = restarts_so s None true refl in
+        record { own = changes.own; storage = changes.storage }
 
 module _ (law : OnlyWritesChangeBytes) (commands : CommandsKeepBytes) (settings : Settings) (time : ℕ) where
   -- a turn by the end of its instruction, once its effect stands
-  of_calls : (r : Record) (accesses : List Touch) (call : Option SystemCall) → call_of r.process.regs ≡ call
+  of_calls : (r : Record) (accesses : List MemoryAccess) (call : Option SystemCall) → call_of r.process.regs ≡ call
       → let t = calls settings time r accesses call in Changes r t.told.flag (ends_life t.told) t.after
   of_calls r accesses None is = of_fault settings r (unknown_call r.process)
   of_calls r accesses (Some call) is = of_served law commands (surroundings settings time) r call is
 
-  of_end : (r : Record) (accesses : List Touch) (end : TurnEnd) → let t = ended settings time r accesses end in Changes r t.told.flag (ends_life t.told) t.after
+  of_end : (r : Record) (accesses : List MemoryAccess) (end : TurnEnd)
+      → let t = at_turn_end settings time r accesses end in Changes r t.told.flag (ends_life t.told) t.after
   of_end r accesses ends.Went = kept r r None (λ at before after. refl) refl
   of_end r accesses ends.Call = of_calls r accesses (call_of r.process.regs) refl
   of_end r accesses (ends.Trap denial) = of_fault settings r denial
 
   -- a store is told by a turn that goes
-  told_store : (r : Record) (accesses : List Touch) (end : TurnEnd) (at : ℕ) → end ≡ ends.Went → IsTrue (list_any (stores_at at) accesses) → IsTrue (list_any (stores_at at) (ended settings time r accesses end).told.accesses)
+  told_store : (r : Record) (accesses : List MemoryAccess) (end : TurnEnd) (at : ℕ) → end ≡ ends.Went
+      → IsTrue (list_any (stores_at at) accesses)
+      → IsTrue (list_any (stores_at at) (at_turn_end settings time r accesses end).told.accesses)
   told_store r accesses ends.Went at went covers = covers
   told_store r accesses ends.Call at went covers = absurd (cc)
   told_store r accesses (ends.Trap denial) at went covers = absurd (cc)
@@ -174,16 +203,20 @@ module _ (law : OnlyWritesChangeBytes) (commands : CommandsKeepBytes) (settings 
       t = instruction r
 
       s : Record
-      s = with_effect (counted r) t
+      s = with_effect (turn_counted r) t
 
       u : Turned
-      u = ended settings time s t.accesses t.end
+      u = at_turn_end settings time s t.accesses t.end
 
       changes : Changes s u.told.flag (ends_life u.told) u.after
       changes = of_end s t.accesses t.end
 
-      joined : (at : ℕ) → (own_byte s.own at ≡ own_byte r.own at) ⊎ ((t.end ≡ ends.Went) × IsTrue (list_any (stores_at at) t.accesses))
-          → (own_byte u.after.own at ≡ own_byte s.own at) ⊎ ((u.told.flag ≡ Some at) ⊎ ((ends_life u.told ≡ true) × (u.after.process.restarts ≡ r.process.restarts + 1)))
+      joined : (at : ℕ)
+          → (own_byte s.own at ≡ own_byte r.own at)
+          ⊎ ((t.end ≡ ends.Went) × IsTrue (list_any (stores_at at) t.accesses))
+          → (own_byte u.after.own at ≡ own_byte s.own at)
+          ⊎ ((u.told.flag ≡ Some at)
+          ⊎ ((ends_life u.told ≡ true) × (u.after.process.restarts ≡ r.process.restarts + 1)))
           → (own_byte u.after.own at ≡ own_byte r.own at) ⊎ IsDoneByTurn r u.after u.told at
       joined at (inr stored) then = inr (inl (told_store s t.accesses t.end at stored.0 stored.1))
       joined at (inl same) (inl later) = inl (later ∙ same)

@@ -1,6 +1,8 @@
--- What holds of a process after each thing that may happen to it: the one walk over turns and answers, and then over any
+-- What holds of a process after each thing that may happen to it: the one walk over turns and answers, and then over
+-- any
 -- choices. Before a turn I holds of the process, and then J.
-use Rattle.std.proofs.Common.{◌≡◌, ℕ, ◌+◌, ◌%◌, ◌^◌, ◌==◌, Bool, true, false, cond, List, [], ◌∷◌, find, slice_get, Option, None, Some, IfSome, Result, Ok, Err, refl, sym, ap, subst}
+use Rattle.std.proofs.Common.{◌≡◌, ℕ, ◌+◌, ◌%◌, ◌^◌, ◌==◌, Bool, true, false, cond, List, [], ◌∷◌, find, slice_get}
+use Rattle.std.proofs.Common.{Option, None, Some, IfSome, Result, Ok, Err, refl, sym, ap, subst}
 use Rattle.tk_base.specs.declared.access.Denial.{Denial}
 use Rattle.tk_base.specs.declared.call.CallRule.{CallRule}
 use Rattle.tk_base.specs.declared.call.CallRule.TheVariants.{Break, Index, NoDriver, NoOperation, Permission}
@@ -10,56 +12,68 @@ use Rattle.tk_base.specs.Regs.{Registers}
 use Rattle.fault_policy.specs.declared.Action.{Action}
 use Rattle.fault_policy.specs.declared.Action.TheVariants.{Stop, Restart}
 use Rattle.fault_policy.specs.Policy.{decision}
-use Rattle.grant_areas.specs.declared.kinds.PairKind.{PairKind}
-use Rattle.grant_areas.specs.declared.kinds.PairKind.TheVariants.{Upcall, ReadOnly, ReadWrite}
-use Rattle.process_layout.specs.Extents.{permits_break}
-use Rattle.process_own.specs.Own.{Own, ended as ended_own}
-use Rattle.process_own.specs.Flag.{with_flag}
-use Rattle.process_own.specs.Handed.{handing, held}
+use Rattle.grant_model.specs.declared.kinds.PairKind.{PairKind}
+use Rattle.grant_model.specs.declared.kinds.PairKind.TheVariants.{Upcall, ReadOnly, ReadWrite}
+use Rattle.process_layout.specs.LayoutView.{permits_break}
+use Rattle.process_model.specs.Own.{Own, own_ended as ended_own}
+use Rattle.process_model.specs.Flag.{with_flag}
+use Rattle.process_model.specs.Handed.{handing, held}
 use Rattle.driver_model.specs.Commands.{Commanded}
-use Rattle.driver_model.specs.Drivers.{Surroundings, Taker, taker_of}
+use Rattle.driver_model.specs.Drivers.{CommandContext, CommandHandler, handler_of}
 use Rattle.driver_model.specs.Services.{OfEachService}
 use Rattle.rv32_model.specs.declared.turn_end.TurnEnd.{TurnEnd}
 use Rattle.rv32_model.specs.declared.turn_end.TurnEnd.TheVariants as ends
-use Rattle.rv32_model.specs.UserTurn.{Touch}
+use Rattle.rv32_model.specs.UserTurn.{MemoryAccess}
 use Rattle.syscall_abi.specs.declared.call.Call.{Call as SystemCall}
 use Rattle.syscall_abi.specs.declared.call.Call.TheVariants.{Yield, Subscribe, Command, AllowRw, AllowRo, Memop, Exit}
 use Rattle.syscall_abi.specs.declared.reply.Reply.{Reply}
-use Rattle.syscall_abi.specs.declared.reply.Reply.TheVariants.{Failure, FailureU32U32, Success, SuccessU32, SuccessU32U32}
+use Rattle.syscall_abi.specs.declared.reply.Reply.TheVariants.{Failure, FailureU32U32, Success, SuccessU32}
+use Rattle.syscall_abi.specs.declared.reply.Reply.TheVariants.{SuccessU32U32}
 use Rattle.tk_base.specs.Call.{error_of}
-use Rattle.tbf_headers.specs.Meaning.{reading, region_count}
+use Rattle.tbf_headers.specs.Meaning.{header_reading, region_count}
 use Rattle.syscall_abi.specs.Call.{call_of}
-use Rattle.process_record.specs.declared.process.Refusal.{Refusal}
+use Rattle.process_record.specs.declared.process.RecordedRefusal.{RecordedRefusal}
 use Rattle.process_record.specs.declared.process.State.{State}
 use Rattle.process_record.specs.declared.process.State.TheVariants.{Running, Yielded, Faulted, Terminated}
-use Rattle.process_record.specs.Process.{after_call as after_call_of, after_exit, after_fault, after_refusal, after_reply, past_call, waiting}
-use Rattle.kernel_model.specs.Record.{Record, instruction, with_effect, with_own, with_process}
+use Rattle.process_record.specs.Process.{after_call as after_call_of, after_exit, after_fault, after_refusal}
+use Rattle.process_record.specs.Process.{after_reply, past_call, waiting}
+use Rattle.kernel_model.specs.Record.{Record, instruction, with_effect, record_with_own, with_process}
 use Rattle.kernel_model.specs.declared.settings.Settings.{Settings}
-use Rattle.kernel_model.specs.Calls.{Served, answered, break_moved, by_class, deliver_by, exit, failure_of, flagged, memop, memops, moved_by, or_refused, permits, refused, refused_with, region, region_end, regions_of, replied, restart, served, swap_by, swap_refusal, taken_by, with_break_at, yield_now, yielding}
-use Rattle.kernel_model.specs.Turn.{Event, apply, calls, counted, delivery, ended, faulted, has_turn, is_pending, settled, surroundings, turned, turn_in}
+use Rattle.kernel_model.specs.Calls.{Served, driver_answered, break_moved, by_class, deliver_by, exit, failure_of}
+use Rattle.kernel_model.specs.Calls.{flag_written, memop, memops, moved_by, or_refused, object_permits, refused}
+use Rattle.kernel_model.specs.Calls.{refused_with, region, region_end, regions_named, replied, restart, served, swap_by}
+use Rattle.kernel_model.specs.Calls.{swap_refusal, taken_by, with_break_at, yield_now, yielding}
+use Rattle.kernel_model.specs.Turn.{Event, apply, calls, turn_counted, delivery, at_turn_end, faulted, has_turn}
+use Rattle.kernel_model.specs.Turn.{is_pending, settled, surroundings, turned, turn_in}
 use Rattle.kernel_model.specs.World.{World, after}
 use Rattle.kernel_model.specs.Replay.{after_all}
 use Rattle.kernel_model.specs.Lives.{is_alive}
 use Rattle.kernel_model.proofs.Steps.{IsAnswer, answer_changes, of_answer, of_step}
 
 -- other registers, and another recorded refusal
-abbrev pub with_regs : Record → Registers → Option Refusal → Record
+abbrev pub with_regs : Record → Registers → Option RecordedRefusal → Record
 with_regs r regs refusal = record r { process = record r.process { regs = regs; refusal = refusal } }
 
 -- what each of these leaves
 pub record IsKept (R : Own → Own → Type 0) (I J : Record → Type 0) : Type 0 where
   pub done : (r : Record) → I r → J r
-  pub regs : (r : Record) (regs : Registers) (refusal : Option Refusal) → I r → I (with_regs r regs refusal)
+  pub regs : (r : Record) (regs : Registers) (refusal : Option RecordedRefusal) → I r → I (with_regs r regs refusal)
   pub waits : (r : Record) → is_alive r.process.state ≡ true → I r → I (with_process r (waiting r.process))
   pub serves : (r : Record) (o : Own) (storage : List ℕ) → R r.own o → I r → I (record r { own = o; storage = storage })
-  pub hands : (r : Record) (kind : PairKind) (driver number : ℕ) (pair : ℕ × ℕ) → swap_refusal kind driver number pair r.own ≡ None → I r → I (with_own r (handing kind driver number pair r.own))
+  pub hands : (r : Record) (kind : PairKind) (driver number : ℕ) (pair : ℕ × ℕ)
+      → swap_refusal kind driver number pair r.own ≡ None → I r
+      → I (record_with_own r (handing kind driver number pair r.own))
   pub moves : (r : Record) (new : ℕ) → permits_break r.own.layout new ≡ true → I r → I (with_break_at r new)
-  pub flags : (r : Record) (at byte : ℕ) → I r → I (with_own r (with_flag at byte r.own))
-  pub delivers : (r : Record) (upcall : Scheduled) (more : List Scheduled) → is_alive r.process.state ≡ true → I r → I (deliver_by r (upcall ∷ more))
-  pub exits : (r : Record) (code : ℕ) → I r → J (record r { process = after_exit r.process code; own = ended_own r.own })
+  pub flags : (r : Record) (at byte : ℕ) → I r → I (record_with_own r (with_flag at byte r.own))
+  pub delivers : (r : Record) (upcall : Scheduled) (more : List Scheduled) → is_alive r.process.state ≡ true → I r
+      → I (deliver_by r (upcall ∷ more))
+  pub exits : (r : Record) (code : ℕ) → I r
+      → J (record r { process = after_exit r.process code; own = ended_own r.own })
   pub again : (r : Record) → is_alive r.process.state ≡ true → I r → J (restart r)
-  pub faults : (r : Record) (denial : Denial) → I r → J (record r { process = after_fault r.process denial; own = ended_own r.own })
-  pub faults_again : (r : Record) (denial : Denial) → is_alive r.process.state ≡ true → I r → J (restart (with_process r (after_fault r.process denial)))
+  pub faults : (r : Record) (denial : Denial) → I r
+      → J (record r { process = after_fault r.process denial; own = ended_own r.own })
+  pub faults_again : (r : Record) (denial : Denial) → is_alive r.process.state ≡ true → I r
+      → J (restart (with_process r (after_fault r.process denial)))
 
 module _ (R : Own → Own → Type 0) (services : OfEachService R) (I J : Record → Type 0) (k : IsKept R I J) where
   Q : Served → Type 0
@@ -71,36 +85,45 @@ module _ (R : Own → Own → Type 0) (services : OfEachService R) (I J : Record
 
   by_refused : (r : Record) → I r → (rule : CallRule) (reply : Reply) → Q (refused_with r rule reply)
   unfolding Q
-  by_refused r h rule reply = let p = after_refusal r.process rule reply in k.done (with_regs r p.regs p.refusal) (k.regs r p.regs p.refusal h)
+  by_refused r h rule reply = let p = after_refusal r.process rule reply in
+      k.done (with_regs r p.regs p.refusal) (k.regs r p.regs p.refusal h)
 
   by_plain : (r : Record) → I r → (rule : CallRule) → Q (refused r rule)
   by_plain r h rule = by_refused r h rule (Failure (error_of rule))
 
   by_replied : (r : Record) → I r → (reply : Reply) → Q (replied r reply)
   unfolding Q
-  by_replied r h reply = let p = after_reply r.process reply in k.done (with_regs r p.regs p.refusal) (k.regs r p.regs p.refusal h)
+  by_replied r h reply = let p = after_reply r.process reply in
+      k.done (with_regs r p.regs p.refusal) (k.regs r p.regs p.refusal h)
 
   by_past : (r : Record) → I r → J (with_process r (after_call_of r.process))
-  by_past r h = k.done (with_regs r (past_call r.process.regs) r.process.refusal) (k.regs r (past_call r.process.regs) r.process.refusal h)
+  by_past r h = k.done (with_regs r (past_call r.process.regs) r.process.refusal)
+      (k.regs r (past_call r.process.regs) r.process.refusal h)
 
   by_breaks : (r : Record) → I r → (new : Option ℕ) (reply : Reply) → Q (break_moved r new reply)
   by_breaks r h None reply = by_plain r h Break
-  by_breaks r h (Some new) reply = by_test (permits_break r.own.layout new) _ _ (λ may. by_replied (with_break_at r new) (k.moves r new may h) reply) (λ may_not. by_plain r h Break)
+  by_breaks r h (Some new) reply =
+      by_test (permits_break r.own.layout new) _ _ (λ may. by_replied (with_break_at r new) (k.moves r new may h) reply)
+      (λ may_not. by_plain r h Break)
 
   by_regions : (r : Record) → I r → (offset : ℕ × ℕ → ℕ) (region : Option (ℕ × ℕ)) → Q (region_end r offset region)
   by_regions r h offset None = by_plain r h Index
-  by_regions r h offset (Some region) = by_replied r h (SuccessU32 ((r.process.object.address + offset region) % 2 ^ 32))
+  by_regions r h offset (Some region) =
+      by_replied r h (SuccessU32 ((r.process.object.address + offset region) % 2 ^ 32))
 
   Each : List (ℕ × Served) → Type 0
   Each [] = Unit {0}
   Each (row ∷ rows) = Q row.1 × Each rows
 
-  by_rows : (r : Record) → I r → (operation : ℕ) (rows : List (ℕ × Served)) → Each rows → Q (or_refused r (find (λ row. row.0 == operation) rows))
+  by_rows : (r : Record) → I r → (operation : ℕ) (rows : List (ℕ × Served)) → Each rows
+      → Q (or_refused r (find (λ row. row.0 == operation) rows))
   unfolding Each
   by_rows r h operation [] each = by_plain r h NoOperation
-  by_rows r h operation (row ∷ rows) each = here_or_later (row.0 == operation) each.0 (by_rows r h operation rows each.1)
+  by_rows r h operation (row ∷ rows) each =
+      here_or_later (row.0 == operation) each.0 (by_rows r h operation rows each.1)
     where
-      here_or_later : (b : Bool) → Q row.1 → Q (or_refused r (find (λ row. row.0 == operation) rows)) → Q (or_refused r (cond b (Some row) (find (λ row. row.0 == operation) rows)))
+      here_or_later : (b : Bool) → Q row.1 → Q (or_refused r (find (λ row. row.0 == operation) rows))
+          → Q (or_refused r (cond b (Some row) (find (λ row. row.0 == operation) rows)))
       here_or_later true here later = here
       here_or_later false here later = later
 
@@ -122,7 +145,7 @@ module _ (R : Own → Own → Type 0) (services : OfEachService R) (I J : Record
                   (
                     by_replied r h (SuccessU32 r.own.layout.kernel_break),
                     (
-                      by_replied r h (SuccessU32 (region_count (regions_of (reading r.object)))),
+                      by_replied r h (SuccessU32 (region_count (regions_named (header_reading r.object)))),
                       (
                         by_regions r h (λ p. p.0) (region r argument),
                         (
@@ -141,14 +164,18 @@ module _ (R : Own → Own → Type 0) (services : OfEachService R) (I J : Record
 
   by_exit : (r : Record) → is_alive r.process.state ≡ true → I r → (kind code : ℕ) → Q (exit r kind code)
   unfolding Q exit
-  by_exit r alive h kind code = by_test (kind == 0) _ _ (λ ends. k.exits r code h) (λ goes. by_test (kind == 1) _ _ (λ again. k.again r alive h) (λ none. by_plain r h NoOperation))
+  by_exit r alive h kind code =
+      by_test (kind == 0) _ _ (λ ends. k.exits r code h)
+      (λ goes. by_test (kind == 1) _ _ (λ again. k.again r alive h) (λ none. by_plain r h NoOperation))
 
-  by_yield_now : (r : Record) → is_alive r.process.state ≡ true → I r → (at : ℕ) (pending : List Scheduled) → Q (yield_now r at pending)
+  by_yield_now : (r : Record) → is_alive r.process.state ≡ true → I r → (at : ℕ) (pending : List Scheduled)
+      → Q (yield_now r at pending)
   unfolding Q
-  by_yield_now r alive h at [] = by_past (with_own r (with_flag at 0 r.own)) (k.flags r at 0 h)
+  by_yield_now r alive h at [] = by_past (record_with_own r (with_flag at 0 r.own)) (k.flags r at 0 h)
   by_yield_now r alive h at (upcall ∷ more) =
-      let s = with_own r (with_flag at 1 r.own) in
-      k.done _ (k.delivers (flagged r at 1) upcall more alive (k.regs s (past_call s.process.regs) s.process.refusal (k.flags r at 1 h)))
+      let s = record_with_own r (with_flag at 1 r.own) in
+      k.done _ (k.delivers (flag_written r at 1) upcall more alive
+      (k.regs s (past_call s.process.regs) s.process.refusal (k.flags r at 1 h)))
 
   by_yield : (r : Record) → is_alive r.process.state ≡ true → I r → (number at : ℕ) → Q (yielding r number at)
   unfolding Q yielding
@@ -156,78 +183,105 @@ module _ (R : Own → Own → Type 0) (services : OfEachService R) (I J : Record
       by_test (number == 0) _ _ (λ now. by_yield_now r alive h at r.own.pending)
       (λ later. by_test (number == 1) _ _ (λ waits. k.done _ (k.waits r alive h)) (λ on. by_past r h))
 
-  by_swap : (r : Record) → I r → (kind : PairKind) (driver number : ℕ) (pair : ℕ × ℕ) (o : Option CallRule) → swap_refusal kind driver number pair r.own ≡ o → Q (swap_by r kind driver number pair o)
+  by_swap : (r : Record) → I r → (kind : PairKind) (driver number : ℕ) (pair : ℕ × ℕ) (o : Option CallRule)
+      → swap_refusal kind driver number pair r.own ≡ o → Q (swap_by r kind driver number pair o)
   by_swap r h kind driver number pair None is =
       let former = held kind driver number r.own in
-      by_replied (with_own r (handing kind driver number pair r.own)) (k.hands r kind driver number pair is h) (SuccessU32U32 former.0 former.1)
+      by_replied (record_with_own r (handing kind driver number pair r.own)) (k.hands r kind driver number pair is h)
+      (SuccessU32U32 former.0 former.1)
   by_swap r h kind driver number pair (Some rule) is = by_refused r h rule (FailureU32U32 (error_of rule) pair.0 pair.1)
 
-  by_answer : (r : Record) (c : Commanded) → I (with_own r c.own) → (answer : Result Reply CallRule) → J (answered (with_own r c.own) answer).after
+  by_answer : (r : Record) (c : Commanded) → I (record_with_own r c.own) → (answer : Result Reply CallRule)
+      → J (driver_answered (record_with_own r c.own) answer).after
   unfolding Q
-  by_answer r c h (Ok reply) = by_replied (with_own r c.own) h reply
-  by_answer r c h (Err rule) = by_plain (with_own r c.own) h rule
+  by_answer r c h (Ok reply) = by_replied (record_with_own r c.own) h reply
+  by_answer r c h (Err rule) = by_plain (record_with_own r c.own) h rule
 
-  by_command : (around : Surroundings) (r : Record) → I r → (driver number a2 a3 : ℕ) (o : Option Taker) → taker_of driver ≡ o → Q (taken_by around number a2 a3 r o)
+  by_command : (around : CommandContext) (r : Record) → I r → (driver number a2 a3 : ℕ) (o : Option CommandHandler)
+      → handler_of driver ≡ o → Q (taken_by around number a2 a3 r o)
   unfolding Q
   by_command around r h driver number a2 a3 None is = by_plain r h NoDriver
   by_command around r h driver number a2 a3 (Some taker) is =
       let c = taker around number a2 a3 r.own in
       by_answer r c (k.serves r c.own r.storage (services.command driver taker is around number a2 a3 r.own) h) c.answer
 
-  by_call : (around : Surroundings) (r : Record) → is_alive r.process.state ≡ true → I r → (call : SystemCall) → Q (by_class around r call)
+  by_call : (around : CommandContext) (r : Record) → is_alive r.process.state ≡ true → I r → (call : SystemCall)
+      → Q (by_class around r call)
   unfolding by_class
   by_call around r alive h (Yield number a1 a2) = by_yield r alive h number a1
-  by_call around r alive h (Subscribe driver number function app) = by_swap r h Upcall driver number (function, app) _ refl
-  by_call around r alive h (Command driver number a2 a3) = by_command around r h driver number a2 a3 (taker_of driver) refl
-  by_call around r alive h (AllowRw driver number address size) = by_swap r h ReadWrite driver number (address, size) _ refl
-  by_call around r alive h (AllowRo driver number address size) = by_swap r h ReadOnly driver number (address, size) _ refl
+  by_call around r alive h (Subscribe driver number function app) =
+      by_swap r h Upcall driver number (function, app) _ refl
+  by_call around r alive h (Command driver number a2 a3) =
+      by_command around r h driver number a2 a3 (handler_of driver) refl
+  by_call around r alive h (AllowRw driver number address size) =
+      by_swap r h ReadWrite driver number (address, size) _ refl
+  by_call around r alive h (AllowRo driver number address size) =
+      by_swap r h ReadOnly driver number (address, size) _ refl
   by_call around r alive h (Memop operation argument) = by_memop r h operation argument
   by_call around r alive h (Exit kind code) = by_exit r alive h kind code
 
-  after_call : (around : Surroundings) (r : Record) → is_alive r.process.state ≡ true → I r → (call : SystemCall) → J (served around r call).after
+  after_call : (around : CommandContext) (r : Record) → is_alive r.process.state ≡ true → I r → (call : SystemCall)
+      → J (served around r call).after
   unfolding Q served
-  after_call around r alive h call = by_test (permits r.object call) _ _ (λ may. by_call around r alive h call) (λ may_not. by_refused r h Permission (failure_of call Permission))
+  after_call around r alive h call =
+      by_test (object_permits r.object call) _ _ (λ may. by_call around r alive h call)
+      (λ may_not. by_refused r h Permission (failure_of call Permission))
 
-  after_denial : (settings : Settings) (r : Record) → is_alive r.process.state ≡ true → I r → (denial : Denial) → J (faulted settings r denial).after
+  after_denial : (settings : Settings) (r : Record) → is_alive r.process.state ≡ true → I r → (denial : Denial)
+      → J (faulted settings r denial).after
   after_denial settings r alive h denial = by_action (decision settings.policy r.process.restarts)
     where
       by_action : (action : Action) → J (settled (with_process r (after_fault r.process denial)) action)
       by_action Stop = k.faults r denial h
       by_action Restart = k.faults_again r denial alive h
 
-  after_calls : (settings : Settings) (time : ℕ) (r : Record) → is_alive r.process.state ≡ true → I r → (accesses : List Touch) (call : Option SystemCall) → J (calls settings time r accesses call).after
+  after_calls : (settings : Settings) (time : ℕ) (r : Record) → is_alive r.process.state ≡ true → I r
+      → (accesses : List MemoryAccess) (call : Option SystemCall) → J (calls settings time r accesses call).after
   after_calls settings time r alive h accesses (Some call) = after_call (surroundings settings time) r alive h call
   after_calls settings time r alive h accesses None = after_denial settings r alive h _
 
-  after_end : (settings : Settings) (time : ℕ) (r : Record) → is_alive r.process.state ≡ true → I r → (accesses : List Touch) (end : TurnEnd) → J (ended settings time r accesses end).after
+  after_end : (settings : Settings) (time : ℕ) (r : Record) → is_alive r.process.state ≡ true → I r
+      → (accesses : List MemoryAccess) (end : TurnEnd) → J (at_turn_end settings time r accesses end).after
   after_end settings time r alive h accesses ends.Went = k.done r h
-  after_end settings time r alive h accesses ends.Call = after_calls settings time r alive h accesses (call_of r.process.regs)
+  after_end settings time r alive h accesses ends.Call =
+      after_calls settings time r alive h accesses (call_of r.process.regs)
   after_end settings time r alive h accesses (ends.Trap denial) = after_denial settings r alive h denial
 
-  -- after a turn: where it had none, as it was; else by what stands once the turn was counted, and its instruction has had
+  -- after a turn: where it had none, as it was; else by what stands once the turn was counted, and its instruction has
+  -- had
   -- its effect
-  pub after_turn : (settings : Settings) (time : ℕ) (r : Record) → (has_turn r.process.state (is_pending r.own.pending) ≡ false → J r) → I (counted r) → I (with_effect (counted r) (instruction r)) → J (turned settings time r).after
+  pub after_turn : (settings : Settings) (time : ℕ) (r : Record)
+      → (has_turn r.process.state (is_pending r.own.pending) ≡ false → J r) → I (turn_counted r)
+      → I (with_effect (turn_counted r) (instruction r)) → J (turned settings time r).after
   unfolding turned
   after_turn settings time r none waited went = by_state r.process.state refl none
     where
-      by_pending : (pending : List Scheduled) → r.process.state ≡ Yielded → (is_pending pending ≡ false → J r) → J (delivery r pending).after
+      by_pending : (pending : List Scheduled) → r.process.state ≡ Yielded → (is_pending pending ≡ false → J r)
+          → J (delivery r pending).after
       by_pending [] is none = none refl
-      by_pending (upcall ∷ more) is none = k.done _ (k.delivers (counted r) upcall more (ap is_alive is) waited)
+      by_pending (upcall ∷ more) is none = k.done _ (k.delivers (turn_counted r) upcall more (ap is_alive is) waited)
 
-      by_state : (state : State) → r.process.state ≡ state → (has_turn state (is_pending r.own.pending) ≡ false → J r) → J (turn_in settings time state r).after
-      by_state Running is none = after_end settings time (with_effect (counted r) (instruction r)) (ap is_alive is) went (instruction r).accesses (instruction r).end
+      by_state : (state : State) → r.process.state ≡ state → (has_turn state (is_pending r.own.pending) ≡ false → J r)
+          → J (turn_in settings time state r).after
+      by_state Running is none =
+          after_end settings time (with_effect (turn_counted r) (instruction r)) (ap is_alive is) went
+          (instruction r).accesses (instruction r).end
       by_state Yielded is none = by_pending r.own.pending is none
       by_state Faulted is none = none refl
       by_state (Terminated code) is none = none refl
 
   -- after an answer
-  pub after_answer : (settings : Settings) (event : Event) (r : Record) → IsAnswer event → I r → I (apply settings event r)
+  pub after_answer : (settings : Settings) (event : Event) (r : Record) → IsAnswer event → I r
+      → I (apply settings event r)
   after_answer settings event r is h =
       subst I (sym (answer_changes settings event r is)) (k.serves r _ _ (of_answer R services settings event r is) h)
 
 -- what is so of a process in a slot is so after any choices, where it is after its turns and after answers
-pub over_choices : (I : Record → Type 0) → ((settings : Settings) (time : ℕ) (r : Record) → I r → I (turned settings time r).after) → ((settings : Settings) (event : Event) (r : Record) → IsAnswer event → I r → I (apply settings event r))
-    → (w : World) (choices : List Choice) (slot : ℕ) → IfSome (slice_get w.records slot) I → IfSome (slice_get (after_all w choices).records slot) I
+pub over_choices : (I : Record → Type 0)
+    → ((settings : Settings) (time : ℕ) (r : Record) → I r → I (turned settings time r).after)
+    → ((settings : Settings) (event : Event) (r : Record) → IsAnswer event → I r → I (apply settings event r))
+    → (w : World) (choices : List Choice) (slot : ℕ) → IfSome (slice_get w.records slot) I
+    → IfSome (slice_get (after_all w choices).records slot) I
 over_choices I turns answers w [] slot h = h
 over_choices I turns answers w (choice ∷ choices) slot h =
     over_choices I turns answers (after w choice) choices slot
@@ -235,6 +289,7 @@ over_choices I turns answers w (choice ∷ choices) slot h =
     (record {
       stays = h;
       turn = λ r is. turns w.settings w.clock.time r (subst (λ (o : Option Record). IfSome o I) is h);
-      answer = λ r is event answers_it. answers w.settings event r answers_it (subst (λ (o : Option Record). IfSome o I) is h);
+      answer = λ r is event answers_it. answers w.settings event r answers_it
+          (subst (λ (o : Option Record). IfSome o I) is h);
     })
     choice)

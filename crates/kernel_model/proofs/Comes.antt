@@ -1,44 +1,50 @@
--- What every call comes to, by cases on the call: it is refused, and changes nothing but the reply registers, pc and the
+-- What every call comes to, by cases on the call: it is refused, and changes nothing but the reply registers, pc and
+-- the
 -- recorded refusal; or it is served.
-use Rattle.std.proofs.Common.{◌≡◌, ◌≢◌, ◌<◌, length, ℕ, ◌-◌, ◌==◌, Bool, true, false, cond, List, [], ◌∷◌, slice_set, Option, None, Some, Result, Ok, Err, refl, ap, sym, subst, arith}
+use Rattle.std.proofs.Common.{◌≡◌, ◌≢◌, ◌<◌, length, ℕ, ◌-◌, ◌==◌, Bool, true, false, cond, List, [], ◌∷◌, slice_set}
+use Rattle.std.proofs.Common.{Option, None, Some, Result, Ok, Err, refl, ap, sym, subst, arith}
 use Rattle.tk_base.specs.declared.call.CallRule.{CallRule}
 use Rattle.tk_base.specs.declared.call.CallRule.TheVariants.{NoDriver, NoOperation, Permission}
+use Rattle.tk_base.specs.declared.limits.TheConstants.{PENDING_LIMIT}
 use Rattle.tk_base.specs.declared.upcall.Upcall.{Upcall as Scheduled}
 use Rattle.tk_base.specs.Call.{error_of}
 use Rattle.tbf_headers.specs.declared.fault.HeaderFault.{HeaderFault}
 use Rattle.tbf_headers.specs.declared.program.Main.{Main}
-use Rattle.tbf_headers.specs.Meaning.{Meaning, reading}
-use Rattle.grant_areas.specs.declared.kinds.PairKind.{PairKind}
-use Rattle.grant_areas.specs.declared.kinds.PairKind.TheVariants.{Upcall, ReadOnly, ReadWrite}
-use Rattle.process_own.specs.Own.{Own, without_first}
-use Rattle.process_own.specs.Flag.{with_flag}
-use Rattle.process_own.specs.Handed.{lies_in_ram}
-use Rattle.driver_model.specs.Commands.{Commanded, refused as refused_by_driver}
-use Rattle.driver_model.specs.Drivers.{Surroundings, Taker, taker_of}
+use Rattle.tbf_headers.specs.Meaning.{Meaning, header_reading}
+use Rattle.grant_model.specs.declared.kinds.PairKind.{PairKind}
+use Rattle.grant_model.specs.declared.kinds.PairKind.TheVariants.{Upcall, ReadOnly, ReadWrite}
+use Rattle.process_model.specs.Own.{Own, without_first}
+use Rattle.process_model.specs.Flag.{with_flag}
+use Rattle.process_model.specs.Handed.{lies_in_ram}
+use Rattle.driver_model.specs.Commands.{Commanded, refusing as refused_by_driver}
+use Rattle.driver_model.specs.Drivers.{CommandContext, CommandHandler, handler_of}
 use Rattle.driver_model.specs.Laws.{IsAtMostOneMore}
 use Rattle.syscall_abi.specs.declared.call.Call.{Call as SystemCall}
 use Rattle.syscall_abi.specs.declared.call.Call.TheVariants.{Yield, Subscribe, Command, AllowRw, AllowRo, Memop, Exit}
 use Rattle.syscall_abi.specs.declared.reply.Reply.{Reply}
 use Rattle.syscall_abi.specs.declared.reply.Reply.TheVariants.{Failure, FailureU32U32}
 use Rattle.process_record.specs.declared.outcome.Outcome.TheVariants.{ToDriver}
-use Rattle.kernel_model.specs.Record.{Record, with_own}
+use Rattle.kernel_model.specs.Record.{Record, record_with_own}
 use Rattle.kernel_model.specs.Turn.{rule_shown}
-use Rattle.kernel_model.specs.Calls.{Served, answered, by_class, commanded, exit, failure_of, memop, permits, refused_with, replied, restart, restarted_by, restarted_main, served, swap_by, swap_refusal, taken_by, yield_now, yielding}
+use Rattle.kernel_model.specs.Calls.{failed_swap, Served, driver_answered, by_class, commanded, exit, failure_of, memop}
+use Rattle.kernel_model.specs.Calls.{object_permits, refused_with, replied, restart, restarted_by, restarted_main}
+use Rattle.kernel_model.specs.Calls.{served, swap_by, swap_refusal, taken_by, yield_now, yielding}
 use Rattle.kernel_model.specs.Laws.{CanStartAgain, DriversPromise, KeepsLines}
 use Rattle.kernel_model.proofs.Lines.{SameKept, keeps_commanded, keeps_ended, keeps_handed, keeps_restarted, keeps_same}
 use Rattle.kernel_model.proofs.Memops.{by_test, memop_gives}
 
 -- a call that was served: it broke no rule, at most one upcall was dropped, no driver has it still to answer, and its
 -- process keeps a request exactly where it waits
-pub record IsServed (around : Surroundings) (r : Record) (s : Served) : Type 0 where
+pub record IsServed (around : CommandContext) (r : Record) (s : Served) : Type 0 where
   pub no_rule : rule_shown s.outcome ≡ None
   pub dropped : IsAtMostOneMore r.own.dropped s.after.own.dropped
-  pub room : length r.own.pending < 10 → s.after.own.dropped ≡ r.own.dropped
+  pub room : length r.own.pending < PENDING_LIMIT → s.after.own.dropped ≡ r.own.dropped
   pub done : s.outcome ≢ ToDriver
   pub lines : r.own.lives ≡ true → CanStartAgain r → KeepsLines around.storage r.own s.after.own s.acts
 
 -- what holds of a call that is refused, and of one that is served
-pub record OfBoth (P : Served → Type 0) (around : Surroundings) (r : Record) (failure : CallRule → Reply) : Type 0 where
+pub record OfBoth (P : Served → Type 0) (around : CommandContext) (r : Record) (failure : CallRule → Reply) : Type
+    0 where
   pub refused : (rule : CallRule) → P (refused_with r rule (failure rule))
   pub served : (s : Served) → IsServed around r s → P s
 
@@ -49,17 +55,21 @@ abbrev pub plain : CallRule → Reply
 plain rule = Failure (error_of rule)
 
 -- what was served, and asks nothing of the board, of a process of which drivers keep the same
-served_so : (around : Surroundings) (r : Record) (s : Served) → rule_shown s.outcome ≡ None → SameKept r.own s.after.own → s.outcome ≢ ToDriver → s.acts ≡ [] → IsServed around r s
+served_so : (around : CommandContext) (r : Record) (s : Served) → rule_shown s.outcome ≡ None
+    → SameKept r.own s.after.own → s.outcome ≢ ToDriver → s.acts ≡ [] → IsServed around r s
 served_so around r s none same done acts = record {
   no_rule = none;
   dropped = subst (IsAtMostOneMore r.own.dropped) (sym same.dropped) (no_more r.own.dropped);
   room = λ few. same.dropped;
   done = done;
-  lines = λ lives can. subst (KeepsLines around.storage r.own s.after.own) (sym acts) (keeps_same around.storage r.own s.after.own same);
+  lines = λ lives can.
+      subst (KeepsLines around.storage r.own s.after.own) (sym acts) (keeps_same around.storage r.own s.after.own same);
 }
 
 -- and what was served, and takes a process out of all lists
-served_gone : (around : Surroundings) (r : Record) (s : Served) → rule_shown s.outcome ≡ None → s.after.own.dropped ≡ r.own.dropped → s.outcome ≢ ToDriver → (CanStartAgain r → KeepsLines around.storage r.own s.after.own s.acts) → IsServed around r s
+served_gone : (around : CommandContext) (r : Record) (s : Served) → rule_shown s.outcome ≡ None
+    → s.after.own.dropped ≡ r.own.dropped → s.outcome ≢ ToDriver
+    → (CanStartAgain r → KeepsLines around.storage r.own s.after.own s.acts) → IsServed around r s
 served_gone around r s none same done lines = record {
   no_rule = none;
   dropped = subst (IsAtMostOneMore r.own.dropped) (sym same) (no_more r.own.dropped);
@@ -71,17 +81,21 @@ served_gone around r s none same done lines = record {
 pub all_same : (own : Own) → SameKept own own
 all_same own = record { grants = refl; lives = refl; life = refl; dropped = refl }
 
-reply_served : (around : Surroundings) (r s : Record) (reply : Reply) → SameKept r.own s.own → IsServed around r (replied s reply)
+reply_served : (around : CommandContext) (r s : Record) (reply : Reply) → SameKept r.own s.own
+    → IsServed around r (replied s reply)
 reply_served around r s reply same = served_so around r (replied s reply) refl same (λ e. cc) refl
 
-of_memop : (P : Served → Type 0) (around : Surroundings) (r : Record) (operation argument : ℕ) → OfBoth P around r plain → P (memop r operation argument)
+of_memop : (P : Served → Type 0) (around : CommandContext) (r : Record) (operation argument : ℕ)
+    → OfBoth P around r plain → P (memop r operation argument)
 of_memop P around r operation argument both =
-    memop_gives P r operation argument both.refused (λ reply. both.served _ (reply_served around r r reply (all_same r.own)))
-    (λ new reply. both.served _ (reply_served around r _ reply (record { grants = refl; lives = refl; life = refl; dropped = refl })))
+    memop_gives P r operation argument both.refused
+    (λ reply. both.served _ (reply_served around r r reply (all_same r.own)))
+    (λ new reply. both.served _ (reply_served around r _ reply
+    (record { grants = refl; lives = refl; life = refl; dropped = refl })))
 
 pub restart_keeps : (r : Record) → (restart r).own.dropped ≡ r.own.dropped
 unfolding restart
-restart_keeps r = by_reading (reading r.object)
+restart_keeps r = by_reading (header_reading r.object)
   where
     by_main : (h : Meaning) (m : Option Main) → (restarted_main r h m).own.dropped ≡ r.own.dropped
     by_main h None = refl
@@ -91,37 +105,44 @@ restart_keeps r = by_reading (reading r.object)
     by_reading (Ok h) = by_main h h.main
     by_reading (Err fault) = refl
 
-of_exit : (P : Served → Type 0) (around : Surroundings) (r : Record) (kind code : ℕ) → OfBoth P around r plain → P (exit r kind code)
+of_exit : (P : Served → Type 0) (around : CommandContext) (r : Record) (kind code : ℕ) → OfBoth P around r plain
+    → P (exit r kind code)
 unfolding exit
 of_exit P around r kind code both =
-    by_test P (kind == 0) _ _ (both.served _ (served_gone around r _ refl refl (λ e. cc) (λ can. keeps_ended around.storage r.own)))
-    (by_test P (kind == 1) _ _ (both.served _ (served_gone around r _ refl (restart_keeps r) (λ e. cc) (keeps_restarted around.storage r))) (both.refused NoOperation))
+    by_test P (kind == 0) _ _ (both.served _
+    (served_gone around r _ refl refl (λ e. cc) (λ can. keeps_ended around.storage r.own)))
+    (by_test P (kind == 1) _ _ (both.served _
+    (served_gone around r _ refl (restart_keeps r) (λ e. cc) (keeps_restarted around.storage r)))
+    (both.refused NoOperation))
 
 flag_keeps : (at byte : ℕ) (own : Own) → SameKept own (with_flag at byte own)
 flag_keeps at byte own = by_place (lies_in_ram own.layout at 1)
   where
-    by_place : (b : Bool) → SameKept own (cond b (record own { ram = slice_set own.ram (at - own.layout.start) byte }) own)
+    by_place : (b : Bool)
+        → SameKept own (cond b (record own { ram = slice_set own.ram (at - own.layout.start) byte }) own)
     by_place true = record { grants = refl; lives = refl; life = refl; dropped = refl }
     by_place false = all_same own
 
 first_keeps : (own o : Own) → SameKept own o → SameKept own (without_first o)
 first_keeps own o same = record { grants = same.grants; lives = same.lives; life = same.life; dropped = same.dropped }
 
-of_yield_now : (P : Served → Type 0) (around : Surroundings) (r : Record) (at : ℕ) (pending : List Scheduled) → OfBoth P around r plain → P (yield_now r at pending)
+of_yield_now : (P : Served → Type 0) (around : CommandContext) (r : Record) (at : ℕ) (pending : List Scheduled)
+    → OfBoth P around r plain → P (yield_now r at pending)
 of_yield_now P around r at [] both = both.served _ (served_so around r _ refl (flag_keeps at 0 r.own) (λ e. cc) refl)
-of_yield_now P around r at (upcall ∷ more) both = both.served _ (served_so around r _ refl (first_keeps r.own _ (flag_keeps at 1 r.own)) (λ e. cc) refl)
+of_yield_now P around r at (upcall ∷ more) both =
+    both.served _ (served_so around r _ refl (first_keeps r.own _ (flag_keeps at 1 r.own)) (λ e. cc) refl)
 
-of_yield : (P : Served → Type 0) (around : Surroundings) (r : Record) (number at : ℕ) → OfBoth P around r plain → P (yielding r number at)
+of_yield : (P : Served → Type 0) (around : CommandContext) (r : Record) (number at : ℕ) → OfBoth P around r plain
+    → P (yielding r number at)
 unfolding yielding
 of_yield P around r number at both =
     by_test P (number == 0) _ _ (of_yield_now P around r at r.own.pending both)
-    (by_test P (number == 1) _ _ (both.served _ (served_so around r _ refl (all_same r.own) (λ e. cc) refl)) (both.served _ (served_so around r _ refl (all_same r.own) (λ e. cc) refl)))
+    (by_test P (number == 1) _ _ (both.served _ (served_so around r _ refl (all_same r.own) (λ e. cc) refl))
+    (both.served _ (served_so around r _ refl (all_same r.own) (λ e. cc) refl)))
 
--- a swap that is refused hands back the passed pair
-abbrev pub passed : ℕ × ℕ → CallRule → Reply
-passed pair rule = FailureU32U32 (error_of rule) pair.0 pair.1
-
-of_swap : (P : Served → Type 0) (promise : DriversPromise) (around : Surroundings) (r : Record) (kind : PairKind) (driver number : ℕ) (pair : ℕ × ℕ) (o : Option CallRule) → OfBoth P around r (passed pair) → P (swap_by r kind driver number pair o)
+of_swap : (P : Served → Type 0) (promise : DriversPromise) (around : CommandContext) (r : Record) (kind : PairKind)
+    (driver number : ℕ) (pair : ℕ × ℕ) (o : Option CallRule) → OfBoth P around r (failed_swap pair)
+    → P (swap_by r kind driver number pair o)
 of_swap P promise around r kind driver number pair None both =
     both.served _ (record {
       no_rule = refl;
@@ -132,31 +153,55 @@ of_swap P promise around r kind driver number pair None both =
     })
 of_swap P promise around r kind driver number pair (Some rule) both = both.refused rule
 
-of_commanded : (P : Served → Type 0) (around : Surroundings) (r : Record) (c : Commanded) (answer : Result Reply CallRule) → c.answer ≡ answer → ((rule : CallRule) → c.answer ≡ Err rule → c ≡ refused_by_driver rule r.own) → IsAtMostOneMore r.own.dropped c.own.dropped → (length r.own.pending < 10 → c.own.dropped ≡ r.own.dropped) → (r.own.lives ≡ true → KeepsLines around.storage r.own c.own c.acts) → OfBoth P around r plain → P (commanded r c)
+of_commanded : (P : Served → Type 0) (around : CommandContext) (r : Record) (c : Commanded)
+    (answer : Result Reply CallRule) → c.answer ≡ answer
+    → ((rule : CallRule) → c.answer ≡ Err rule → c ≡ refused_by_driver rule r.own)
+    → IsAtMostOneMore r.own.dropped c.own.dropped
+    → (length r.own.pending < PENDING_LIMIT → c.own.dropped ≡ r.own.dropped)
+    → (r.own.lives ≡ true → KeepsLines around.storage r.own c.own c.acts) → OfBoth P around r plain → P (commanded r c)
 of_commanded P around r c (Ok reply) is refuses drops room lines both =
-    let same : record (replied (with_own r c.own) reply) { acts = c.acts } ≡ commanded r c = ap (λ (x : Result Reply CallRule). record (answered (with_own r c.own) x) { acts = c.acts }) (sym is) in
-    subst P same (both.served (record (replied (with_own r c.own) reply) { acts = c.acts }) (record { no_rule = refl; dropped = drops; room = room; done = λ e. cc; lines = λ lives can. lines lives }))
-of_commanded P around r c (Err rule) is refuses drops room lines both = subst P (ap (commanded r) (sym (refuses rule is))) (both.refused rule)
+    let same : record (replied (record_with_own r c.own) reply) { acts = c.acts } ≡ commanded r c =
+    ap (λ (x : Result Reply CallRule). record (driver_answered (record_with_own r c.own) x) { acts = c.acts })
+    (sym is) in
+    subst P same (both.served (record (replied (record_with_own r c.own) reply) { acts = c.acts })
+    (record { no_rule = refl; dropped = drops; room = room; done = λ e. cc; lines = λ lives can. lines lives }))
+of_commanded P around r c (Err rule) is refuses drops room lines both =
+    subst P (ap (commanded r) (sym (refuses rule is))) (both.refused rule)
 
-of_taken : (P : Served → Type 0) (promise : DriversPromise) (around : Surroundings) (driver number a2 a3 : ℕ) (r : Record) (o : Option Taker) → taker_of driver ≡ o → OfBoth P around r plain → P (taken_by around number a2 a3 r o)
+of_taken : (P : Served → Type 0) (promise : DriversPromise) (around : CommandContext) (driver number a2 a3 : ℕ)
+    (r : Record) (o : Option CommandHandler) → handler_of driver ≡ o → OfBoth P around r plain
+    → P (taken_by around number a2 a3 r o)
 of_taken P promise around driver number a2 a3 r None is both = both.refused NoDriver
 of_taken P promise around driver number a2 a3 r (Some taker) is both =
     let follows = promise.follow driver taker is around number a2 a3 r.own in
     let stays = promise.stay driver taker is around number a2 a3 r.own in
-    of_commanded P around r (taker around number a2 a3 r.own) _ refl (λ rule. promise.refuse driver taker around number a2 a3 r.own rule is) (promise.drop driver taker around number a2 a3 r.own is) (promise.limit.command driver taker is around number a2 a3 r.own).room
+    of_commanded P around r (taker around number a2 a3 r.own) _ refl
+    (λ rule. promise.refuse driver taker around number a2 a3 r.own rule is)
+    (promise.drop driver taker around number a2 a3 r.own is)
+    (promise.limit.command driver taker is around number a2 a3 r.own).room
     (λ lives. keeps_commanded around r.own (taker around number a2 a3 r.own) lives follows stays) both
 
-of_class : (P : Served → Type 0) (promise : DriversPromise) (around : Surroundings) (r : Record) (call : SystemCall) → OfBoth P around r (failure_of call) → P (by_class around r call)
+of_class : (P : Served → Type 0) (promise : DriversPromise) (around : CommandContext) (r : Record) (call : SystemCall)
+    → OfBoth P around r (failure_of call) → P (by_class around r call)
 unfolding by_class
 of_class P promise around r (Memop operation argument) both = of_memop P around r operation argument both
 of_class P promise around r (Exit kind code) both = of_exit P around r kind code both
 of_class P promise around r (Yield number a1 a2) both = of_yield P around r number a1 both
-of_class P promise around r (Subscribe driver number function app) both = of_swap P promise around r Upcall driver number (function, app) (swap_refusal Upcall driver number (function, app) r.own) both
-of_class P promise around r (Command driver number a2 a3) both = of_taken P promise around driver number a2 a3 r (taker_of driver) refl both
-of_class P promise around r (AllowRw driver number address size) both = of_swap P promise around r ReadWrite driver number (address, size) (swap_refusal ReadWrite driver number (address, size) r.own) both
-of_class P promise around r (AllowRo driver number address size) both = of_swap P promise around r ReadOnly driver number (address, size) (swap_refusal ReadOnly driver number (address, size) r.own) both
+of_class P promise around r (Subscribe driver number function app) both =
+    of_swap P promise around r Upcall driver number (function, app)
+    (swap_refusal Upcall driver number (function, app) r.own) both
+of_class P promise around r (Command driver number a2 a3) both =
+    of_taken P promise around driver number a2 a3 r (handler_of driver) refl both
+of_class P promise around r (AllowRw driver number address size) both =
+    of_swap P promise around r ReadWrite driver number (address, size)
+    (swap_refusal ReadWrite driver number (address, size) r.own) both
+of_class P promise around r (AllowRo driver number address size) both =
+    of_swap P promise around r ReadOnly driver number (address, size)
+    (swap_refusal ReadOnly driver number (address, size) r.own) both
 
 -- what holds of a call that is refused and of one that is served holds of every call
-pub of_call : (P : Served → Type 0) (promise : DriversPromise) (around : Surroundings) (r : Record) (call : SystemCall) → OfBoth P around r (failure_of call) → P (served around r call)
+pub of_call : (P : Served → Type 0) (promise : DriversPromise) (around : CommandContext) (r : Record)
+    (call : SystemCall) → OfBoth P around r (failure_of call) → P (served around r call)
 unfolding served
-of_call P promise around r call both = by_test P (permits r.object call) _ _ (of_class P promise around r call both) (both.refused Permission)
+of_call P promise around r call both =
+    by_test P (object_permits r.object call) _ _ (of_class P promise around r call both) (both.refused Permission)

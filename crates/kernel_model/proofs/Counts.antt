@@ -1,5 +1,7 @@
 -- Time, steps and turns add up, choice by choice.
-use Rattle.std.proofs.Common.{◌≡◌, ◌<◌, ℕ, zero, suc, ◌+◌, ◌==◌, Bool, true, false, not, ◌&&◌, nat_lt, List, [], ◌∷◌, ◌++◌, length, slice_get, slice_set, Option, None, Some, IfSome, is_some, refl, sym, ap, subst, ◌∙◌, arith}
+use Rattle.std.proofs.Common.{◌≡◌, ◌<◌, ℕ, zero, suc, ◌+◌, ◌==◌, Bool, true, false, not, ◌&&◌, nat_lt, List, [], ◌∷◌}
+use Rattle.std.proofs.Common.{◌++◌, length, slice_get, slice_set, Option, None, Some, IfSome, is_some, refl, sym, ap}
+use Rattle.std.proofs.Common.{subst, ◌∙◌, arith}
 use Rattle.std.specs.Prelude.{All}
 use Rattle.std.specs.Option.{option_map}
 use Rattle.std.proofs.lemmas.Bool.{false≢true}
@@ -11,16 +13,19 @@ use Rattle.tk_base.specs.declared.process.Choice.TheVariants.{Run, Device, Pass}
 use Rattle.tk_base.specs.declared.process.Dev.{Dev}
 use Rattle.tk_base.specs.declared.process.Dev.TheVariants as dev
 use Rattle.board_devices.specs.Arriving.{is_time}
-use Rattle.script_text.specs.Settings.{Event as Arrival}
-use Rattle.process_own.specs.Own.{Own}
+use Rattle.script_text.specs.Settings.{ScriptEvent as Arrival}
+use Rattle.process_model.specs.Own.{Own}
 use Rattle.driver_model.specs.Alarm.{due_slot}
-use Rattle.driver_model.specs.Commands.{Act, Waits, Leaves, Lights, Writes, Reads, Randoms, Stores}
+use Rattle.driver_model.specs.Commands.{BoardRequest, Waits, Leaves, Lights, Writes, Reads, Randoms, Stores}
 use Rattle.driver_model.specs.Services.{OfEachService}
 use Rattle.kernel_model.specs.Record.{Record}
 use Rattle.kernel_model.specs.declared.settings.Settings.{Settings}
 use Rattle.kernel_model.specs.Calls.{restart}
 use Rattle.kernel_model.specs.Turn.{Event, apply, may_turn, turned}
-use Rattle.kernel_model.specs.World.{Answer, Deed, Devices, Stepped, World, acted, after, alarmed, arrived, can_act, can_run, carried_out, deed_of, done, drawing, first_of, is_ready, is_waited_for, left_of, may_be_made, now_in, owns_in, ran, receiving, records_after, routed, storing, told_to, transmitting, without}
+use Rattle.kernel_model.specs.World.{Answer, DeviceStep, Devices, Stepped, World, acted, after, alarmed, arrived}
+use Rattle.kernel_model.specs.World.{can_act, can_run, carried_out, device_step_of, done, random_step, first_waiting}
+use Rattle.kernel_model.specs.World.{is_ready, is_waited_for, queue_after_answer, may_be_made, now_in, owns_in, ran}
+use Rattle.kernel_model.specs.World.{receive_step, records_after, routed, storing, told_to, transmitting, queue_without}
 use Rattle.kernel_model.specs.Choices.{are_ready}
 use Rattle.kernel_model.specs.Replay.{after_all}
 use Rattle.kernel_model.specs.Counts.{AddsUp, CountsAddUp, WaitingAreThere, ticks_passed, turns_made, turns_of_all}
@@ -67,16 +72,20 @@ turns_kept n = record {
   faults_again = λ r denial alive h. turns_again n _ h;
 }
 
-turn_counts : (settings : Settings) (time : ℕ) (r : Record) → may_turn r ≡ true → (turned settings time r).after.process.turns ≡ r.process.turns + 1
+turn_counts : (settings : Settings) (time : ℕ) (r : Record) → may_turn r ≡ true
+    → (turned settings time r).after.process.turns ≡ r.process.turns + 1
 turn_counts settings time r may =
-    after_turn Any any_service (Made (r.process.turns + 1)) (Made (r.process.turns + 1)) (turns_kept (r.process.turns + 1)) settings time r
+    after_turn Any any_service (Made (r.process.turns + 1)) (Made (r.process.turns + 1))
+    (turns_kept (r.process.turns + 1)) settings time r
     (λ none. absurd (false≢true (sym none ∙ may))) refl refl
 
-answer_counts : (settings : Settings) (event : Event) (r : Record) → IsAnswer event → (apply settings event r).process.turns ≡ r.process.turns
+answer_counts : (settings : Settings) (event : Event) (r : Record) → IsAnswer event
+    → (apply settings event r).process.turns ≡ r.process.turns
 answer_counts settings event r is = ap (λ (x : Record). x.process.turns) (answer_changes settings event r is)
 
 -- the turns of all, where one record is another
-turns_set : (rs : List Record) (i : ℕ) (r s : Record) → slice_get rs i ≡ Some r → turns_of_all (slice_set rs i s) + r.process.turns ≡ turns_of_all rs + s.process.turns
+turns_set : (rs : List Record) (i : ℕ) (r s : Record) → slice_get rs i ≡ Some r
+    → turns_of_all (slice_set rs i s) + r.process.turns ≡ turns_of_all rs + s.process.turns
 turns_set [] i r s is = absurd (cc)
 turns_set (x ∷ rs) zero r s is =
     let same : x.process.turns ≡ r.process.turns = first x r is in
@@ -94,32 +103,45 @@ record AreThere (n : ℕ) (d : Devices) : Type 0 where
   stores : All (λ slot. slot < n) d.stores
 
 joins : (n slot : ℕ) (line : List ℕ) → slot < n → All (λ s. s < n) line → All (λ s. s < n) (line ++ slot ∷ [])
-joins n slot line less all = All-append (λ s. s < n) line (slot ∷ []) all (All-cons (λ s. s < n) slot [] less (All-nil (λ s. s < n)))
+joins n slot line less all =
+    All-append (λ s. s < n) line (slot ∷ []) all (All-cons (λ s. s < n) slot [] less (All-nil (λ s. s < n)))
 
-leaves : (n slot : ℕ) (line : List ℕ) → All (λ s. s < n) line → All (λ s. s < n) (without slot line)
+leaves : (n slot : ℕ) (line : List ℕ) → All (λ s. s < n) line → All (λ s. s < n) (queue_without slot line)
 leaves n slot line all = All-filter (λ s. not (s == slot)) (λ s. s < n) line all
 
-left : (n slot : ℕ) (completed : Bool) (line : List ℕ) → All (λ s. s < n) line → All (λ s. s < n) (left_of completed slot line)
+left : (n slot : ℕ) (completed : Bool) (line : List ℕ) → All (λ s. s < n) line
+    → All (λ s. s < n) (queue_after_answer completed slot line)
 left n slot true line all = leaves n slot line all
 left n slot false line all = all
 
-acted_there : (n slot : ℕ) (act : Act) (d : Devices) → slot < n → AreThere n d → AreThere n (acted slot act d)
-acted_there n slot (Waits Writes) d less h = record { writes = joins n slot d.writes less h.writes; reads = h.reads; randoms = h.randoms; stores = h.stores }
-acted_there n slot (Waits Reads) d less h = record { writes = h.writes; reads = joins n slot d.reads less h.reads; randoms = h.randoms; stores = h.stores }
-acted_there n slot (Waits Randoms) d less h = record { writes = h.writes; reads = h.reads; randoms = joins n slot d.randoms less h.randoms; stores = h.stores }
-acted_there n slot (Waits Stores) d less h = record { writes = h.writes; reads = h.reads; randoms = h.randoms; stores = joins n slot d.stores less h.stores }
-acted_there n slot (Leaves Writes) d less h = record { writes = leaves n slot d.writes h.writes; reads = h.reads; randoms = h.randoms; stores = h.stores }
-acted_there n slot (Leaves Reads) d less h = record { writes = h.writes; reads = leaves n slot d.reads h.reads; randoms = h.randoms; stores = h.stores }
-acted_there n slot (Leaves Randoms) d less h = record { writes = h.writes; reads = h.reads; randoms = leaves n slot d.randoms h.randoms; stores = h.stores }
-acted_there n slot (Leaves Stores) d less h = record { writes = h.writes; reads = h.reads; randoms = h.randoms; stores = leaves n slot d.stores h.stores }
-acted_there n slot (Lights led switch) d less h = record { writes = h.writes; reads = h.reads; randoms = h.randoms; stores = h.stores }
+acted_there : (n slot : ℕ) (act : BoardRequest) (d : Devices) → slot < n → AreThere n d → AreThere n (acted slot act d)
+acted_there n slot (Waits Writes) d less h =
+    record { writes = joins n slot d.writes less h.writes; reads = h.reads; randoms = h.randoms; stores = h.stores }
+acted_there n slot (Waits Reads) d less h =
+    record { writes = h.writes; reads = joins n slot d.reads less h.reads; randoms = h.randoms; stores = h.stores }
+acted_there n slot (Waits Randoms) d less h =
+    record { writes = h.writes; reads = h.reads; randoms = joins n slot d.randoms less h.randoms; stores = h.stores }
+acted_there n slot (Waits Stores) d less h =
+    record { writes = h.writes; reads = h.reads; randoms = h.randoms; stores = joins n slot d.stores less h.stores }
+acted_there n slot (Leaves Writes) d less h =
+    record { writes = leaves n slot d.writes h.writes; reads = h.reads; randoms = h.randoms; stores = h.stores }
+acted_there n slot (Leaves Reads) d less h =
+    record { writes = h.writes; reads = leaves n slot d.reads h.reads; randoms = h.randoms; stores = h.stores }
+acted_there n slot (Leaves Randoms) d less h =
+    record { writes = h.writes; reads = h.reads; randoms = leaves n slot d.randoms h.randoms; stores = h.stores }
+acted_there n slot (Leaves Stores) d less h =
+    record { writes = h.writes; reads = h.reads; randoms = h.randoms; stores = leaves n slot d.stores h.stores }
+acted_there n slot (Lights led switch) d less h =
+    record { writes = h.writes; reads = h.reads; randoms = h.randoms; stores = h.stores }
 
-routed_there : (n slot : ℕ) (acts : List Act) (d : Devices) → slot < n → AreThere n d → AreThere n (routed slot acts d)
+routed_there : (n slot : ℕ) (acts : List BoardRequest) (d : Devices) → slot < n → AreThere n d
+    → AreThere n (routed slot acts d)
 routed_there n slot [] d less h = h
-routed_there n slot (act ∷ acts) d less h = routed_there n slot acts (acted slot act d) less (acted_there n slot act d less h)
+routed_there n slot (act ∷ acts) d less h =
+    routed_there n slot acts (acted slot act d) less (acted_there n slot act d less h)
 
 -- a device that can act does so, and those that wait then are there
-unfoldable IsMade : ℕ → Option Deed → Type 0
+unfoldable IsMade : ℕ → Option DeviceStep → Type 0
 IsMade n None = ⊥
 IsMade n (Some deed) = AreThere n deed.devices
 
@@ -132,12 +154,15 @@ module _ (w : World) (h : AreThere (length w.records) w.devices) where
   n : ℕ
   n = length w.records
 
-  first_made : (make : World → ℕ → Record → Deed) (line : List ℕ) → All (λ s. s < length w.records) line → is_waited_for line ≡ true → ((slot : ℕ) (r : Record) → AreThere (length w.records) (make w slot r).devices) → IsMade (length w.records) (first_of make w line)
+  first_made : (make : World → ℕ → Record → DeviceStep) (line : List ℕ) → All (λ s. s < length w.records) line
+      → is_waited_for line ≡ true → ((slot : ℕ) (r : Record) → AreThere (length w.records) (make w slot r).devices)
+      → IsMade (length w.records) (first_waiting make w line)
   unfolding IsMade
   first_made make [] all waits each = false≢true waits
   first_made make (slot ∷ rest) all waits each = by_record (slice_get w.records slot) refl
     where
-      by_record : (o : Option Record) → slice_get w.records slot ≡ o → IsMade (length w.records) (option_map (make w slot) o)
+      by_record : (o : Option Record) → slice_get w.records slot ≡ o
+          → IsMade (length w.records) (option_map (make w slot) o)
       by_record None e = not_none w.records slot (All-head (λ s. s < length w.records) slot rest all) e
       by_record (Some r) e = each slot r
 
@@ -145,7 +170,8 @@ module _ (w : World) (h : AreThere (length w.records) w.devices) where
   both true b e = refl
   both false b e = absurd (false≢true e)
 
-  arrival_made : (arrivals : List Arrival) → is_time w.clock.time arrivals ≡ true → IsMade (length w.records) (arrived w.devices arrivals)
+  arrival_made : (arrivals : List Arrival) → is_time w.clock.time arrivals ≡ true
+      → IsMade (length w.records) (arrived w.devices arrivals)
   unfolding IsMade
   arrival_made [] e = false≢true e
   arrival_made (a ∷ rest) e = record { writes = h.writes; reads = h.reads; randoms = h.randoms; stores = h.stores }
@@ -155,20 +181,54 @@ module _ (w : World) (h : AreThere (length w.records) w.devices) where
   alarm_made None e = false≢true e
   alarm_made (Some slot) e = h
 
-  deed_made : (device : Dev) → can_act w device ≡ true → IsMade (length w.records) (deed_of w device)
+  deed_made : (device : Dev) → can_act w device ≡ true → IsMade (length w.records) (device_step_of w device)
   deed_made dev.Event e = arrival_made w.devices.arrivals e
   deed_made dev.Alarm e = alarm_made (due_slot (now_in w) (owns_in w)) e
-  deed_made dev.Uart e = first_made transmitting w.devices.writes h.writes (both _ _ e) (λ slot r. record { writes = left _ slot _ w.devices.writes h.writes; reads = h.reads; randoms = h.randoms; stores = h.stores })
-  deed_made dev.Receive e = first_made receiving w.devices.reads h.reads (both _ _ e) (λ slot r. record { writes = h.writes; reads = left _ slot _ w.devices.reads h.reads; randoms = h.randoms; stores = h.stores })
-  deed_made dev.Random e = first_made drawing w.devices.randoms h.randoms e (λ slot r. record { writes = h.writes; reads = h.reads; randoms = left _ slot _ w.devices.randoms h.randoms; stores = h.stores })
-  deed_made dev.Store e = first_made storing w.devices.stores h.stores e (λ slot r. record { writes = h.writes; reads = h.reads; randoms = h.randoms; stores = left _ slot _ w.devices.stores h.stores })
+  deed_made dev.Uart e =
+      first_made transmitting w.devices.writes h.writes (both _ _ e)
+      (λ slot r. record {
+        writes = left _ slot _ w.devices.writes h.writes;
+        reads = h.reads;
+        randoms =
+            h.randoms;
+        stores = h.stores;
+      })
+  deed_made dev.Receive e =
+      first_made receive_step w.devices.reads h.reads (both _ _ e)
+      (λ slot r. record {
+        writes = h.writes;
+        reads = left _ slot _ w.devices.reads h.reads;
+        randoms =
+            h.randoms;
+        stores = h.stores;
+      })
+  deed_made dev.Random e =
+      first_made random_step w.devices.randoms h.randoms e
+      (λ slot r. record {
+        writes = h.writes;
+        reads = h.reads;
+        randoms =
+            left _ slot _ w.devices.randoms h.randoms;
+        stores = h.stores;
+      })
+  deed_made dev.Store e =
+      first_made storing w.devices.stores h.stores e
+      (λ slot r. record {
+        writes = h.writes;
+        reads = h.reads;
+        randoms = h.randoms;
+        stores =
+            left _ slot _ w.devices.stores h.stores;
+      })
 
 -- an answer leaves the turns
-told_turns : (w : World) (o : Option Answer) → IfSome o (λ a. IsAnswer a.event) → turns_of_all (records_after w o) ≡ turns_of_all w.records
+told_turns : (w : World) (o : Option Answer) → IfSome o (λ a. IsAnswer a.event)
+    → turns_of_all (records_after w o) ≡ turns_of_all w.records
 told_turns w None is = refl
 told_turns w (Some a) is = by_record (slice_get w.records a.slot) refl
   where
-    by_record : (o : Option Record) → slice_get w.records a.slot ≡ o → turns_of_all (told_to w a o) ≡ turns_of_all w.records
+    by_record : (o : Option Record) → slice_get w.records a.slot ≡ o
+        → turns_of_all (told_to w a o) ≡ turns_of_all w.records
     by_record None e = refl
     by_record (Some r) e =
         let set = turns_set w.records a.slot r (apply w.settings a.event r) e in
@@ -182,11 +242,13 @@ record OneMore (w : World) (turns ticks : ℕ) (v : World) : Type 0 where
   sum : turns_of_all v.records ≡ turns_of_all w.records + turns
   waiting : AreThere (length w.records) v.devices
 
-run_more : (w : World) (slot : ℕ) → AreThere (length w.records) w.devices → can_run (slice_get w.records slot) ≡ true → OneMore w 1 0 (carried_out w (Run slot)).after
+run_more : (w : World) (slot : ℕ) → AreThere (length w.records) w.devices → can_run (slice_get w.records slot) ≡ true
+    → OneMore w 1 0 (carried_out w (Run slot)).after
 unfolding carried_out
 run_more w slot h can = by_record (slice_get w.records slot) refl can
   where
-    by_record : (o : Option Record) → slice_get w.records slot ≡ o → can_run o ≡ true → OneMore w 1 0 (ran w slot o).after
+    by_record : (o : Option Record) → slice_get w.records slot ≡ o → can_run o ≡ true
+        → OneMore w 1 0 (ran w slot o).after
     by_record None e can = absurd (false≢true can)
     by_record (Some r) e can =
         let t = turned w.settings w.clock.time r in
@@ -199,11 +261,12 @@ run_more w slot h can = by_record (slice_get w.records slot) refl can
           waiting = routed_there (length w.records) slot t.acts w.devices (slice_get_within w.records slot r e) h;
         }
 
-device_more : (w : World) (device : Dev) → AreThere (length w.records) w.devices → can_act w device ≡ true → OneMore w 0 0 (carried_out w (Device device)).after
+device_more : (w : World) (device : Dev) → AreThere (length w.records) w.devices → can_act w device ≡ true
+    → OneMore w 0 0 (carried_out w (Device device)).after
 unfolding carried_out IsMade
-device_more w device h can = by_deed (deed_of w device) (deed_made w h device can) (deed_tells w device)
+device_more w device h can = by_deed (device_step_of w device) (deed_made w h device can) (deed_tells w device)
   where
-    by_deed : (o : Option Deed) → IsMade (length w.records) o → TellsNoTurn o → OneMore w 0 0 (done w o).after
+    by_deed : (o : Option DeviceStep) → IsMade (length w.records) o → TellsNoTurn o → OneMore w 0 0 (done w o).after
     by_deed None made tells = absurd made
     by_deed (Some deed) made tells = record {
       time = omega arith;
@@ -212,13 +275,16 @@ device_more w device h can = by_deed (deed_of w device) (deed_made w h device ca
       waiting = made;
     }
 
-pass_more : (w : World) (ticks : ℕ) → AreThere (length w.records) w.devices → OneMore w 0 ticks (carried_out w (Pass ticks)).after
+pass_more : (w : World) (ticks : ℕ) → AreThere (length w.records) w.devices
+    → OneMore w 0 ticks (carried_out w (Pass ticks)).after
 unfolding carried_out
 pass_more w ticks h = record { time = omega arith; steps = refl; sum = omega arith; waiting = h }
 
 -- where it is ready, the step is that
-ready_more : (w : World) (c : Choice) (turns ticks : ℕ) → is_ready w c ≡ true → OneMore w turns ticks (carried_out w c).after → OneMore w turns ticks (after w c)
-ready_more w c turns ticks ready one = subst (λ (s : Stepped). OneMore w turns ticks s.after) (sym (stepped_ready w c ready)) one
+ready_more : (w : World) (c : Choice) (turns ticks : ℕ) → is_ready w c ≡ true
+    → OneMore w turns ticks (carried_out w c).after → OneMore w turns ticks (after w c)
+ready_more w c turns ticks ready one =
+    subst (λ (s : Stepped). OneMore w turns ticks s.after) (sym (stepped_ready w c ready)) one
 
 both_true : (a b : Bool) → (a && b) ≡ true → (a ≡ true) × (b ≡ true)
 both_true true true e = (refl, refl)
@@ -234,7 +300,10 @@ there_after w c h =
     record { writes = k.writes; reads = k.reads; randoms = k.randoms; stores = k.stores }
 
 -- and then some more
-adds_on : (w : World) (c : Choice) (choices : List Choice) (turns ticks : ℕ) → turns_made (c ∷ choices) ≡ turns + turns_made choices → ticks_passed (c ∷ choices) ≡ ticks + ticks_passed choices → OneMore w turns ticks (after w c) → AddsUp (after w c) choices (after_all (after w c) choices) → AddsUp w (c ∷ choices) (after_all w (c ∷ choices))
+adds_on : (w : World) (c : Choice) (choices : List Choice) (turns ticks : ℕ)
+    → turns_made (c ∷ choices) ≡ turns + turns_made choices → ticks_passed (c ∷ choices) ≡ ticks + ticks_passed choices
+    → OneMore w turns ticks (after w c) → AddsUp (after w c) choices (after_all (after w c) choices)
+    → AddsUp w (c ∷ choices) (after_all w (c ∷ choices))
 adds_on w c choices turns ticks made passed one rest = record {
   time = omega (arith, made, passed, one.time, rest.time);
   steps = omega (arith, one.steps, rest.steps);
@@ -247,13 +316,18 @@ unfolding may_be_made
 counts_add_up w [] h ready = record { time = omega arith; steps = omega arith; turns = omega arith; waiting = h }
 counts_add_up w (Run slot ∷ choices) h ready =
     let rest = both_true (is_ready w (Run slot)) (are_ready (after w (Run slot)) choices) ready in
-    let one = ready_more w (Run slot) 1 0 rest.0 (run_more w slot (there_in w h) (both_true (nat_lt w.clock.steps STEP_LIMIT) _ rest.0).1) in
-    adds_on w (Run slot) choices 1 0 (omega arith) (omega arith) one (counts_add_up (after w (Run slot)) choices (there_after w (Run slot) one.waiting) rest.1)
+    let one = ready_more w (Run slot) 1 0 rest.0
+    (run_more w slot (there_in w h) (both_true (nat_lt w.clock.steps STEP_LIMIT) _ rest.0).1) in
+    adds_on w (Run slot) choices 1 0 (omega arith) (omega arith) one
+    (counts_add_up (after w (Run slot)) choices (there_after w (Run slot) one.waiting) rest.1)
 counts_add_up w (Device device ∷ choices) h ready =
     let rest = both_true (is_ready w (Device device)) (are_ready (after w (Device device)) choices) ready in
-    let one = ready_more w (Device device) 0 0 rest.0 (device_more w device (there_in w h) (both_true (nat_lt w.clock.steps STEP_LIMIT) _ rest.0).1) in
-    adds_on w (Device device) choices 0 0 (omega arith) (omega arith) one (counts_add_up (after w (Device device)) choices (there_after w (Device device) one.waiting) rest.1)
+    let one = ready_more w (Device device) 0 0 rest.0
+    (device_more w device (there_in w h) (both_true (nat_lt w.clock.steps STEP_LIMIT) _ rest.0).1) in
+    adds_on w (Device device) choices 0 0 (omega arith) (omega arith) one
+    (counts_add_up (after w (Device device)) choices (there_after w (Device device) one.waiting) rest.1)
 counts_add_up w (Pass ticks ∷ choices) h ready =
     let rest = both_true (is_ready w (Pass ticks)) (are_ready (after w (Pass ticks)) choices) ready in
     let one = ready_more w (Pass ticks) 0 ticks rest.0 (pass_more w ticks (there_in w h)) in
-    adds_on w (Pass ticks) choices 0 ticks (omega arith) (omega arith) one (counts_add_up (after w (Pass ticks)) choices (there_after w (Pass ticks) one.waiting) rest.1)
+    adds_on w (Pass ticks) choices 0 ticks (omega arith) (omega arith) one
+    (counts_add_up (after w (Pass ticks)) choices (there_after w (Pass ticks) one.waiting) rest.1)

@@ -1,30 +1,34 @@
 -- What a turn changes of a process, by the end of its instruction: what it drops, and what drivers keep.
-use Rattle.std.proofs.Common.{◌≡◌, ◌<◌, length, IfSome, ◌∙◌, ℕ, List, [], ◌∷◌, true, Option, None, Some, refl, subst, sym}
+use Rattle.std.proofs.Common.{◌≡◌, ◌<◌, length, IfSome, ◌∙◌, ℕ, List, [], ◌∷◌, true, Option, None, Some, refl, subst}
+use Rattle.std.proofs.Common.{sym}
 use Rattle.tk_base.specs.declared.access.Denial.{Denial}
+use Rattle.tk_base.specs.declared.limits.TheConstants.{PENDING_LIMIT}
 use Rattle.tk_base.specs.declared.upcall.Upcall.{Upcall as Scheduled}
 use Rattle.fault_policy.specs.declared.Action.{Action}
 use Rattle.fault_policy.specs.declared.Action.TheVariants.{Stop, Restart}
 use Rattle.fault_policy.specs.Policy.{decision}
-use Rattle.driver_model.specs.Commands.{Act}
+use Rattle.driver_model.specs.Commands.{BoardRequest}
 use Rattle.driver_model.specs.Laws.{IsAtMostOneMore}
 use Rattle.rv32_model.specs.declared.turn_end.TurnEnd.{TurnEnd}
 use Rattle.rv32_model.specs.declared.turn_end.TurnEnd.TheVariants as ends
-use Rattle.rv32_model.specs.UserTurn.{Touch}
+use Rattle.rv32_model.specs.UserTurn.{MemoryAccess}
 use Rattle.syscall_abi.specs.declared.call.Call.{Call as SystemCall}
 use Rattle.syscall_abi.specs.Call.{call_of}
 use Rattle.process_record.specs.declared.emit.CallMade.{CallMade}
 use Rattle.process_record.specs.declared.process.State.{State}
 use Rattle.process_record.specs.declared.process.State.TheVariants.{Running, Yielded, Faulted, Terminated}
-use Rattle.process_own.specs.Own.{Own}
+use Rattle.process_model.specs.Own.{Own}
 use Rattle.process_record.specs.Process.{after_fault}
 use Rattle.kernel_model.specs.Record.{Record, instruction, with_effect, with_process}
 use Rattle.kernel_model.specs.declared.settings.Settings.{Settings}
 use Rattle.kernel_model.specs.Calls.{failure_of, refused_with, served}
-use Rattle.kernel_model.specs.Turn.{Turned, apply, called, calls, counted, delivery, ended, faulted, idle, instructed, made, settled, surroundings, turned, turn_in, unknown_call}
-use Rattle.kernel_model.specs.Laws.{CanStartAgain, DriversPromise, DropsAtMostOne, GrantsChangeAtCalls, KeepsLines, TurnsActAtCalls, TurnsKeepLines}
+use Rattle.kernel_model.specs.Turn.{Turned, apply, called, calls, turn_counted, delivery, at_turn_end, faulted, idle}
+use Rattle.kernel_model.specs.Turn.{instructed, made, settled, surroundings, turned, turn_in, unknown_call}
+use Rattle.kernel_model.specs.Laws.{CanStartAgain, DriversPromise, DropsAtMostOne, GrantsChangeAtCalls, KeepsLines}
+use Rattle.kernel_model.specs.Laws.{TurnsActAtCalls, TurnsKeepLines}
 use Rattle.driver_model.specs.Keeping.{KeepsLimit}
 use Rattle.kernel_model.specs.Replay.{after_all}
-use Rattle.kernel_model.specs.Lives.{DropsOnlyWhereTenWait}
+use Rattle.kernel_model.specs.Lives.{DropsOnlyWhereFull}
 use Rattle.kernel_model.proofs.Steps.{of_answer, of_step}
 use Rattle.kernel_model.proofs.Comes.{all_same, no_more, of_call, restart_keeps}
 use Rattle.kernel_model.proofs.Lines.{SameKept, keeps_ended, keeps_restarted, keeps_same}
@@ -32,25 +36,30 @@ use Rattle.kernel_model.proofs.Lines.{SameKept, keeps_ended, keeps_restarted, ke
 -- at most one upcall was dropped; and a process that lives keeps a request exactly where it waits
 record Leaves (settings : Settings) (r : Record) (t : Turned) : Type 0 where
   dropped : IsAtMostOneMore r.own.dropped t.after.own.dropped
-  room : length r.own.pending < 10 → t.after.own.dropped ≡ r.own.dropped
+  room : length r.own.pending < PENDING_LIMIT → t.after.own.dropped ≡ r.own.dropped
   lines : r.own.lives ≡ true → CanStartAgain r → KeepsLines settings.storage r.own t.after.own t.acts
 
 -- a turn that asks nothing of the board, of a process of which drivers keep the same
-leaves_same : (settings : Settings) (r : Record) (t : Turned) → SameKept r.own t.after.own → t.acts ≡ [] → Leaves settings r t
+leaves_same : (settings : Settings) (r : Record) (t : Turned) → SameKept r.own t.after.own → t.acts ≡ []
+    → Leaves settings r t
 leaves_same settings r t same acts = record {
   dropped = subst (IsAtMostOneMore r.own.dropped) (sym same.dropped) (no_more r.own.dropped);
   room = λ few. same.dropped;
-  lines = λ lives can. subst (KeepsLines settings.storage r.own t.after.own) (sym acts) (keeps_same settings.storage r.own t.after.own same);
+  lines = λ lives can.
+      subst (KeepsLines settings.storage r.own t.after.own) (sym acts)
+      (keeps_same settings.storage r.own t.after.own same);
 }
 
 leaves_idle : (settings : Settings) (r : Record) → Leaves settings r (idle r)
 leaves_idle settings r = leaves_same settings r (idle r) (all_same r.own) refl
 
-leaves_call : (promise : DriversPromise) (settings : Settings) (time : ℕ) (r : Record) (accesses : List Touch) (call : SystemCall) → Leaves settings r (called r accesses call (served (surroundings settings time) r call))
+leaves_call : (promise : DriversPromise) (settings : Settings) (time : ℕ) (r : Record) (accesses : List MemoryAccess)
+    (call : SystemCall) → Leaves settings r (called r accesses call (served (surroundings settings time) r call))
 leaves_call promise settings time r accesses call =
     of_call (λ s. Leaves settings r (called r accesses call s)) promise (surroundings settings time) r call
     (record {
-      refused = λ rule. leaves_same settings r (called r accesses call (refused_with r rule (failure_of call rule))) (all_same r.own) refl;
+      refused = λ rule. leaves_same settings r (called r accesses call (refused_with r rule (failure_of call rule)))
+          (all_same r.own) refl;
       served = λ s is. record { dropped = is.dropped; room = is.room; lines = is.lines };
     })
 
@@ -61,33 +70,53 @@ leaves_fault settings r denial = by_action (decision settings.policy r.process.r
     s = with_process r (after_fault r.process denial)
 
     by_action : (action : Action) → Leaves settings r (record (faulted settings r denial) { after = settled s action })
-    by_action Stop = record { dropped = no_more r.own.dropped; room = λ few. refl; lines = λ lives can. keeps_ended settings.storage r.own }
-    by_action Restart = record { dropped = subst (IsAtMostOneMore r.own.dropped) (sym (restart_keeps s)) (no_more r.own.dropped); room = λ few. restart_keeps s; lines = λ lives can. keeps_restarted settings.storage s can }
+    by_action Stop =
+        record {
+          dropped = no_more r.own.dropped;
+          room = λ few. refl;
+          lines =
+              λ lives can. keeps_ended settings.storage r.own;
+        }
+    by_action Restart =
+        record {
+          dropped = subst (IsAtMostOneMore r.own.dropped) (sym (restart_keeps s)) (no_more r.own.dropped);
+          room =
+              λ few. restart_keeps s;
+          lines = λ lives can. keeps_restarted settings.storage s can;
+        }
 
-leaves_calls : (promise : DriversPromise) (settings : Settings) (time : ℕ) (r : Record) (accesses : List Touch) (call : Option SystemCall) → Leaves settings r (calls settings time r accesses call)
+leaves_calls : (promise : DriversPromise) (settings : Settings) (time : ℕ) (r : Record) (accesses : List MemoryAccess)
+    (call : Option SystemCall) → Leaves settings r (calls settings time r accesses call)
 leaves_calls promise settings time r accesses (Some call) = leaves_call promise settings time r accesses call
 leaves_calls promise settings time r accesses None = leaves_fault settings r (unknown_call r.process)
 
-leaves_ended : (promise : DriversPromise) (settings : Settings) (time : ℕ) (r : Record) (accesses : List Touch) (end : TurnEnd) → Leaves settings r (ended settings time r accesses end)
+leaves_ended : (promise : DriversPromise) (settings : Settings) (time : ℕ) (r : Record) (accesses : List MemoryAccess)
+    (end : TurnEnd) → Leaves settings r (at_turn_end settings time r accesses end)
 leaves_ended promise settings time r accesses ends.Went = leaves_same settings r _ (all_same r.own) refl
-leaves_ended promise settings time r accesses ends.Call = leaves_calls promise settings time r accesses (call_of r.process.regs)
+leaves_ended promise settings time r accesses ends.Call =
+    leaves_calls promise settings time r accesses (call_of r.process.regs)
 leaves_ended promise settings time r accesses (ends.Trap denial) = leaves_fault settings r denial
 
 -- what the instruction itself leaves of the process is nothing of what drivers keep
-leaves_instructed : (promise : DriversPromise) (settings : Settings) (time : ℕ) (r : Record) → Leaves settings r (instructed settings time r)
+leaves_instructed : (promise : DriversPromise) (settings : Settings) (time : ℕ) (r : Record)
+    → Leaves settings r (instructed settings time r)
 leaves_instructed promise settings time r =
     let t = instruction r in
-    let l = leaves_ended promise settings time (with_effect (counted r) t) t.accesses t.end in
+    let l = leaves_ended promise settings time (with_effect (turn_counted r) t) t.accesses t.end in
     record { dropped = l.dropped; room = l.room; lines = λ lives can. same_lines (l.lines lives can) }
   where
-    same_lines : {after : Own} {acts : List Act} → KeepsLines settings.storage (with_effect (counted r) (instruction r)).own after acts → KeepsLines settings.storage r.own after acts
+    same_lines : {after : Own} {acts : List BoardRequest}
+        → KeepsLines settings.storage (with_effect (turn_counted r) (instruction r)).own after acts
+        → KeepsLines settings.storage r.own after acts
     same_lines k = record { lines = k.lines; once = k.once; life = k.life; within = k.within }
 
 leaves_delivery : (settings : Settings) (r : Record) (pending : List Scheduled) → Leaves settings r (delivery r pending)
 leaves_delivery settings r [] = leaves_idle settings r
-leaves_delivery settings r (upcall ∷ more) = leaves_same settings r _ (record { grants = refl; lives = refl; life = refl; dropped = refl }) refl
+leaves_delivery settings r (upcall ∷ more) =
+    leaves_same settings r _ (record { grants = refl; lives = refl; life = refl; dropped = refl }) refl
 
-leaves_turn : (promise : DriversPromise) (settings : Settings) (time : ℕ) (state : State) (r : Record) → Leaves settings r (turn_in settings time state r)
+leaves_turn : (promise : DriversPromise) (settings : Settings) (time : ℕ) (state : State) (r : Record)
+    → Leaves settings r (turn_in settings time state r)
 leaves_turn promise settings time Running r = leaves_instructed promise settings time r
 leaves_turn promise settings time Yielded r = leaves_delivery settings r r.own.pending
 leaves_turn promise settings time Faulted r = leaves_idle settings r
@@ -97,24 +126,28 @@ pub drops_at_most_one : DriversPromise → DropsAtMostOne
 unfolding turned
 drops_at_most_one promise settings time r = (leaves_turn promise settings time r.process.state r).dropped
 
-pub drops_with_room : DriversPromise → (settings : Settings) (time : ℕ) (r : Record) → length r.own.pending < 10 → (turned settings time r).after.own.dropped ≡ r.own.dropped
+pub drops_with_room : DriversPromise → (settings : Settings) (time : ℕ) (r : Record)
+    → length r.own.pending < PENDING_LIMIT → (turned settings time r).after.own.dropped ≡ r.own.dropped
 unfolding turned
 drops_with_room promise settings time r = (leaves_turn promise settings time r.process.state r).room
 
 same_some : {X : Type 0} (x y : X) → Some x ≡ Some y → x ≡ y
 same_some x y e = cc
 
-pub drops_only_where_ten_wait : DriversPromise → DropsOnlyWhereTenWait
-drops_only_where_ten_wait promise w choices choice slot before now is later few =
+pub drops_only_where_full : DriversPromise → DropsOnlyWhereFull
+drops_only_where_full promise w choices choice slot before now is later few =
     let v = after_all w choices in
     subst (λ (o : Option Record). IfSome o (λ x. x.own.dropped ≡ before.own.dropped)) later
     (of_step v slot (λ tolds o. IfSome o (λ x. x.own.dropped ≡ before.own.dropped))
     (record {
       stays = subst (λ (o : Option Record). IfSome o (λ x. x.own.dropped ≡ before.own.dropped)) (sym is) refl;
       turn = λ r at.
-          subst (λ (x : Record). (turned v.settings v.clock.time x).after.own.dropped ≡ before.own.dropped) (same_some before r (sym is ∙ at)) (drops_with_room promise v.settings v.clock.time before few);
+          subst (λ (x : Record). (turned v.settings v.clock.time x).after.own.dropped ≡ before.own.dropped)
+          (same_some before r (sym is ∙ at)) (drops_with_room promise v.settings v.clock.time before few);
       answer = λ r at event answers.
-          subst (λ (x : Record). (apply v.settings event x).own.dropped ≡ before.own.dropped) (same_some before r (sym is ∙ at)) ((of_answer KeepsLimit promise.limit v.settings event before answers).room few);
+          subst (λ (x : Record). (apply v.settings event x).own.dropped ≡ before.own.dropped)
+          (same_some before r (sym is
+          ∙ at)) ((of_answer KeepsLimit promise.limit v.settings event before answers).room few);
     })
     choice)
 
@@ -131,16 +164,20 @@ IsQuiet r t =
 no_denial : (denial : Denial) → ◌≡◌ {A = Option Denial} (Some denial) None → ⊥
 no_denial denial e = cc
 
-quiet_calls : (settings : Settings) (time : ℕ) (r : Record) (accesses : List Touch) (call : Option SystemCall) → IsQuiet r (calls settings time r accesses call)
+quiet_calls : (settings : Settings) (time : ℕ) (r : Record) (accesses : List MemoryAccess) (call : Option SystemCall)
+    → IsQuiet r (calls settings time r accesses call)
 quiet_calls settings time r accesses (Some call) none denial = absurd (no_call none)
   where
-    no_call : ◌≡◌ {A = Option CallMade} (Some (made r.process.regs (served (surroundings settings time) r call).outcome)) None → ⊥
+    no_call : ◌≡◌ {A =
+        Option CallMade} (Some (made r.process.regs (served (surroundings settings time) r call).outcome)) None → ⊥
     no_call e = cc
 quiet_calls settings time r accesses None call none = absurd (no_denial _ none)
 
-quiet_ended : (settings : Settings) (time : ℕ) (r : Record) (accesses : List Touch) (end : TurnEnd) → IsQuiet r (ended settings time r accesses end)
+quiet_ended : (settings : Settings) (time : ℕ) (r : Record) (accesses : List MemoryAccess) (end : TurnEnd)
+    → IsQuiet r (at_turn_end settings time r accesses end)
 quiet_ended settings time r accesses ends.Went call denial = (refl, refl, refl)
-quiet_ended settings time r accesses ends.Call call denial = quiet_calls settings time r accesses (call_of r.process.regs) call denial
+quiet_ended settings time r accesses ends.Call call denial =
+    quiet_calls settings time r accesses (call_of r.process.regs) call denial
 quiet_ended settings time r accesses (ends.Trap why) call denial = absurd (no_denial why denial)
 
 quiet_delivery : (r : Record) (pending : List Scheduled) → IsQuiet r (delivery r pending)
@@ -148,7 +185,8 @@ quiet_delivery r [] call denial = (refl, refl, refl)
 quiet_delivery r (upcall ∷ more) call denial = (refl, refl, refl)
 
 quiet_turn : (settings : Settings) (time : ℕ) (state : State) (r : Record) → IsQuiet r (turn_in settings time state r)
-quiet_turn settings time Running r call denial = let t = instruction r in quiet_ended settings time (with_effect (counted r) t) t.accesses t.end call denial
+quiet_turn settings time Running r call denial = let t = instruction r in
+    quiet_ended settings time (with_effect (turn_counted r) t) t.accesses t.end call denial
 quiet_turn settings time Yielded r call denial = quiet_delivery r r.own.pending call denial
 quiet_turn settings time Faulted r call denial = (refl, refl, refl)
 quiet_turn settings time (Terminated code) r call denial = (refl, refl, refl)

@@ -3,10 +3,11 @@ use Rattle.std.proofs.Common.{ℕ, ◌==◌, Bool, true, false, cond, List, [], 
 use Rattle.std.specs.Prelude.{All}
 use Rattle.std.proofs.lemmas.List.Elements.{All-nil, All-cons}
 use Rattle.kernel_model.specs.Turn.{Event}
-use Rattle.kernel_model.specs.World.{Answer, Answered, Deed, Label, Printed, World, done, labels_of, printing}
+use Rattle.kernel_model.specs.World.{Answer, Answered, DeviceStep, Label, Printed, World, done, labels_of, printing}
 
 -- what holds of each answer and of each piece that is printed holds of them
-module _ (P : Label → Type 0) (answered : (slot : ℕ) (event : Event) → P (Answered slot event)) (printed : (slot : ℕ) (bytes : List ℕ) → P (Printed slot bytes)) where
+module _ (P : Label → Type 0) (answered : (slot : ℕ) (event : Event) → P (Answered slot event))
+    (printed : (slot : ℕ) (bytes : List ℕ) → P (Printed slot bytes)) where
   printing_labels : (slot : ℕ) (bytes : List ℕ) → All P (printing slot bytes)
   printing_labels slot bytes = by_length (length bytes == 0)
     where
@@ -14,10 +15,11 @@ module _ (P : Label → Type 0) (answered : (slot : ℕ) (event : Event) → P (
       by_length true = All-nil P
       by_length false = All-cons P (Printed slot bytes) [] (printed slot bytes) (All-nil P)
 
-  told_labels : (deed : Deed) (o : Option Answer) → All P (labels_of deed o)
+  told_labels : (deed : DeviceStep) (o : Option Answer) → All P (labels_of deed o)
   told_labels deed None = All-nil P
-  told_labels deed (Some answer) = All-cons P _ _ (answered answer.slot answer.event) (printing_labels answer.slot deed.printed)
+  told_labels deed (Some answer) =
+      All-cons P _ _ (answered answer.slot answer.event) (printing_labels answer.slot deed.printed)
 
-  pub done_labels : (w : World) (o : Option Deed) → All P (done w o).labels
+  pub done_labels : (w : World) (o : Option DeviceStep) → All P (done w o).labels
   done_labels w None = All-nil P
   done_labels w (Some deed) = told_labels deed deed.told

@@ -1,16 +1,17 @@
 -- A process's requests, once what is its own has changed.
-use Rattle.std.proofs.Common.{◌≡◌, ℕ, Bool, true, cond, List, [], Option, None, is_some, IfSome, refl, sym, ap, ap₂, subst, ◌+◌, ◌≤◌}
+use Rattle.std.proofs.Common.{◌≡◌, ℕ, Bool, true, cond, List, [], Option, None, is_some, IfSome, refl, sym, ap, ap₂}
+use Rattle.std.proofs.Common.{subst, ◌+◌, ◌≤◌}
 use Rattle.std.specs.Option.{option_and_then, option_map}
 use Rattle.grant_values.specs.declared.storage.StorageRequest.{StorageRequest}
-use Rattle.grant_areas.specs.declared.kinds.PairKind.{PairKind}
-use Rattle.grant_areas.specs.Grants.{Grant, grant_of}
-use Rattle.process_own.specs.Own.{Own, ended}
-use Rattle.process_own.specs.Handed.{handing}
-use Rattle.driver_model.specs.Commands.{Commanded, gone}
-use Rattle.driver_model.specs.Drivers.{Surroundings}
+use Rattle.grant_model.specs.declared.kinds.PairKind.{PairKind}
+use Rattle.grant_model.specs.Grants.{Grant, grant_of}
+use Rattle.process_model.specs.Own.{Own, own_ended}
+use Rattle.process_model.specs.Handed.{handing}
+use Rattle.driver_model.specs.Commands.{Commanded, leaving_all}
+use Rattle.driver_model.specs.Drivers.{CommandContext}
 use Rattle.driver_model.specs.Laws.{StaysInPlace}
 use Rattle.driver_model.specs.Lines.{FollowsCommand, IsWithin, OnlyDriversMoveLines, has_waiting}
-use Rattle.driver_model.specs.Requests.{Desk, request_in}
+use Rattle.driver_model.specs.Requests.{RequestKind, request_in}
 use Rattle.driver_model.specs.Console.{console_reads, console_writes}
 use Rattle.driver_model.specs.Random.{randoms}
 use Rattle.driver_model.specs.Storage.{storages}
@@ -26,11 +27,18 @@ pub record SameKept (own o : Own) : Type 0 where
   pub life : o.life ≡ own.life
   pub dropped : o.dropped ≡ own.dropped
 
-same_waiting : {R : Type 0} (desk : Desk R) (own o : Own) → SameKept own o → has_waiting desk o ≡ has_waiting desk own
-same_waiting desk own o s = ap₂ (λ (gs : List Grant) (b : Bool). is_some (cond b (option_and_then desk.told (option_map (λ g. g.value) (grant_of desk.driver gs))) None)) s.grants s.lives
+same_waiting : {R : Type 0} (request_kind : RequestKind R) (own o : Own) → SameKept own o
+    → has_waiting request_kind o ≡ has_waiting request_kind own
+same_waiting request_kind own o s =
+    ap₂ (λ (gs : List Grant) (b : Bool). is_some
+    (cond b (option_and_then request_kind.told (option_map (λ g. g.value) (grant_of request_kind.driver gs))) None))
+    s.grants s.lives
 
-still_within : (size : ℕ) (own o : Own) → request_in storages o ≡ request_in storages own → IsWithin size own → IsWithin size o
-still_within size own o same within = subst (λ (q : Option StorageRequest). IfSome q (λ request. request.offset + request.length ≤ size)) (sym same) within
+still_within : (size : ℕ) (own o : Own) → request_in storages o ≡ request_in storages own → IsWithin size own
+    → IsWithin size o
+still_within size own o same within =
+    subst (λ (q : Option StorageRequest). IfSome q (λ request. request.offset + request.length ≤ size)) (sym same)
+    within
 
 -- a process of which drivers keep the same
 pub keeps_same : (size : ℕ) (own o : Own) → SameKept own o → KeepsLines size own o []
@@ -43,11 +51,12 @@ keeps_same size own o s = record {
   };
   once = record { writes = refl; reads = refl; randoms = refl; stores = refl };
   life = record { writes = λ e. s.life; reads = λ e. s.life; randoms = λ e. s.life; stores = λ e. s.life };
-  within = still_within size own o (ap (λ (gs : List Grant). option_and_then storages.told (option_map (λ g. g.value) (grant_of storages.driver gs))) s.grants);
+  within = still_within size own o (ap (λ (gs : List Grant). option_and_then storages.told
+      (option_map (λ g. g.value) (grant_of storages.driver gs))) s.grants);
 }
 
 -- one that ended
-pub keeps_ended : (size : ℕ) (own : Own) → KeepsLines size own (ended own) gone
+pub keeps_ended : (size : ℕ) (own : Own) → KeepsLines size own (own_ended own) leaving_all
 keeps_ended size own = record {
   lines = record { writes = refl; reads = refl; randoms = refl; stores = refl };
   once = record { writes = refl; reads = refl; randoms = refl; stores = refl };
@@ -56,18 +65,25 @@ keeps_ended size own = record {
 }
 
 -- one that starts again
-pub keeps_restarted : (size : ℕ) (r : Record) → CanStartAgain r → KeepsLines size r.own (restart r).own gone
+pub keeps_restarted : (size : ℕ) (r : Record) → CanStartAgain r → KeepsLines size r.own (restart r).own leaving_all
 keeps_restarted size r can =
-    restarts (λ s. KeepsLines size r.own s.own gone) r can
+    restarts (λ s. KeepsLines size r.own s.own leaving_all) r can
     (λ h m. record {
       lines = record { writes = refl; reads = refl; randoms = refl; stores = refl };
       once = record { writes = refl; reads = refl; randoms = refl; stores = refl };
-      life = record { writes = λ e. absurd (cc); reads = λ e. absurd (cc); randoms = λ e. absurd (cc); stores = λ e. absurd (cc) };
+      life = record {
+        writes = λ e. absurd (cc);
+        reads = λ e. absurd (cc);
+        randoms = λ e. absurd (cc);
+        stores =
+            λ e. absurd (cc);
+      };
       within = λ h. tt;
     })
 
 -- one that handed a pair to a driver
-pub keeps_handed : OnlyDriversMoveLines → (size : ℕ) (kind : PairKind) (driver number : ℕ) (pair : ℕ × ℕ) (own : Own) → KeepsLines size own (handing kind driver number pair own) []
+pub keeps_handed : OnlyDriversMoveLines → (size : ℕ) (kind : PairKind) (driver number : ℕ) (pair : ℕ × ℕ) (own : Own)
+    → KeepsLines size own (handing kind driver number pair own) []
 keeps_handed law size kind driver number pair own =
     let same = law.handing kind driver number pair own in
     record {
@@ -78,7 +94,8 @@ keeps_handed law size kind driver number pair own =
     }
 
 -- one that gave a command
-pub keeps_commanded : (around : Surroundings) (own : Own) (c : Commanded) → own.lives ≡ true → FollowsCommand around own c → StaysInPlace own c.own → KeepsLines around.storage own c.own c.acts
+pub keeps_commanded : (around : CommandContext) (own : Own) (c : Commanded) → own.lives ≡ true
+    → FollowsCommand around own c → StaysInPlace own c.own → KeepsLines around.storage own c.own c.acts
 keeps_commanded around own c lives follows stays =
     let life : c.own.life ≡ own.life = ap (λ (o : Own). o.life) stays in
     record {

@@ -1,14 +1,16 @@
 -- Who stands in a waiting list after a step.
-use Rattle.std.proofs.Common.{◌≡◌, ◌≢◌, ℕ, ◌+◌, ◌==◌, Bool, true, false, cond, not, ◌&&◌, List, [], ◌∷◌, ◌++◌, length, slice_get, slice_set, Option, None, Some, IfSome, option_map, refl, sym, ap, subst, ◌∙◌, eqb-true, eq-eqb}
+use Rattle.std.proofs.Common.{◌≡◌, ◌≢◌, ℕ, ◌+◌, ◌==◌, Bool, true, false, cond, not, ◌&&◌, List, [], ◌∷◌, ◌++◌, length}
+use Rattle.std.proofs.Common.{slice_get, slice_set, Option, None, Some, IfSome, option_map, refl, sym, ap, subst, ◌∙◌}
+use Rattle.std.proofs.Common.{eqb-true, eq-eqb}
 use Rattle.std.proofs.lemmas.Bool.{false≢true}
 use Rattle.std.proofs.lemmas.Option.{slice_get_within}
 use Rattle.tk_base.specs.declared.process.Choice.{Choice}
 use Rattle.tk_base.specs.declared.process.Choice.TheVariants.{Run, Device, Pass}
 use Rattle.tk_base.specs.declared.process.Dev.{Dev}
 use Rattle.tk_base.specs.declared.process.Dev.TheVariants as dev
-use Rattle.script_text.specs.Settings.{Event as Arrival}
+use Rattle.script_text.specs.Settings.{ScriptEvent as Arrival}
 use Rattle.board_devices.specs.Storage.{is_fault}
-use Rattle.process_own.specs.Own.{Own}
+use Rattle.process_model.specs.Own.{Own}
 use Rattle.driver_model.specs.Alarm as alarm
 use Rattle.driver_model.specs.Console as console
 use Rattle.driver_model.specs.Console.{console_reads, console_writes}
@@ -16,19 +18,24 @@ use Rattle.driver_model.specs.Random as random
 use Rattle.driver_model.specs.Random.{randoms}
 use Rattle.driver_model.specs.Storage as storage
 use Rattle.driver_model.specs.Storage.{storages}
-use Rattle.driver_model.specs.Answers.{EventsTellSteps, LinesFollowAnswers, drawn_word, left_by}
-use Rattle.driver_model.specs.Commands.{Act, Waits, Leaves, Lights, Line, Switch, Writes, Reads, Randoms, Stores, is_same}
-use Rattle.driver_model.specs.Requests.{Desk}
-use Rattle.driver_model.specs.Lines.{OfEachDesk, begins, has_waiting, waits_after, waits_by, waits_once}
+use Rattle.driver_model.specs.Answers.{EventsTellSteps, LinesFollowAnswers, drawn_word, queue_left_by}
+use Rattle.driver_model.specs.Commands.{BoardRequest, Waits, Leaves, Lights, QueueName, Switch, Writes, Reads, Randoms}
+use Rattle.driver_model.specs.Commands.{Stores, is_same}
+use Rattle.driver_model.specs.Requests.{RequestKind}
+use Rattle.driver_model.specs.Lines.{OfEachRequestKind, begins, has_waiting, waits_after, waits_by, waits_once}
 use Rattle.process_record.specs.declared.process.State.{State}
 use Rattle.process_record.specs.declared.process.State.TheVariants.{Running, Yielded, Faulted, Terminated}
 use Rattle.kernel_model.specs.Record.{Record}
 use Rattle.kernel_model.specs.declared.settings.Settings.{Settings}
-use Rattle.kernel_model.specs.Turn.{Turned, Alarmed, Taken, WriteDone, Input, Word, NoWord, Stored, apply, flash_of, turned, turn_in}
-use Rattle.kernel_model.specs.World.{Answer, Deed, Devices, Stepped, World, acted, after, alarmed, arrived, begin_wait, carried_out, deed_of, done, drawing, drawn, first_of, now_in, owns_in, ran, receiving, records_after, routed, stop_wait, storing, told_to, transmitting, without}
+use Rattle.kernel_model.specs.Turn.{Turned, Alarmed, Taken, WriteDone, Input, Word, NoWord, Stored, apply, flash_of}
+use Rattle.kernel_model.specs.Turn.{turned, turn_in}
+use Rattle.kernel_model.specs.World.{Answer, DeviceStep, Devices, Stepped, World, acted, after, alarmed, arrived}
+use Rattle.kernel_model.specs.World.{begin_wait, carried_out, device_step_of, done, random_step, word_event}
+use Rattle.kernel_model.specs.World.{first_waiting, now_in, owns_in, ran, receive_step, records_after, routed}
+use Rattle.kernel_model.specs.World.{stop_wait, storing, told_to, transmitting, queue_without}
 use Rattle.kernel_model.specs.Laws.{TurnsKeepLines}
-use Rattle.kernel_model.specs.Lives.{LivesAsItRuns, Stays, is_alive}
-use Rattle.kernel_model.specs.Lists.{ListsStay, asks_at, list_of, once_if, times_in}
+use Rattle.kernel_model.specs.Lives.{LivesAsItRuns, HoldsThroughout, is_alive}
+use Rattle.kernel_model.specs.Lists.{ListsStay, asks_at, queue_in, once_if, times_in}
 use Rattle.kernel_model.proofs.Lives.{over_turn}
 use Rattle.kernel_model.proofs.Places.{of_stepped, ran-other, slice_get-set_same, told-other, told-own}
 
@@ -37,34 +44,44 @@ joined : (slot : ℕ) (xs : List ℕ) → times_in slot (xs ++ slot ∷ []) ≡ 
 joined slot [] = ap (λ (b : Bool). cond b (0 + 1) 0) (eq-eqb slot slot refl)
 joined slot (x ∷ xs) = by_test (x == slot) (joined slot xs)
   where
-    by_test : (b : Bool) → times_in slot (xs ++ slot ∷ []) ≡ times_in slot xs + 1 → cond b (times_in slot (xs ++ slot ∷ []) + 1) (times_in slot (xs ++ slot ∷ [])) ≡ cond b (times_in slot xs + 1) (times_in slot xs) + 1
+    by_test : (b : Bool) → times_in slot (xs ++ slot ∷ []) ≡ times_in slot xs + 1
+        → cond b (times_in slot (xs ++ slot ∷ []) + 1) (times_in slot (xs ++ slot ∷ []))
+        ≡ cond b (times_in slot xs + 1) (times_in slot xs) + 1
     by_test true later = ap (λ (n : ℕ). n + 1) later
     by_test false later = later
 
-joined_other : (slot other : ℕ) (xs : List ℕ) → (slot == other) ≡ false → times_in other (xs ++ slot ∷ []) ≡ times_in other xs
+joined_other : (slot other : ℕ) (xs : List ℕ) → (slot == other) ≡ false
+    → times_in other (xs ++ slot ∷ []) ≡ times_in other xs
 joined_other slot other [] apart = ap (λ (b : Bool). cond b (0 + 1) 0) apart
 joined_other slot other (x ∷ xs) apart = ap (λ (n : ℕ). cond (x == other) (n + 1) n) (joined_other slot other xs apart)
 
-gone_from : (slot : ℕ) (xs : List ℕ) → times_in slot (without slot xs) ≡ 0
+gone_from : (slot : ℕ) (xs : List ℕ) → times_in slot (queue_without slot xs) ≡ 0
 gone_from slot [] = refl
 gone_from slot (x ∷ xs) = by_test (x == slot) refl (gone_from slot xs)
   where
-    by_test : (b : Bool) → (x == slot) ≡ b → times_in slot (without slot xs) ≡ 0 → times_in slot (cond (not b) (x ∷ without slot xs) (without slot xs)) ≡ 0
+    by_test : (b : Bool) → (x == slot) ≡ b → times_in slot (queue_without slot xs) ≡ 0
+        → times_in slot (cond (not b) (x ∷ queue_without slot xs) (queue_without slot xs)) ≡ 0
     by_test true e later = later
-    by_test false e later = ap (λ (b : Bool). let n = times_in slot (without slot xs) in cond b (n + 1) n) e ∙ later
+    by_test false e later =
+        ap (λ (b : Bool). let n = times_in slot (queue_without slot xs) in cond b (n + 1) n) e ∙ later
 
-gone_other : (slot other : ℕ) (xs : List ℕ) → (slot == other) ≡ false → times_in other (without slot xs) ≡ times_in other xs
+gone_other : (slot other : ℕ) (xs : List ℕ) → (slot == other) ≡ false
+    → times_in other (queue_without slot xs) ≡ times_in other xs
 gone_other slot other [] apart = refl
 gone_other slot other (x ∷ xs) apart = by_test (x == slot) refl (gone_other slot other xs apart)
   where
-    by_test : (b : Bool) → (x == slot) ≡ b → times_in other (without slot xs) ≡ times_in other xs → times_in other (cond (not b) (x ∷ without slot xs) (without slot xs)) ≡ cond (x == other) (times_in other xs + 1) (times_in other xs)
+    by_test : (b : Bool) → (x == slot) ≡ b → times_in other (queue_without slot xs) ≡ times_in other xs
+        → times_in other (cond (not b) (x ∷ queue_without slot xs) (queue_without slot xs))
+        ≡ cond (x == other) (times_in other xs + 1) (times_in other xs)
     by_test true e later =
         let same : x ≡ slot = eqb-true x slot e in
-        later ∙ sym (ap (λ (b : Bool). cond b (times_in other xs + 1) (times_in other xs)) (ap (λ (n : ℕ). n == other) same ∙ apart))
+        later ∙ sym (ap (λ (b : Bool). cond b (times_in other xs + 1) (times_in other xs))
+        (ap (λ (n : ℕ). n == other) same ∙ apart))
     by_test false e later = ap (λ (n : ℕ). cond (x == other) (n + 1) n) later
 
 -- the lists after one act
-began : (line here : Line) (slot : ℕ) (d : Devices) → list_of here (begin_wait slot line d) ≡ cond (is_same line here) (list_of here d ++ slot ∷ []) (list_of here d)
+began : (line here : QueueName) (slot : ℕ) (d : Devices)
+    → queue_in here (begin_wait slot line d) ≡ cond (is_same line here) (queue_in here d ++ slot ∷ []) (queue_in here d)
 began Writes Writes slot d = refl
 began Writes Reads slot d = refl
 began Writes Randoms slot d = refl
@@ -82,7 +99,9 @@ began Stores Reads slot d = refl
 began Stores Randoms slot d = refl
 began Stores Stores slot d = refl
 
-stopped : (line here : Line) (slot : ℕ) (d : Devices) → list_of here (stop_wait slot line d) ≡ cond (is_same line here) (without slot (list_of here d)) (list_of here d)
+stopped : (line here : QueueName) (slot : ℕ) (d : Devices)
+    → queue_in here (stop_wait slot line d)
+    ≡ cond (is_same line here) (queue_without slot (queue_in here d)) (queue_in here d)
 stopped Writes Writes slot d = refl
 stopped Writes Reads slot d = refl
 stopped Writes Randoms slot d = refl
@@ -100,62 +119,79 @@ stopped Stores Reads slot d = refl
 stopped Stores Randoms slot d = refl
 stopped Stores Stores slot d = refl
 
-lit : (here : Line) (slot led : ℕ) (switch : Switch) (d : Devices) → list_of here (acted slot (Lights led switch) d) ≡ list_of here d
+lit : (here : QueueName) (slot led : ℕ) (switch : Switch) (d : Devices)
+    → queue_in here (acted slot (Lights led switch) d) ≡ queue_in here d
 lit Writes slot led switch d = refl
 lit Reads slot led switch d = refl
 lit Randoms slot led switch d = refl
 lit Stores slot led switch d = refl
 
 -- how often a slot stands in a list after what its turn asks of the board, by how often it did before
-abbrev times_by : Line → Act → ℕ → ℕ
+abbrev times_by : QueueName → BoardRequest → ℕ → ℕ
 times_by here (Waits line) times = cond (is_same line here) (times + 1) times
 times_by here (Leaves line) times = cond (is_same line here) 0 times
 times_by here (Lights led switch) times = times
 
-abbrev times_after : Line → ℕ → List Act → ℕ
+abbrev times_after : QueueName → ℕ → List BoardRequest → ℕ
 times_after here times [] = times
 times_after here times (act ∷ acts) = times_after here (times_by here act times) acts
 
-acted_own : (here : Line) (slot : ℕ) (act : Act) (d : Devices) → times_in slot (list_of here (acted slot act d)) ≡ times_by here act (times_in slot (list_of here d))
+acted_own : (here : QueueName) (slot : ℕ) (act : BoardRequest) (d : Devices)
+    → times_in slot (queue_in here (acted slot act d)) ≡ times_by here act (times_in slot (queue_in here d))
 acted_own here slot (Waits line) d = ap (times_in slot) (began line here slot d) ∙ by_same (is_same line here)
   where
-    by_same : (b : Bool) → times_in slot (cond b (list_of here d ++ slot ∷ []) (list_of here d)) ≡ cond b (times_in slot (list_of here d) + 1) (times_in slot (list_of here d))
-    by_same true = joined slot (list_of here d)
+    by_same : (b : Bool)
+        → times_in slot (cond b (queue_in here d ++ slot ∷ []) (queue_in here d))
+        ≡ cond b (times_in slot (queue_in here d) + 1) (times_in slot (queue_in here d))
+    by_same true = joined slot (queue_in here d)
     by_same false = refl
 acted_own here slot (Leaves line) d = ap (times_in slot) (stopped line here slot d) ∙ by_same (is_same line here)
   where
-    by_same : (b : Bool) → times_in slot (cond b (without slot (list_of here d)) (list_of here d)) ≡ cond b 0 (times_in slot (list_of here d))
-    by_same true = gone_from slot (list_of here d)
+    by_same : (b : Bool)
+        → times_in slot (cond b (queue_without slot (queue_in here d)) (queue_in here d))
+        ≡ cond b 0 (times_in slot (queue_in here d))
+    by_same true = gone_from slot (queue_in here d)
     by_same false = refl
 acted_own here slot (Lights led switch) d = ap (times_in slot) (lit here slot led switch d)
 
-acted_other : (here : Line) (slot other : ℕ) (act : Act) (d : Devices) → (slot == other) ≡ false → times_in other (list_of here (acted slot act d)) ≡ times_in other (list_of here d)
-acted_other here slot other (Waits line) d apart = ap (times_in other) (began line here slot d) ∙ by_same (is_same line here)
+acted_other : (here : QueueName) (slot other : ℕ) (act : BoardRequest) (d : Devices) → (slot == other) ≡ false
+    → times_in other (queue_in here (acted slot act d)) ≡ times_in other (queue_in here d)
+acted_other here slot other (Waits line) d apart =
+    ap (times_in other) (began line here slot d) ∙ by_same (is_same line here)
   where
-    by_same : (b : Bool) → times_in other (cond b (list_of here d ++ slot ∷ []) (list_of here d)) ≡ times_in other (list_of here d)
-    by_same true = joined_other slot other (list_of here d) apart
+    by_same : (b : Bool)
+        → times_in other (cond b (queue_in here d ++ slot ∷ []) (queue_in here d)) ≡ times_in other (queue_in here d)
+    by_same true = joined_other slot other (queue_in here d) apart
     by_same false = refl
-acted_other here slot other (Leaves line) d apart = ap (times_in other) (stopped line here slot d) ∙ by_same (is_same line here)
+acted_other here slot other (Leaves line) d apart =
+    ap (times_in other) (stopped line here slot d) ∙ by_same (is_same line here)
   where
-    by_same : (b : Bool) → times_in other (cond b (without slot (list_of here d)) (list_of here d)) ≡ times_in other (list_of here d)
-    by_same true = gone_other slot other (list_of here d) apart
+    by_same : (b : Bool)
+        → times_in other (cond b (queue_without slot (queue_in here d)) (queue_in here d))
+        ≡ times_in other (queue_in here d)
+    by_same true = gone_other slot other (queue_in here d) apart
     by_same false = refl
 acted_other here slot other (Lights led switch) d apart = ap (times_in other) (lit here slot led switch d)
 
-routed_own : (here : Line) (slot : ℕ) (acts : List Act) (d : Devices) → times_in slot (list_of here (routed slot acts d)) ≡ times_after here (times_in slot (list_of here d)) acts
+routed_own : (here : QueueName) (slot : ℕ) (acts : List BoardRequest) (d : Devices)
+    → times_in slot (queue_in here (routed slot acts d)) ≡ times_after here (times_in slot (queue_in here d)) acts
 routed_own here slot [] d = refl
-routed_own here slot (act ∷ acts) d = routed_own here slot acts (acted slot act d) ∙ ap (λ (n : ℕ). times_after here n acts) (acted_own here slot act d)
+routed_own here slot (act ∷ acts) d =
+    routed_own here slot acts (acted slot act d) ∙ ap (λ (n : ℕ). times_after here n acts) (acted_own here slot act d)
 
-routed_other : (here : Line) (slot other : ℕ) (acts : List Act) (d : Devices) → (slot == other) ≡ false → times_in other (list_of here (routed slot acts d)) ≡ times_in other (list_of here d)
+routed_other : (here : QueueName) (slot other : ℕ) (acts : List BoardRequest) (d : Devices) → (slot == other) ≡ false
+    → times_in other (queue_in here (routed slot acts d)) ≡ times_in other (queue_in here d)
 routed_other here slot other [] d apart = refl
-routed_other here slot other (act ∷ acts) d apart = routed_other here slot other acts (acted slot act d) apart ∙ acted_other here slot other act d apart
+routed_other here slot other (act ∷ acts) d apart =
+    routed_other here slot other acts (acted slot act d) apart ∙ acted_other here slot other act d apart
 
 -- where it begins to wait only where it does not wait already, it stands there once where it waits
 both : (a b : Bool) → (a && b) ≡ true → (a ≡ true) × (b ≡ true)
 both true b e = (refl, e)
 both false b e = absurd (false≢true e)
 
-once_by : (here : Line) (waits : Bool) (act : Act) → not (begins here act && waits) ≡ true → times_by here act (once_if waits) ≡ once_if (waits_by here act waits)
+once_by : (here : QueueName) (waits : Bool) (act : BoardRequest) → not (begins here act && waits) ≡ true
+    → times_by here act (once_if waits) ≡ once_if (waits_by here act waits)
 once_by here waits (Waits line) = by_same (is_same line here) waits
   where
     by_same : (b w : Bool) → not (b && w) ≡ true → cond b (once_if w + 1) (once_if w) ≡ once_if (cond b true w)
@@ -169,14 +205,17 @@ once_by here waits (Leaves line) = by_same (is_same line here)
     by_same false e = refl
 once_by here waits (Lights led switch) = λ e. refl
 
-once_after : (here : Line) (waits : Bool) (acts : List Act) → waits_once here waits acts ≡ true → times_after here (once_if waits) acts ≡ once_if (waits_after here waits acts)
+once_after : (here : QueueName) (waits : Bool) (acts : List BoardRequest) → waits_once here waits acts ≡ true
+    → times_after here (once_if waits) acts ≡ once_if (waits_after here waits acts)
 once_after here waits [] e = refl
 once_after here waits (act ∷ acts) e =
     let tests = both (not (begins here act && waits)) (waits_once here (waits_by here act waits) acts) e in
-    ap (λ (n : ℕ). times_after here n acts) (once_by here waits act tests.0) ∙ once_after here (waits_by here act waits) acts tests.1
+    ap (λ (n : ℕ). times_after here n acts) (once_by here waits act tests.0)
+    ∙ once_after here (waits_by here act waits) acts tests.1
 
 -- a turn of a process that has ended asks nothing
-over_acts : (settings : Settings) (time : ℕ) (r : Record) → is_alive r.process.state ≡ false → (turned settings time r).acts ≡ []
+over_acts : (settings : Settings) (time : ℕ) (r : Record) → is_alive r.process.state ≡ false
+    → (turned settings time r).acts ≡ []
 unfolding turned
 over_acts settings time r over = by_state r.process.state over
   where
@@ -188,16 +227,23 @@ over_acts settings time r over = by_state r.process.state over
 
 -- after a turn of a process it waits as its acts say, and it begins to wait only where it does not wait already
 record WaitsAfter (r : Record) (t : Turned) : Type 0 where
-  lines : OfEachDesk (λ R desk. has_waiting desk t.after.own ≡ waits_after desk.line (has_waiting desk r.own) t.acts)
-  once : OfEachDesk (λ R desk. waits_once desk.line (has_waiting desk r.own) t.acts ≡ true)
+  lines : OfEachRequestKind (λ R request_kind.
+      has_waiting request_kind t.after.own ≡ waits_after request_kind.line (has_waiting request_kind r.own) t.acts)
+  once : OfEachRequestKind (λ R request_kind.
+      waits_once request_kind.line (has_waiting request_kind r.own) t.acts ≡ true)
 
 module _ (settings : Settings) (time : ℕ) (r : Record) where
-  idle_waits : {R : Type 0} (desk : Desk R) → is_alive r.process.state ≡ false → has_waiting desk (turned settings time r).after.own ≡ waits_after desk.line (has_waiting desk r.own) (turned settings time r).acts
-  idle_waits desk over =
-      ap (λ (x : Record). has_waiting desk x.own) (over_turn settings time r over) ∙ ap (waits_after desk.line (has_waiting desk r.own)) (sym (over_acts settings time r over))
+  idle_waits : {R : Type 0} (request_kind : RequestKind R) → is_alive r.process.state ≡ false
+      → has_waiting request_kind (turned settings time r).after.own
+      ≡ waits_after request_kind.line (has_waiting request_kind r.own) (turned settings time r).acts
+  idle_waits request_kind over =
+      ap (λ (x : Record). has_waiting request_kind x.own) (over_turn settings time r over)
+      ∙ ap (waits_after request_kind.line (has_waiting request_kind r.own)) (sym (over_acts settings time r over))
 
-  idle_once : {R : Type 0} (desk : Desk R) → is_alive r.process.state ≡ false → waits_once desk.line (has_waiting desk r.own) (turned settings time r).acts ≡ true
-  idle_once desk over = ap (waits_once desk.line (has_waiting desk r.own)) (over_acts settings time r over)
+  idle_once : {R : Type 0} (request_kind : RequestKind R) → is_alive r.process.state ≡ false
+      → waits_once request_kind.line (has_waiting request_kind r.own) (turned settings time r).acts ≡ true
+  idle_once request_kind over =
+      ap (waits_once request_kind.line (has_waiting request_kind r.own)) (over_acts settings time r over)
 
   turn_waits : TurnsKeepLines → LivesAsItRuns r → WaitsAfter r (turned settings time r)
   turn_waits law h = by_lives r.own.lives refl
@@ -207,159 +253,255 @@ module _ (settings : Settings) (time : ℕ) (r : Record) where
       by_lives false e =
           let over = sym h.lives ∙ e in
           record {
-            lines = record { writes = idle_waits console_writes over; reads = idle_waits console_reads over; randoms = idle_waits randoms over; stores = idle_waits storages over };
-            once = record { writes = idle_once console_writes over; reads = idle_once console_reads over; randoms = idle_once randoms over; stores = idle_once storages over };
+            lines = record {
+              writes = idle_waits console_writes over;
+              reads = idle_waits console_reads over;
+              randoms =
+                  idle_waits randoms over;
+              stores = idle_waits storages over;
+            };
+            once = record {
+              writes = idle_once console_writes over;
+              reads = idle_once console_reads over;
+              randoms =
+                  idle_once randoms over;
+              stores = idle_once storages over;
+            };
           }
 
--- at one desk, after a turn
+-- of one kind of request, after a turn
 module _ (w : World) (slot : ℕ) (r : Record) (is : slice_get w.records slot ≡ Some r) (t : Turned) where
-  turn_at : {R : Type 0} (desk : Desk R) → has_waiting desk t.after.own ≡ waits_after desk.line (has_waiting desk r.own) t.acts
-      → waits_once desk.line (has_waiting desk r.own) t.acts ≡ true
-      → ((k : ℕ) → times_in k (list_of desk.line w.devices) ≡ once_if (asks_at desk (slice_get w.records k)))
+  turn_at : {R : Type 0} (request_kind : RequestKind R)
+      → has_waiting request_kind t.after.own ≡ waits_after request_kind.line (has_waiting request_kind r.own) t.acts
+      → waits_once request_kind.line (has_waiting request_kind r.own) t.acts ≡ true
+      → ((k : ℕ) → times_in k (queue_in request_kind.line w.devices)
+      ≡ once_if (asks_at request_kind (slice_get w.records k)))
       → (others : (k : ℕ) → k ≢ slot → slice_get (slice_set w.records slot t.after) k ≡ slice_get w.records k)
-      → (k : ℕ) → times_in k (list_of desk.line (routed slot t.acts w.devices)) ≡ once_if (asks_at desk (slice_get (slice_set w.records slot t.after) k))
-  turn_at desk waits once before others k = by_slot (slot == k) refl
+      → (k : ℕ) → times_in k (queue_in request_kind.line (routed slot t.acts w.devices))
+      ≡ once_if (asks_at request_kind (slice_get (slice_set w.records slot t.after) k))
+  turn_at request_kind waits once before others k = by_slot (slot == k) refl
     where
-      by_slot : (b : Bool) → (slot == k) ≡ b → times_in k (list_of desk.line (routed slot t.acts w.devices)) ≡ once_if (asks_at desk (slice_get (slice_set w.records slot t.after) k))
+      by_slot : (b : Bool) → (slot == k) ≡ b
+          → times_in k (queue_in request_kind.line (routed slot t.acts w.devices))
+          ≡ once_if (asks_at request_kind (slice_get (slice_set w.records slot t.after) k))
       by_slot true e =
           let same : slot ≡ k = eqb-true slot k e in
-          subst (λ (n : ℕ). times_in n (list_of desk.line (routed slot t.acts w.devices)) ≡ once_if (asks_at desk (slice_get (slice_set w.records slot t.after) n))) same
-          (routed_own desk.line slot t.acts w.devices
-          ∙ ap (λ (n : ℕ). times_after desk.line n t.acts) (before slot ∙ ap (λ (o : Option Record). once_if (asks_at desk o)) is)
-          ∙ once_after desk.line (has_waiting desk r.own) t.acts once ∙ ap once_if (sym waits)
-          ∙ ap (λ (o : Option Record). once_if (asks_at desk o)) (sym (slice_get-set_same w.records slot t.after (slice_get_within w.records slot r is))))
+          subst (λ (n : ℕ). times_in n (queue_in request_kind.line (routed slot t.acts w.devices))
+          ≡ once_if (asks_at request_kind (slice_get (slice_set w.records slot t.after) n))) same
+          (routed_own request_kind.line slot t.acts w.devices
+          ∙ ap (λ (n : ℕ). times_after request_kind.line n t.acts)
+          (before slot ∙ ap (λ (o : Option Record). once_if (asks_at request_kind o)) is)
+          ∙ once_after request_kind.line (has_waiting request_kind r.own) t.acts once ∙ ap once_if (sym waits)
+          ∙ ap (λ (o : Option Record). once_if (asks_at request_kind o))
+          (sym (slice_get-set_same w.records slot t.after (slice_get_within w.records slot r is))))
       by_slot false e =
-          routed_other desk.line slot k t.acts w.devices e ∙ before k
-          ∙ ap (λ (o : Option Record). once_if (asks_at desk o)) (sym (others k (λ same. false≢true (sym e ∙ eq-eqb slot k (sym same)))))
+          routed_other request_kind.line slot k t.acts w.devices e ∙ before k
+          ∙ ap (λ (o : Option Record). once_if (asks_at request_kind o))
+          (sym (others k (λ same. false≢true (sym e ∙ eq-eqb slot k (sym same)))))
 
--- at one desk, after an answer
+-- of one kind of request, after an answer
 module _ (w : World) (a : Answer) (r : Record) (is : slice_get w.records a.slot ≡ Some r) (left : Bool) where
-  answer_at : {R : Type 0} (desk : Desk R) (list : List ℕ)
-      → list ≡ cond left (without a.slot (list_of desk.line w.devices)) (list_of desk.line w.devices)
-      → has_waiting desk (apply w.settings a.event r).own ≡ cond left false (has_waiting desk r.own)
-      → ((k : ℕ) → times_in k (list_of desk.line w.devices) ≡ once_if (asks_at desk (slice_get w.records k)))
-      → (k : ℕ) → times_in k list ≡ once_if (asks_at desk (slice_get (told_to w a (slice_get w.records a.slot)) k))
-  answer_at desk list lists waits before k = ap (times_in k) lists ∙ by_slot (a.slot == k) refl
+  answer_at : {R : Type 0} (request_kind : RequestKind R) (list : List ℕ)
+      → list ≡ cond left (queue_without a.slot (queue_in request_kind.line w.devices))
+      (queue_in request_kind.line w.devices)
+      → has_waiting request_kind (apply w.settings a.event r).own ≡ cond left false (has_waiting request_kind r.own)
+      → ((k : ℕ) → times_in k (queue_in request_kind.line w.devices)
+      ≡ once_if (asks_at request_kind (slice_get w.records k)))
+      → (k : ℕ) → times_in k list ≡ once_if
+      (asks_at request_kind (slice_get (told_to w a (slice_get w.records a.slot)) k))
+  answer_at request_kind list lists waits before k = ap (times_in k) lists ∙ by_slot (a.slot == k) refl
     where
-      own_list : (b : Bool) → times_in a.slot (list_of desk.line w.devices) ≡ once_if (has_waiting desk r.own) → times_in a.slot (cond b (without a.slot (list_of desk.line w.devices)) (list_of desk.line w.devices)) ≡ once_if (cond b false (has_waiting desk r.own))
-      own_list true is = gone_from a.slot (list_of desk.line w.devices)
+      own_list : (b : Bool)
+          → times_in a.slot (queue_in request_kind.line w.devices) ≡ once_if (has_waiting request_kind r.own)
+          → times_in a.slot (cond b (queue_without a.slot (queue_in request_kind.line w.devices))
+          (queue_in request_kind.line w.devices)) ≡ once_if (cond b false (has_waiting request_kind r.own))
+      own_list true is = gone_from a.slot (queue_in request_kind.line w.devices)
       own_list false is = is
 
-      other_list : (b : Bool) → (a.slot == k) ≡ false → times_in k (cond b (without a.slot (list_of desk.line w.devices)) (list_of desk.line w.devices)) ≡ times_in k (list_of desk.line w.devices)
-      other_list true e = gone_other a.slot k (list_of desk.line w.devices) e
+      other_list : (b : Bool) → (a.slot == k) ≡ false
+          → times_in k (cond b (queue_without a.slot (queue_in request_kind.line w.devices))
+          (queue_in request_kind.line w.devices)) ≡ times_in k (queue_in request_kind.line w.devices)
+      other_list true e = gone_other a.slot k (queue_in request_kind.line w.devices) e
       other_list false e = refl
 
-      by_slot : (b : Bool) → (a.slot == k) ≡ b → times_in k (cond left (without a.slot (list_of desk.line w.devices)) (list_of desk.line w.devices)) ≡ once_if (asks_at desk (slice_get (told_to w a (slice_get w.records a.slot)) k))
+      by_slot : (b : Bool) → (a.slot == k) ≡ b
+          → times_in k (cond left (queue_without a.slot (queue_in request_kind.line w.devices))
+          (queue_in request_kind.line w.devices))
+          ≡ once_if (asks_at request_kind (slice_get (told_to w a (slice_get w.records a.slot)) k))
       by_slot true e =
           let same : a.slot ≡ k = eqb-true a.slot k e in
-          subst (λ (n : ℕ). times_in n (cond left (without a.slot (list_of desk.line w.devices)) (list_of desk.line w.devices)) ≡ once_if (asks_at desk (slice_get (told_to w a (slice_get w.records a.slot)) n))) same
-          (own_list left (before a.slot ∙ ap (λ (o : Option Record). once_if (asks_at desk o)) is) ∙ ap once_if (sym waits)
-          ∙ ap (λ (o : Option Record). once_if (asks_at desk o)) (sym (told-own w a (slice_get w.records a.slot) refl ∙ ap (option_map (apply w.settings a.event)) is)))
+          subst (λ (n : ℕ). times_in n (cond left (queue_without a.slot (queue_in request_kind.line w.devices))
+          (queue_in request_kind.line w.devices))
+          ≡ once_if (asks_at request_kind (slice_get (told_to w a (slice_get w.records a.slot)) n))) same
+          (own_list left (before a.slot ∙ ap (λ (o : Option Record). once_if (asks_at request_kind o)) is)
+          ∙ ap once_if (sym waits)
+          ∙ ap (λ (o : Option Record). once_if (asks_at request_kind o))
+          (sym (told-own w a (slice_get w.records a.slot) refl ∙ ap (option_map (apply w.settings a.event)) is)))
       by_slot false e =
           other_list left e ∙ before k
-          ∙ ap (λ (o : Option Record). once_if (asks_at desk o)) (sym (told-other w a k (slice_get w.records a.slot) (λ same. false≢true (sym e ∙ eq-eqb a.slot k (sym same)))))
+          ∙ ap (λ (o : Option Record). once_if (asks_at request_kind o))
+          (sym (told-other w a k (slice_get w.records a.slot)
+          (λ same. false≢true (sym e ∙ eq-eqb a.slot k (sym same)))))
 
 -- the lists of a world are those of its requests
 abbrev AreLists : World → Type 0
-AreLists v = OfEachDesk (λ R desk. (k : ℕ) → times_in k (list_of desk.line v.devices) ≡ once_if (asks_at desk (slice_get v.records k)))
+AreLists v = OfEachRequestKind (λ R request_kind. (k : ℕ)
+    → times_in k (queue_in request_kind.line v.devices) ≡ once_if (asks_at request_kind (slice_get v.records k)))
 
 -- what a process is after an answer, by what the device's step made of it
-moved_own : (left : Line → Bool) (own o p : Own) → p ≡ o → OfEachDesk (λ R desk. has_waiting desk o ≡ cond (left desk.line) false (has_waiting desk own)) → OfEachDesk (λ R desk. has_waiting desk p ≡ cond (left desk.line) false (has_waiting desk own))
-moved_own left own o p same lines = subst (λ (x : Own). OfEachDesk (λ R desk. has_waiting desk x ≡ cond (left desk.line) false (has_waiting desk own))) (sym same) lines
+moved_own : (left : QueueName → Bool) (own o p : Own) → p ≡ o
+    → OfEachRequestKind (λ R request_kind.
+    has_waiting request_kind o ≡ cond (left request_kind.line) false (has_waiting request_kind own))
+    → OfEachRequestKind (λ R request_kind.
+    has_waiting request_kind p ≡ cond (left request_kind.line) false (has_waiting request_kind own))
+moved_own left own o p same lines =
+    subst (λ (x : Own). OfEachRequestKind
+    (λ R request_kind. has_waiting request_kind x ≡ cond (left request_kind.line) false (has_waiting request_kind own)))
+    (sym same) lines
 
-sent_own : (settings : Settings) (r : Record) (o : Own) (b : Bool) → o ≡ cond b (console.write_done r.own) (console.taken r.own) → (apply settings (cond b WriteDone Taken) r).own ≡ o
+sent_own : (settings : Settings) (r : Record) (o : Own) (b : Bool)
+    → o ≡ cond b (console.write_done r.own) (console.taken r.own) → (apply settings (cond b WriteDone Taken) r).own ≡ o
 unfolding apply
 sent_own settings r o true e = sym e
 sent_own settings r o false e = sym e
 
-drawn_own : (settings : Settings) (r : Record) (words rest : List ℕ) → (apply settings (drawn words rest) r).own ≡ (random.answered (drawn_word words rest) r.own.life r.own).own
+drawn_own : (settings : Settings) (r : Record) (words rest : List ℕ)
+    → (apply settings (word_event words rest) r).own ≡ (random.answered (drawn_word words rest) r.own.life r.own).own
 unfolding apply
 drawn_own settings r [] rest = refl
 drawn_own settings r (word ∷ words) rest = by_length (length rest == length words)
   where
-    by_length : (b : Bool) → (apply settings (cond b (Word word) NoWord) r).own ≡ (random.answered (cond b (word ∷ []) []) r.own.life r.own).own
+    by_length : (b : Bool)
+        → (apply settings (cond b (Word word) NoWord) r).own
+        ≡ (random.answered (cond b (word ∷ []) []) r.own.life r.own).own
     by_length true = refl
     by_length false = refl
 
-stored_own : (settings : Settings) (r : Record) (fails : Bool) → (apply settings (Stored (not fails)) r).own ≡ (storage.answered fails (flash_of r) r.storage r.own.life r.own).own
+stored_own : (settings : Settings) (r : Record) (fails : Bool)
+    → (apply settings (Stored (not fails)) r).own ≡ (storage.answered fails (flash_of r) r.storage r.own.life r.own).own
 unfolding apply
 stored_own settings r true = refl
 stored_own settings r false = refl
 
-input_own : (settings : Settings) (r : Record) (bytes : List ℕ) → (apply settings (Input bytes) r).own ≡ console.input bytes r.own
+input_own : (settings : Settings) (r : Record) (bytes : List ℕ)
+    → (apply settings (Input bytes) r).own ≡ console.input bytes r.own
 unfolding apply
 input_own settings r bytes = refl
 
-alarmed_own : (settings : Settings) (r : Record) (now : ℕ) → (apply settings (Alarmed now) r).own ≡ alarm.answered now r.own
+alarmed_own : (settings : Settings) (r : Record) (now : ℕ)
+    → (apply settings (Alarmed now) r).own ≡ alarm.answered now r.own
 unfolding apply
 alarmed_own settings r now = refl
 
 module _ (follow : LinesFollowAnswers) (tell : EventsTellSteps) (w : World) (h : AreLists w) where
-  answered_each : (deed : Deed) (a : Answer) (r : Record) → slice_get w.records a.slot ≡ Some r → deed.told ≡ Some a → (left : Line → Bool)
-      → ((here : Line) → list_of here deed.devices ≡ cond (left here) (without a.slot (list_of here w.devices)) (list_of here w.devices))
-      → OfEachDesk (λ R desk. has_waiting desk (apply w.settings a.event r).own ≡ cond (left desk.line) false (has_waiting desk r.own))
+  answered_each : (deed : DeviceStep) (a : Answer) (r : Record) → slice_get w.records a.slot ≡ Some r
+      → deed.told ≡ Some a → (left : QueueName → Bool)
+      → ((here : QueueName)
+      → queue_in here deed.devices
+      ≡ cond (left here) (queue_without a.slot (queue_in here w.devices)) (queue_in here w.devices))
+      → OfEachRequestKind (λ R request_kind.
+      has_waiting request_kind (apply w.settings a.event r).own
+      ≡ cond (left request_kind.line) false (has_waiting request_kind r.own))
       → AreLists (done w (Some deed)).after
   answered_each deed a r is told left lists waits =
-      subst (λ (o : Option Answer). OfEachDesk (λ R desk. (k : ℕ) → times_in k (list_of desk.line deed.devices) ≡ once_if (asks_at desk (slice_get (records_after w o) k)))) (sym told)
+      subst (λ (o : Option Answer). OfEachRequestKind
+      (λ R request_kind. (k : ℕ)
+      → times_in k (queue_in request_kind.line deed.devices)
+      ≡ once_if (asks_at request_kind (slice_get (records_after w o) k)))) (sym told)
       (record {
-        writes = answer_at w a r is (left Writes) console_writes (list_of Writes deed.devices) (lists Writes) waits.writes h.writes;
-        reads = answer_at w a r is (left Reads) console_reads (list_of Reads deed.devices) (lists Reads) waits.reads h.reads;
-        randoms = answer_at w a r is (left Randoms) randoms (list_of Randoms deed.devices) (lists Randoms) waits.randoms h.randoms;
-        stores = answer_at w a r is (left Stores) storages (list_of Stores deed.devices) (lists Stores) waits.stores h.stores;
+        writes = answer_at w a r is (left Writes) console_writes (queue_in Writes deed.devices) (lists Writes)
+            waits.writes h.writes;
+        reads = answer_at w a r is (left Reads) console_reads (queue_in Reads deed.devices) (lists Reads) waits.reads
+            h.reads;
+        randoms = answer_at w a r is (left Randoms) randoms (queue_in Randoms deed.devices) (lists Randoms)
+            waits.randoms h.randoms;
+        stores = answer_at w a r is (left Stores) storages (queue_in Stores deed.devices) (lists Stores) waits.stores
+            h.stores;
       })
 
-  first_lists : (make : World → ℕ → Record → Deed) (line : List ℕ) → ((slot : ℕ) (r : Record) → slice_get w.records slot ≡ Some r → AreLists (done w (Some (make w slot r))).after) → AreLists (done w (first_of make w line)).after
+  first_lists : (make : World → ℕ → Record → DeviceStep) (line : List ℕ)
+      → ((slot : ℕ) (r : Record) → slice_get w.records slot ≡ Some r → AreLists (done w (Some (make w slot r))).after)
+      → AreLists (done w (first_waiting make w line)).after
   first_lists make [] each = h
   first_lists make (slot ∷ rest) each = by_record (slice_get w.records slot) refl
     where
-      by_record : (o : Option Record) → slice_get w.records slot ≡ o → AreLists (done w (option_map (make w slot) o)).after
+      by_record : (o : Option Record) → slice_get w.records slot ≡ o
+          → AreLists (done w (option_map (make w slot) o)).after
       by_record None e = h
       by_record (Some r) e = each slot r e
 
-  sends : (slot : ℕ) (r : Record) → slice_get w.records slot ≡ Some r → AreLists (done w (Some (transmitting w slot r))).after
+  sends : (slot : ℕ) (r : Record) → slice_get w.records slot ≡ Some r
+      → AreLists (done w (Some (transmitting w slot r))).after
   sends slot r is =
       let s = console.sent (flash_of r) r.own.life r.own in
-      answered_each (transmitting w slot r) (record { slot = slot; event = cond s.completed WriteDone Taken }) r is refl (left_by Writes s.completed) lists
-      (moved_own (left_by Writes s.completed) r.own s.own _ (sent_own w.settings r s.own s.completed (tell.writes (flash_of r) r.own)) (follow.writes (flash_of r) r.own.life r.own).lines)
+      answered_each (transmitting w slot r) (record { slot = slot; event = cond s.completed WriteDone Taken }) r is refl
+      (queue_left_by Writes s.completed) lists
+      (moved_own (queue_left_by Writes s.completed) r.own s.own _
+      (sent_own w.settings r s.own s.completed (tell.writes (flash_of r) r.own))
+      (follow.writes (flash_of r) r.own.life r.own).lines)
     where
-      lists : (here : Line) → list_of here (transmitting w slot r).devices ≡ cond (left_by Writes (console.sent (flash_of r) r.own.life r.own).completed here) (without slot (list_of here w.devices)) (list_of here w.devices)
+      lists : (here : QueueName)
+          → queue_in here (transmitting w slot r).devices
+          ≡ cond (queue_left_by Writes (console.sent (flash_of r) r.own.life r.own).completed here)
+          (queue_without slot (queue_in here w.devices)) (queue_in here w.devices)
       lists Writes = refl
       lists Reads = refl
       lists Randoms = refl
       lists Stores = refl
 
-  receives : (slot : ℕ) (r : Record) → slice_get w.records slot ≡ Some r → AreLists (done w (Some (receiving w slot r))).after
+  receives : (slot : ℕ) (r : Record) → slice_get w.records slot ≡ Some r
+      → AreLists (done w (Some (receive_step w slot r))).after
   receives slot r is =
       let s = console.received w.devices.line.ring r.own.life r.own in
-      answered_each (receiving w slot r) (record { slot = slot; event = Input s.moved }) r is refl (left_by Reads s.completed) lists
-      (moved_own (left_by Reads s.completed) r.own s.own _ (input_own w.settings r s.moved ∙ sym (tell.reads w.devices.line.ring r.own)) (follow.reads w.devices.line.ring r.own.life r.own).lines)
+      answered_each (receive_step w slot r) (record { slot = slot; event = Input s.moved }) r is refl
+      (queue_left_by Reads s.completed) lists
+      (moved_own (queue_left_by Reads s.completed) r.own s.own _
+      (input_own w.settings r s.moved ∙ sym (tell.reads w.devices.line.ring r.own))
+      (follow.reads w.devices.line.ring r.own.life r.own).lines)
     where
-      lists : (here : Line) → list_of here (receiving w slot r).devices ≡ cond (left_by Reads (console.received w.devices.line.ring r.own.life r.own).completed here) (without slot (list_of here w.devices)) (list_of here w.devices)
+      lists : (here : QueueName)
+          → queue_in here (receive_step w slot r).devices
+          ≡ cond (queue_left_by Reads (console.received w.devices.line.ring r.own.life r.own).completed here)
+          (queue_without slot (queue_in here w.devices)) (queue_in here w.devices)
       lists Writes = refl
       lists Reads = refl
       lists Randoms = refl
       lists Stores = refl
 
-  draws : (slot : ℕ) (r : Record) → slice_get w.records slot ≡ Some r → AreLists (done w (Some (drawing w slot r))).after
+  draws : (slot : ℕ) (r : Record) → slice_get w.records slot ≡ Some r
+      → AreLists (done w (Some (random_step w slot r))).after
   draws slot r is =
       let a = random.answered w.devices.words r.own.life r.own in
-      answered_each (drawing w slot r) (record { slot = slot; event = drawn w.devices.words a.words }) r is refl (left_by Randoms a.completed) lists
-      (moved_own (left_by Randoms a.completed) r.own a.own _ (drawn_own w.settings r w.devices.words a.words ∙ sym (tell.randoms w.devices.words r.own)) (follow.randoms w.devices.words r.own.life r.own).lines)
+      answered_each (random_step w slot r) (record { slot = slot; event = word_event w.devices.words a.words }) r is
+      refl (queue_left_by Randoms a.completed) lists
+      (moved_own (queue_left_by Randoms a.completed) r.own a.own _
+      (drawn_own w.settings r w.devices.words a.words ∙ sym (tell.randoms w.devices.words r.own))
+      (follow.randoms w.devices.words r.own.life r.own).lines)
     where
-      lists : (here : Line) → list_of here (drawing w slot r).devices ≡ cond (left_by Randoms (random.answered w.devices.words r.own.life r.own).completed here) (without slot (list_of here w.devices)) (list_of here w.devices)
+      lists : (here : QueueName)
+          → queue_in here (random_step w slot r).devices
+          ≡ cond (queue_left_by Randoms (random.answered w.devices.words r.own.life r.own).completed here)
+          (queue_without slot (queue_in here w.devices)) (queue_in here w.devices)
       lists Writes = refl
       lists Reads = refl
       lists Randoms = refl
       lists Stores = refl
 
-  stores : (slot : ℕ) (r : Record) → slice_get w.records slot ≡ Some r → AreLists (done w (Some (storing w slot r))).after
+  stores : (slot : ℕ) (r : Record) → slice_get w.records slot ≡ Some r
+      → AreLists (done w (Some (storing w slot r))).after
   stores slot r is =
       let fails = is_fault w.devices.faults (w.devices.served + 1) in
       let a = storage.answered fails (flash_of r) r.storage r.own.life r.own in
-      answered_each (storing w slot r) (record { slot = slot; event = Stored (not fails) }) r is refl (left_by Stores a.completed) lists
-      (moved_own (left_by Stores a.completed) r.own a.own _ (stored_own w.settings r fails) (follow.stores fails (flash_of r) r.storage r.own.life r.own).lines)
+      answered_each (storing w slot r) (record { slot = slot; event = Stored (not fails) }) r is refl
+      (queue_left_by Stores a.completed) lists
+      (moved_own (queue_left_by Stores a.completed) r.own a.own _ (stored_own w.settings r fails)
+      (follow.stores fails (flash_of r) r.storage r.own.life r.own).lines)
     where
-      lists : (here : Line) → list_of here (storing w slot r).devices ≡ cond (left_by Stores (storage.answered (is_fault w.devices.faults (w.devices.served + 1)) (flash_of r) r.storage r.own.life r.own).completed here) (without slot (list_of here w.devices)) (list_of here w.devices)
+      lists : (here : QueueName)
+          → queue_in here (storing w slot r).devices
+          ≡ cond (queue_left_by Stores (storage.answered (is_fault w.devices.faults (w.devices.served + 1)) (flash_of r)
+          r.storage r.own.life r.own).completed here) (queue_without slot (queue_in here w.devices))
+          (queue_in here w.devices)
       lists Writes = refl
       lists Reads = refl
       lists Randoms = refl
@@ -369,10 +511,17 @@ module _ (follow : LinesFollowAnswers) (tell : EventsTellSteps) (w : World) (h :
   fires slot = by_record (slice_get w.records slot) refl
     where
       by_record : (o : Option Record) → slice_get w.records slot ≡ o → AreLists (done w (Some (alarmed w slot))).after
-      by_record None e = subst (λ (o : Option Record). OfEachDesk (λ R desk. (k : ℕ) → times_in k (list_of desk.line w.devices) ≡ once_if (asks_at desk (slice_get (told_to w (record { slot = slot; event = Alarmed (now_in w) }) o) k)))) (sym e) h
+      by_record None e =
+          subst (λ (o : Option Record). OfEachRequestKind
+          (λ R request_kind. (k : ℕ)
+          → times_in k (queue_in request_kind.line w.devices)
+          ≡ once_if (asks_at request_kind (slice_get (told_to w (record { slot = slot; event = Alarmed (now_in w) }) o)
+          k)))) (sym e) h
       by_record (Some r) e =
-          answered_each (alarmed w slot) (record { slot = slot; event = Alarmed (now_in w) }) r e refl (λ line. false) (λ here. refl)
-          (moved_own (λ line. false) r.own (alarm.answered (now_in w) r.own) _ (alarmed_own w.settings r (now_in w)) (follow.alarms (now_in w) r.own).lines)
+          answered_each (alarmed w slot) (record { slot = slot; event = Alarmed (now_in w) }) r e refl (λ line. false)
+          (λ here. refl)
+          (moved_own (λ line. false) r.own (alarm.answered (now_in w) r.own) _ (alarmed_own w.settings r (now_in w))
+          (follow.alarms (now_in w) r.own).lines)
 
   due_lists : (due : Option ℕ) → AreLists (done w (option_map (alarmed w) due)).after
   due_lists None = h
@@ -382,20 +531,24 @@ module _ (follow : LinesFollowAnswers) (tell : EventsTellSteps) (w : World) (h :
   arrived_lists [] = h
   arrived_lists (a ∷ rest) = record { writes = h.writes; reads = h.reads; randoms = h.randoms; stores = h.stores }
 
-  deed_lists : (device : Dev) → AreLists (done w (deed_of w device)).after
+  deed_lists : (device : Dev) → AreLists (done w (device_step_of w device)).after
   deed_lists dev.Event = arrived_lists w.devices.arrivals
   deed_lists dev.Alarm = due_lists (alarm.due_slot (now_in w) (owns_in w))
   deed_lists dev.Uart = first_lists transmitting w.devices.writes sends
-  deed_lists dev.Receive = first_lists receiving w.devices.reads receives
-  deed_lists dev.Random = first_lists drawing w.devices.randoms draws
+  deed_lists dev.Receive = first_lists receive_step w.devices.reads receives
+  deed_lists dev.Random = first_lists random_step w.devices.randoms draws
   deed_lists dev.Store = first_lists storing w.devices.stores stores
 
-  turn_lists : TurnsKeepLines → ((slot : ℕ) → IfSome (slice_get w.records slot) LivesAsItRuns) → (slot : ℕ) (o : Option Record) → slice_get w.records slot ≡ o → AreLists (ran w slot o).after
+  turn_lists : TurnsKeepLines → ((slot : ℕ) → IfSome (slice_get w.records slot) LivesAsItRuns)
+      → (slot : ℕ) (o : Option Record) → slice_get w.records slot ≡ o → AreLists (ran w slot o).after
   turn_lists law lives slot None e = h
   turn_lists law lives slot (Some r) e =
       let t = turned w.settings w.clock.time r in
-      let waits = turn_waits w.settings w.clock.time r law (subst (λ (o : Option Record). IfSome o LivesAsItRuns) e (lives slot)) in
-      let others : (k : ℕ) → k ≢ slot → slice_get (slice_set w.records slot t.after) k ≡ slice_get w.records k = λ k ne. ran-other w slot k (Some r) ne in
+      let waits = turn_waits w.settings w.clock.time r law
+      (subst (λ (o : Option Record). IfSome o LivesAsItRuns) e (lives slot)) in
+      let others : (k : ℕ) → k ≢ slot
+      → slice_get (slice_set w.records slot t.after) k ≡ slice_get w.records k =
+      λ k ne. ran-other w slot k (Some r) ne in
       record {
         writes = turn_at w slot r e t console_writes waits.lines.writes waits.once.writes h.writes others;
         reads = turn_at w slot r e t console_reads waits.lines.reads waits.once.reads h.reads others;
@@ -403,16 +556,20 @@ module _ (follow : LinesFollowAnswers) (tell : EventsTellSteps) (w : World) (h :
         stores = turn_at w slot r e t storages waits.lines.stores waits.once.stores h.stores others;
       }
 
-  choice_lists : TurnsKeepLines → ((slot : ℕ) → IfSome (slice_get w.records slot) LivesAsItRuns) → (choice : Choice) → AreLists (carried_out w choice).after
+  choice_lists : TurnsKeepLines → ((slot : ℕ) → IfSome (slice_get w.records slot) LivesAsItRuns) → (choice : Choice)
+      → AreLists (carried_out w choice).after
   unfolding carried_out
   choice_lists law lives (Run slot) = turn_lists law lives slot (slice_get w.records slot) refl
   choice_lists law lives (Device device) = deed_lists device
-  choice_lists law lives (Pass ticks) = record { writes = h.writes; reads = h.reads; randoms = h.randoms; stores = h.stores }
+  choice_lists law lives (Pass ticks) =
+      record { writes = h.writes; reads = h.reads; randoms = h.randoms; stores = h.stores }
 
-  step_lists : TurnsKeepLines → ((slot : ℕ) → IfSome (slice_get w.records slot) LivesAsItRuns) → (choice : Choice) → AreLists (after w choice)
-  step_lists law lives choice = of_stepped (λ (s : Stepped). AreLists s.after) w choice h (λ ready. choice_lists law lives choice)
+  step_lists : TurnsKeepLines → ((slot : ℕ) → IfSome (slice_get w.records slot) LivesAsItRuns) → (choice : Choice)
+      → AreLists (after w choice)
+  step_lists law lives choice =
+      of_stepped (λ (s : Stepped). AreLists s.after) w choice h (λ ready. choice_lists law lives choice)
 
-pub lists_stay : LinesFollowAnswers → EventsTellSteps → TurnsKeepLines → Stays LivesAsItRuns → ListsStay
+pub lists_stay : LinesFollowAnswers → EventsTellSteps → TurnsKeepLines → HoldsThroughout LivesAsItRuns → ListsStay
 lists_stay follow tell law lives w [] h = h
 lists_stay follow tell law lives w (choice ∷ choices) h =
     lists_stay follow tell law lives (after w choice) choices (record {

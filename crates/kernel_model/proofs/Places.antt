@@ -1,18 +1,22 @@
 -- What a step leaves at each place of the records.
-use Rattle.std.proofs.Common.{◌≡◌, ◌≢◌, ℕ, zero, suc, ◌<◌, Bool, true, false, cond, option_and_then, List, [], ◌∷◌, length, slice_get, slice_set, Option, None, Some, refl, ap, ◌∙◌}
+use Rattle.std.proofs.Common.{◌≡◌, ◌≢◌, ℕ, zero, suc, ◌<◌, Bool, true, false, cond, option_and_then, List, [], ◌∷◌}
+use Rattle.std.proofs.Common.{length, slice_get, slice_set, Option, None, Some, refl, ap, ◌∙◌}
 use Rattle.std.specs.Option.{option_map}
 use Rattle.std.proofs.lemmas.Option.{slice_get_within, slice_get-get_or}
 use Rattle.std.proofs.lemmas.List.{get_or-set_same, length-set}
 use Rattle.kernel_model.specs.Record.{Record}
 use Rattle.kernel_model.specs.Turn.{Turn, Turned, apply, turned}
-use Rattle.kernel_model.specs.World.{Answer, Deed, Stepped, World, after, after_deed, after_turn_of, carried_out, deed_of, done, is_ready, passed, ran, records_after, stepped, told_to, unmade}
-use Rattle.kernel_model.specs.Laws.{answer_of}
+use Rattle.kernel_model.specs.World.{Answer, DeviceStep, Stepped, World, after, after_deed, after_turn_of, carried_out}
+use Rattle.kernel_model.specs.World.{device_step_of, done, is_ready, passed, ran, records_after, stepped, told_to}
+use Rattle.kernel_model.specs.World.{unmade}
+use Rattle.kernel_model.specs.Laws.{answer_told}
 use Rattle.tk_base.specs.declared.process.Choice.{Choice}
 use Rattle.tk_base.specs.declared.process.Choice.TheVariants.{Run, Device, Pass}
 use Rattle.tk_base.specs.declared.process.Dev.{Dev}
 
 -- what holds where nothing is made, and of what a choice that is ready comes to, holds of a step
-pub of_stepped : (P : Stepped → Type 0) (w : World) (choice : Choice) → P (unmade w) → (is_ready w choice ≡ true → P (carried_out w choice)) → P (stepped w choice)
+pub of_stepped : (P : Stepped → Type 0) (w : World) (choice : Choice) → P (unmade w)
+    → (is_ready w choice ≡ true → P (carried_out w choice)) → P (stepped w choice)
 unfolding stepped
 of_stepped P w choice none made = by_ready (is_ready w choice) refl
   where
@@ -29,10 +33,13 @@ pub stepped_else : (w : World) (choice : Choice) → is_ready w choice ≡ false
 unfolding stepped
 stepped_else w choice e = ap (λ (b : Bool). cond b (carried_out w choice) (unmade w)) e
 
-pub slice_get-set_same : {X : Type 0} (xs : List X) (i : ℕ) (y : X) → i < length xs → slice_get (slice_set xs i y) i ≡ Some y
-slice_get-set_same xs i y h = slice_get-get_or (slice_set xs i y) i y (rw length-set h) ∙ ap Some (get_or-set_same xs i y y h)
+pub slice_get-set_same : {X : Type 0} (xs : List X) (i : ℕ) (y : X) → i < length xs
+    → slice_get (slice_set xs i y) i ≡ Some y
+slice_get-set_same xs i y h =
+    slice_get-get_or (slice_set xs i y) i y (rw length-set h) ∙ ap Some (get_or-set_same xs i y y h)
 
-slice_get-set_other : {X : Type 0} (xs : List X) (i j : ℕ) (y : X) → j ≢ i → slice_get (slice_set xs i y) j ≡ slice_get xs j
+slice_get-set_other : {X : Type 0} (xs : List X) (i j : ℕ) (y : X) → j ≢ i
+    → slice_get (slice_set xs i y) j ≡ slice_get xs j
 slice_get-set_other [] i j y ne = refl
 slice_get-set_other (x ∷ xs) zero zero y ne = absurd (ne refl)
 slice_get-set_other (x ∷ xs) zero (suc j) y ne = refl
@@ -40,59 +47,76 @@ slice_get-set_other (x ∷ xs) (suc i) zero y ne = refl
 slice_get-set_other (x ∷ xs) (suc i) (suc j) y ne = slice_get-set_other xs i j y (λ e. ne (ap suc e))
 
 -- the record whose turn it is
-pub ran-own : (w : World) (slot : ℕ) (o : Option Record) → slice_get w.records slot ≡ o → slice_get (ran w slot o).after.records slot ≡ option_map (apply w.settings (Turn w.clock.time)) o
+pub ran-own : (w : World) (slot : ℕ) (o : Option Record) → slice_get w.records slot ≡ o
+    → slice_get (ran w slot o).after.records slot ≡ option_map (apply w.settings (Turn w.clock.time)) o
 unfolding apply
 ran-own w slot None e = e
-ran-own w slot (Some r) e = slice_get-set_same w.records slot (turned w.settings w.clock.time r).after (slice_get_within w.records slot r e)
+ran-own w slot (Some r) e =
+    slice_get-set_same w.records slot (turned w.settings w.clock.time r).after (slice_get_within w.records slot r e)
 
 -- each other record
-pub ran-other : (w : World) (slot other : ℕ) (o : Option Record) → other ≢ slot → slice_get (ran w slot o).after.records other ≡ slice_get w.records other
+pub ran-other : (w : World) (slot other : ℕ) (o : Option Record) → other ≢ slot
+    → slice_get (ran w slot o).after.records other ≡ slice_get w.records other
 ran-other w slot other None ne = refl
-ran-other w slot other (Some r) ne = slice_get-set_other w.records slot other (turned w.settings w.clock.time r).after ne
+ran-other w slot other (Some r) ne =
+    slice_get-set_other w.records slot other (turned w.settings w.clock.time r).after ne
 
 -- the record that a device tells something
-pub told-own : (w : World) (a : Answer) (o : Option Record) → slice_get w.records a.slot ≡ o → slice_get (told_to w a o) a.slot ≡ option_map (apply w.settings a.event) o
+pub told-own : (w : World) (a : Answer) (o : Option Record) → slice_get w.records a.slot ≡ o
+    → slice_get (told_to w a o) a.slot ≡ option_map (apply w.settings a.event) o
 told-own w a None e = e
-told-own w a (Some r) e = slice_get-set_same w.records a.slot (apply w.settings a.event r) (slice_get_within w.records a.slot r e)
+told-own w a (Some r) e =
+    slice_get-set_same w.records a.slot (apply w.settings a.event r) (slice_get_within w.records a.slot r e)
 
 -- each other record
-pub told-other : (w : World) (a : Answer) (other : ℕ) (o : Option Record) → other ≢ a.slot → slice_get (told_to w a o) other ≡ slice_get w.records other
+pub told-other : (w : World) (a : Answer) (other : ℕ) (o : Option Record) → other ≢ a.slot
+    → slice_get (told_to w a o) other ≡ slice_get w.records other
 told-other w a other None ne = refl
 told-other w a other (Some r) ne = slice_get-set_other w.records a.slot other (apply w.settings a.event r) ne
 
 -- what a device step leaves of the records is what it told
-pub acted_records : (w : World) (device : Dev) → (after w (Device device)).records ≡ records_after w (answer_of w device)
+pub acted_records : (w : World) (device : Dev)
+    → (after w (Device device)).records ≡ records_after w (answer_told w device)
 unfolding stepped carried_out
 acted_records w device = by_ready (is_ready w (Device device))
   where
-    by_deed : (o : Option Deed) → (done w o).after.records ≡ records_after w (option_and_then (λ (deed : Deed). deed.told) o)
+    by_deed : (o : Option DeviceStep)
+        → (done w o).after.records ≡ records_after w (option_and_then (λ (deed : DeviceStep). deed.told) o)
     by_deed None = refl
     by_deed (Some deed) = refl
 
-    by_ready : (b : Bool) → (cond b (done w (deed_of w device)) (unmade w)).after.records ≡ records_after w (cond b (option_and_then (λ (deed : Deed). deed.told) (deed_of w device)) None)
-    by_ready true = by_deed (deed_of w device)
+    by_ready : (b : Bool)
+        → (cond b (done w (device_step_of w device)) (unmade w)).after.records
+        ≡ records_after w (cond b (option_and_then (λ (deed : DeviceStep). deed.told) (device_step_of w device)) None)
+    by_ready true = by_deed (device_step_of w device)
     by_ready false = refl
 
 -- what holds of a world holds of the one after a step, where it holds after each turn, each deed and each pass of time
 module _ (P : World → Type 0) (w : World) (before : P w) where
-  of_done : ((deed : Deed) → P (after_deed w deed)) → (o : Option Deed) → P (done w o).after
+  of_done : ((deed : DeviceStep) → P (after_deed w deed)) → (o : Option DeviceStep) → P (done w o).after
   of_done acts None = before
   of_done acts (Some deed) = acts deed
 
-  of_ran : ((slot : ℕ) (t : Turned) → P (after_turn_of w slot t)) → (slot : ℕ) (o : Option Record) → P (ran w slot o).after
+  of_ran : ((slot : ℕ) (t : Turned) → P (after_turn_of w slot t)) → (slot : ℕ) (o : Option Record)
+      → P (ran w slot o).after
   of_ran turns slot None = before
   of_ran turns slot (Some r) = turns slot (turned w.settings w.clock.time r)
 
-  of_carried_out : ((slot : ℕ) (t : Turned) → P (after_turn_of w slot t)) → ((deed : Deed) → P (after_deed w deed)) → ((ticks : ℕ) → P (passed w ticks)) → (choice : Choice) → P (carried_out w choice).after
+  of_carried_out : ((slot : ℕ) (t : Turned) → P (after_turn_of w slot t))
+      → ((deed : DeviceStep) → P (after_deed w deed)) → ((ticks : ℕ) → P (passed w ticks)) → (choice : Choice)
+      → P (carried_out w choice).after
   unfolding carried_out
   of_carried_out turns acts passes (Run slot) = of_ran turns slot (slice_get w.records slot)
-  of_carried_out turns acts passes (Device device) = of_done acts (deed_of w device)
+  of_carried_out turns acts passes (Device device) = of_done acts (device_step_of w device)
   of_carried_out turns acts passes (Pass ticks) = passes ticks
 
-  pub of_world : ((slot : ℕ) (t : Turned) → P (after_turn_of w slot t)) → ((deed : Deed) → P (after_deed w deed)) → ((ticks : ℕ) → P (passed w ticks)) → (choice : Choice) → P (after w choice)
-  of_world turns acts passes choice = of_stepped (λ (s : Stepped). P s.after) w choice before (λ ready. of_carried_out turns acts passes choice)
+  pub of_world : ((slot : ℕ) (t : Turned) → P (after_turn_of w slot t)) → ((deed : DeviceStep) → P (after_deed w deed))
+      → ((ticks : ℕ) → P (passed w ticks)) → (choice : Choice) → P (after w choice)
+  of_world turns acts passes choice =
+      of_stepped (λ (s : Stepped). P s.after) w choice before (λ ready. of_carried_out turns acts passes choice)
 
   -- no turn, in particular
-  pub of_acted : ((deed : Deed) → P (after_deed w deed)) → (device : Dev) → P (after w (Device device))
+  pub of_acted : ((deed : DeviceStep) → P (after_deed w deed)) → (device : Dev) → P (after w (Device device))
   unfolding carried_out
-  of_acted acts device = of_stepped (λ (s : Stepped). P s.after) w (Device device) before (λ ready. of_done acts (deed_of w device))
+  of_acted acts device =
+      of_stepped (λ (s : Stepped). P s.after) w (Device device) before (λ ready. of_done acts (device_step_of w device))

@@ -1,5 +1,7 @@
 -- What a step prints, it prints of a buffer.
-use Rattle.std.proofs.Common.{◌≡◌, ◌<◌, ℕ, ◌+◌, ◌==◌, Bool, true, false, cond, List, [], ◌∷◌, drop, length, slice_get, slice_index, unwrap_or, option_map, Option, None, Some, IfSome, is_some, refl, sym, subst, ◌∙◌, arith}
+use Rattle.std.proofs.Common.{◌≡◌, ◌<◌, ℕ, ◌+◌, ◌==◌, Bool, true, false, cond, List, [], ◌∷◌, drop, length, slice_get}
+use Rattle.std.proofs.Common.{slice_index, unwrap_or, option_map, Option, None, Some, IfSome, is_some, refl, sym, subst}
+use Rattle.std.proofs.Common.{◌∙◌, arith}
 use Rattle.std.specs.Prelude.{All}
 use Rattle.std.proofs.lemmas.Bool.{false≢true}
 use Rattle.std.proofs.lemmas.List.{get_or-drop, get_or-take, length-take}
@@ -8,7 +10,7 @@ use Rattle.tk_base.specs.declared.process.Choice.{Choice}
 use Rattle.tk_base.specs.declared.process.Choice.TheVariants.{Run, Device, Pass}
 use Rattle.tk_base.specs.declared.process.Dev.{Dev}
 use Rattle.tk_base.specs.declared.process.Dev.TheVariants as dev
-use Rattle.script_text.specs.Settings.{Event as Arrival}
+use Rattle.script_text.specs.Settings.{ScriptEvent as Arrival}
 use Rattle.grant_values.specs.declared.console.WaitingWrite.{WaitingWrite}
 use Rattle.driver_model.specs.Alarm.{due_slot}
 use Rattle.driver_model.specs.Console as console
@@ -16,34 +18,50 @@ use Rattle.driver_model.specs.Console.{Sent, console_writes}
 use Rattle.driver_model.specs.Requests.{request_in, waiting_in, waiting_of}
 use Rattle.kernel_model.specs.Record.{Record}
 use Rattle.kernel_model.specs.Turn.{flash_of}
-use Rattle.kernel_model.specs.World.{Answer, Deed, Printed, Stepped, World, alarmed, arrived, carried_out, deed_of, done, drawing, first_of, labels, labels_of, now_in, owns_in, printing, ran, receiving, storing, transmitting}
+use Rattle.kernel_model.specs.World.{Answer, DeviceStep, Printed, Stepped, World, alarmed, arrived, carried_out}
+use Rattle.kernel_model.specs.World.{device_step_of, done, random_step, first_waiting, labels, labels_of, now_in}
+use Rattle.kernel_model.specs.World.{owns_in, printing, ran, receive_step, storing, transmitting}
 use Rattle.kernel_model.specs.Replay.{after_all}
 use Rattle.kernel_model.specs.Prints.{AreOfItsBuffer, PrintsAreOfBuffers, PrintsItsBuffer, buffer_bytes, console_buffer}
 use Rattle.kernel_model.proofs.Places.{of_stepped}
 
 -- the bytes that come next are those of the buffer
 next_of : (write : WaitingWrite) (r : Record) (k : ℕ) → k < length (console.next_bytes (flash_of r) write r.own)
-    → (write.taken + k < (console_buffer r).1) × (slice_index (console.next_bytes (flash_of r) write r.own) k ≡ slice_index (buffer_bytes r) (write.taken + k))
+    → (write.taken + k < (console_buffer r).1)
+    × (slice_index (console.next_bytes (flash_of r) write r.own) k ≡ slice_index (buffer_bytes r) (write.taken + k))
 next_of write r k less =
     let rest = drop write.taken (buffer_bytes r) in
-    let within : k < console.portion write r.own = omega (arith, less, length-take (console.portion write r.own) rest) in
-    (omega (arith, within), get_or-take (console.portion write r.own) rest k 0 within ∙ get_or-drop write.taken (buffer_bytes r) k 0)
+    let within : k < console.portion write r.own =
+    omega (arith, less, length-take (console.portion write r.own) rest) in (
+      omega (arith, within),
+      get_or-take (console.portion write r.own) rest k 0 within
+          ∙ get_or-drop write.taken (buffer_bytes r) k 0,
+    )
 
 if_so : {X : Type 0} (b : Bool) (o : Option X) (x : X) → cond b o None ≡ Some x → (b ≡ true) × (o ≡ Some x)
 if_so true o x e = (refl, e)
 if_so false o x e = cc
 
 -- what the UART prints of a process, if it prints anything
-sent_of : (r : Record) → (length (console.sent (flash_of r) r.own.life r.own).printed == 0) ≡ false → AreOfItsBuffer (console.sent (flash_of r) r.own.life r.own).printed r
+sent_of : (r : Record) → (length (console.sent (flash_of r) r.own.life r.own).printed == 0) ≡ false
+    → AreOfItsBuffer (console.sent (flash_of r) r.own.life r.own).printed r
 unfolding console.sent
 sent_of r = by_waiting (waiting_of console_writes r.own.life r.own) refl
   where
     by_portion : (write : WaitingWrite) (b : Bool) → waiting_of console_writes r.own.life r.own ≡ Some write
-        → let s : Sent = cond b (record { own = console.write_done r.own; printed = []; completed = true }) (record { own = console.taken r.own; printed = console.next_bytes (flash_of r) write r.own; completed = false }) in
+        → let s : Sent =
+        cond b (record { own = console.write_done r.own; printed = []; completed = true })
+        (record {
+          own = console.taken r.own;
+          printed = console.next_bytes (flash_of r) write r.own;
+          completed =
+              false;
+        }) in
         (length s.printed == 0) ≡ false → AreOfItsBuffer s.printed r
     by_portion write true is some = absurd (false≢true (sym some))
     by_portion write false is some =
-        let waits = if_so r.own.lives (request_in console_writes r.own) write (if_so (r.own.life == r.own.life) (waiting_in console_writes r.own) write is).1 in
+        let waits = if_so r.own.lives (request_in console_writes r.own) write
+        (if_so (r.own.life == r.own.life) (waiting_in console_writes r.own) write is).1 in
         record { lives = waits.0; write = write; waits = waits.1; each = next_of write r }
 
     by_waiting : (o : Option WaitingWrite) → waiting_of console_writes r.own.life r.own ≡ o
@@ -54,22 +72,28 @@ sent_of r = by_waiting (waiting_of console_writes r.own.life r.own) refl
 
 module _ (w : World) where
   -- what is told of a deed
-  abbrev Tells : Option Deed → Type 0
+  abbrev Tells : Option DeviceStep → Type 0
   Tells o = All (PrintsItsBuffer w) (done w o).labels
 
-  silent : (deed : Deed) (o : Option Answer) → deed.printed ≡ [] → All (PrintsItsBuffer w) (labels_of deed o)
+  silent : (deed : DeviceStep) (o : Option Answer) → deed.printed ≡ [] → All (PrintsItsBuffer w) (labels_of deed o)
   silent deed None none = All-nil (PrintsItsBuffer w)
   silent deed (Some a) none =
-      All-cons (PrintsItsBuffer w) _ _ tt (subst (λ (bytes : List ℕ). All (PrintsItsBuffer w) (printing a.slot bytes)) (sym none) (All-nil (PrintsItsBuffer w)))
+      All-cons (PrintsItsBuffer w) _ _ tt (subst (λ (bytes : List ℕ). All (PrintsItsBuffer w) (printing a.slot bytes))
+      (sym none) (All-nil (PrintsItsBuffer w)))
 
-  printed : (slot : ℕ) (bytes : List ℕ) → ((length bytes == 0) ≡ false → (is_some (slice_get w.records slot) ≡ true) × IfSome (slice_get w.records slot) (AreOfItsBuffer bytes)) → All (PrintsItsBuffer w) (printing slot bytes)
+  printed : (slot : ℕ) (bytes : List ℕ)
+      → ((length bytes == 0) ≡ false
+      → (is_some (slice_get w.records slot) ≡ true) × IfSome (slice_get w.records slot) (AreOfItsBuffer bytes))
+      → All (PrintsItsBuffer w) (printing slot bytes)
   printed slot bytes each = by_length (length bytes == 0) refl
     where
       by_length : (b : Bool) → (length bytes == 0) ≡ b → All (PrintsItsBuffer w) (cond b [] (Printed slot bytes ∷ []))
       by_length true e = All-nil (PrintsItsBuffer w)
       by_length false e = All-cons (PrintsItsBuffer w) (Printed slot bytes) [] (each e) (All-nil (PrintsItsBuffer w))
 
-  first_tells : (make : World → ℕ → Record → Deed) (line : List ℕ) → ((slot : ℕ) (r : Record) → slice_get w.records slot ≡ Some r → Tells (Some (make w slot r))) → Tells (first_of make w line)
+  first_tells : (make : World → ℕ → Record → DeviceStep) (line : List ℕ)
+      → ((slot : ℕ) (r : Record) → slice_get w.records slot ≡ Some r → Tells (Some (make w slot r)))
+      → Tells (first_waiting make w line)
   first_tells make [] each = All-nil (PrintsItsBuffer w)
   first_tells make (slot ∷ rest) each = by_record (slice_get w.records slot) refl
     where
@@ -80,7 +104,9 @@ module _ (w : World) where
   sends : (slot : ℕ) (r : Record) → slice_get w.records slot ≡ Some r → Tells (Some (transmitting w slot r))
   sends slot r is =
       let bytes = (console.sent (flash_of r) r.own.life r.own).printed in
-      All-cons (PrintsItsBuffer w) _ _ tt (printed slot bytes (λ some. subst (λ (o : Option Record). (is_some o ≡ true) × IfSome o (AreOfItsBuffer bytes)) (sym is) (refl, sent_of r some)))
+      All-cons (PrintsItsBuffer w) _ _ tt (printed slot bytes
+      (λ some. subst (λ (o : Option Record). (is_some o ≡ true) × IfSome o (AreOfItsBuffer bytes)) (sym is)
+      (refl, sent_of r some)))
 
   arrival_tells : (arrivals : List Arrival) → Tells (arrived w.devices arrivals)
   arrival_tells [] = All-nil (PrintsItsBuffer w)
@@ -90,13 +116,18 @@ module _ (w : World) where
   alarm_tells None = All-nil (PrintsItsBuffer w)
   alarm_tells (Some slot) = silent (alarmed w slot) (alarmed w slot).told refl
 
-  deed_tells : (device : Dev) → Tells (deed_of w device)
+  deed_tells : (device : Dev) → Tells (device_step_of w device)
   deed_tells dev.Event = arrival_tells w.devices.arrivals
   deed_tells dev.Alarm = alarm_tells (due_slot (now_in w) (owns_in w))
   deed_tells dev.Uart = first_tells transmitting w.devices.writes sends
-  deed_tells dev.Receive = first_tells receiving w.devices.reads (λ slot r is. silent (receiving w slot r) (receiving w slot r).told refl)
-  deed_tells dev.Random = first_tells drawing w.devices.randoms (λ slot r is. silent (drawing w slot r) (drawing w slot r).told refl)
-  deed_tells dev.Store = first_tells storing w.devices.stores (λ slot r is. silent (storing w slot r) (storing w slot r).told refl)
+  deed_tells dev.Receive =
+      first_tells receive_step w.devices.reads
+      (λ slot r is. silent (receive_step w slot r) (receive_step w slot r).told refl)
+  deed_tells dev.Random =
+      first_tells random_step w.devices.randoms
+      (λ slot r is. silent (random_step w slot r) (random_step w slot r).told refl)
+  deed_tells dev.Store =
+      first_tells storing w.devices.stores (λ slot r is. silent (storing w slot r) (storing w slot r).told refl)
 
   choice_prints : (choice : Choice) → All (PrintsItsBuffer w) (carried_out w choice).labels
   unfolding carried_out
@@ -109,7 +140,9 @@ module _ (w : World) where
   choice_prints (Pass ticks) = All-nil (PrintsItsBuffer w)
 
   step_prints : (choice : Choice) → All (PrintsItsBuffer w) (labels w choice)
-  step_prints choice = of_stepped (λ (s : Stepped). All (PrintsItsBuffer w) s.labels) w choice (All-nil (PrintsItsBuffer w)) (λ ready. choice_prints choice)
+  step_prints choice =
+      of_stepped (λ (s : Stepped). All (PrintsItsBuffer w) s.labels) w choice (All-nil (PrintsItsBuffer w))
+      (λ ready. choice_prints choice)
 
 pub prints_are_of_buffers : PrintsAreOfBuffers
 prints_are_of_buffers w choices choice = step_prints (after_all w choices) choice

@@ -13,8 +13,10 @@ use Rattle.kernel_model.proofs.Comes.{of_call}
 abbrev IsRefusedBy : Record → (CallRule → Reply) → Served → Type 0
 IsRefusedBy r failure s = (rule : CallRule) → rule_shown s.outcome ≡ Some rule → s ≡ refused_with r rule (failure rule)
 
-refused_so : (r : Record) (failure : CallRule → Reply) (broken : CallRule) → IsRefusedBy r failure (refused_with r broken (failure broken))
-refused_so r failure broken rule e = let same : broken ≡ rule = cc in ap (λ (x : CallRule). refused_with r x (failure x)) same
+refused_so : (r : Record) (failure : CallRule → Reply) (broken : CallRule)
+    → IsRefusedBy r failure (refused_with r broken (failure broken))
+refused_so r failure broken rule e = let same : broken ≡ rule = cc in
+    ap (λ (x : CallRule). refused_with r x (failure x)) same
 
 no_rule : (rule : CallRule) → ◌≡◌ {A = Option CallRule} None (Some rule) → ⊥
 no_rule rule e = cc
@@ -22,7 +24,11 @@ no_rule rule e = cc
 pub refused_changes_nothing_else : DriversPromise → RefusedChangesNothingElse
 refused_changes_nothing_else promise around r call =
     of_call (IsRefusedBy r (failure_of call)) promise around r call
-    (record { refused = refused_so r (failure_of call); served = λ s is rule e. absurd (no_rule rule (sym is.no_rule ∙ e)) })
+    (record {
+      refused = refused_so r (failure_of call);
+      served =
+          λ s is rule e. absurd (no_rule rule (sym is.no_rule ∙ e));
+    })
 
 pub none_is_left : DriversPromise → NoneIsLeft
 none_is_left promise around r call =

@@ -10,21 +10,21 @@ use Rattle.tk_base.specs.Regs.{Registers}
 use Rattle.rv32_model.specs.declared.turn_end.TurnEnd.{TurnEnd}
 use Rattle.rv32_model.specs.declared.turn_end.TurnEnd.TheVariants as ends
 use Rattle.rv32_model.specs.Laws.{CallsAreOfEcall}
-use Rattle.rv32_model.specs.UserTurn.{Touch, UserTurn, Write}
+use Rattle.rv32_model.specs.UserTurn.{MemoryAccess, UserTurn, Write}
 use Rattle.syscall_abi.specs.declared.call.Call.{Call as SystemCall}
 use Rattle.syscall_abi.specs.Call.{call_of}
-use Rattle.process_own.specs.Instruction.{ram_after}
-use Rattle.process_own.specs.Permission.{denied}
-use Rattle.driver_model.specs.Commands.{Act}
+use Rattle.process_model.specs.Instruction.{ram_after}
+use Rattle.process_model.specs.Permission.{denied}
+use Rattle.driver_model.specs.Commands.{BoardRequest}
 use Rattle.process_record.specs.declared.process.State.{State}
 use Rattle.process_record.specs.declared.process.State.TheVariants.{Running, Yielded, Faulted, Terminated}
 use Rattle.kernel_model.specs.Record.{Record, byte_at, instruction, with_effect}
 use Rattle.kernel_model.specs.declared.settings.Settings.{Settings}
 use Rattle.kernel_model.specs.Calls.{Served, failure_of, refused_with, served}
-use Rattle.kernel_model.specs.Turn.{Turned, calls, counted, delivery, ended, surroundings, turn_in, turned}
-use Rattle.kernel_model.specs.World.{Stepped, World, after_turn_of, carried_out, deed_of, ran, routed}
+use Rattle.kernel_model.specs.Turn.{Turned, calls, turn_counted, delivery, at_turn_end, surroundings, turn_in, turned}
+use Rattle.kernel_model.specs.World.{Stepped, World, after_turn_of, carried_out, device_step_of, ran, routed}
 use Rattle.kernel_model.specs.Laws.{RefusedChangesNothingElse}
-use Rattle.kernel_model.specs.Refused.{IfRefused, IsRefused, LeavesRefused, RefusalsChangeLittle, refusal_in}
+use Rattle.kernel_model.specs.Refused.{IfRefused, CallIsRefused, LeavesRefused, RefusalsChangeLittle, refusal_in}
 use Rattle.kernel_model.proofs.Labels.{done_labels}
 use Rattle.kernel_model.proofs.Places.{of_stepped}
 
@@ -32,26 +32,36 @@ no_rule : (rule : CallRule) → ◌≡◌ {A = Option CallRule} None (Some rule)
 no_rule rule e = cc
 
 -- an instruction that leaves the registers and writes nothing only counts
-pub only_counts : (r : Record) (t : UserTurn) → t.regs ≡ r.process.regs → t.write ≡ None → with_effect (counted r) t ≡ counted r
+pub only_counts : (r : Record) (t : UserTurn) → t.regs ≡ r.process.regs → t.write ≡ None
+    → with_effect (turn_counted r) t ≡ turn_counted r
 unfolding ram_after
 only_counts r t regs write =
-    ap₂ (λ (x : Registers) (w : Option Write). record (counted r) { process = record (counted r).process { regs = x }; own = record r.own { ram = ram_after r.own.layout.start w r.own.ram } }) regs write
+    ap₂ (λ (x : Registers) (w : Option Write). record (turn_counted r) {
+      process = record (turn_counted r).process { regs = x };
+      own =
+          record r.own { ram = ram_after r.own.layout.start w r.own.ram };
+    }) regs write
 
 module _ (law : RefusedChangesNothingElse) (of_ecall : CallsAreOfEcall) (settings : Settings) (time : ℕ) where
   -- what a turn leaves whose call was refused
   abbrev Refuses : Record → Turned → Type 0
-  Refuses r t = (rule : CallRule) → refusal_in t.told ≡ Some rule → IsRefused rule r t.after × (t.acts ≡ [])
+  Refuses r t = (rule : CallRule) → refusal_in t.told ≡ Some rule → CallIsRefused rule r t.after × (t.acts ≡ [])
 
-  of_calls : (r : Record) (accesses : List Touch) (call : Option SystemCall) → call_of r.process.regs ≡ call → Refuses r (calls settings time (counted r) accesses call)
+  of_calls : (r : Record) (accesses : List MemoryAccess) (call : Option SystemCall) → call_of r.process.regs ≡ call
+      → Refuses r (calls settings time (turn_counted r) accesses call)
   of_calls r accesses None is rule e = absurd (no_rule rule e)
   of_calls r accesses (Some call) is rule e =
-      let same : served (surroundings settings time) (counted r) call ≡ refused_with (counted r) rule (failure_of call rule) = law (surroundings settings time) (counted r) call rule e in
+      let same : served (surroundings settings time) (turn_counted r) call
+      ≡ refused_with (turn_counted r) rule (failure_of call rule) =
+      law (surroundings settings time) (turn_counted r) call rule e in
       ((call, is, ap (λ (s : Served). s.after) same), ap (λ (s : Served). s.acts) same)
 
-  of_end : (r s : Record) (accesses : List Touch) (end : TurnEnd) → (end ≡ ends.Call → s ≡ counted r) → Refuses r (ended settings time s accesses end)
+  of_end : (r s : Record) (accesses : List MemoryAccess) (end : TurnEnd) → (end ≡ ends.Call → s ≡ turn_counted r)
+      → Refuses r (at_turn_end settings time s accesses end)
   of_end r s accesses ends.Went same rule e = absurd (no_rule rule e)
   of_end r s accesses ends.Call same rule e =
-      subst (λ (x : Record). Refuses r (calls settings time x accesses (call_of x.process.regs))) (sym (same refl)) (of_calls r accesses (call_of r.process.regs) refl) rule e
+      subst (λ (x : Record). Refuses r (calls settings time x accesses (call_of x.process.regs))) (sym (same refl))
+      (of_calls r accesses (call_of r.process.regs) refl) rule e
   of_end r s accesses (ends.Trap denial) same rule e = absurd (no_rule rule e)
 
   of_delivery : (r : Record) (pending : List Scheduled) → Refuses r (delivery r pending)
@@ -61,8 +71,9 @@ module _ (law : RefusedChangesNothingElse) (of_ecall : CallsAreOfEcall) (setting
   of_state : (state : State) (r : Record) → Refuses r (turn_in settings time state r)
   of_state Running r rule e =
       let t = instruction r in
-      of_end r (with_effect (counted r) t) t.accesses t.end
-      (λ calls. let is = of_ecall (denied r.own.layout) (byte_at r) r.process.regs calls in only_counts r t is.1 is.2) rule e
+      of_end r (with_effect (turn_counted r) t) t.accesses t.end
+      (λ calls. let is = of_ecall (denied r.own.layout) (byte_at r) r.process.regs calls in only_counts r t is.1 is.2)
+      rule e
   of_state Yielded r rule e = of_delivery r r.own.pending rule e
   of_state Faulted r rule e = absurd (no_rule rule e)
   of_state (Terminated code) r rule e = absurd (no_rule rule e)
@@ -72,9 +83,12 @@ module _ (law : RefusedChangesNothingElse) (of_ecall : CallsAreOfEcall) (setting
   of_turn r = of_state r.process.state r
 
 module _ (law : RefusedChangesNothingElse) (of_ecall : CallsAreOfEcall) (w : World) where
-  of_ran : (slot : ℕ) (o : Option Record) → slice_get w.records slot ≡ o → let s = ran w slot o in All (IfRefused w s.after) s.labels
+  of_ran : (slot : ℕ) (o : Option Record) → slice_get w.records slot ≡ o → let s = ran w slot o in
+      All (IfRefused w s.after) s.labels
   of_ran slot None is = All-nil (IfRefused w w)
-  of_ran slot (Some r) is = All-cons (IfRefused w (after_turn_of w slot t)) _ [] (λ rule e. leaves rule e) (All-nil (IfRefused w (after_turn_of w slot t)))
+  of_ran slot (Some r) is =
+      All-cons (IfRefused w (after_turn_of w slot t)) _ [] (λ rule e. leaves rule e)
+      (All-nil (IfRefused w (after_turn_of w slot t)))
     where
       t : Turned
       t = turned w.settings w.clock.time r
@@ -87,15 +101,18 @@ module _ (law : RefusedChangesNothingElse) (of_ecall : CallsAreOfEcall) (w : Wor
             after = t.after;
             is_there = is;
             refused = is_so.0;
-            world = ap (λ (acts : List Act). record (after_turn_of w slot t) { devices = routed slot acts w.devices }) is_so.1;
+            world = ap (λ (acts : List BoardRequest). record (after_turn_of w slot t)
+                { devices = routed slot acts w.devices }) is_so.1;
           }
 
   of_choice : (choice : Choice) → let s = carried_out w choice in All (IfRefused w s.after) s.labels
   unfolding carried_out
   of_choice (Run slot) = of_ran slot (slice_get w.records slot) refl
-  of_choice (Device device) = done_labels (IfRefused w _) (λ slot event. tt) (λ slot bytes. tt) w (deed_of w device)
+  of_choice (Device device) =
+      done_labels (IfRefused w _) (λ slot event. tt) (λ slot bytes. tt) w (device_step_of w device)
   of_choice (Pass ticks) = All-nil (IfRefused w _)
 
 pub refusals_change_little : RefusedChangesNothingElse → CallsAreOfEcall → RefusalsChangeLittle
 refusals_change_little law of_ecall w choice =
-    of_stepped (λ (s : Stepped). All (IfRefused w s.after) s.labels) w choice (All-nil (IfRefused w w)) (λ ready. of_choice law of_ecall w choice)
+    of_stepped (λ (s : Stepped). All (IfRefused w s.after) s.labels) w choice (All-nil (IfRefused w w))
+    (λ ready. of_choice law of_ecall w choice)

@@ -1,5 +1,6 @@
 -- A record after any choices, by the choices one after another.
-use Rattle.std.proofs.Common.{◌≡◌, ◌≢◌, ℕ, zero, suc, ◌==◌, Bool, true, false, cond, List, [], ◌∷◌, ◌++◌, length, slice_get, Option, None, Some, refl, sym, ap, subst, ◌∙◌, arith}
+use Rattle.std.proofs.Common.{◌≡◌, ◌≢◌, ℕ, zero, suc, ◌==◌, Bool, true, false, cond, List, [], ◌∷◌, ◌++◌, length}
+use Rattle.std.proofs.Common.{slice_get, Option, None, Some, refl, sym, ap, subst, ◌∙◌, arith}
 use Rattle.std.specs.List.{flat_map}
 use Rattle.std.specs.Option.{option_map}
 use Rattle.std.proofs.lemmas.Bool.Decides.{nat_tests}
@@ -8,20 +9,24 @@ use Rattle.tk_base.specs.declared.process.Choice.TheVariants.{Run, Device, Pass}
 use Rattle.kernel_model.specs.Record.{Record}
 use Rattle.kernel_model.specs.declared.settings.Settings.{Settings}
 use Rattle.kernel_model.specs.Turn.{Event, Turn, apply}
-use Rattle.kernel_model.specs.World.{Answer, Deed, Label, Printed, Stepped, World, after, carried_out, deed_of, done, labels_of, printing, ran, records_after, stepped}
-use Rattle.kernel_model.specs.Run.{next, on_choice, round, stays, goes_on}
-use Rattle.kernel_model.specs.Replay.{after_all, chosen, events, happened, history, replay, RecordIsReplay, RoundFollowsChoices, SameHistorySameRecord}
+use Rattle.kernel_model.specs.World.{Answer, DeviceStep, Label, Printed, Stepped, World, after, carried_out}
+use Rattle.kernel_model.specs.World.{device_step_of, done, labels_of, printing, ran, records_after, stepped}
+use Rattle.kernel_model.specs.Run.{next, on_choice, round, stays, runs_on}
+use Rattle.kernel_model.specs.Replay.{after_all, chosen, events, happened, history, replay, RecordIsReplay}
+use Rattle.kernel_model.specs.Replay.{RoundFollowsChoices, SameHistorySameRecord}
 use Rattle.kernel_model.proofs.Places.{of_stepped, of_world, ran-other, ran-own, told-other, told-own}
 
 -- no step changes the settings
 pub kept_settings : (w : World) (choice : Choice) → (after w choice).settings ≡ w.settings
-kept_settings w choice = of_world (λ v. v.settings ≡ w.settings) w refl (λ slot t. refl) (λ deed. refl) (λ ticks. refl) choice
+kept_settings w choice =
+    of_world (λ v. v.settings ≡ w.settings) w refl (λ slot t. refl) (λ deed. refl) (λ ticks. refl) choice
 
 mapped_none : (settings : Settings) (o : Option Record) → o ≡ option_map (replay settings []) o
 mapped_none settings None = refl
 mapped_none settings (Some r) = refl
 
-replayed_once : (settings : Settings) (event : Event) (o : Option Record) → option_map (apply settings event) o ≡ option_map (replay settings (event ∷ [])) o
+replayed_once : (settings : Settings) (event : Event) (o : Option Record)
+    → option_map (apply settings event) o ≡ option_map (replay settings (event ∷ [])) o
 replayed_once settings event None = refl
 replayed_once settings event (Some r) = refl
 
@@ -29,13 +34,17 @@ replayed_once settings event (Some r) = refl
 lands : (w : World) (records : List Record) (at slot : ℕ) (event : Event)
     → slice_get records at ≡ option_map (apply w.settings event) (slice_get w.records at)
     → ((other : ℕ) → other ≢ at → slice_get records other ≡ slice_get w.records other)
-    → slice_get records slot ≡ option_map (replay w.settings (cond (at == slot) (event ∷ []) [] ++ [])) (slice_get w.records slot)
+    → slice_get records slot
+    ≡ option_map (replay w.settings (cond (at == slot) (event ∷ []) [] ++ [])) (slice_get w.records slot)
 lands w records at slot event own others = by_slot (at == slot) refl
   where
-    by_slot : (b : Bool) → at == slot ≡ b → slice_get records slot ≡ option_map (replay w.settings (cond b (event ∷ []) [] ++ [])) (slice_get w.records slot)
+    by_slot : (b : Bool) → at == slot ≡ b
+        → slice_get records slot
+        ≡ option_map (replay w.settings (cond b (event ∷ []) [] ++ [])) (slice_get w.records slot)
     by_slot true e =
         let same : at ≡ slot = grind (arith, nat_tests) in
-        subst (λ (s : ℕ). slice_get records s ≡ option_map (replay w.settings (event ∷ [])) (slice_get w.records s)) same
+        subst (λ (s : ℕ). slice_get records s ≡ option_map (replay w.settings (event ∷ [])) (slice_get w.records s))
+        same
         (own ∙ replayed_once w.settings event (slice_get w.records at))
     by_slot false e =
         let apart : slot ≢ at = λ same. grind (arith, nat_tests) in
@@ -43,47 +52,63 @@ lands w records at slot event own others = by_slot (at == slot) refl
 
 -- what a step told, as what happened to a slot
 abbrev replayed : World → ℕ → Stepped → Type 0
-replayed w slot s = slice_get s.after.records slot ≡ option_map (replay w.settings (flat_map (happened slot) s.labels)) (slice_get w.records slot)
+replayed w slot s =
+    slice_get s.after.records slot
+    ≡ option_map (replay w.settings (flat_map (happened slot) s.labels)) (slice_get w.records slot)
 
-ran_replayed : (w : World) (other slot : ℕ) (o : Option Record) → slice_get w.records other ≡ o → replayed w slot (ran w other o)
+ran_replayed : (w : World) (other slot : ℕ) (o : Option Record) → slice_get w.records other ≡ o
+    → replayed w slot (ran w other o)
 ran_replayed w other slot None e = mapped_none w.settings (slice_get w.records slot)
 ran_replayed w other slot (Some r) e =
     lands w (ran w other (Some r)).after.records other slot (Turn w.clock.time)
-    (ran-own w other (Some r) e ∙ ap (option_map (apply w.settings (Turn w.clock.time))) (sym e)) (λ s ne. ran-other w other s (Some r) ne)
+    (ran-own w other (Some r) e ∙ ap (option_map (apply w.settings (Turn w.clock.time))) (sym e))
+    (λ s ne. ran-other w other s (Some r) ne)
 
 -- what reads nothing of what is printed
-pub nothing_printed : {X : Type 0} (read : Label → List X) (at : ℕ) (bytes : List ℕ) → read (Printed at bytes) ≡ [] → flat_map read (printing at bytes) ≡ []
+pub nothing_printed : {X : Type 0} (read : Label → List X) (at : ℕ) (bytes : List ℕ) → read (Printed at bytes) ≡ []
+    → flat_map read (printing at bytes) ≡ []
 nothing_printed {X = X} read at bytes none = by_length (length bytes == 0)
   where
     by_length : (b : Bool) → flat_map read (cond b [] (Printed at bytes ∷ [])) ≡ []
     by_length true = refl
     by_length false = ap (λ (read_of : List X). read_of ++ []) none
 
-told_replayed : (w : World) (deed : Deed) (slot : ℕ) (o : Option Answer) → slice_get (records_after w o) slot ≡ option_map (replay w.settings (flat_map (happened slot) (labels_of deed o))) (slice_get w.records slot)
+told_replayed : (w : World) (deed : DeviceStep) (slot : ℕ) (o : Option Answer)
+    → slice_get (records_after w o) slot
+    ≡ option_map (replay w.settings (flat_map (happened slot) (labels_of deed o))) (slice_get w.records slot)
 told_replayed w deed slot None = mapped_none w.settings (slice_get w.records slot)
 told_replayed w deed slot (Some a) =
-    lands w (records_after w (Some a)) a.slot slot a.event (told-own w a (slice_get w.records a.slot) refl) (λ other ne. told-other w a other (slice_get w.records a.slot) ne)
-    ∙ ap (λ (rest : List Event). option_map (replay w.settings (cond (a.slot == slot) (a.event ∷ []) [] ++ rest)) (slice_get w.records slot)) (sym (nothing_printed (happened slot) a.slot deed.printed refl))
+    lands w (records_after w (Some a)) a.slot slot a.event (told-own w a (slice_get w.records a.slot) refl)
+    (λ other ne. told-other w a other (slice_get w.records a.slot) ne)
+    ∙ ap (λ (rest : List Event). option_map (replay w.settings (cond (a.slot == slot) (a.event ∷ []) [] ++ rest))
+    (slice_get w.records slot)) (sym (nothing_printed (happened slot) a.slot deed.printed refl))
 
-deed_replayed : (w : World) (slot : ℕ) (o : Option Deed) → replayed w slot (done w o)
+deed_replayed : (w : World) (slot : ℕ) (o : Option DeviceStep) → replayed w slot (done w o)
 deed_replayed w slot None = mapped_none w.settings (slice_get w.records slot)
 deed_replayed w slot (Some deed) = told_replayed w deed slot deed.told
 
 choice_replayed : (w : World) (choice : Choice) (slot : ℕ) → replayed w slot (carried_out w choice)
 unfolding carried_out
 choice_replayed w (Run other) slot = ran_replayed w other slot (slice_get w.records other) refl
-choice_replayed w (Device device) slot = deed_replayed w slot (deed_of w device)
+choice_replayed w (Device device) slot = deed_replayed w slot (device_step_of w device)
 choice_replayed w (Pass ticks) slot = mapped_none w.settings (slice_get w.records slot)
 
 -- a step is the replay of what it does to the process
-pub one_step : (w : World) (choice : Choice) (slot : ℕ) → slice_get (after w choice).records slot ≡ option_map (replay w.settings (events slot w choice)) (slice_get w.records slot)
-one_step w choice slot = of_stepped (replayed w slot) w choice (mapped_none w.settings (slice_get w.records slot)) (λ ready. choice_replayed w choice slot)
+pub one_step : (w : World) (choice : Choice) (slot : ℕ)
+    → slice_get (after w choice).records slot
+    ≡ option_map (replay w.settings (events slot w choice)) (slice_get w.records slot)
+one_step w choice slot =
+    of_stepped (replayed w slot) w choice (mapped_none w.settings (slice_get w.records slot))
+    (λ ready. choice_replayed w choice slot)
 
-replay_joined : (settings : Settings) (first then : List Event) (r : Record) → replay settings then (replay settings first r) ≡ replay settings (first ++ then) r
+replay_joined : (settings : Settings) (first then : List Event) (r : Record)
+    → replay settings then (replay settings first r) ≡ replay settings (first ++ then) r
 replay_joined settings [] then r = refl
 replay_joined settings (e ∷ es) then r = replay_joined settings es then (apply settings e r)
 
-replayed_joined : (settings : Settings) (first then : List Event) (o : Option Record) → option_map (replay settings then) (option_map (replay settings first) o) ≡ option_map (replay settings (first ++ then)) o
+replayed_joined : (settings : Settings) (first then : List Event) (o : Option Record)
+    → option_map (replay settings then) (option_map (replay settings first) o)
+    ≡ option_map (replay settings (first ++ then)) o
 replayed_joined settings first then None = refl
 replayed_joined settings first then (Some r) = ap Some (replay_joined settings first then r)
 
@@ -92,7 +117,8 @@ record_is_replay w [] slot = mapped_none w.settings (slice_get w.records slot)
 record_is_replay w (choice ∷ choices) slot =
     let v = after w choice in
     record_is_replay v choices slot
-    ∙ ap (λ (s : Settings). option_map (replay s (history slot v choices)) (slice_get v.records slot)) (kept_settings w choice)
+    ∙ ap (λ (s : Settings). option_map (replay s (history slot v choices)) (slice_get v.records slot))
+    (kept_settings w choice)
     ∙ ap (option_map (replay w.settings (history slot v choices))) (one_step w choice slot)
     ∙ replayed_joined w.settings (events slot w choice) (history slot v choices) (slice_get w.records slot)
 
@@ -109,6 +135,10 @@ unfolding round chosen
 round_follows_choices zero w = refl
 round_follows_choices (suc n) w = by_choice (next w) (λ choice. round_follows_choices n (after w choice))
   where
-    by_choice : (o : Option Choice) → ((choice : Choice) → (round n (after w choice)).world ≡ after_all (after w choice) (chosen n (after w choice))) → (on_choice (stays w) (λ choice. goes_on (round n) (stepped w choice)) o).world ≡ after_all w (on_choice [] (λ choice. choice ∷ chosen n (after w choice)) o)
+    by_choice : (o : Option Choice)
+        → ((choice : Choice)
+        → (round n (after w choice)).world ≡ after_all (after w choice) (chosen n (after w choice)))
+        → (on_choice (stays w) (λ choice. runs_on (round n) (stepped w choice)) o).world
+        ≡ after_all w (on_choice [] (λ choice. choice ∷ chosen n (after w choice)) o)
     by_choice None later = refl
     by_choice (Some choice) later = later choice

@@ -2,15 +2,16 @@
 use Rattle.std.proofs.Common.{◌≡◌, true, Option, None, Some, is_some, [], refl, Result, Ok, Err}
 use Rattle.tbf_headers.specs.declared.fault.HeaderFault.{HeaderFault}
 use Rattle.tbf_headers.specs.declared.program.Main.{Main}
-use Rattle.tbf_headers.specs.Meaning.{Meaning, reading}
+use Rattle.tbf_headers.specs.Meaning.{Meaning, header_reading}
 use Rattle.kernel_model.specs.Record.{Record}
 use Rattle.kernel_model.specs.Calls.{restart, restarted_by, restarted_main, restarted_with}
 use Rattle.kernel_model.specs.Laws.{CanStartAgain, main_by}
 
 -- what holds of it at each header and start holds of it
-pub restarts : (P : Record → Type 0) (r : Record) → CanStartAgain r → ((h : Meaning) (m : Main) → P (restarted_with r h m)) → P (restart r)
+pub restarts : (P : Record → Type 0) (r : Record) → CanStartAgain r
+    → ((h : Meaning) (m : Main) → P (restarted_with r h m)) → P (restart r)
 unfolding restart
-restarts P r can each = by_reading (reading r.object) can
+restarts P r can each = by_reading (header_reading r.object) can
   where
     by_main : (h : Meaning) (m : Option Main) → is_some m ≡ true → P (restarted_main r h m)
     by_main h None can = absurd (cc)

@@ -1,5 +1,7 @@
 -- The next choice of the round robin is ready.
-use Rattle.std.proofs.Common.{◌≡◌, ℕ, zero, suc, ◌+◌, ◌-◌, ◌<◌, Bool, true, false, cond, ◌&&◌, nat_le, nat_lt, List, [], ◌∷◌, map, find, slice_get, slice_index_or, Option, None, Some, is_some, IfSome, IsTrue, refl, sym, ap, subst, ◌∙◌, arith}
+use Rattle.std.proofs.Common.{◌≡◌, ℕ, zero, suc, ◌+◌, ◌-◌, ◌<◌, Bool, true, false, cond, ◌&&◌, nat_le, nat_lt, List, []}
+use Rattle.std.proofs.Common.{◌∷◌, map, find, slice_get, slice_index_or, Option, None, Some, is_some, IfSome, IsTrue}
+use Rattle.std.proofs.Common.{refl, sym, ap, subst, ◌∙◌, arith}
 use Rattle.std.specs.Option.{option_map, option_or}
 use Rattle.std.proofs.lemmas.Bool.Decides.{nat_tests}
 use Rattle.tk_base.specs.declared.limits.TheConstants.{STEP_LIMIT}
@@ -7,36 +9,42 @@ use Rattle.tk_base.specs.declared.process.Choice.{Choice}
 use Rattle.tk_base.specs.declared.process.Choice.TheVariants.{Run, Device, Pass}
 use Rattle.tk_base.specs.declared.process.Dev.{Dev}
 use Rattle.tk_base.specs.declared.process.Dev.TheVariants.{Event, Alarm, Uart, Receive, Random, Store}
-use Rattle.turn_scheduler.specs.RoundRobin.{choice, device_order, is_ready as is_ready_at, next_slot, place_of, ready_device, slots_after}
+use Rattle.turn_scheduler.specs.RoundRobin.{choice, device_order, place_is_ready as is_ready_at, next_slot}
+use Rattle.turn_scheduler.specs.RoundRobin.{device_place, ready_device, slots_after}
 use Rattle.driver_model.specs.Alarm.{due_slot, nearer, next_left}
 use Rattle.driver_model.specs.Laws.{IsDueWhereNoneAreLeft}
-use Rattle.script_text.specs.Settings.{Event as Arrival}
-use Rattle.board_devices.specs.Arriving.{is_time, next_time as arrival_time}
+use Rattle.script_text.specs.Settings.{ScriptEvent as Arrival}
+use Rattle.board_devices.specs.Arriving.{is_time, first_arrival_time as arrival_time}
 use Rattle.kernel_model.specs.Record.{Record}
 use Rattle.kernel_model.specs.Turn.{may_turn}
-use Rattle.kernel_model.specs.World.{Devices, World, can_act, can_run, is_ready, is_waited_for, may_be_made, now_in, owns_in}
+use Rattle.kernel_model.specs.World.{Devices, World, can_act, can_run, is_ready, is_waited_for, may_be_made, now_in}
+use Rattle.kernel_model.specs.World.{owns_in}
 use Rattle.kernel_model.specs.Run.{alarm_time, next, next_time, ready_devices, ready_slots, sending_time}
 
 pub found_passes : {X : Type 0} (p : X → Bool) (xs : List X) (x : X) → find p xs ≡ Some x → p x ≡ true
 found_passes p [] x e = cc
 found_passes p (y ∷ ys) x e = by_test (p y) refl e (found_passes p ys x)
   where
-    by_test : (b : Bool) → p y ≡ b → cond b (Some y) (find p ys) ≡ Some x → (find p ys ≡ Some x → p x ≡ true) → p x ≡ true
+    by_test : (b : Bool) → p y ≡ b → cond b (Some y) (find p ys) ≡ Some x → (find p ys ≡ Some x → p x ≡ true)
+        → p x ≡ true
     by_test true f g later = let same : y ≡ x = cc in ap p (sym same) ∙ f
     by_test false f g later = later g
 
 -- the slot that is next is ready
-pub next_slot_ready : (ready : List Bool) (present : Option ℕ) (used slice s : ℕ) → next_slot ready present used slice ≡ Some s → is_ready_at ready s ≡ true
+pub next_slot_ready : (ready : List Bool) (present : Option ℕ) (used slice s : ℕ)
+    → next_slot ready present used slice ≡ Some s → is_ready_at ready s ≡ true
 unfolding next_slot
 next_slot_ready ready None used slice s e = found_passes (is_ready_at ready) (slots_after None) s e
 next_slot_ready ready (Some p) used slice s e = by_ready (is_ready_at ready p) (nat_lt used slice) refl e
   where
-    by_ready : (r u : Bool) → is_ready_at ready p ≡ r → cond (r && u) (Some p) (find (is_ready_at ready) (slots_after (Some p))) ≡ Some s → is_ready_at ready s ≡ true
+    by_ready : (r u : Bool) → is_ready_at ready p ≡ r
+        → cond (r && u) (Some p) (find (is_ready_at ready) (slots_after (Some p))) ≡ Some s → is_ready_at ready s ≡ true
     by_ready true true f g = let same : p ≡ s = cc in ap (is_ready_at ready) (sym same) ∙ f
     by_ready true false f g = found_passes (is_ready_at ready) (slots_after (Some p)) s g
     by_ready false u f g = found_passes (is_ready_at ready) (slots_after (Some p)) s g
 
-pub ready_runs : (records : List Record) (s : ℕ) → slice_index_or (map may_turn records) s false ≡ true → can_run (slice_get records s) ≡ true
+pub ready_runs : (records : List Record) (s : ℕ) → slice_index_or (map may_turn records) s false ≡ true
+    → can_run (slice_get records s) ≡ true
 ready_runs [] s e = e
 ready_runs (r ∷ rs) zero e = e
 ready_runs (r ∷ rs) (suc s) e = ready_runs rs s e
@@ -45,10 +53,11 @@ no_choice : {P : Type 0} (c : Choice) → ◌≡◌ {A = Option Choice} None (So
 no_choice c e = cc
 
 -- a choice that may be made is ready below the limit of steps
-below_limit : (w : World) (b : Bool) → b ≡ true → w.clock.steps < STEP_LIMIT → IsTrue (nat_lt w.clock.steps STEP_LIMIT && b)
+below_limit : (w : World) (b : Bool) → b ≡ true → w.clock.steps < STEP_LIMIT
+    → IsTrue (nat_lt w.clock.steps STEP_LIMIT && b)
 below_limit w b e h = grind (arith, nat_tests)
 
-pub ready_at : (w : World) (device : Dev) → is_ready_at (ready_devices w) (place_of device) ≡ can_act w device
+pub ready_at : (w : World) (device : Dev) → is_ready_at (ready_devices w) (device_place device) ≡ can_act w device
 ready_at w Event = refl
 ready_at w Alarm = refl
 ready_at w Uart = refl
@@ -58,9 +67,11 @@ ready_at w Store = refl
 
 device_ready : (w : World) (device : Dev) → ready_device (ready_devices w) ≡ Some device → can_act w device ≡ true
 unfolding ready_device
-device_ready w device e = sym (ready_at w device) ∙ found_passes (λ d. is_ready_at (ready_devices w) (place_of d)) device_order device e
+device_ready w device e =
+    sym (ready_at w device) ∙ found_passes (λ d. is_ready_at (ready_devices w) (device_place d)) device_order device e
 
-pub passed_over : {X : Type 0} (b : Bool) (x : X) (rest : Option X) → cond b (Some x) rest ≡ None → (b ≡ false) × (rest ≡ None)
+pub passed_over : {X : Type 0} (b : Bool) (x : X) (rest : Option X) → cond b (Some x) rest ≡ None
+    → (b ≡ false) × (rest ≡ None)
 passed_over true x rest e = cc
 passed_over false x rest e = (refl, e)
 
@@ -87,7 +98,8 @@ nearer_ahead time None b p q = q
 nearer_ahead time (Some m) None p q = p
 nearer_ahead time (Some m) (Some n) p q = omega (arith, p, q)
 
-arrival_ahead : (time : ℕ) (arrivals : List Arrival) → is_time time arrivals ≡ false → Ahead time (arrival_time arrivals)
+arrival_ahead : (time : ℕ) (arrivals : List Arrival) → is_time time arrivals ≡ false
+    → Ahead time (arrival_time arrivals)
 arrival_ahead time [] e = tt
 arrival_ahead time (arrival ∷ rest) e = grind (arith, nat_tests)
 
@@ -98,12 +110,15 @@ alarm_ahead w law none = by_left (next_left (now_in w) (owns_in w)) refl
     not_both true h e = cc
     not_both false h e = cc
 
-    by_left : (left : Option ℕ) → next_left (now_in w) (owns_in w) ≡ left → Ahead w.clock.time (option_map (λ ticks. w.clock.time + ticks) left)
+    by_left : (left : Option ℕ) → next_left (now_in w) (owns_in w) ≡ left
+        → Ahead w.clock.time (option_map (λ ticks. w.clock.time + ticks) left)
     by_left None e = tt
-    by_left (Some zero) e = absurd (not_both (is_some (due_slot (now_in w) (owns_in w))) ((law (now_in w) (owns_in w)).0 e) none)
+    by_left (Some zero) e =
+        absurd (not_both (is_some (due_slot (now_in w) (owns_in w))) ((law (now_in w) (owns_in w)).0 e) none)
     by_left (Some (suc ticks)) e = omega arith
 
-sending_ahead : (time : ℕ) (d : Devices) → (is_waited_for d.writes && nat_le d.line.free time) ≡ false → Ahead time (sending_time d)
+sending_ahead : (time : ℕ) (d : Devices) → (is_waited_for d.writes && nat_le d.line.free time) ≡ false
+    → Ahead time (sending_time d)
 sending_ahead time d e = by_waiting (is_waited_for d.writes) e
   where
     by_waiting : (b : Bool) → (b && nat_le d.line.free time) ≡ false → Ahead time (cond b (Some d.line.free) None)
@@ -111,15 +126,18 @@ sending_ahead time d e = by_waiting (is_waited_for d.writes) e
     by_waiting false f = tt
 
 -- the nearest time at which a device step becomes ready lies ahead, where none is
-pub lies_ahead : (w : World) → IsDueWhereNoneAreLeft → ready_device (ready_devices w) ≡ None → IfSome (next_time w) (λ at. w.clock.time < at)
+pub lies_ahead : (w : World) → IsDueWhereNoneAreLeft → ready_device (ready_devices w) ≡ None
+    → IfSome (next_time w) (λ at. w.clock.time < at)
 lies_ahead w law none =
     let n = none_acts w none in
     nearer_ahead w.clock.time (arrival_time w.devices.arrivals) (nearer (alarm_time w) (sending_time w.devices))
     (arrival_ahead w.clock.time w.devices.arrivals n.event)
-    (nearer_ahead w.clock.time (alarm_time w) (sending_time w.devices) (alarm_ahead w law n.alarm) (sending_ahead w.clock.time w.devices n.uart))
+    (nearer_ahead w.clock.time (alarm_time w) (sending_time w.devices) (alarm_ahead w law n.alarm)
+    (sending_ahead w.clock.time w.devices n.uart))
 
 module _ (w : World) (c : Choice) (law : IsDueWhereNoneAreLeft) (h : w.clock.steps < STEP_LIMIT) where
-  by_time : (at : Option ℕ) → Ahead w.clock.time at → option_map (λ n. Pass (n - w.clock.time)) at ≡ Some c → IsTrue (is_ready w c)
+  by_time : (at : Option ℕ) → Ahead w.clock.time at → option_map (λ n. Pass (n - w.clock.time)) at ≡ Some c
+      → IsTrue (is_ready w c)
   unfolding may_be_made
   by_time None ahead f = no_choice c f
   by_time (Some at) ahead f =
@@ -129,15 +147,22 @@ module _ (w : World) (c : Choice) (law : IsDueWhereNoneAreLeft) (h : w.clock.ste
       above : nat_lt 0 (at - w.clock.time) ≡ true
       above = grind (arith, nat_tests)
 
-  by_slot : ready_device (ready_devices w) ≡ None → (o : Option ℕ) → next_slot (ready_slots w) w.present.slot w.present.used w.pace.slice ≡ o → option_or (option_map Run o) (option_map (λ at. Pass (at - w.clock.time)) (next_time w)) ≡ Some c → IsTrue (is_ready w c)
+  by_slot : ready_device (ready_devices w) ≡ None → (o : Option ℕ)
+      → next_slot (ready_slots w) w.present.slot w.present.used w.pace.slice ≡ o
+      → option_or (option_map Run o) (option_map (λ at. Pass (at - w.clock.time)) (next_time w)) ≡ Some c
+      → IsTrue (is_ready w c)
   unfolding may_be_made
   by_slot none None e f = by_time (next_time w) (lies_ahead w law none) f
   by_slot none (Some s) e f =
       let same : Run s ≡ c = cc in
       subst (λ (x : Choice). IsTrue (is_ready w x)) same
-      (below_limit w (can_run (slice_get w.records s)) (ready_runs w.records s (next_slot_ready (ready_slots w) w.present.slot w.present.used w.pace.slice s e)) h)
+      (below_limit w (can_run (slice_get w.records s))
+      (ready_runs w.records s (next_slot_ready (ready_slots w) w.present.slot w.present.used w.pace.slice s e)) h)
 
-  by_device : (o : Option Dev) → ready_device (ready_devices w) ≡ o → option_or (option_map Device o) (option_or (option_map Run (next_slot (ready_slots w) w.present.slot w.present.used w.pace.slice)) (option_map (λ at. Pass (at - w.clock.time)) (next_time w))) ≡ Some c → IsTrue (is_ready w c)
+  by_device : (o : Option Dev) → ready_device (ready_devices w) ≡ o
+      → option_or (option_map Device o) (option_or
+      (option_map Run (next_slot (ready_slots w) w.present.slot w.present.used w.pace.slice))
+      (option_map (λ at. Pass (at - w.clock.time)) (next_time w))) ≡ Some c → IsTrue (is_ready w c)
   unfolding may_be_made
   by_device None e f = by_slot e (next_slot (ready_slots w) w.present.slot w.present.used w.pace.slice) refl f
   by_device (Some device) e f =
@@ -145,6 +170,7 @@ module _ (w : World) (c : Choice) (law : IsDueWhereNoneAreLeft) (h : w.clock.ste
       subst (λ (x : Choice). IsTrue (is_ready w x)) same (below_limit w (can_act w device) (device_ready w device e) h)
 
 -- the next choice is ready, below the limit of steps
-pub next_ready : (w : World) (c : Choice) → IsDueWhereNoneAreLeft → next w ≡ Some c → w.clock.steps < STEP_LIMIT → IsTrue (is_ready w c)
+pub next_ready : (w : World) (c : Choice) → IsDueWhereNoneAreLeft → next w ≡ Some c → w.clock.steps < STEP_LIMIT
+    → IsTrue (is_ready w c)
 unfolding next choice
 next_ready w c law e h = by_device w c law h (ready_device (ready_devices w)) refl e

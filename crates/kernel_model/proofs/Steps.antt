@@ -1,5 +1,6 @@
 -- What a step does to the process in a slot: nothing, its turn, or what a device tells it.
-use Rattle.std.proofs.Common.{◌≡◌, ℕ, ◌==◌, Bool, true, false, cond, List, [], ◌∷◌, ◌++◌, length, slice_get, Option, None, Some, IfSome, option_and_then, refl, sym, ap, subst, ◌∙◌, eqb-true, eq-eqb}
+use Rattle.std.proofs.Common.{◌≡◌, ℕ, ◌==◌, Bool, true, false, cond, List, [], ◌∷◌, ◌++◌, length, slice_get, Option}
+use Rattle.std.proofs.Common.{None, Some, IfSome, option_and_then, refl, sym, ap, subst, ◌∙◌, eqb-true, eq-eqb}
 use Rattle.std.specs.List.{flat_map}
 use Rattle.std.specs.Option.{option_map}
 use Rattle.std.proofs.lemmas.Bool.{false≢true}
@@ -7,15 +8,19 @@ use Rattle.tk_base.specs.declared.process.Choice.{Choice}
 use Rattle.tk_base.specs.declared.process.Choice.TheVariants.{Run, Device, Pass}
 use Rattle.tk_base.specs.declared.process.Dev.{Dev}
 use Rattle.tk_base.specs.declared.process.Dev.TheVariants as dev
-use Rattle.script_text.specs.Settings.{Event as Arrival}
+use Rattle.script_text.specs.Settings.{ScriptEvent as Arrival}
 use Rattle.driver_model.specs.Alarm.{due_slot}
-use Rattle.process_own.specs.Own.{Own}
+use Rattle.process_model.specs.Own.{Own}
 use Rattle.driver_model.specs.Services.{OfEachService}
 use Rattle.kernel_model.specs.declared.settings.Settings.{Settings}
 use Rattle.kernel_model.specs.Record.{Record}
-use Rattle.kernel_model.specs.Turn.{Event, Turn, Alarmed, Taken, WriteDone, Input, Word, NoWord, Stored, Told, Turned, apply, turned}
-use Rattle.kernel_model.specs.World.{Answer, Deed, Stepped, World, after, alarmed, arrived, carried_out, deed_of, done, drawing, drawn, first_of, is_ready, labels, labels_of, now_in, owns_in, ran, receiving, records_after, storing, transmitting}
-use Rattle.kernel_model.specs.Laws.{answer_of}
+use Rattle.kernel_model.specs.Turn.{Event, Turn, Alarmed, Taken, WriteDone, Input, Word, NoWord, Stored, TurnTrace}
+use Rattle.kernel_model.specs.Turn.{Turned, apply, turned}
+use Rattle.kernel_model.specs.World.{Answer, DeviceStep, Stepped, World, after, alarmed, arrived, carried_out}
+use Rattle.kernel_model.specs.World.{device_step_of, done, random_step, word_event, first_waiting, is_ready, labels}
+use Rattle.kernel_model.specs.World.{labels_of, now_in, owns_in, ran, receive_step, records_after, storing}
+use Rattle.kernel_model.specs.World.{transmitting}
+use Rattle.kernel_model.specs.Laws.{answer_told}
 use Rattle.kernel_model.specs.Histories.{turns_in}
 use Rattle.kernel_model.proofs.Replays.{nothing_printed}
 use Rattle.kernel_model.proofs.Places.{acted_records, of_stepped, ran-other, ran-own, told-other, told-own}
@@ -32,7 +37,8 @@ IsAnswer NoWord = Unit {0}
 IsAnswer (Stored moved) = Unit {0}
 
 -- what holds of all that drivers do to a process holds of what is its own after such an event
-pub of_answer : (P : Own → Own → Type 0) → OfEachService P → (settings : Settings) (event : Event) (r : Record) → IsAnswer event → P r.own (apply settings event r).own
+pub of_answer : (P : Own → Own → Type 0) → OfEachService P → (settings : Settings) (event : Event) (r : Record)
+    → IsAnswer event → P r.own (apply settings event r).own
 unfolding IsAnswer apply
 of_answer P each settings (Turn time) r is = absurd is
 of_answer P each settings (Alarmed now) r is = each.alarmed now r.own
@@ -44,7 +50,9 @@ of_answer P each settings NoWord r is = each.drawn [] r.own.life r.own
 of_answer P each settings (Stored moved) r is = each.stored _ _ _ _ r.own
 
 -- of its record it changes nothing else but the storage
-pub answer_changes : (settings : Settings) (event : Event) (r : Record) → IsAnswer event → apply settings event r ≡ record r { own = (apply settings event r).own; storage = (apply settings event r).storage }
+pub answer_changes : (settings : Settings) (event : Event) (r : Record) → IsAnswer event
+    → apply settings event r
+    ≡ record r { own = (apply settings event r).own; storage = (apply settings event r).storage }
 unfolding IsAnswer apply
 answer_changes settings (Turn time) r is = absurd is
 answer_changes settings (Alarmed now) r is = refl
@@ -56,15 +64,15 @@ answer_changes settings NoWord r is = refl
 answer_changes settings (Stored moved) r is = refl
 
 -- what a device tells in what it does, if it tells anything, is no turn
-abbrev pub TellsNoTurn : Option Deed → Type 0
-TellsNoTurn o = IfSome (option_and_then (λ (deed : Deed). deed.told) o) (λ a. IsAnswer a.event)
+abbrev pub TellsNoTurn : Option DeviceStep → Type 0
+TellsNoTurn o = IfSome (option_and_then (λ (deed : DeviceStep). deed.told) o) (λ a. IsAnswer a.event)
 
 sent_is_answer : (completed : Bool) → IsAnswer (cond completed WriteDone Taken)
 unfolding IsAnswer
 sent_is_answer true = tt
 sent_is_answer false = tt
 
-drawn_is_answer : (words rest : List ℕ) → IsAnswer (drawn words rest)
+drawn_is_answer : (words rest : List ℕ) → IsAnswer (word_event words rest)
 unfolding IsAnswer
 drawn_is_answer [] rest = tt
 drawn_is_answer (word ∷ words) rest = by_length (length rest == length words)
@@ -73,7 +81,8 @@ drawn_is_answer (word ∷ words) rest = by_length (length rest == length words)
     by_length true = tt
     by_length false = tt
 
-first_tells : (make : World → ℕ → Record → Deed) (w : World) (line : List ℕ) → ((at : ℕ) (r : Record) → TellsNoTurn (Some (make w at r))) → TellsNoTurn (first_of make w line)
+first_tells : (make : World → ℕ → Record → DeviceStep) (w : World) (line : List ℕ)
+    → ((at : ℕ) (r : Record) → TellsNoTurn (Some (make w at r))) → TellsNoTurn (first_waiting make w line)
 first_tells make w [] tells = tt
 first_tells make w (at ∷ rest) tells = by_record (slice_get w.records at)
   where
@@ -90,44 +99,52 @@ unfolding IsAnswer
 alarm_tells w None = tt
 alarm_tells w (Some at) = tt
 
-pub deed_tells : (w : World) (device : Dev) → TellsNoTurn (deed_of w device)
+pub deed_tells : (w : World) (device : Dev) → TellsNoTurn (device_step_of w device)
 unfolding IsAnswer
 deed_tells w dev.Event = arrived_tells w w.devices.arrivals
 deed_tells w dev.Alarm = alarm_tells w (due_slot (now_in w) (owns_in w))
 deed_tells w dev.Uart = first_tells transmitting w w.devices.writes (λ at r. sent_is_answer _)
-deed_tells w dev.Receive = first_tells receiving w w.devices.reads (λ at r. tt)
-deed_tells w dev.Random = first_tells drawing w w.devices.randoms (λ at r. drawn_is_answer w.devices.words _)
+deed_tells w dev.Receive = first_tells receive_step w w.devices.reads (λ at r. tt)
+deed_tells w dev.Random = first_tells random_step w w.devices.randoms (λ at r. drawn_is_answer w.devices.words _)
 deed_tells w dev.Store = first_tells storing w w.devices.stores (λ at r. tt)
 
-answer_tells : (w : World) (device : Dev) → IfSome (answer_of w device) (λ a. IsAnswer a.event)
+answer_tells : (w : World) (device : Dev) → IfSome (answer_told w device) (λ a. IsAnswer a.event)
 answer_tells w device = by_ready (is_ready w (Device device))
   where
-    by_ready : (b : Bool) → IfSome (cond b (option_and_then (λ (deed : Deed). deed.told) (deed_of w device)) None) (λ a. IsAnswer a.event)
+    by_ready : (b : Bool)
+        → IfSome (cond b (option_and_then (λ (deed : DeviceStep). deed.told) (device_step_of w device)) None)
+        (λ a. IsAnswer a.event)
     by_ready true = deed_tells w device
     by_ready false = tt
 
 -- no label of a device's step is a turn
-answered_no_turn : (slot : ℕ) (deed : Deed) (o : Option Answer) → flat_map (turns_in slot) (labels_of deed o) ≡ []
+answered_no_turn : (slot : ℕ) (deed : DeviceStep) (o : Option Answer) → flat_map (turns_in slot) (labels_of deed o) ≡ []
 answered_no_turn slot deed None = refl
 answered_no_turn slot deed (Some a) = nothing_printed (turns_in slot) a.slot deed.printed refl
 
-done_no_turn : (slot : ℕ) (w : World) (o : Option Deed) → flat_map (turns_in slot) (done w o).labels ≡ []
+done_no_turn : (slot : ℕ) (w : World) (o : Option DeviceStep) → flat_map (turns_in slot) (done w o).labels ≡ []
 done_no_turn slot w None = refl
 done_no_turn slot w (Some deed) = answered_no_turn slot deed deed.told
 
 acted_no_turn : (slot : ℕ) (w : World) (device : Dev) → flat_map (turns_in slot) (labels w (Device device)) ≡ []
 unfolding carried_out
-acted_no_turn slot w device = of_stepped (λ (s : Stepped). flat_map (turns_in slot) s.labels ≡ []) w (Device device) refl (λ ready. done_no_turn slot w (deed_of w device))
+acted_no_turn slot w device =
+    of_stepped (λ (s : Stepped). flat_map (turns_in slot) s.labels ≡ []) w (Device device) refl
+    (λ ready. done_no_turn slot w (device_step_of w device))
 
--- what holds of each thing that a step may do to the process in a slot: of what its turn tells, if it has one, and of its
+-- what holds of each thing that a step may do to the process in a slot: of what its turn tells, if it has one, and of
+-- its
 -- record afterwards
-pub record OfEachStep (w : World) (slot : ℕ) (P : List Told → Option Record → Type 0) : Type 0 where
+pub record OfEachStep (w : World) (slot : ℕ) (P : List TurnTrace → Option Record → Type 0) : Type 0 where
   pub stays : P [] (slice_get w.records slot)
-  pub turn : (r : Record) → slice_get w.records slot ≡ Some r → let t = turned w.settings w.clock.time r in P (t.told ∷ []) (Some t.after)
-  pub answer : (r : Record) → slice_get w.records slot ≡ Some r → (event : Event) → IsAnswer event → P [] (Some (apply w.settings event r))
+  pub turn : (r : Record) → slice_get w.records slot ≡ Some r → let t = turned w.settings w.clock.time r in
+      P (t.told ∷ []) (Some t.after)
+  pub answer : (r : Record) → slice_get w.records slot ≡ Some r → (event : Event) → IsAnswer event
+      → P [] (Some (apply w.settings event r))
 
-module _ (w : World) (slot : ℕ) (P : List Told → Option Record → Type 0) (each : OfEachStep w slot P) where
-  of_ran : (other : ℕ) (o : Option Record) → slice_get w.records other ≡ o → P (flat_map (turns_in slot) (ran w other o).labels) (slice_get (ran w other o).after.records slot)
+module _ (w : World) (slot : ℕ) (P : List TurnTrace → Option Record → Type 0) (each : OfEachStep w slot P) where
+  of_ran : (other : ℕ) (o : Option Record) → slice_get w.records other ≡ o
+      → P (flat_map (turns_in slot) (ran w other o).labels) (slice_get (ran w other o).after.records slot)
   unfolding apply
   of_ran other None is = each.stays
   of_ran other (Some r) is = by_slot (other == slot) refl
@@ -135,12 +152,16 @@ module _ (w : World) (slot : ℕ) (P : List Told → Option Record → Type 0) (
       t : Turned
       t = turned w.settings w.clock.time r
 
-      by_slot : (b : Bool) → (other == slot) ≡ b → P (cond b (t.told ∷ []) [] ++ []) (slice_get (ran w other (Some r)).after.records slot)
+      by_slot : (b : Bool) → (other == slot) ≡ b
+          → P (cond b (t.told ∷ []) [] ++ []) (slice_get (ran w other (Some r)).after.records slot)
       by_slot true e =
           let same : other ≡ slot = eqb-true other slot e in
-          subst (P (t.told ∷ [])) (sym (ap (slice_get (ran w other (Some r)).after.records) (sym same) ∙ ran-own w other (Some r) is))
+          subst (P (t.told ∷ [])) (sym (ap (slice_get (ran w other (Some r)).after.records) (sym same)
+          ∙ ran-own w other (Some r) is))
           (each.turn r (ap (slice_get w.records) (sym same) ∙ is))
-      by_slot false e = subst (P []) (sym (ran-other w other slot (Some r) (λ same. false≢true (sym e ∙ eq-eqb other slot (sym same))))) each.stays
+      by_slot false e =
+          subst (P []) (sym (ran-other w other slot (Some r)
+          (λ same. false≢true (sym e ∙ eq-eqb other slot (sym same))))) each.stays
 
   of_told : (o : Option Answer) → IfSome o (λ a. IsAnswer a.event) → P [] (slice_get (records_after w o) slot)
   of_told None is = each.stays
@@ -154,16 +175,24 @@ module _ (w : World) (slot : ℕ) (P : List Told → Option Record → Type 0) (
       by_slot true e =
           let same : a.slot ≡ slot = eqb-true a.slot slot e in
           subst (λ (s : ℕ). P [] (slice_get (records_after w (Some a)) s)) same
-          (subst (P []) (sym (told-own w a (slice_get w.records a.slot) refl ∙ ap (λ (s : ℕ). option_map (apply w.settings a.event) (slice_get w.records s)) same)) (by_record (slice_get w.records slot) refl))
-      by_slot false e = subst (P []) (sym (told-other w a slot (slice_get w.records a.slot) (λ same. false≢true (sym e ∙ eq-eqb a.slot slot (sym same))))) each.stays
+          (subst (P []) (sym (told-own w a (slice_get w.records a.slot) refl
+          ∙ ap (λ (s : ℕ). option_map (apply w.settings a.event) (slice_get w.records s)) same))
+          (by_record (slice_get w.records slot) refl))
+      by_slot false e =
+          subst (P []) (sym (told-other w a slot (slice_get w.records a.slot)
+          (λ same. false≢true (sym e ∙ eq-eqb a.slot slot (sym same))))) each.stays
 
   abbrev Does : Stepped → Type 0
   Does s = P (flat_map (turns_in slot) s.labels) (slice_get s.after.records slot)
 
-  pub of_step : (choice : Choice) → P (flat_map (turns_in slot) (labels w choice)) (slice_get (after w choice).records slot)
+  pub of_step : (choice : Choice)
+      → P (flat_map (turns_in slot) (labels w choice)) (slice_get (after w choice).records slot)
   unfolding carried_out
-  of_step (Run other) = of_stepped Does w (Run other) each.stays (λ ready. of_ran other (slice_get w.records other) refl)
+  of_step (Run other) =
+      of_stepped Does w (Run other) each.stays (λ ready. of_ran other (slice_get w.records other) refl)
   of_step (Device device) =
-      subst (λ (tolds : List Told). P tolds (slice_get (after w (Device device)).records slot)) (sym (acted_no_turn slot w device))
-      (subst (λ (rs : List Record). P [] (slice_get rs slot)) (sym (acted_records w device)) (of_told (answer_of w device) (answer_tells w device)))
+      subst (λ (tolds : List TurnTrace). P tolds (slice_get (after w (Device device)).records slot))
+      (sym (acted_no_turn slot w device))
+      (subst (λ (rs : List Record). P [] (slice_get rs slot)) (sym (acted_records w device))
+      (of_told (answer_told w device) (answer_tells w device)))
   of_step (Pass ticks) = of_stepped Does w (Pass ticks) each.stays (λ ready. each.stays)

@@ -1,5 +1,7 @@
 -- What each turn does to the pairs that its process has handed, and what a swap in it gives back.
-use Rattle.std.proofs.Common.{◌≡◌, ◌≢◌, ◌<◌, ◌≤◌, ℕ, ◌==◌, ◌&&◌, nat_lt, not, Bool, true, false, cond, List, [], ◌∷◌, length, slice_set, Option, None, Some, is_none, is_some, unwrap_or, Result, Ok, Err, refl, ap, sym, subst, ◌∙◌, arith, eqb-true, eq-eqb}
+use Rattle.std.proofs.Common.{◌≡◌, ◌≢◌, ◌<◌, ◌≤◌, ℕ, ◌==◌, ◌&&◌, nat_lt, not, Bool, true, false, cond, List, [], ◌∷◌}
+use Rattle.std.proofs.Common.{length, slice_set, Option, None, Some, is_none, is_some, unwrap_or, Result, Ok, Err, refl}
+use Rattle.std.proofs.Common.{ap, sym, subst, ◌∙◌, arith, eqb-true, eq-eqb}
 use Rattle.std.specs.Prelude.{slice_index}
 use Rattle.std.proofs.Math.Bool.{and-false}
 use Rattle.std.proofs.Math.Seq.{lt-length-set}
@@ -12,23 +14,23 @@ use Rattle.tk_base.specs.declared.call.CallRule.{CallRule}
 use Rattle.tk_base.specs.declared.call.CallRule.TheVariants.{NoDriver, NoNumber, NoOperation, Permission}
 use Rattle.tk_base.specs.Regs.{Registers}
 use Rattle.tk_base.specs.declared.upcall.Upcall.{Upcall as Scheduled}
-use Rattle.tbf_headers.specs.Meaning.{reading}
+use Rattle.tbf_headers.specs.Meaning.{header_reading}
 use Rattle.fault_policy.specs.declared.Action.{Action}
 use Rattle.fault_policy.specs.declared.Action.TheVariants.{Stop, Restart}
 use Rattle.fault_policy.specs.Policy.{decision}
 use Rattle.rv32_model.specs.declared.turn_end.TurnEnd.{TurnEnd}
 use Rattle.rv32_model.specs.declared.turn_end.TurnEnd.TheVariants as ends
-use Rattle.rv32_model.specs.UserTurn.{Touch}
+use Rattle.rv32_model.specs.UserTurn.{MemoryAccess}
 use Rattle.grant_values.specs.Drivers.{counts_of}
-use Rattle.grant_areas.specs.declared.kinds.PairKind.{PairKind}
-use Rattle.grant_areas.specs.declared.kinds.PairKind.TheVariants.{Upcall, ReadOnly, ReadWrite}
-use Rattle.grant_areas.specs.Grants.{shape_of}
-use Rattle.grant_areas.specs.Kinds.{count_of}
-use Rattle.process_own.specs.Own.{Own, ended as ended_own}
-use Rattle.process_own.specs.Handed.{handing, held}
-use Rattle.process_own.specs.Pairs.{HandsOne, HandsTheSame, HasShape, OnlyHandingChangesPairs}
-use Rattle.driver_model.specs.Commands.{Commanded, gone}
-use Rattle.driver_model.specs.Drivers.{Surroundings, Taker, taker_of}
+use Rattle.grant_model.specs.declared.kinds.PairKind.{PairKind}
+use Rattle.grant_model.specs.declared.kinds.PairKind.TheVariants.{Upcall, ReadOnly, ReadWrite}
+use Rattle.grant_model.specs.Grants.{shape_of}
+use Rattle.grant_model.specs.Kinds.{count_of}
+use Rattle.process_model.specs.Own.{Own, own_ended as ended_own}
+use Rattle.process_model.specs.Handed.{handing, held}
+use Rattle.process_model.specs.Pairs.{HandsOne, HandsTheSame, HasShape, OnlyHandingChangesPairs}
+use Rattle.driver_model.specs.Commands.{Commanded, leaving_all}
+use Rattle.driver_model.specs.Drivers.{CommandContext, CommandHandler, handler_of}
 use Rattle.driver_model.specs.Pairs.{DriversLeavePairs}
 use Rattle.syscall_abi.specs.declared.call.Call.{Call as SystemCall}
 use Rattle.syscall_abi.specs.Call.{a0, a1, a2, a3, call_of, class}
@@ -41,18 +43,23 @@ use Rattle.process_record.specs.declared.outcome.Outcome.TheVariants.{Replied, E
 use Rattle.process_record.specs.declared.process.State.{State}
 use Rattle.process_record.specs.declared.process.State.TheVariants.{Running, Yielded, Faulted, Terminated}
 use Rattle.process_record.specs.Process.{after_exit, after_fault}
-use Rattle.kernel_model.specs.Record.{Record, instruction, with_effect, with_own, with_process}
+use Rattle.kernel_model.specs.Record.{Record, instruction, with_effect, record_with_own, with_process}
 use Rattle.kernel_model.specs.declared.settings.Settings.{Settings}
-use Rattle.kernel_model.specs.Calls.{Served, answered, by_class, exit, failure_of, memop, permits, refused_with, restart, served, swap, swap_by, swap_refusal, taken_by, yield_now, yielding}
-use Rattle.kernel_model.specs.Turn.{Told, Turned, arguments, called, calls, counted, delivery, ended, faulted, flag_of, idle, instructed, made, settled, surroundings, turned, turn_in, unknown_call}
+use Rattle.kernel_model.specs.Calls.{Served, driver_answered, by_class, exit, failure_of, memop, object_permits}
+use Rattle.kernel_model.specs.Calls.{refused_with, restart, served, swap, swap_by, swap_refusal, taken_by, yield_now}
+use Rattle.kernel_model.specs.Calls.{yielding}
+use Rattle.kernel_model.specs.Turn.{TurnTrace, Turned, arguments, called, calls, turn_counted, delivery, at_turn_end}
+use Rattle.kernel_model.specs.Turn.{faulted, yield_flag_of, idle, instructed, made, settled, surroundings, turned}
+use Rattle.kernel_model.specs.Turn.{turn_in, unknown_call}
 use Rattle.kernel_model.specs.Laws.{CanStartAgain, main_by}
-use Rattle.kernel_model.specs.Histories.{Key, class_of, handed_by, is_exit, is_swap, last_pair, swap_reply}
-use Rattle.kernel_model.proofs.Classes.{allow_ro_in, allow_rw_in, command_in, exit_in, memop_in, of_registers, subscribe_in, yield_in}
+use Rattle.kernel_model.specs.Histories.{PairKey, class_of, handed_by, is_exit, is_swap, last_pair, swap_reply}
+use Rattle.kernel_model.proofs.Classes.{allow_ro_in, allow_rw_in, command_in, exit_in, memop_in, of_registers}
+use Rattle.kernel_model.proofs.Classes.{subscribe_in, yield_in}
 use Rattle.kernel_model.proofs.Memops.{by_test, memop_gives}
 use Rattle.kernel_model.proofs.Restarts.{restart_forgets, restart_object}
 
 -- the pair that a process holds by a key
-abbrev pub held_by : Key → Own → ℕ × ℕ
+abbrev pub held_by : PairKey → Own → ℕ × ℕ
 held_by key own = held key.kind key.driver key.number own
 
 -- a process that has no turn any more
@@ -63,19 +70,20 @@ is_over Faulted = true
 is_over (Terminated code) = true
 
 -- What is known of a process by what its turns told, the latest first: it holds the pairs that they say it last handed.
-pub record Knows (past : List Told) (r : Record) : Type 0 where
+pub record Knows (past : List TurnTrace) (r : Record) : Type 0 where
   pub shape : HasShape r.own
   pub application : CanStartAgain r
-  pub pairs : (key : Key) → held_by key r.own ≡ last_pair key past
+  pub pairs : (key : PairKey) → held_by key r.own ≡ last_pair key past
 
 -- so it is as long as the process may have a turn
-abbrev pub Remembers : List Told → Record → Type 0
+abbrev pub Remembers : List TurnTrace → Record → Type 0
 Remembers past r = is_over r.process.state ≡ false → Knows past r
 
 -- so it is after a turn, and what a swap in it gives back is the pair last handed before
-pub record Follows (past : List Told) (t : Turned) : Type 0 where
+pub record Follows (past : List TurnTrace) (t : Turned) : Type 0 where
   pub after : Remembers (t.told ∷ past) t.after
-  pub reply : (made : CallMade) (key : Key) (pair : ℕ × ℕ) → t.told.call ≡ Some made → handed_by key made ≡ Some pair → made.reply ≡ Some (swap_reply (last_pair key past) pair)
+  pub reply : (made : CallMade) (key : PairKey) (pair : ℕ × ℕ) → t.told.call ≡ Some made
+      → handed_by key made ≡ Some pair → made.reply ≡ Some (swap_reply (last_pair key past) pair)
 
 -- nothing was told
 nothing : {X : Type 0} {P : Type 0} (x : X) → ◌≡◌ {A = Option X} None (Some x) → P
@@ -105,27 +113,32 @@ same_kind ReadWrite Upcall e = absurd (false≢true e)
 same_kind ReadWrite ReadOnly e = absurd (false≢true e)
 
 -- classes that are of no swap, the one way round and the other
-another_class : (n : ℕ) → (n == 1) ≡ false → (n == 4) ≡ false → (n == 3) ≡ false → (kind : PairKind) → (n == class_of kind) ≡ false
+another_class : (n : ℕ) → (n == 1) ≡ false → (n == 4) ≡ false → (n == 3) ≡ false → (kind : PairKind)
+    → (n == class_of kind) ≡ false
 another_class n one four three Upcall = one
 another_class n one four three ReadOnly = four
 another_class n one four three ReadWrite = three
 
-no_swap : (n : ℕ) → (1 == n) ≡ false → (4 == n) ≡ false → (3 == n) ≡ false → (kind : PairKind) → (class_of kind == n) ≡ false
+no_swap : (n : ℕ) → (1 == n) ≡ false → (4 == n) ≡ false → (3 == n) ≡ false → (kind : PairKind)
+    → (class_of kind == n) ≡ false
 no_swap n one four three Upcall = one
 no_swap n one four three ReadOnly = four
 no_swap n one four three ReadWrite = three
 
 -- a call of another class hands nothing, and one of another class than exit ends nothing
-hands_nothing : (m : CallMade) (n : ℕ) → m.class ≡ n → ((kind : PairKind) → (n == class_of kind) ≡ false) → (key : Key) → handed_by key m ≡ None
+hands_nothing : (m : CallMade) (n : ℕ) → m.class ≡ n → ((kind : PairKind) → (n == class_of kind) ≡ false)
+    → (key : PairKey) → handed_by key m ≡ None
 hands_nothing m n is apart key =
-    ap (λ (b : Bool). cond ((b && (slice_index m.args 0 == key.driver && slice_index m.args 1 == key.number)) && is_none m.rule) (Some (slice_index m.args 2, slice_index m.args 3)) None)
+    ap (λ (b : Bool). cond ((b && (slice_index m.args 0 == key.driver && slice_index m.args 1 == key.number))
+    && is_none m.rule) (Some (slice_index m.args 2, slice_index m.args 3)) None)
     (ap (λ (c : ℕ). c == class_of key.kind) is ∙ apart key.kind)
 
 ends_nothing : (m : CallMade) (n : ℕ) → m.class ≡ n → (n == 6) ≡ false → is_exit m ≡ false
 ends_nothing m n is apart = ap (λ (b : Bool). b && is_none m.rule) (ap (λ (c : ℕ). c == 6) is ∙ apart)
 
 -- a refused call hands nothing and ends nothing
-pub refused_hands_nothing : (m : CallMade) (rule : CallRule) → m.rule ≡ Some rule → (key : Key) → handed_by key m ≡ None
+pub refused_hands_nothing : (m : CallMade) (rule : CallRule) → m.rule ≡ Some rule → (key : PairKey)
+    → handed_by key m ≡ None
 refused_hands_nothing m rule is key =
     ap (λ (b : Bool). cond b (Some (slice_index m.args 2, slice_index m.args 3)) None)
     (ap (λ (o : Option CallRule). is_swap key m && is_none o) is ∙ and-false (is_swap key m))
@@ -134,17 +147,21 @@ refused_ends_nothing : (m : CallMade) (rule : CallRule) → m.rule ≡ Some rule
 refused_ends_nothing m rule is = ap (λ (o : Option CallRule). (m.class == 6) && is_none o) is ∙ and-false (m.class == 6)
 
 -- a swap that was not refused is of a number that its driver has
-pub in_count : (kind : PairKind) (driver number : ℕ) (pair : ℕ × ℕ) (own : Own) → swap_refusal kind driver number pair own ≡ None → number < count_of kind (shape_of driver)
+pub in_count : (kind : PairKind) (driver number : ℕ) (pair : ℕ × ℕ) (own : Own)
+    → swap_refusal kind driver number pair own ≡ None → number < count_of kind (shape_of driver)
 unfolding swap_refusal
-in_count kind driver number pair own passes = by_tests (is_none (counts_of driver)) (nat_lt number (count_of kind (shape_of driver))) _ refl passes
+in_count kind driver number pair own passes =
+    by_tests (is_none (counts_of driver)) (nat_lt number (count_of kind (shape_of driver))) _ refl passes
   where
-    by_tests : (none within : Bool) (rest : Option CallRule) → nat_lt number (count_of kind (shape_of driver)) ≡ within → cond none (Some NoDriver) (cond (not within) (Some NoNumber) rest) ≡ None → number < count_of kind (shape_of driver)
+    by_tests : (none within : Bool) (rest : Option CallRule) → nat_lt number (count_of kind (shape_of driver)) ≡ within
+        → cond none (Some NoDriver) (cond (not within) (Some NoNumber) rest) ≡ None
+        → number < count_of kind (shape_of driver)
     by_tests true within rest e passes = nothing NoDriver (sym passes)
     by_tests false false rest e passes = nothing NoNumber (sym passes)
     by_tests false true rest e passes = grind (arith, nat_tests)
 
 -- a key is that of a swap, or another
-record IsOf (key : Key) (of : PairKind) (to at : ℕ) : Type 0 where
+record IsOf (key : PairKey) (of : PairKind) (to at : ℕ) : Type 0 where
   kind : key.kind ≡ of
   driver : key.driver ≡ to
   number : key.number ≡ at
@@ -165,7 +182,8 @@ module _ (xs : List ℕ) (a b c : ℕ) (within : 14 < length xs) where
   first_set : slice_index (slice_set (slice_set (slice_set xs 10 a) 11 b) 12 c) 10 ≡ a
   first_set =
       get_or-set_other (slice_set (slice_set xs 10 a) 11 b) 12 10 c 0 (λ e. omega (arith, e))
-      ∙ get_or-set_other (slice_set xs 10 a) 11 10 b 0 (λ e. omega (arith, e)) ∙ get_or-set_same xs 10 a 0 (omega (arith, within))
+      ∙ get_or-set_other (slice_set xs 10 a) 11 10 b 0 (λ e. omega (arith, e))
+      ∙ get_or-set_same xs 10 a 0 (omega (arith, within))
 
   second_set : slice_index (slice_set (slice_set (slice_set xs 10 a) 11 b) 12 c) 11 ≡ b
   second_set =
@@ -173,22 +191,33 @@ module _ (xs : List ℕ) (a b c : ℕ) (within : 14 < length xs) where
       ∙ get_or-set_same (slice_set xs 10 a) 11 b 0 (lt-length-set xs 10 a (omega (arith, within)))
 
   third_set : slice_index (slice_set (slice_set (slice_set xs 10 a) 11 b) 12 c) 12 ≡ c
-  third_set = get_or-set_same (slice_set (slice_set xs 10 a) 11 b) 12 c 0 (lt-length-set (slice_set xs 10 a) 11 b (lt-length-set xs 10 a (omega (arith, within))))
+  third_set = get_or-set_same (slice_set (slice_set xs 10 a) 11 b) 12 c 0
+      (lt-length-set (slice_set xs 10 a) 11 b (lt-length-set xs 10 a (omega (arith, within))))
 
   not_set : slice_index (slice_set (slice_set (slice_set xs 10 a) 11 b) 12 c) 13 ≡ slice_index xs 13
   not_set = grind (arith, places)
 
 -- the reply of a swap, in the registers
-swap_shown : (regs : Registers) (first second : ℕ) → 14 < length regs.x → arguments (put_reply (SuccessU32U32 first second) regs) ≡ 130 ∷ first ∷ second ∷ a3 regs ∷ []
-swap_shown regs first second within = λ i. first_set regs.x 130 first second within i ∷ second_set regs.x 130 first second within i ∷ third_set regs.x 130 first second within i ∷ not_set regs.x 130 first second within i ∷ []
+swap_shown : (regs : Registers) (first second : ℕ) → 14 < length regs.x
+    → arguments (put_reply (SuccessU32U32 first second) regs) ≡ 130 ∷ first ∷ second ∷ a3 regs ∷ []
+swap_shown regs first second within =
+    λ i. first_set regs.x 130 first second within i ∷ second_set regs.x 130 first second within i
+    ∷ third_set regs.x 130 first second within i ∷ not_set regs.x 130 first second within i ∷ []
 
 -- what is told of a turn without a call and a denial
-abbrev silent : List Touch → Told
+abbrev silent : List MemoryAccess → TurnTrace
 silent accesses = record { accesses = accesses; call = None; flag = None; denial = None }
 
 -- what a turn tells in which a call was made
-abbrev telling : Record → List Touch → SystemCall → Outcome → Told
-telling r accesses call outcome = record { accesses = accesses; call = Some (made r.process.regs outcome); flag = flag_of r call; denial = None }
+abbrev telling : Record → List MemoryAccess → SystemCall → Outcome → TurnTrace
+telling r accesses call outcome =
+    record {
+      accesses = accesses;
+      call = Some (made r.process.regs outcome);
+      flag = yield_flag_of r call;
+      denial =
+          None;
+    }
 
 -- what a call leaves of the pairs and of the object
 record Keeps (r s : Record) : Type 0 where
@@ -197,18 +226,20 @@ record Keeps (r s : Record) : Type 0 where
 
 module _ (law : OnlyHandingChangesPairs) (drivers : DriversLeavePairs) where
   -- nothing that turns tell of changed, where the pairs did not
-  still_known : (past : List Told) (told : Told) (r s : Record) → Knows past r → Keeps r s → ((key : Key) → last_pair key (told ∷ past) ≡ last_pair key past) → Knows (told ∷ past) s
+  still_known : (past : List TurnTrace) (told : TurnTrace) (r s : Record) → Knows past r → Keeps r s
+      → ((key : PairKey) → last_pair key (told ∷ past) ≡ last_pair key past) → Knows (told ∷ past) s
   still_known past told r s k keeps same = record {
     shape = law.shape r.own s.own keeps.pairs k.shape;
-    application = subst (λ (o : List ℕ). is_some (main_by (reading o)) ≡ true) (sym keeps.object) k.application;
+    application = subst (λ (o : List ℕ). is_some (main_by (header_reading o)) ≡ true) (sym keeps.object) k.application;
     pairs = λ key. law.held r.own s.own keeps.pairs key.kind key.driver key.number ∙ k.pairs key ∙ sym (same key);
   }
 
   -- a process without grants has handed nothing
-  known_anew : (past : List Told) (told : Told) (r s : Record) → Knows past r → s.own.grants ≡ [] → s.object ≡ r.object → ((key : Key) → last_pair key (told ∷ past) ≡ (0, 0)) → Knows (told ∷ past) s
+  known_anew : (past : List TurnTrace) (told : TurnTrace) (r s : Record) → Knows past r → s.own.grants ≡ []
+      → s.object ≡ r.object → ((key : PairKey) → last_pair key (told ∷ past) ≡ (0, 0)) → Knows (told ∷ past) s
   known_anew past told r s k none object nothing = record {
     shape = (law.none s.own none).shape;
-    application = subst (λ (o : List ℕ). is_some (main_by (reading o)) ≡ true) (sym object) k.application;
+    application = subst (λ (o : List ℕ). is_some (main_by (header_reading o)) ≡ true) (sym object) k.application;
     pairs = λ key. (law.none s.own none).none key.kind key.driver key.number ∙ sym (nothing key);
   }
 
@@ -216,14 +247,17 @@ module _ (law : OnlyHandingChangesPairs) (drivers : DriversLeavePairs) where
   same_kept r s grants object = record { pairs = law.grants r.own s.own grants; object = object }
 
   -- a turn without a call and a denial
-  quiet : (past : List Told) (accesses : List Touch) (r s : Record) → Knows past r → s.own.grants ≡ r.own.grants → s.object ≡ r.object → Follows past (record { after = s; told = silent accesses; acts = [] })
+  quiet : (past : List TurnTrace) (accesses : List MemoryAccess) (r s : Record) → Knows past r
+      → s.own.grants ≡ r.own.grants → s.object ≡ r.object
+      → Follows past (record { after = s; told = silent accesses; acts = [] })
   quiet past accesses r s k grants object = record {
     after = λ goes_on. still_known past (silent accesses) r s k (same_kept r s grants object) (λ key. refl);
     reply = λ made key pair none. nothing made none;
   }
 
   -- a denial ends a life, or has the process start again without grants
-  denied : (past : List Told) (settings : Settings) (r : Record) (denial : Denial) → Knows past r → Follows past (faulted settings r denial)
+  denied : (past : List TurnTrace) (settings : Settings) (r : Record) (denial : Denial) → Knows past r
+      → Follows past (faulted settings r denial)
   denied past settings r denial k = record {
     after = by_action (decision settings.policy r.process.restarts);
     reply = λ made key pair none. nothing made none;
@@ -234,17 +268,21 @@ module _ (law : OnlyHandingChangesPairs) (drivers : DriversLeavePairs) where
 
       by_action : (action : Action) → Remembers ((faulted settings r denial).told ∷ past) (settled s action)
       by_action Stop goes_on = absurd (false≢true (sym goes_on))
-      by_action Restart goes_on = known_anew past _ r (restart s) k (restart_forgets s k.application) (restart_object s k.application) (λ key. refl)
+      by_action Restart goes_on =
+          known_anew past _ r (restart s) k (restart_forgets s k.application) (restart_object s k.application)
+          (λ key. refl)
 
   -- the calls that leave all pairs
   module _ (r : Record) where
     keeps_memop : (operation argument : ℕ) → Keeps r (memop r operation argument).after
     keeps_memop operation argument =
-        memop_gives (λ s. Keeps r s.after) r operation argument (λ rule. same_kept r _ refl refl) (λ reply. same_kept r _ refl refl) (λ new reply. same_kept r _ refl refl)
+        memop_gives (λ s. Keeps r s.after) r operation argument (λ rule. same_kept r _ refl refl)
+        (λ reply. same_kept r _ refl refl) (λ new reply. same_kept r _ refl refl)
 
     keeps_yield_now : (at : ℕ) (pending : List Scheduled) → Keeps r (yield_now r at pending).after
     keeps_yield_now at [] = record { pairs = law.flag at 0 r.own; object = refl }
-    keeps_yield_now at (upcall ∷ more) = record { pairs = record { pairs = (law.flag at 1 r.own).pairs }; object = refl }
+    keeps_yield_now at (upcall ∷ more) =
+        record { pairs = record { pairs = (law.flag at 1 r.own).pairs }; object = refl }
 
     keeps_yield : (number at : ℕ) → Keeps r (yielding r number at).after
     unfolding yielding
@@ -252,16 +290,20 @@ module _ (law : OnlyHandingChangesPairs) (drivers : DriversLeavePairs) where
         by_test (λ s. Keeps r s.after) (number == 0) _ _ (keeps_yield_now at r.own.pending)
         (by_test (λ s. Keeps r s.after) (number == 1) _ _ (same_kept r _ refl refl) (same_kept r _ refl refl))
 
-    keeps_answered : (c : Commanded) (answer : Result Reply CallRule) → HandsTheSame r.own c.own → Keeps r (answered (with_own r c.own) answer).after
+    keeps_answered : (c : Commanded) (answer : Result Reply CallRule) → HandsTheSame r.own c.own
+        → Keeps r (driver_answered (record_with_own r c.own) answer).after
     keeps_answered c (Ok reply) same = record { pairs = same; object = refl }
     keeps_answered c (Err rule) same = record { pairs = same; object = refl }
 
-    keeps_taken : (around : Surroundings) (driver number a2 a3 : ℕ) (o : Option Taker) → taker_of driver ≡ o → Keeps r (taken_by around number a2 a3 r o).after
+    keeps_taken : (around : CommandContext) (driver number a2 a3 : ℕ) (o : Option CommandHandler)
+        → handler_of driver ≡ o → Keeps r (taken_by around number a2 a3 r o).after
     keeps_taken around driver number a2 a3 None is = same_kept r _ refl refl
     keeps_taken around driver number a2 a3 (Some taker) is =
-        let c = taker around number a2 a3 r.own in keeps_answered c c.answer (drivers.command driver taker is around number a2 a3 r.own)
+        let c = taker around number a2 a3 r.own in
+        keeps_answered c c.answer (drivers.command driver taker is around number a2 a3 r.own)
 
-  module _ (past : List Told) (r : Record) (k : Knows past r) (accesses : List Touch) (call : SystemCall) where
+  module _ (past : List TurnTrace) (r : Record) (k : Knows past r) (accesses : List MemoryAccess)
+      (call : SystemCall) where
     -- the arguments of a swap
     abbrev driver : ℕ
     driver = a0 r.process.regs
@@ -273,23 +315,31 @@ module _ (law : OnlyHandingChangesPairs) (drivers : DriversLeavePairs) where
     pair = (a2 r.process.regs, a3 r.process.regs)
 
     -- a call that hands nothing and ends nothing
-    plain : (s : Served) → Keeps r s.after → ((key : Key) → handed_by key (made r.process.regs s.outcome) ≡ None) → is_exit (made r.process.regs s.outcome) ≡ false → Follows past (called r accesses call s)
+    plain : (s : Served) → Keeps r s.after → ((key : PairKey) → handed_by key (made r.process.regs s.outcome) ≡ None)
+        → is_exit (made r.process.regs s.outcome) ≡ false → Follows past (called r accesses call s)
     plain s keeps hands ends = record {
-      after = λ goes_on. still_known past _ r s.after k keeps (λ key i. cond (ends i) (0, 0) (unwrap_or (hands key i) (last_pair key past)));
-      reply = λ m key pair is handed. let same : made r.process.regs s.outcome ≡ m = cc in nothing pair (sym (hands key) ∙ ap (handed_by key) same ∙ handed);
+      after = λ goes_on.
+          still_known past _ r s.after k keeps
+          (λ key i. cond (ends i) (0, 0) (unwrap_or (hands key i) (last_pair key past)));
+      reply = λ m key pair is handed. let same : made r.process.regs s.outcome ≡ m = cc in
+          nothing pair (sym (hands key) ∙ ap (handed_by key) same ∙ handed);
     }
 
     refused_so : (rule : CallRule) (reply : Reply) → Follows past (called r accesses call (refused_with r rule reply))
     refused_so rule reply =
         let m = made r.process.regs (Replied reply (Some rule)) in
-        plain (refused_with r rule reply) (same_kept r _ refl refl) (refused_hands_nothing m rule refl) (refused_ends_nothing m rule refl)
+        plain (refused_with r rule reply) (same_kept r _ refl refl) (refused_hands_nothing m rule refl)
+        (refused_ends_nothing m rule refl)
 
-    of_other : (n : ℕ) (s : Served) → class r.process.regs ≡ n → (n == 1) ≡ false → (n == 4) ≡ false → (n == 3) ≡ false → (n == 6) ≡ false → Keeps r s.after → Follows past (called r accesses call s)
+    of_other : (n : ℕ) (s : Served) → class r.process.regs ≡ n → (n == 1) ≡ false → (n == 4) ≡ false → (n == 3) ≡ false
+        → (n == 6) ≡ false → Keeps r s.after → Follows past (called r accesses call s)
     of_other n s is one four three six keeps =
-        plain s keeps (hands_nothing (made r.process.regs s.outcome) n is (another_class n one four three)) (ends_nothing (made r.process.regs s.outcome) n is six)
+        plain s keeps (hands_nothing (made r.process.regs s.outcome) n is (another_class n one four three))
+        (ends_nothing (made r.process.regs s.outcome) n is six)
 
     -- a swap that succeeds
-    module _ (kind : PairKind) (is : class r.process.regs ≡ class_of kind) (within : number < count_of kind (shape_of driver)) where
+    module _ (kind : PairKind) (is : class r.process.regs ≡ class_of kind)
+        (within : number < count_of kind (shape_of driver)) where
       abbrev former : ℕ × ℕ
       former = held kind driver number r.own
 
@@ -297,12 +347,13 @@ module _ (law : OnlyHandingChangesPairs) (drivers : DriversLeavePairs) where
       outcome = Replied (SuccessU32U32 former.0 former.1) None
 
       -- whether it is a swap of a key
-      abbrev is_of : Key → Bool
+      abbrev is_of : PairKey → Bool
       is_of key = is_swap key (made r.process.regs outcome)
 
-      its_key : (key : Key) → is_of key ≡ true → IsOf key kind driver number
+      its_key : (key : PairKey) → is_of key ≡ true → IsOf key kind driver number
       its_key key e =
-          let kinds = both (class r.process.regs == class_of key.kind) (driver == key.driver && number == key.number) e in
+          let kinds = both (class r.process.regs == class_of key.kind) (driver == key.driver && number == key.number)
+          e in
           let numbers = both (driver == key.driver) (number == key.number) kinds.1 in
           record {
             kind = sym (same_kind kind key.kind (ap (λ (c : ℕ). c == class_of key.kind) (sym is) ∙ kinds.0));
@@ -310,9 +361,11 @@ module _ (law : OnlyHandingChangesPairs) (drivers : DriversLeavePairs) where
             number = sym (eqb-true number key.number numbers.1);
           }
 
-      another_key : (key : Key) → is_of key ≡ false → key.kind ≡ kind → key.driver ≡ driver → key.number ≢ number
+      another_key : (key : PairKey) → is_of key ≡ false → key.kind ≡ kind → key.driver ≡ driver → key.number ≢ number
       another_key key e k d n =
-          false≢true (sym e ∙ both_true _ _ (eq-eqb (class r.process.regs) (class_of key.kind) (is ∙ ap class_of (sym k))) (both_true _ _ (eq-eqb driver key.driver (sym d)) (eq-eqb number key.number (sym n))))
+          false≢true (sym e
+          ∙ both_true _ _ (eq-eqb (class r.process.regs) (class_of key.kind) (is ∙ ap class_of (sym k)))
+          (both_true _ _ (eq-eqb driver key.driver (sym d)) (eq-eqb number key.number (sym n))))
 
       hands : HandsOne kind driver number pair r.own (handing kind driver number pair r.own)
       hands = law.handing kind driver number pair r.own k.shape within
@@ -321,23 +374,42 @@ module _ (law : OnlyHandingChangesPairs) (drivers : DriversLeavePairs) where
       not_exit = ends_nothing (made r.process.regs outcome) (class_of kind) is (no_swap 6 refl refl refl kind)
 
       -- the pair of each key afterwards
-      pair_after : (key : Key) (b : Bool) → is_of key ≡ b → held_by key (handing kind driver number pair r.own) ≡ unwrap_or (cond (b && true) (Some pair) None) (last_pair key past)
+      pair_after : (key : PairKey) (b : Bool) → is_of key ≡ b
+          → held_by key (handing kind driver number pair r.own)
+          ≡ unwrap_or (cond (b && true) (Some pair) None) (last_pair key past)
       pair_after key true e =
           let its = its_key key e in
           (λ i. held (its.kind i) (its.driver i) (its.number i) (handing kind driver number pair r.own)) ∙ hands.this
       pair_after key false e = hands.others key.kind key.driver key.number (another_key key e) ∙ k.pairs key
 
       -- the one before of the key
-      pair_before : (key : Key) → is_of key ≡ true → former ≡ last_pair key past
-      pair_before key e = let its = its_key key e in sym (λ i. held (its.kind i) (its.driver i) (its.number i) r.own) ∙ k.pairs key
+      pair_before : (key : PairKey) → is_of key ≡ true → former ≡ last_pair key past
+      pair_before key e = let its = its_key key e in
+          sym (λ i. held (its.kind i) (its.driver i) (its.number i) r.own) ∙ k.pairs key
 
-      shown : made r.process.regs outcome ≡ record { class = class r.process.regs; args = arguments r.process.regs; reply = Some (swap_reply former pair); rule = None }
+      shown : made r.process.regs outcome
+          ≡ record {
+            class = class r.process.regs;
+            args = arguments r.process.regs;
+            reply =
+                Some (swap_reply former pair);
+            rule = None;
+          }
       shown =
           let there = class_within r.process.regs (class_of kind) is (no_swap 0 refl refl refl kind) in
-          (λ i. record { class = class r.process.regs; args = arguments r.process.regs; reply = Some (swap_shown r.process.regs former.0 former.1 there i); rule = None })
+          (λ i. record {
+            class = class r.process.regs;
+            args = arguments r.process.regs;
+            reply =
+                Some (swap_shown r.process.regs former.0 former.1 there i);
+            rule = None;
+          })
 
-      gives_back : (key : Key) (given : ℕ × ℕ) (b : Bool) → is_of key ≡ b → cond (b && true) (Some pair) None ≡ Some given → Some (swap_reply former pair) ≡ Some (swap_reply (last_pair key past) given)
-      gives_back key given true e handed = let same : pair ≡ given = cc in (λ i. Some (swap_reply (pair_before key e i) (same i)))
+      gives_back : (key : PairKey) (given : ℕ × ℕ) (b : Bool) → is_of key ≡ b
+          → cond (b && true) (Some pair) None ≡ Some given
+          → Some (swap_reply former pair) ≡ Some (swap_reply (last_pair key past) given)
+      gives_back key given true e handed = let same : pair ≡ given = cc in
+          (λ i. Some (swap_reply (pair_before key e i) (same i)))
       gives_back key given false e handed = nothing given handed
 
       succeeds : Follows past (called r accesses call (swap_by r kind driver number pair None))
@@ -345,7 +417,9 @@ module _ (law : OnlyHandingChangesPairs) (drivers : DriversLeavePairs) where
         after = λ goes_on. record {
           shape = hands.shape;
           application = k.application;
-          pairs = λ key. pair_after key (is_of key) refl ∙ sym (ap (λ (b : Bool). cond b (0, 0) (unwrap_or (cond (is_of key && true) (Some pair) None) (last_pair key past))) not_exit);
+          pairs = λ key. pair_after key (is_of key) refl
+              ∙ sym (ap (λ (b : Bool). cond b (0, 0)
+              (unwrap_or (cond (is_of key && true) (Some pair) None) (last_pair key past))) not_exit);
         };
         reply = λ m key given is handed.
             let same : made r.process.regs outcome ≡ m = cc in
@@ -353,28 +427,36 @@ module _ (law : OnlyHandingChangesPairs) (drivers : DriversLeavePairs) where
             ∙ gives_back key given (is_of key) refl (ap (handed_by key) same ∙ handed);
       }
 
-    swapped : (kind : PairKind) → class r.process.regs ≡ class_of kind → Follows past (called r accesses call (swap r kind driver number pair))
+    swapped : (kind : PairKind) → class r.process.regs ≡ class_of kind
+        → Follows past (called r accesses call (swap r kind driver number pair))
     swapped kind is = by_refusal (swap_refusal kind driver number pair r.own) refl
       where
-        by_refusal : (o : Option CallRule) → swap_refusal kind driver number pair r.own ≡ o → Follows past (called r accesses call (swap_by r kind driver number pair o))
+        by_refusal : (o : Option CallRule) → swap_refusal kind driver number pair r.own ≡ o
+            → Follows past (called r accesses call (swap_by r kind driver number pair o))
         by_refusal None e = succeeds kind is (in_count kind driver number pair r.own e)
         by_refusal (Some rule) e = refused_so rule (FailureU32U32 (error_of rule) pair.0 pair.1)
 
     -- an exit that is accepted ends a life; the process has ended, or starts again without grants
-    exited : (s : Record) (outcome : Outcome) → class r.process.regs ≡ 6 → Remembers (telling r accesses call outcome ∷ past) s → Follows past (called r accesses call (record { after = s; outcome = outcome; acts = gone }))
+    exited : (s : Record) (outcome : Outcome) → class r.process.regs ≡ 6
+        → Remembers (telling r accesses call outcome ∷ past) s
+        → Follows past (called r accesses call (record { after = s; outcome = outcome; acts = leaving_all }))
     exited s outcome is after = record {
       after = after;
       reply = λ m key given is_made handed.
           let same : made r.process.regs outcome ≡ m = cc in
-          nothing given (sym (hands_nothing (made r.process.regs outcome) 6 is (another_class 6 refl refl refl) key) ∙ ap (handed_by key) same ∙ handed);
+          nothing given (sym (hands_nothing (made r.process.regs outcome) 6 is (another_class 6 refl refl refl) key)
+          ∙ ap (handed_by key) same ∙ handed);
     }
 
-    of_exit : class r.process.regs ≡ 6 → Follows past (called r accesses call (exit r (a0 r.process.regs) (a1 r.process.regs)))
+    of_exit : class r.process.regs ≡ 6
+        → Follows past (called r accesses call (exit r (a0 r.process.regs) (a1 r.process.regs)))
     unfolding exit
     of_exit is =
         by_test (λ s. Follows past (called r accesses call s)) (a0 r.process.regs == 0) _ _
-        (exited (record r { process = after_exit r.process (a1 r.process.regs); own = ended_own r.own }) Ended is (λ goes_on. absurd (false≢true (sym goes_on))))
-        (by_test (λ s. Follows past (called r accesses call s)) (a0 r.process.regs == 1) _ _ (exited (restart r) Again is starts_again) (refused_so NoOperation (Failure (error_of NoOperation))))
+        (exited (record r { process = after_exit r.process (a1 r.process.regs); own = ended_own r.own }) Ended is
+        (λ goes_on. absurd (false≢true (sym goes_on))))
+        (by_test (λ s. Follows past (called r accesses call s)) (a0 r.process.regs == 1) _ _
+        (exited (restart r) Again is starts_again) (refused_so NoOperation (Failure (error_of NoOperation))))
       where
         ends : ((class r.process.regs == 6) && true) ≡ true
         ends = ap (λ (c : ℕ). (c == 6) && true) is
@@ -382,65 +464,87 @@ module _ (law : OnlyHandingChangesPairs) (drivers : DriversLeavePairs) where
         starts_again : Remembers (telling r accesses call Again ∷ past) (restart r)
         starts_again goes_on =
             known_anew past _ r (restart r) k (restart_forgets r k.application) (restart_object r k.application)
-            (λ key. ap (λ (b : Bool). cond b (0, 0) (unwrap_or (handed_by key (made r.process.regs Again)) (last_pair key past))) ends)
+            (λ key. ap (λ (b : Bool). cond b (0, 0)
+            (unwrap_or (handed_by key (made r.process.regs Again)) (last_pair key past))) ends)
 
     -- a call that its object does not permit is refused
-    permitted : (around : Surroundings) → Follows past (called r accesses call (by_class around r call)) → Follows past (called r accesses call (served around r call))
+    permitted : (around : CommandContext) → Follows past (called r accesses call (by_class around r call))
+        → Follows past (called r accesses call (served around r call))
     unfolding served
-    permitted around follows = by_test (λ s. Follows past (called r accesses call s)) (permits r.object call) _ _ follows (refused_so Permission (failure_of call Permission))
+    permitted around follows =
+        by_test (λ s. Follows past (called r accesses call s)) (object_permits r.object call) _ _ follows
+        (refused_so Permission (failure_of call Permission))
 
   -- a call that the registers make, or none that there is
-  asks : (past : List Told) (settings : Settings) (time : ℕ) (r : Record) (accesses : List Touch) → Knows past r → Follows past (calls settings time r accesses (call_of r.process.regs))
+  asks : (past : List TurnTrace) (settings : Settings) (time : ℕ) (r : Record) (accesses : List MemoryAccess)
+      → Knows past r → Follows past (calls settings time r accesses (call_of r.process.regs))
   unfolding by_class
   asks past settings time r accesses k =
       of_registers (λ call. Follows past (calls settings time r accesses call)) regs
-      (λ is. on (yield_in regs) (of_other past r k accesses (yield_in regs) 0 _ is refl refl refl refl (keeps_yield r (a0 regs) (a1 regs))))
+      (λ is. on (yield_in regs) (of_other past r k accesses (yield_in regs) 0 _ is refl refl refl refl
+      (keeps_yield r (a0 regs) (a1 regs))))
       (λ is. on (subscribe_in regs) (swapped past r k accesses (subscribe_in regs) Upcall is))
-      (λ is. on (command_in regs) (of_other past r k accesses (command_in regs) 2 _ is refl refl refl refl (keeps_taken r around (a0 regs) (a1 regs) (a2 regs) (a3 regs) (taker_of (a0 regs)) refl)))
+      (λ is. on (command_in regs) (of_other past r k accesses (command_in regs) 2 _ is refl refl refl refl
+      (keeps_taken r around (a0 regs) (a1 regs) (a2 regs) (a3 regs) (handler_of (a0 regs)) refl)))
       (λ is. on (allow_rw_in regs) (swapped past r k accesses (allow_rw_in regs) ReadWrite is))
       (λ is. on (allow_ro_in regs) (swapped past r k accesses (allow_ro_in regs) ReadOnly is))
-      (λ is. on (memop_in regs) (of_other past r k accesses (memop_in regs) 5 _ is refl refl refl refl (keeps_memop r (a0 regs) (a1 regs))))
-      (λ is. on (exit_in regs) (of_exit past r k accesses (exit_in regs) is)) (denied past settings r (unknown_call r.process) k)
+      (λ is. on (memop_in regs) (of_other past r k accesses (memop_in regs) 5 _ is refl refl refl refl
+      (keeps_memop r (a0 regs) (a1 regs))))
+      (λ is. on (exit_in regs) (of_exit past r k accesses (exit_in regs) is))
+      (denied past settings r (unknown_call r.process) k)
     where
       regs : Registers
       regs = r.process.regs
 
-      around : Surroundings
+      around : CommandContext
       around = surroundings settings time
 
-      on : (call : SystemCall) → Follows past (called r accesses call (by_class around r call)) → Follows past (calls settings time r accesses (Some call))
+      on : (call : SystemCall) → Follows past (called r accesses call (by_class around r call))
+          → Follows past (calls settings time r accesses (Some call))
       on call follows = permitted past r k accesses call around follows
 
   -- the end of an instruction
-  follows_ended : (past : List Told) (settings : Settings) (time : ℕ) (r : Record) (accesses : List Touch) (end : TurnEnd) → Knows past r → Follows past (ended settings time r accesses end)
+  follows_ended : (past : List TurnTrace) (settings : Settings) (time : ℕ) (r : Record) (accesses : List MemoryAccess)
+      (end : TurnEnd) → Knows past r → Follows past (at_turn_end settings time r accesses end)
   follows_ended past settings time r accesses ends.Went k = quiet past accesses r r k refl refl
   follows_ended past settings time r accesses ends.Call k = asks past settings time r accesses k
   follows_ended past settings time r accesses (ends.Trap denial) k = denied past settings r denial k
 
   -- what the instruction itself leaves of a process is nothing of its pairs
-  follows_instructed : (past : List Told) (settings : Settings) (time : ℕ) (r : Record) → Knows past r → Follows past (instructed settings time r)
+  follows_instructed : (past : List TurnTrace) (settings : Settings) (time : ℕ) (r : Record) → Knows past r
+      → Follows past (instructed settings time r)
   follows_instructed past settings time r k =
       let t = instruction r in
-      let s = with_effect (counted r) t in
+      let s = with_effect (turn_counted r) t in
       follows_ended past settings time s t.accesses t.end
-      (record { shape = law.shape r.own s.own (law.grants r.own s.own refl) k.shape; application = k.application; pairs = λ key. k.pairs key })
+      (record {
+        shape = law.shape r.own s.own (law.grants r.own s.own refl) k.shape;
+        application =
+            k.application;
+        pairs = λ key. k.pairs key;
+      })
 
-  follows_delivery : (past : List Told) (r : Record) (pending : List Scheduled) → Knows past r → Follows past (delivery r pending)
+  follows_delivery : (past : List TurnTrace) (r : Record) (pending : List Scheduled) → Knows past r
+      → Follows past (delivery r pending)
   follows_delivery past r [] k = quiet past [] r r k refl refl
   follows_delivery past r (upcall ∷ more) k = quiet past [] r _ k refl refl
 
-  follows_over : (past : List Told) (r : Record) → is_over r.process.state ≡ true → Follows past (idle r)
+  follows_over : (past : List TurnTrace) (r : Record) → is_over r.process.state ≡ true → Follows past (idle r)
   follows_over past r over = record {
     after = λ goes_on. absurd (false≢true (sym goes_on ∙ over));
     reply = λ made key pair none. nothing made none;
   }
 
-  follows_state : (past : List Told) (settings : Settings) (time : ℕ) (state : State) (r : Record) → r.process.state ≡ state → Remembers past r → Follows past (turn_in settings time state r)
-  follows_state past settings time Running r is remembers = follows_instructed past settings time r (remembers (ap is_over is))
-  follows_state past settings time Yielded r is remembers = follows_delivery past r r.own.pending (remembers (ap is_over is))
+  follows_state : (past : List TurnTrace) (settings : Settings) (time : ℕ) (state : State) (r : Record)
+      → r.process.state ≡ state → Remembers past r → Follows past (turn_in settings time state r)
+  follows_state past settings time Running r is remembers =
+      follows_instructed past settings time r (remembers (ap is_over is))
+  follows_state past settings time Yielded r is remembers =
+      follows_delivery past r r.own.pending (remembers (ap is_over is))
   follows_state past settings time Faulted r is remembers = follows_over past r (ap is_over is)
   follows_state past settings time (Terminated code) r is remembers = follows_over past r (ap is_over is)
 
-  pub follows_turn : (past : List Told) (settings : Settings) (time : ℕ) (r : Record) → Remembers past r → Follows past (turned settings time r)
+  pub follows_turn : (past : List TurnTrace) (settings : Settings) (time : ℕ) (r : Record) → Remembers past r
+      → Follows past (turned settings time r)
   unfolding turned
   follows_turn past settings time r remembers = follows_state past settings time r.process.state r refl remembers

@@ -1,5 +1,6 @@
 -- That what is a process's own stays whole, by the one walk over what may happen to it.
-use Rattle.std.proofs.Common.{◌≡◌, ◌<◌, ℕ, ◌+◌, ◌-◌, Bool, true, false, cond, not, nat_lt, List, [], ◌∷◌, length, slice_set, is_none, Option, None, Some, IfSome, refl, sym, subst, ◌∙◌, arith}
+use Rattle.std.proofs.Common.{◌≡◌, ◌<◌, ℕ, ◌+◌, ◌-◌, Bool, true, false, cond, not, nat_lt, List, [], ◌∷◌, length}
+use Rattle.std.proofs.Common.{slice_set, is_none, Option, None, Some, IfSome, refl, sym, subst, ◌∙◌, arith}
 use Rattle.std.proofs.lemmas.Bool.Decides.{nat_tests}
 use Rattle.std.proofs.lemmas.List.{length-replicate, length-set}
 use Rattle.tk_base.specs.Bus.{byte_of, put}
@@ -8,38 +9,41 @@ use Rattle.tk_base.specs.declared.access.Width.TheVariants.{Byte, Half, Word}
 use Rattle.tk_base.specs.declared.call.CallRule.TheVariants.{NoDriver, NoNumber, NoRoom, Outside}
 use Rattle.rv32_model.specs.UserTurn.{Write}
 use Rattle.grant_values.specs.Drivers.{counts_of}
-use Rattle.grant_areas.specs.declared.kinds.PairKind.{PairKind}
-use Rattle.grant_areas.specs.Kinds.{count_of}
-use Rattle.grant_areas.specs.Grants.{Grant, shape_of}
-use Rattle.process_layout.specs.Extents.{Extents}
-use Rattle.process_own.specs.Own.{Own}
-use Rattle.process_own.specs.Flag.{with_flag}
-use Rattle.process_own.specs.Handed.{has_place, lies_in_ram, may_hand}
-use Rattle.process_own.specs.Instruction.{ram_after}
-use Rattle.process_own.specs.Pairs.{OnlyHandingChangesPairs}
+use Rattle.grant_model.specs.declared.kinds.PairKind.{PairKind}
+use Rattle.grant_model.specs.Kinds.{count_of}
+use Rattle.grant_model.specs.Grants.{Grant, shape_of}
+use Rattle.process_layout.specs.LayoutView.{LayoutView}
+use Rattle.process_model.specs.Own.{Own}
+use Rattle.process_model.specs.Flag.{with_flag}
+use Rattle.process_model.specs.Handed.{has_place, lies_in_ram, may_share}
+use Rattle.process_model.specs.Instruction.{ram_after}
+use Rattle.process_model.specs.Pairs.{OnlyHandingChangesPairs}
 use Rattle.driver_model.specs.Keeping.{DriversKeep, DriversKeepSettled, IsInOrder, IsSettled, KeepsSettled}
 use Rattle.driver_model.specs.Services.{OfEachService}
 use Rattle.kernel_model.specs.Record.{Record, instruction}
 use Rattle.kernel_model.specs.declared.settings.Settings.{Settings}
 use Rattle.kernel_model.specs.Calls.{restart, restarted_with, swap_refusal}
-use Rattle.kernel_model.specs.Turn.{counted as as_counted, turned}
+use Rattle.kernel_model.specs.Turn.{turn_counted as as_counted, turned}
 use Rattle.kernel_model.specs.World.{after}
-use Rattle.kernel_model.specs.Lives.{Stays}
+use Rattle.kernel_model.specs.Lives.{HoldsThroughout}
 use Rattle.kernel_model.specs.Causes.{StepsHaveCauses}
 use Rattle.kernel_model.specs.Wholes.{ChoicesHaveCauses, HasWholeOwn, OwnsStayWhole}
 use Rattle.kernel_model.proofs.Changes.{IsKept, after_answer, after_turn, over_choices}
-use Rattle.kernel_model.proofs.Lives.{KeepsBoth, keep_both, order_again, order_kept, order_moved, order_on, order_same, restart_by}
+use Rattle.kernel_model.proofs.Lives.{KeepsBoth, keep_both, order_again, order_kept, order_moved, order_on, order_same}
+use Rattle.kernel_model.proofs.Lives.{restart_by}
 use Rattle.kernel_model.proofs.Runs.{passed_over}
 
 -- a value that is put leaves as many bytes
 put_size : (xs : List ℕ) (at : ℕ) (width : Width) (v : ℕ) → length (put xs at width v) ≡ length xs
 put_size xs at Byte v = length-set xs at (byte_of v 0)
-put_size xs at Half v = length-set (slice_set xs at (byte_of v 0)) (at + 1) (byte_of v 1) ∙ length-set xs at (byte_of v 0)
+put_size xs at Half v =
+    length-set (slice_set xs at (byte_of v 0)) (at + 1) (byte_of v 1) ∙ length-set xs at (byte_of v 0)
 put_size xs at Word v =
     let first = slice_set xs at (byte_of v 0) in
     let second = slice_set first (at + 1) (byte_of v 1) in
     let third = slice_set second (at + 2) (byte_of v 2) in
-    length-set third (at + 3) (byte_of v 3) ∙ length-set second (at + 2) (byte_of v 2) ∙ length-set first (at + 1) (byte_of v 1) ∙ length-set xs at (byte_of v 0)
+    length-set third (at + 3) (byte_of v 3) ∙ length-set second (at + 2) (byte_of v 2)
+    ∙ length-set first (at + 1) (byte_of v 1) ∙ length-set xs at (byte_of v 0)
 
 effect_size : (start : ℕ) (write : Option Write) (ram : List ℕ) → length (ram_after start write ram) ≡ length ram
 unfolding ram_after
@@ -49,21 +53,25 @@ effect_size start (Some w) ram = put_size ram (w.address - start) w.width w.valu
 flag_size : (at byte : ℕ) (own : Own) → length (with_flag at byte own).ram ≡ length own.ram
 flag_size at byte own = by_test (lies_in_ram own.layout at 1)
   where
-    by_test : (b : Bool) → length (cond b (record own { ram = slice_set own.ram (at - own.layout.start) byte }) own).ram ≡ length own.ram
+    by_test : (b : Bool)
+        → length (cond b (record own { ram = slice_set own.ram (at - own.layout.start) byte }) own).ram ≡ length own.ram
     by_test true = length-set own.ram (at - own.layout.start) byte
     by_test false = refl
 
-flag_keeps : (at byte : ℕ) (own : Own) → ((with_flag at byte own).layout ≡ own.layout) × ((with_flag at byte own).grants ≡ own.grants)
+flag_keeps : (at byte : ℕ) (own : Own)
+    → ((with_flag at byte own).layout ≡ own.layout) × ((with_flag at byte own).grants ≡ own.grants)
 flag_keeps at byte own = by_test (lies_in_ram own.layout at 1)
   where
-    by_test : (b : Bool) → let o = cond b (record own { ram = slice_set own.ram (at - own.layout.start) byte }) own in (o.layout ≡ own.layout) × (o.grants ≡ own.grants)
+    by_test : (b : Bool) → let o = cond b (record own { ram = slice_set own.ram (at - own.layout.start) byte }) own in
+        (o.layout ≡ own.layout) × (o.grants ≡ own.grants)
     by_test true = (refl, refl)
     by_test false = (refl, refl)
 
 -- other bytes, as many; the same layout and grants
-settled_on : (own o : Own) → o.layout ≡ own.layout → o.grants ≡ own.grants → length o.ram ≡ length own.ram → IsSettled own → IsSettled o
+settled_on : (own o : Own) → o.layout ≡ own.layout → o.grants ≡ own.grants → length o.ram ≡ length own.ram
+    → IsSettled own → IsSettled o
 settled_on own o layout grants size h =
-    subst (λ (e : Extents). IsSettled (record o { layout = e })) (sym layout)
+    subst (λ (e : LayoutView). IsSettled (record o { layout = e })) (sym layout)
     (subst (λ (gs : List Grant). IsSettled (record o { layout = own.layout; grants = gs })) (sym grants)
     (record {
       order = record { mark = h.order.mark; brk = h.order.brk; kernel_break = h.order.kernel_break; end = h.order.end };
@@ -82,24 +90,30 @@ below n m e = grind (arith, nat_tests)
 -- a swap that was not refused: its driver has such a number and a place, and the pair may be handed
 record IsHanded (kind : PairKind) (driver number : ℕ) (pair : ℕ × ℕ) (own : Own) : Type 0 where
   counted : number < count_of kind (shape_of driver)
-  may : may_hand kind own.layout pair ≡ true
+  may : may_share kind own.layout pair ≡ true
   room : has_place driver own ≡ true
 
-is_handed : (kind : PairKind) (driver number : ℕ) (pair : ℕ × ℕ) (own : Own) → swap_refusal kind driver number pair own ≡ None → IsHanded kind driver number pair own
+is_handed : (kind : PairKind) (driver number : ℕ) (pair : ℕ × ℕ) (own : Own)
+    → swap_refusal kind driver number pair own ≡ None → IsHanded kind driver number pair own
 unfolding swap_refusal
 is_handed kind driver number pair own none =
-    by_tests (is_none (counts_of driver)) (not (nat_lt number (count_of kind (shape_of driver)))) (not (may_hand kind own.layout pair)) (not (has_place driver own)) refl refl refl none
+    by_tests (is_none (counts_of driver)) (not (nat_lt number (count_of kind (shape_of driver))))
+    (not (may_share kind own.layout pair)) (not (has_place driver own)) refl refl refl none
   where
-    by_tests : (a b c d : Bool) → not (nat_lt number (count_of kind (shape_of driver))) ≡ b → not (may_hand kind own.layout pair) ≡ c → not (has_place driver own) ≡ d
-        → cond a (Some NoDriver) (cond b (Some NoNumber) (cond c (Some Outside) (cond d (Some NoRoom) None))) ≡ None → IsHanded kind driver number pair own
+    by_tests : (a b c d : Bool) → not (nat_lt number (count_of kind (shape_of driver))) ≡ b
+        → not (may_share kind own.layout pair) ≡ c → not (has_place driver own) ≡ d
+        → cond a (Some NoDriver) (cond b (Some NoNumber) (cond c (Some Outside) (cond d (Some NoRoom) None))) ≡ None
+        → IsHanded kind driver number pair own
     by_tests a b c d numbered may room none =
-        let known = (passed_over a NoDriver (cond b (Some NoNumber) (cond c (Some Outside) (cond d (Some NoRoom) None))) none).1 in
+        let known = (passed_over a NoDriver (cond b (Some NoNumber) (cond c (Some Outside) (cond d (Some NoRoom) None)))
+        none).1 in
         let first = passed_over b NoNumber (cond c (Some Outside) (cond d (Some NoRoom) None)) known in
         let second = passed_over c Outside (cond d (Some NoRoom) None) first.1 in
         let third = passed_over d NoRoom None second.1 in
         record {
-          counted = below number (count_of kind (shape_of driver)) (not_false (nat_lt number (count_of kind (shape_of driver))) (numbered ∙ first.0));
-          may = not_false (may_hand kind own.layout pair) (may ∙ second.0);
+          counted = below number (count_of kind (shape_of driver))
+              (not_false (nat_lt number (count_of kind (shape_of driver))) (numbered ∙ first.0));
+          may = not_false (may_share kind own.layout pair) (may ∙ second.0);
           room = not_false (has_place driver own) (room ∙ third.0);
         }
 
@@ -112,13 +126,15 @@ module _ (law : DriversKeep) (pairs : OnlyHandingChangesPairs) (settled : Driver
       let both = keep_both law in
       let s = settled.services in
       record {
-        command = λ driver taker is around number a2 a3 own. (both.command driver taker is around number a2 a3 own, s.command driver taker is around number a2 a3 own);
+        command = λ driver taker is around number a2 a3 own.
+            (both.command driver taker is around number a2 a3 own, s.command driver taker is around number a2 a3 own);
         alarmed = λ now own. (both.alarmed now own, s.alarmed now own);
         taken = λ own. (both.taken own, s.taken own);
         write_done = λ own. (both.write_done own, s.write_done own);
         input = λ bytes own. (both.input bytes own, s.input bytes own);
         drawn = λ words life own. (both.drawn words life own, s.drawn words life own);
-        stored = λ fault flash bytes life own. (both.stored fault flash bytes life own, s.stored fault flash bytes life own);
+        stored = λ fault flash bytes life own.
+            (both.stored fault flash bytes life own, s.stored fault flash bytes life own);
       }
 
   -- a process without grants, its block zeroed
@@ -150,8 +166,10 @@ module _ (law : DriversKeep) (pairs : OnlyHandingChangesPairs) (settled : Driver
         waits = λ r alive h. (k.waits r alive h.0, h.1);
         serves = λ r o storage s h. (k.serves r o storage s.0 h.0, s.1 h.1);
         hands = λ r kind driver number pair may h.
-            let is = is_handed kind driver number pair r.own may in
-            (k.hands r kind driver number pair may h.0, settled.handed kind driver number pair r.own is.room is.may is.counted h.1);
+            let is = is_handed kind driver number pair r.own may in (
+              k.hands r kind driver number pair may h.0,
+              settled.handed kind driver number pair r.own is.room is.may is.counted h.1,
+            );
         moves = λ r new may h. (
           k.moves r new may h.0,
           record {
@@ -162,8 +180,10 @@ module _ (law : DriversKeep) (pairs : OnlyHandingChangesPairs) (settled : Driver
           },
         );
         flags = λ r at byte h.
-            let same = flag_keeps at byte r.own in
-            (k.flags r at byte h.0, settled_on r.own (with_flag at byte r.own) same.0 same.1 (flag_size at byte r.own) h.1);
+            let same = flag_keeps at byte r.own in (
+              k.flags r at byte h.0,
+              settled_on r.own (with_flag at byte r.own) same.0 same.1 (flag_size at byte r.own) h.1,
+            );
         delivers = λ r upcall more alive h. (k.delivers r upcall more alive h.0, settled_on r.own _ refl refl refl h.1);
         exits = λ r code h. (k.exits r code h.0, settled_on r.own _ refl refl refl h.1);
         again = λ r alive h. settled_again r h;
@@ -171,20 +191,28 @@ module _ (law : DriversKeep) (pairs : OnlyHandingChangesPairs) (settled : Driver
         faults_again = λ r denial alive h. settled_again _ (record { places = h.0.places; least = h.0.least }, h.1);
       }
 
-  turn_keeps : (settings : Settings) (time : ℕ) (r : Record) → HasWholeOwn r → HasWholeOwn (turned settings time r).after
+  turn_keeps : (settings : Settings) (time : ℕ) (r : Record) → HasWholeOwn r
+      → HasWholeOwn (turned settings time r).after
   turn_keeps settings time r h =
       after_turn KeepsAll keep_all HasWholeOwn HasWholeOwn whole_kept settings time r (λ none. h)
-      (record { places = h.0.places; least = h.0.least }, h.1)
-      (order_on r _ h.0 refl refl refl (order_same r.own _ refl refl h.0.places), settled_on r.own _ refl refl (effect_size r.own.layout.start (instruction (as_counted r)).write r.own.ram) h.1)
+      (record { places = h.0.places; least = h.0.least }, h.1) (
+        order_on r _ h.0 refl refl refl (order_same r.own _ refl refl h.0.places),
+        settled_on r.own _ refl refl (effect_size r.own.layout.start (instruction (as_counted r)).write r.own.ram)
+            h.1,
+      )
 
-  pub wholes_stay : Stays HasWholeOwn
-  wholes_stay = over_choices HasWholeOwn turn_keeps (λ settings event r is h. after_answer KeepsAll keep_all HasWholeOwn HasWholeOwn whole_kept settings event r is h)
+  pub wholes_stay : HoldsThroughout HasWholeOwn
+  wholes_stay = over_choices HasWholeOwn turn_keeps
+      (λ settings event r is h. after_answer KeepsAll keep_all HasWholeOwn HasWholeOwn whole_kept settings event r is h)
 
   pub owns_stay_whole : OwnsStayWhole
   owns_stay_whole w choices all slot r is =
-      settled.whole r.own (subst (λ (o : Option Record). IfSome o HasWholeOwn) is (wholes_stay w choices slot (all slot))).1
+      settled.whole r.own (subst (λ (o : Option Record). IfSome o HasWholeOwn) is
+      (wholes_stay w choices slot (all slot))).1
 
   pub choices_have_causes : StepsHaveCauses → ChoicesHaveCauses
   choices_have_causes steps w [] all = tt
-  choices_have_causes steps w (choice ∷ choices) all =
-      (steps.any w choice (owns_stay_whole w [] all), choices_have_causes steps (after w choice) choices (λ slot. wholes_stay w (choice ∷ []) slot (all slot)))
+  choices_have_causes steps w (choice ∷ choices) all = (
+    steps.any w choice (owns_stay_whole w [] all),
+    choices_have_causes steps (after w choice) choices (λ slot. wholes_stay w (choice ∷ []) slot (all slot)),
+  )

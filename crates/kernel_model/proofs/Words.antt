@@ -1,26 +1,30 @@
 -- Which random words the steps tell, and which are left.
-use Rattle.std.proofs.Common.{◌≡◌, ℕ, ◌==◌, Bool, true, false, cond, List, [], ◌∷◌, ◌++◌, length, slice_get, option_map, Option, None, Some, refl, sym, ap, ◌∙◌}
+use Rattle.std.proofs.Common.{◌≡◌, ℕ, ◌==◌, Bool, true, false, cond, List, [], ◌∷◌, ◌++◌, length, slice_get, option_map}
+use Rattle.std.proofs.Common.{Option, None, Some, refl, sym, ap, ◌∙◌}
 use Rattle.std.proofs.lemmas.List.{append_assoc, append-nil}
 use Rattle.tk_base.specs.declared.process.Choice.{Choice}
 use Rattle.tk_base.specs.declared.process.Choice.TheVariants.{Run, Device, Pass}
 use Rattle.tk_base.specs.declared.process.Dev.{Dev}
 use Rattle.tk_base.specs.declared.process.Dev.TheVariants as dev
-use Rattle.script_text.specs.Settings.{Event as Arrival}
+use Rattle.script_text.specs.Settings.{ScriptEvent as Arrival}
 use Rattle.driver_model.specs.Alarm.{due_slot}
 use Rattle.driver_model.specs.Answers.{EventsTellSteps, drawn_word}
-use Rattle.driver_model.specs.Commands.{Act, Waits, Leaves, Lights, Writes, Reads, Randoms, Stores}
+use Rattle.driver_model.specs.Commands.{BoardRequest, Waits, Leaves, Lights, Writes, Reads, Randoms, Stores}
 use Rattle.driver_model.specs.Console as console
 use Rattle.driver_model.specs.Random as random
 use Rattle.kernel_model.specs.Record.{Record}
 use Rattle.kernel_model.specs.Turn.{WriteDone, Taken, Word, NoWord, flash_of, turned}
-use Rattle.kernel_model.specs.World.{Answer, Deed, Devices, Label, Printed, Stepped, World, acted, after, alarmed, arrived, carried_out, deed_of, done, drawing, drawn, first_of, labels, labels_of, now_in, owns_in, printing, ran, receiving, routed, stepped, storing, transmitting}
+use Rattle.kernel_model.specs.World.{Answer, DeviceStep, Devices, Label, Printed, Stepped, World, acted, after, alarmed}
+use Rattle.kernel_model.specs.World.{arrived, carried_out, device_step_of, done, random_step, word_event, first_waiting}
+use Rattle.kernel_model.specs.World.{labels, labels_of, now_in, owns_in, printing, ran, receive_step, routed, stepped}
+use Rattle.kernel_model.specs.World.{storing, transmitting}
 use Rattle.kernel_model.specs.Choices.{labels_of_all}
 use Rattle.kernel_model.specs.Replay.{after_all}
 use Rattle.kernel_model.specs.Words.{WordsAreDrawnInOrder, word_in, word_told, words_told}
 use Rattle.kernel_model.proofs.Places.{of_stepped}
 
 -- what a turn asks of the board draws none
-acted_words : (slot : ℕ) (act : Act) (d : Devices) → (acted slot act d).words ≡ d.words
+acted_words : (slot : ℕ) (act : BoardRequest) (d : Devices) → (acted slot act d).words ≡ d.words
 acted_words slot (Waits Writes) d = refl
 acted_words slot (Waits Reads) d = refl
 acted_words slot (Waits Randoms) d = refl
@@ -31,7 +35,7 @@ acted_words slot (Leaves Randoms) d = refl
 acted_words slot (Leaves Stores) d = refl
 acted_words slot (Lights led switch) d = refl
 
-routed_words : (slot : ℕ) (acts : List Act) (d : Devices) → (routed slot acts d).words ≡ d.words
+routed_words : (slot : ℕ) (acts : List BoardRequest) (d : Devices) → (routed slot acts d).words ≡ d.words
 routed_words slot [] d = refl
 routed_words slot (act ∷ acts) d = routed_words slot acts (acted slot act d) ∙ acted_words slot act d
 
@@ -39,7 +43,8 @@ routed_words slot (act ∷ acts) d = routed_words slot acts (acted slot act d) �
 joined : (first then : List Label) → words_told (first ++ then) ≡ words_told first ++ words_told then
 joined [] then = refl
 joined (label ∷ labels) then =
-    ap (λ (words : List ℕ). word_told label ++ words) (joined labels then) ∙ sym (append_assoc (word_told label) (words_told labels) (words_told then))
+    ap (λ (words : List ℕ). word_told label ++ words) (joined labels then)
+    ∙ sym (append_assoc (word_told label) (words_told labels) (words_told then))
 
 printing_none : (slot : ℕ) (bytes : List ℕ) → words_told (printing slot bytes) ≡ []
 printing_none slot bytes = by_length (length bytes == 0)
@@ -52,7 +57,7 @@ sent_none : (b : Bool) → word_in (cond b WriteDone Taken) ≡ []
 sent_none true = refl
 sent_none false = refl
 
-drawn_is : (words rest : List ℕ) → word_in (drawn words rest) ≡ drawn_word words rest
+drawn_is : (words rest : List ℕ) → word_in (word_event words rest) ≡ drawn_word words rest
 drawn_is [] rest = refl
 drawn_is (word ∷ words) rest = by_length (length rest == length words)
   where
@@ -62,15 +67,20 @@ drawn_is (word ∷ words) rest = by_length (length rest == length words)
 
 module _ (tell : EventsTellSteps) (w : World) where
   -- the words that were left are those that a step tells, and then those that are left
-  abbrev Draws : Option Deed → Type 0
+  abbrev Draws : Option DeviceStep → Type 0
   Draws o = w.devices.words ≡ words_told (done w o).labels ++ (done w o).after.devices.words
 
   -- an answer that tells no word, and leaves them
-  silent : (deed : Deed) (a : Answer) → deed.told ≡ Some a → word_in a.event ≡ [] → deed.devices.words ≡ w.devices.words → Draws (Some deed)
+  silent : (deed : DeviceStep) (a : Answer) → deed.told ≡ Some a → word_in a.event ≡ []
+      → deed.devices.words ≡ w.devices.words → Draws (Some deed)
   silent deed a told none same =
-      sym same ∙ ap (λ (words : List ℕ). words ++ deed.devices.words) (sym (ap (λ (o : Option Answer). words_told (labels_of deed o)) told ∙ ap (λ (words : List ℕ). words ++ words_told (printing a.slot deed.printed)) none ∙ printing_none a.slot deed.printed))
+      sym same ∙ ap (λ (words : List ℕ). words ++ deed.devices.words)
+      (sym (ap (λ (o : Option Answer). words_told (labels_of deed o)) told
+      ∙ ap (λ (words : List ℕ). words ++ words_told (printing a.slot deed.printed)) none
+      ∙ printing_none a.slot deed.printed))
 
-  first_draws : (make : World → ℕ → Record → Deed) (line : List ℕ) → ((slot : ℕ) (r : Record) → Draws (Some (make w slot r))) → Draws (first_of make w line)
+  first_draws : (make : World → ℕ → Record → DeviceStep) (line : List ℕ)
+      → ((slot : ℕ) (r : Record) → Draws (Some (make w slot r))) → Draws (first_waiting make w line)
   first_draws make [] each = refl
   first_draws make (slot ∷ rest) each = by_record (slice_get w.records slot)
     where
@@ -78,11 +88,12 @@ module _ (tell : EventsTellSteps) (w : World) where
       by_record None = refl
       by_record (Some r) = each slot r
 
-  draws : (slot : ℕ) (r : Record) → Draws (Some (drawing w slot r))
+  draws : (slot : ℕ) (r : Record) → Draws (Some (random_step w slot r))
   draws slot r =
       let a = random.answered w.devices.words r.own.life r.own in
       tell.words w.devices.words r.own.life r.own
-      ∙ ap (λ (words : List ℕ). words ++ a.words) (sym (append-nil (word_in (drawn w.devices.words a.words)) ∙ drawn_is w.devices.words a.words))
+      ∙ ap (λ (words : List ℕ). words ++ a.words)
+      (sym (append-nil (word_in (word_event w.devices.words a.words)) ∙ drawn_is w.devices.words a.words))
 
   arrival_draws : (arrivals : List Arrival) → Draws (arrived w.devices arrivals)
   arrival_draws [] = refl
@@ -92,14 +103,15 @@ module _ (tell : EventsTellSteps) (w : World) where
   alarm_draws None = refl
   alarm_draws (Some slot) = refl
 
-  deed_draws : (device : Dev) → Draws (deed_of w device)
+  deed_draws : (device : Dev) → Draws (device_step_of w device)
   deed_draws dev.Event = arrival_draws w.devices.arrivals
   deed_draws dev.Alarm = alarm_draws (due_slot (now_in w) (owns_in w))
   deed_draws dev.Uart =
       first_draws transmitting w.devices.writes
-      (λ slot r. silent (transmitting w slot r) _ refl (sent_none (console.sent (flash_of r) r.own.life r.own).completed) refl)
-  deed_draws dev.Receive = first_draws receiving w.devices.reads (λ slot r. refl)
-  deed_draws dev.Random = first_draws drawing w.devices.randoms draws
+      (λ slot r. silent (transmitting w slot r) _ refl
+      (sent_none (console.sent (flash_of r) r.own.life r.own).completed) refl)
+  deed_draws dev.Receive = first_draws receive_step w.devices.reads (λ slot r. refl)
+  deed_draws dev.Random = first_draws random_step w.devices.randoms draws
   deed_draws dev.Store = first_draws storing w.devices.stores (λ slot r. refl)
 
   -- the words that were left before are those that a step tells, and then those that are left
@@ -110,7 +122,8 @@ module _ (tell : EventsTellSteps) (w : World) where
   unfolding carried_out
   choice_draws (Run slot) = by_record (slice_get w.records slot)
     where
-      by_record : (o : Option Record) → w.devices.words ≡ words_told (ran w slot o).labels ++ (ran w slot o).after.devices.words
+      by_record : (o : Option Record)
+          → w.devices.words ≡ words_told (ran w slot o).labels ++ (ran w slot o).after.devices.words
       by_record None = refl
       by_record (Some r) = sym (routed_words slot (turned w.settings w.clock.time r).acts w.devices)
   choice_draws (Device device) = deed_draws device
@@ -126,5 +139,6 @@ words_are_drawn_in_order tell w (choice ∷ choices) =
     let first = words_told (labels w choice) in
     let later = words_told (labels_of_all v choices) in
     let left = (after_all v choices).devices.words in
-    step_draws tell w choice ∙ ap (λ (words : List ℕ). first ++ words) (words_are_drawn_in_order tell v choices) ∙ sym (append_assoc first later left)
+    step_draws tell w choice ∙ ap (λ (words : List ℕ). first ++ words) (words_are_drawn_in_order tell v choices)
+    ∙ sym (append_assoc first later left)
     ∙ ap (λ (words : List ℕ). words ++ left) (sym (joined (labels w choice) (labels_of_all v choices)))

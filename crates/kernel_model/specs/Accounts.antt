@@ -1,4 +1,5 @@
--- What each step of a board answers for.
+-- What each step of a board answers for. The accesses are those of Levy et al., SOSP 2017; what a refused call may
+-- change is this board's own rule.
 use Rattle.std.specs.Prelude.{ℕ, List, All}
 use Rattle.tk_base.specs.declared.process.Choice.{Choice}
 use Rattle.tk_base.specs.declared.process.Choice.TheVariants.{Run}
@@ -12,8 +13,10 @@ use Rattle.kernel_model.specs.Replay.{chosen}
 use Rattle.kernel_model.specs.Shown.{IsShownIn, shown_by}
 use Rattle.kernel_model.specs.Stretch.{IsStretch}
 
--- Each byte that changes of a process has its cause in what the step tells; each access of a turn was permitted, and each
--- denial was due, and is shown; a call that was refused changed nothing but its process's reply, and the counts; what was
+-- Each byte that changes of a process has its cause in what the step tells; each access of a turn was permitted, and
+-- each
+-- denial was due, and is shown; a call that was refused changed nothing but its process's reply, and the counts; what
+-- was
 -- printed was a process's own, in the buffer that it then held.
 pub record IsAccountedFor (w : World) (choice : Choice) : Type 0 where
   pub causes : EachChangeHasACause w choice

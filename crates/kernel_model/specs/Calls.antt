@@ -1,40 +1,46 @@
--- The system calls: TRD 104, "Yield", "Subscribe", "Command", "Read-Only Allow", "Read-Write Allow", "Memop" and "Exit".
-use Rattle.std.specs.Prelude.{ℕ, ◌+◌, ◌-◌, ◌%◌, ◌^◌, ◌==◌, Bool, true, not, nat_le, nat_lt, if◌then◌else◌, List, [], ◌∷◌, find, Option, None, Some, is_none, option_and_then, Result, Ok, Err}
+-- The system calls: TRD 104, "Yield", "Subscribe", "Command", "Read-Only Allow", "Read-Write Allow", "Memop" and
+-- "Exit".
+use Rattle.std.specs.Prelude.{ℕ, ◌+◌, ◌-◌, ◌%◌, ◌^◌, ◌==◌, Bool, true, not, nat_le, nat_lt, if◌then◌else◌, List, []}
+use Rattle.std.specs.Prelude.{◌∷◌, find, Option, None, Some, is_none, option_and_then, Result, Ok, Err}
 use Rattle.tk_base.specs.declared.call.CallRule.{CallRule}
-use Rattle.tk_base.specs.declared.call.CallRule.TheVariants.{Break, Index, NoDriver, NoNumber, NoOperation, NoRoom, Outside, Permission}
+use Rattle.tk_base.specs.declared.call.CallRule.TheVariants.{Break, Index, NoDriver, NoNumber, NoOperation, NoRoom}
+use Rattle.tk_base.specs.declared.call.CallRule.TheVariants.{Outside, Permission}
 use Rattle.tk_base.specs.Call.{error_of}
 use Rattle.tbf_headers.specs.declared.fault.HeaderFault.{HeaderFault}
 use Rattle.tbf_headers.specs.declared.program.Main.{Main}
-use Rattle.tbf_headers.specs.Meaning.{Meaning, reading, region_in, region_count}
+use Rattle.tbf_headers.specs.Meaning.{Meaning, header_reading, region_in, region_count}
 use Rattle.syscall_filter.specs.Permission.{permitted}
-use Rattle.process_layout.specs.Extents.{first_break, permits_break}
+use Rattle.process_layout.specs.LayoutView.{first_break, permits_break}
 use Rattle.tk_base.specs.declared.upcall.Upcall.{Upcall as Scheduled}
 use Rattle.grant_values.specs.Drivers.{counts_of}
-use Rattle.grant_areas.specs.declared.kinds.PairKind.{PairKind}
-use Rattle.grant_areas.specs.declared.kinds.PairKind.TheVariants.{Upcall, ReadOnly, ReadWrite}
-use Rattle.grant_areas.specs.Kinds.{count_of}
-use Rattle.grant_areas.specs.Grants.{shape_of}
-use Rattle.process_own.specs.Own as own
-use Rattle.process_own.specs.Own.{Own}
-use Rattle.process_own.specs.Handed.{handing, has_place, held, may_hand}
-use Rattle.process_own.specs.Flag.{with_flag}
-use Rattle.driver_model.specs.Commands.{Act, Commanded, gone}
-use Rattle.driver_model.specs.Drivers.{Surroundings, Taker, taker_of}
+use Rattle.grant_model.specs.declared.kinds.PairKind.{PairKind}
+use Rattle.grant_model.specs.declared.kinds.PairKind.TheVariants.{Upcall, ReadOnly, ReadWrite}
+use Rattle.grant_model.specs.Kinds.{count_of}
+use Rattle.grant_model.specs.Grants.{shape_of}
+use Rattle.process_model.specs.Own as own
+use Rattle.process_model.specs.Own.{Own}
+use Rattle.process_model.specs.Handed.{handing, has_place, held, may_share}
+use Rattle.process_model.specs.Flag.{with_flag}
+use Rattle.driver_model.specs.Commands.{BoardRequest, Commanded, leaving_all}
+use Rattle.driver_model.specs.Drivers.{CommandContext, CommandHandler, handler_of}
 use Rattle.syscall_abi.specs.declared.call.Call.{Call as SystemCall}
 use Rattle.syscall_abi.specs.declared.call.Call.TheVariants.{Yield, Subscribe, Command, AllowRw, AllowRo, Memop, Exit}
 use Rattle.syscall_abi.specs.declared.reply.Reply.{Reply}
-use Rattle.syscall_abi.specs.declared.reply.Reply.TheVariants.{Failure, FailureU32U32, Success, SuccessU32, SuccessU32U32}
+use Rattle.syscall_abi.specs.declared.reply.Reply.TheVariants.{Failure, FailureU32U32, Success, SuccessU32}
+use Rattle.syscall_abi.specs.declared.reply.Reply.TheVariants.{SuccessU32U32}
 use Rattle.process_record.specs.declared.outcome.Outcome.{Outcome}
 use Rattle.process_record.specs.declared.outcome.Outcome.TheVariants.{Replied, Waits, Delivered, GoesOn, Ended, Again}
-use Rattle.process_record.specs.Process.{after_call, after_exit, after_reply, after_refusal, delivered, restarted, waiting}
-use Rattle.kernel_model.specs.Record.{Record, with_process, with_own}
+use Rattle.process_record.specs.Process.{after_call, after_exit, after_reply, after_refusal, delivered, restarted}
+use Rattle.process_record.specs.Process.{waiting}
+use Rattle.kernel_model.specs.Record.{Record, with_process, record_with_own}
 
 -- what a call leaves, what comes of it, and what the board is to do for it
 pub record Served : Type 0 where
   pub after : Record
   pub outcome : Outcome
-  pub acts : List Act
+  pub acts : List BoardRequest
 
+-- a call that is answered, and asks nothing of the board
 abbrev pub replied : Record → Reply → Served
 replied r reply = record {
   after = with_process r (after_reply r.process reply);
@@ -50,6 +56,7 @@ refused_with r rule reply = record {
   acts = [];
 }
 
+-- a call that is refused by a rule, with the rule's error as its reply
 abbrev pub refused : Record → CallRule → Served
 refused r rule = refused_with r rule (Failure (error_of rule))
 
@@ -60,17 +67,22 @@ unfoldable pub swap_refusal : PairKind → ℕ → ℕ → ℕ × ℕ → Own �
 swap_refusal kind driver number pair o =
     if is_none (counts_of driver) then Some NoDriver
     else (if not (nat_lt number (count_of kind (shape_of driver))) then Some NoNumber
-    else (if not (may_hand kind o.layout pair) then Some Outside
+    else (if not (may_share kind o.layout pair) then Some Outside
     else (if not (has_place driver o) then Some NoRoom
     else None)))
+
+-- a swap that is refused hands back the passed pair
+abbrev pub failed_swap : ℕ × ℕ → CallRule → Reply
+failed_swap pair rule = FailureU32U32 (error_of rule) pair.0 pair.1
 
 -- subscribe and the allows give the former pair back; a refusal hands back the passed one
 abbrev pub swap_by : Record → PairKind → ℕ → ℕ → ℕ × ℕ → Option CallRule → Served
 swap_by r kind driver number pair None =
     let former = held kind driver number r.own in
-    replied (with_own r (handing kind driver number pair r.own)) (SuccessU32U32 former.0 former.1)
-swap_by r kind driver number pair (Some rule) = refused_with r rule (FailureU32U32 (error_of rule) pair.0 pair.1)
+    replied (record_with_own r (handing kind driver number pair r.own)) (SuccessU32U32 former.0 former.1)
+swap_by r kind driver number pair (Some rule) = refused_with r rule (failed_swap pair rule)
 
+-- a subscribe or an allow of a driver and a number: the pair is handed, or refused for the first cause
 abbrev pub swap : Record → PairKind → ℕ → ℕ → ℕ × ℕ → Served
 swap r kind driver number pair = swap_by r kind driver number pair (swap_refusal kind driver number pair r.own)
 
@@ -83,15 +95,15 @@ abbrev pub deliver : Record → Record
 deliver r = deliver_by r r.own.pending
 
 -- a process past its `ecall`, with its flag written
-abbrev pub flagged : Record → ℕ → ℕ → Record
-flagged r at byte = record r { process = after_call r.process; own = with_flag at byte r.own }
+abbrev pub flag_written : Record → ℕ → ℕ → Record
+flag_written r at byte = record r { process = after_call r.process; own = with_flag at byte r.own }
 
 -- A yield that does not wait: where an upcall is pending, it writes 1 to its flag, and the first one is delivered; else
 -- it writes 0, and the process goes on.
 abbrev pub yield_now : Record → ℕ → List Scheduled → Served
-yield_now r at [] = record { after = flagged r at 0; outcome = GoesOn; acts = [] }
+yield_now r at [] = record { after = flag_written r at 0; outcome = GoesOn; acts = [] }
 yield_now r at (upcall ∷ more) = record {
-  after = deliver_by (flagged r at 1) (upcall ∷ more);
+  after = deliver_by (flag_written r at 1) (upcall ∷ more);
   outcome = Delivered;
   acts = [];
 }
@@ -120,17 +132,18 @@ break_moved r (Some new) reply =
     if permits_break r.own.layout new then replied (with_break_at r new) reply else refused r Break
 
 -- the writeable flash regions that the header of an object names
-abbrev pub regions_of : Result Meaning HeaderFault → Option (List ℕ)
-regions_of (Ok h) = h.regions
-regions_of (Err fault) = None
+abbrev pub regions_named : Result Meaning HeaderFault → Option (List ℕ)
+regions_named (Ok h) = h.regions
+regions_named (Err fault) = None
 
 -- an end of a region, mod 2^32; a region that the header does not name has none
 abbrev pub region_end : Record → (ℕ × ℕ → ℕ) → Option (ℕ × ℕ) → Served
 region_end r offset None = refused r Index
 region_end r offset (Some region) = replied r (SuccessU32 ((r.process.object.address + offset region) % 2 ^ 32))
 
+-- the writeable flash region of a number, as the object's header gives it
 abbrev pub region : Record → ℕ → Option (ℕ × ℕ)
-region r n = option_and_then (region_in n) (regions_of (reading r.object))
+region r n = option_and_then (region_in n) (regions_named (header_reading r.object))
 
 -- each operation of memop: brk and sbrk; start and end of RAM, start and end of flash, the lowest address of a
 -- grant; the number of regions, start and end of one; two hints, which are ignored
@@ -143,13 +156,14 @@ memops r argument =
     ∷ (4, replied r (SuccessU32 r.process.object.address))
     ∷ (5, replied r (SuccessU32 (r.process.object.address + r.process.object.size)))
     ∷ (6, replied r (SuccessU32 r.own.layout.kernel_break))
-    ∷ (7, replied r (SuccessU32 (region_count (regions_of (reading r.object)))))
+    ∷ (7, replied r (SuccessU32 (region_count (regions_named (header_reading r.object)))))
     ∷ (8, region_end r (λ region. region.0) (region r argument))
     ∷ (9, region_end r (λ region. region.0 + region.1) (region r argument))
     ∷ (10, replied r Success)
     ∷ (11, replied r Success)
     ∷ []
 
+-- what a row of a table of operations comes to; refused where there is none of that number
 abbrev pub or_refused : Record → Option (ℕ × Served) → Served
 or_refused r None = refused r NoOperation
 or_refused r (Some row) = row.1
@@ -164,49 +178,52 @@ abbrev pub restarted_with : Record → Meaning → Main → Record
 restarted_with r h m =
     let e = r.own.layout in
     let brk = first_break e.start m.minimum_ram in
-    record r { process = restarted r.process h m e.start (e.end - e.start) brk; own = own.restarted brk r.own }
+    record r { process = restarted r.process h m e.start (e.end - e.start) brk; own = own.own_restarted brk r.own }
 
+-- a process that starts again by what its header says of its entry; as it was where it says nothing
 abbrev pub restarted_main : Record → Meaning → Option Main → Record
 restarted_main r h None = r
 restarted_main r h (Some m) = restarted_with r h m
 
+-- the same by what the header means; as it was where it has a fault
 abbrev pub restarted_by : Record → Result Meaning HeaderFault → Record
 restarted_by r (Ok h) = restarted_main r h h.main
 restarted_by r (Err fault) = r
 
+-- a process that starts again, by the header of its own object (TRD 104, "Exit")
 unfoldable pub restart : Record → Record
-restart r = restarted_by r (reading r.object)
+restart r = restarted_by r (header_reading r.object)
 
 -- exit with 0 ends the process with its completion code, with 1 it starts again; another number is refused
 unfoldable pub exit : Record → ℕ → ℕ → Served
 exit r kind code =
     if kind == 0 then record {
-      after = record r { process = after_exit r.process code; own = own.ended r.own };
+      after = record r { process = after_exit r.process code; own = own.own_ended r.own };
       outcome = Ended;
-      acts = gone;
+      acts = leaving_all;
     }
-    else (if kind == 1 then record { after = restart r; outcome = Again; acts = gone }
+    else (if kind == 1 then record { after = restart r; outcome = Again; acts = leaving_all }
     else refused r NoOperation)
 
 -- a driver replies to a command, or refuses it
-abbrev pub answered : Record → Result Reply CallRule → Served
-answered r (Ok reply) = replied r reply
-answered r (Err rule) = refused r rule
+abbrev pub driver_answered : Record → Result Reply CallRule → Served
+driver_answered r (Ok reply) = replied r reply
+driver_answered r (Err rule) = refused r rule
 
 -- what comes of a command leaves of its process, and asks of the board
 abbrev pub commanded : Record → Commanded → Served
-commanded r c = record (answered (with_own r c.own) c.answer) { acts = c.acts }
+commanded r c = record (driver_answered (record_with_own r c.own) c.answer) { acts = c.acts }
 
 -- the driver takes a command; it is refused where there is no such driver
-abbrev pub taken_by : Surroundings → ℕ → ℕ → ℕ → Record → Option Taker → Served
+abbrev pub taken_by : CommandContext → ℕ → ℕ → ℕ → Record → Option CommandHandler → Served
 taken_by around number a2 a3 r None = refused r NoDriver
 taken_by around number a2 a3 r (Some taker) = commanded r (taker around number a2 a3 r.own)
 
 -- the calls, by class
-unfoldable pub by_class : Surroundings → Record → SystemCall → Served
+unfoldable pub by_class : CommandContext → Record → SystemCall → Served
 by_class around r (Yield number a1 a2) = yielding r number a1
 by_class around r (Subscribe driver number function app) = swap r Upcall driver number (function, app)
-by_class around r (Command driver number a2 a3) = taken_by around number a2 a3 r (taker_of driver)
+by_class around r (Command driver number a2 a3) = taken_by around number a2 a3 r (handler_of driver)
 by_class around r (AllowRw driver number address size) = swap r ReadWrite driver number (address, size)
 by_class around r (AllowRo driver number address size) = swap r ReadOnly driver number (address, size)
 by_class around r (Memop operation argument) = memop r operation argument
@@ -215,10 +232,10 @@ by_class around r (Exit kind code) = exit r kind code
 -- the failure with which a call is refused that breaks a rule
 abbrev pub failure_of : SystemCall → CallRule → Reply
 failure_of (Yield number a1 a2) rule = Failure (error_of rule)
-failure_of (Subscribe driver number function app) rule = FailureU32U32 (error_of rule) function app
+failure_of (Subscribe driver number function app) rule = failed_swap (function, app) rule
 failure_of (Command driver command a2 a3) rule = Failure (error_of rule)
-failure_of (AllowRw driver number address size) rule = FailureU32U32 (error_of rule) address size
-failure_of (AllowRo driver number address size) rule = FailureU32U32 (error_of rule) address size
+failure_of (AllowRw driver number address size) rule = failed_swap (address, size) rule
+failure_of (AllowRo driver number address size) rule = failed_swap (address, size) rule
 failure_of (Memop operation argument) rule = Failure (error_of rule)
 failure_of (Exit kind code) rule = Failure (error_of rule)
 
@@ -228,12 +245,12 @@ permits_by (Ok h) call = permitted h.permissions call
 permits_by (Err fault) call = true
 
 -- whether an object permits a call to its process
-abbrev pub permits : List ℕ → SystemCall → Bool
-permits object call = permits_by (reading object) call
+abbrev pub object_permits : List ℕ → SystemCall → Bool
+object_permits object call = permits_by (header_reading object) call
 
 -- A call is served where the object of its process permits it. Permission comes before all else: a call that is not
 -- permitted is refused so whatever else would refuse it, and though there is no such driver.
-unfoldable pub served : Surroundings → Record → SystemCall → Served
+unfoldable pub served : CommandContext → Record → SystemCall → Served
 served around r call =
-    if permits r.object call then by_class around r call
+    if object_permits r.object call then by_class around r call
     else refused_with r Permission (failure_of call Permission)

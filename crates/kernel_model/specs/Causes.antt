@@ -1,17 +1,19 @@
 -- What changes the bytes of a process: of its own RAM, of its whole block, of its storage (Levy et al., SOSP 2017; TRD
 -- 104, "Yield", "Exit", "Read-Write Allow").
-use Rattle.std.specs.Prelude.{◌≡◌, ◌≢◌, ◌⊎◌, ◌≤◌, ◌<◌, ℕ, ◌+◌, true, false, IsTrue, List, [], length, slice_get, slice_index, Option, None, Some}
+use Rattle.std.specs.Prelude.{◌≡◌, ◌≢◌, ◌⊎◌, ◌≤◌, ◌<◌, ℕ, ◌+◌, true, false, IsTrue, List, [], length, slice_get}
+use Rattle.std.specs.Prelude.{slice_index, Option, None, Some}
 use Rattle.std.specs.List.{Any, list_any}
 use Rattle.tk_base.specs.declared.process.Choice.{Choice}
 use Rattle.tk_base.specs.declared.process.Choice.TheVariants.{Run}
 use Rattle.rv32_model.specs.Laws.{stores_at}
-use Rattle.process_own.specs.Own.{Own}
-use Rattle.process_own.specs.Changes.{ChangesAt, IsInside, IsWhole}
+use Rattle.process_model.specs.Own.{Own}
+use Rattle.process_model.specs.Changes.{ChangesAt, IsInside, IsWhole}
 use Rattle.driver_model.specs.Bytes.{input_buffer, stored_buffer, word_buffer}
 use Rattle.driver_model.specs.Storage as storage
 use Rattle.kernel_model.specs.Record.{Record}
 use Rattle.kernel_model.specs.declared.settings.Settings.{Settings}
-use Rattle.kernel_model.specs.Turn.{Event, Turn, Alarmed, Taken, WriteDone, Input, Word, NoWord, Stored, Told, apply, flash_of, turned}
+use Rattle.kernel_model.specs.Turn.{Event, Turn, Alarmed, Taken, WriteDone, Input, Word, NoWord, Stored, TurnTrace}
+use Rattle.kernel_model.specs.Turn.{apply, flash_of, turned}
 use Rattle.kernel_model.specs.World.{World, Label, TurnOf, Answered, Printed, after, labels}
 use Rattle.kernel_model.specs.Histories.{ends_life}
 use Rattle.kernel_model.specs.Choices.{Throughout}
@@ -20,7 +22,7 @@ use Rattle.kernel_model.specs.Stretch.{IsStretch}
 
 -- A cause in a process's own turn, by what the turn told and by the record before and after it: a store that covers the
 -- address; the flag of its yield; that it started again, where the turn told an exit or a denial.
-abbrev pub IsDoneByTurn : Record → Record → Told → ℕ → Type 0
+abbrev pub IsDoneByTurn : Record → Record → TurnTrace → ℕ → Type 0
 IsDoneByTurn r s told at =
     IsTrue (list_any (stores_at at) told.accesses)
     ⊎ ((told.flag ≡ Some at)
@@ -59,7 +61,8 @@ Overwrites (Stored true) r k = Covers (served_write r) k
 Overwrites (Stored false) r k = ⊥
 
 -- A label with a cause of a change of a byte of the process in a slot, of which this is the record before and after the
--- step: its own turn with such a cause; or an answer to it, inside the buffer that it held before the step for the device.
+-- step: its own turn with such a cause; or an answer to it, inside the buffer that it held before the step for the
+-- device.
 abbrev pub IsCause : ℕ → Record → Record → ℕ → Label → Type 0
 IsCause slot r s at (TurnOf other time told) = (other ≡ slot) × IsDoneByTurn r s told at
 IsCause slot r s at (Answered other event) = (other ≡ slot) × IsInside (buffer_for event r.own) at
@@ -118,7 +121,7 @@ AnswersHaveCauses =
     → AnswerHasCauses event r (apply settings event r)
 
 -- The turn of a process changes no byte of its own without a cause in it, and no storage; whatever its record is.
-pub record TurnHasCauses (r s : Record) (told : Told) : Type 0 where
+pub record TurnHasCauses (r s : Record) (told : TurnTrace) : Type 0 where
   pub own : ChangesAt (IsDoneByTurn r s told) r.own s.own
   pub storage : s.storage ≡ r.storage
 

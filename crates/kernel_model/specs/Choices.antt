@@ -1,4 +1,5 @@
--- Choices that are made one after another, by whomever: what holds of every list of them.
+-- Choices that are made one after another, by whomever: what holds of every list of them. That any may be made is this
+-- board's own rule.
 use Rattle.std.specs.Prelude.{ℕ, Bool, true, ◌&&◌, List, [], ◌∷◌, ◌++◌}
 use Rattle.tk_base.specs.declared.process.Choice.{Choice}
 use Rattle.kernel_model.specs.World.{World, Label, after, is_ready, labels}

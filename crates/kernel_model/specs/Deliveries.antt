@@ -1,10 +1,12 @@
 -- What waits to be delivered to a process in a run: each upcall is the one that it subscribed last, and was scheduled
 -- since (TRD 104, "Subscribe", "Yield", "Exit").
-use Rattle.std.specs.Prelude.{◌≡◌, ◌<◌, ◌≤◌, ℕ, ◌+◌, ◌==◌, Bool, true, false, not, ◌&&◌, ◌||◌, if◌then◌else◌, List, [], ◌∷◌, ◌++◌, drop, filter, length, map, slice_get, slice_index, All, Option, None, Some, IfSome, is_some, is_none, option_and_then}
+use Rattle.std.specs.Prelude.{◌≡◌, ◌<◌, ◌≤◌, ℕ, ◌+◌, ◌==◌, Bool, true, false, not, ◌&&◌, ◌||◌, if◌then◌else◌, List, []}
+use Rattle.std.specs.Prelude.{◌∷◌, ◌++◌, drop, filter, length, map, slice_get, slice_index, All, Option, None, Some}
+use Rattle.std.specs.Prelude.{IfSome, is_some, is_none, option_and_then}
 use Rattle.std.specs.List.{flat_map}
 use Rattle.tk_base.specs.declared.process.Choice.{Choice}
 use Rattle.tk_base.specs.declared.upcall.Upcall.{Upcall as Scheduled}
-use Rattle.grant_areas.specs.declared.kinds.PairKind.TheVariants.{Upcall}
+use Rattle.grant_model.specs.declared.kinds.PairKind.TheVariants.{Upcall}
 use Rattle.driver_model.specs.Upcalls.{IsHeld}
 use Rattle.process_record.specs.declared.emit.CallMade.{CallMade}
 use Rattle.process_record.specs.declared.process.Process.{Process}
@@ -12,10 +14,10 @@ use Rattle.process_record.specs.declared.process.State.{State}
 use Rattle.process_record.specs.declared.process.State.TheVariants.{Running, Yielded, Faulted, Terminated}
 use Rattle.process_record.specs.Process.{after_call, after_turn, delivered}
 use Rattle.kernel_model.specs.Record.{Record}
-use Rattle.kernel_model.specs.Turn.{Told}
+use Rattle.kernel_model.specs.Turn.{TurnTrace}
 use Rattle.kernel_model.specs.World.{World, after, labels}
 use Rattle.kernel_model.specs.Replay.{after_all}
-use Rattle.kernel_model.specs.Histories.{HandedNothing, Key, ends_life, handed_by, turns_in}
+use Rattle.kernel_model.specs.Histories.{HandedNothing, PairKey, ends_life, handed_by, turns_in}
 
 -- whether a process waits for an upcall
 abbrev pub is_yielded : State → Bool
@@ -35,13 +37,13 @@ delivers yielded None = yielded
 delivers yielded (Some made) = yielded || is_yield_now made
 
 -- the key by which a process subscribes an upcall
-abbrev pub key_of : Scheduled → Key
-key_of upcall = record { kind = Upcall; driver = upcall.driver; number = upcall.number }
+abbrev pub subscription_key : Scheduled → PairKey
+subscription_key upcall = record { kind = Upcall; driver = upcall.driver; number = upcall.number }
 
 -- whether a turn takes away an upcall that waits, other than by its delivery: the process subscribes anew its driver
 -- and number, or its life ends (TRD 104, "Subscribe", "Exit")
-abbrev pub takes_away : Told → Scheduled → Bool
-takes_away told upcall = ends_life told || is_some (option_and_then (handed_by (key_of upcall)) told.call)
+abbrev pub takes_away : TurnTrace → Scheduled → Bool
+takes_away told upcall = ends_life told || is_some (option_and_then (handed_by (subscription_key upcall)) told.call)
 
 -- an upcall that was scheduled, and the number of the step of the run which scheduled it
 pub record Scheduling : Type 0 where
@@ -49,49 +51,53 @@ pub record Scheduling : Type 0 where
   pub upcall : Scheduled
 
 -- what a turn leaves of what waits: without the first one, if it is delivered, and without those that are taken away
-abbrev pub left_by_turn : Bool → Told → List Scheduling → List Scheduling
+abbrev pub left_by_turn : Bool → TurnTrace → List Scheduling → List Scheduling
 left_by_turn yielded told waiting =
     filter (λ s. not (takes_away told s.upcall)) (if delivers yielded told.call then drop 1 waiting else waiting)
 
 -- the same of the turns of a process in a step, which has one at most
-abbrev pub left_by : Bool → List Told → List Scheduling → List Scheduling
-left_by yielded [] waiting = waiting
-left_by yielded (told ∷ rest) waiting = left_by yielded rest (left_by_turn yielded told waiting)
+abbrev pub schedulings_left_by : Bool → List TurnTrace → List Scheduling → List Scheduling
+schedulings_left_by yielded [] waiting = waiting
+schedulings_left_by yielded (told ∷ rest) waiting = schedulings_left_by yielded rest (left_by_turn yielded told waiting)
 
 -- whether the process in a slot waits for an upcall; the upcalls that wait for it, the first one first
 abbrev pub yielded_of : Option Record → Bool
 yielded_of None = false
 yielded_of (Some r) = is_yielded r.process.state
 
+-- the upcalls that wait for a process, if there is one
 abbrev pub pending_of : Option Record → List Scheduled
 pending_of None = []
 pending_of (Some r) = r.own.pending
 
+-- the upcalls that wait for the process in a slot
 abbrev pub pending_in : ℕ → World → List Scheduled
 pending_in slot w = pending_of (slice_get w.records slot)
 
 -- what the turn of the process in a slot tells in a step, if the step is its turn
-abbrev pub told_in : ℕ → World → Choice → List Told
+abbrev pub told_in : ℕ → World → Choice → List TurnTrace
 told_in slot w choice = flat_map (turns_in slot) (labels w choice)
 
 -- what a step leaves of what waits for the process in a slot
-abbrev pub left_in : ℕ → World → Choice → List Scheduling → List Scheduling
-left_in slot w choice waiting = left_by (yielded_of (slice_get w.records slot)) (told_in slot w choice) waiting
+abbrev pub schedulings_left_in : ℕ → World → Choice → List Scheduling → List Scheduling
+schedulings_left_in slot w choice waiting =
+    schedulings_left_by (yielded_of (slice_get w.records slot)) (told_in slot w choice) waiting
 
 -- What waits after a step of a number: what it leaves, and then what it scheduled, which stands after that.
 abbrev pub scheduled_in : ℕ → List Scheduled → List Scheduling
 scheduled_in step upcalls = map (λ upcall. record { step = step; upcall = upcall }) upcalls
 
-abbrev pub waiting_after : ℕ → ℕ → World → Choice → List Scheduling → List Scheduling
-waiting_after slot step w choice waiting =
-    let left = left_in slot w choice waiting in
+-- what waits after a step: what it leaves of what waited, and then what it scheduled
+abbrev pub schedulings_after : ℕ → ℕ → World → Choice → List Scheduling → List Scheduling
+schedulings_after slot step w choice waiting =
+    let left = schedulings_left_in slot w choice waiting in
     left ++ scheduled_in step (drop (length left) (pending_in slot (after w choice)))
 
 -- the same after any choices, one after another, from a step on
 abbrev pub schedulings_from : ℕ → ℕ → World → List Choice → List Scheduling → List Scheduling
 schedulings_from slot step w [] waiting = waiting
 schedulings_from slot step w (choice ∷ choices) waiting =
-    schedulings_from slot (step + 1) (after w choice) choices (waiting_after slot step w choice waiting)
+    schedulings_from slot (step + 1) (after w choice) choices (schedulings_after slot step w choice waiting)
 
 -- the schedulings that wait for the process in a slot after a run, before which nothing waited
 abbrev pub schedulings : ℕ → World → List Choice → List Scheduling
@@ -103,14 +109,16 @@ IsOfTheLast slot w choices s =
     (early late : List Choice) (choice : Choice) → choices ≡ early ++ (choice ∷ late) → s.step < length early →
     All (λ told. takes_away told s.upcall ≡ false) (told_in slot (after_all w early) choice)
 
--- where a delivery goes on from: in its turn a process that waited, and one past the `ecall` of a yield that does not wait
+-- where a delivery goes on from: in its turn a process that waited, and one past the `ecall` of a yield that does not
+-- wait
 abbrev pub before_delivery : Process → Process
 before_delivery p = after_turn (if is_yielded p.state then p else after_call p)
 
 -- A scheduling whose upcall is delivered by a step that leads from one record to another: its function goes on in the
 -- registers, with its arguments; it is the upcall that the process holds then of its driver and number, and none was
 -- subscribed of these since it was scheduled, nor has a life of the process ended.
-pub record IsDelivered (slot : ℕ) (w : World) (choices : List Choice) (r s : Record) (scheduling : Scheduling) : Type 0 where
+pub record IsDelivered (slot : ℕ) (w : World) (choices : List Choice) (r s : Record) (scheduling : Scheduling) : Type
+    0 where
   pub process : s.process ≡ delivered scheduling.upcall (before_delivery r.process)
   pub held : IsHeld r.own scheduling.upcall
   pub last : IsOfTheLast slot w choices scheduling
@@ -118,7 +126,8 @@ pub record IsDelivered (slot : ℕ) (w : World) (choices : List Choice) (r s : R
 -- Of a world and a slot: any choices are made. Then each upcall that waits for the slot's process is the one that it
 -- then holds of its driver and number. What waits is what was scheduled and neither delivered nor taken away, in the
 -- order in which it was scheduled, of each step one at most. A turn that delivers, where something waits, delivers the
--- upcall of the first scheduling of all that wait. So no delivery is of an upcall that the process subscribed anew since
+-- upcall of the first scheduling of all that wait. So no delivery is of an upcall that the process subscribed anew
+-- since
 -- it was scheduled, and none of one of an earlier life.
 pub record DeliversTheLast (w : World) (slot : ℕ) : Type 0 where
   pub held : (choices : List Choice) →
@@ -127,7 +136,8 @@ pub record DeliversTheLast (w : World) (slot : ℕ) : Type 0 where
       map (λ s. s.upcall) (schedulings slot w choices) ≡ pending_in slot (after_all w choices)
   pub one : (choices : List Choice) (choice : Choice) →
       let v = after_all w choices in
-      length (pending_in slot (after v choice)) ≤ length (left_in slot v choice (schedulings slot w choices)) + 1
+      length (pending_in slot (after v choice))
+      ≤ length (schedulings_left_in slot v choice (schedulings slot w choices)) + 1
   pub last : (choices : List Choice) → All (IsOfTheLast slot w choices) (schedulings slot w choices)
   pub delivered : (choices : List Choice) (choice : Choice) (r s : Record) →
       let v = after_all w choices in

@@ -1,6 +1,8 @@
--- That no process which is ready waits for good in a run of the round robin.
-use Rattle.std.specs.Prelude.{◌≡◌, ◌≤◌, ℕ, ◌*◌, Bool, true, false, ◌&&◌, nat_lt, List, [], ◌∷◌, ◌++◌, filter, length, slice_get, Option, None, Some, All, Any}
-use Rattle.tk_base.specs.declared.limits.TheConstants.{STEP_LIMIT}
+-- That no process which is ready waits for good in a run of the round robin. It is that of Tock's round robin, with
+-- this board's own slice.
+use Rattle.std.specs.Prelude.{◌≡◌, ◌≤◌, ℕ, ◌*◌, Bool, true, false, ◌&&◌, nat_lt, List, [], ◌∷◌, ◌++◌, filter, length}
+use Rattle.std.specs.Prelude.{slice_get, Option, None, Some, All, Any}
+use Rattle.tk_base.specs.declared.limits.TheConstants.{SLOT_COUNT, STEP_LIMIT}
 use Rattle.tk_base.specs.declared.process.Choice.{Choice}
 use Rattle.tk_base.specs.declared.process.Choice.TheVariants.{Run, Device, Pass}
 use Rattle.kernel_model.specs.World.{World, after, can_run}
@@ -36,16 +38,17 @@ IsReadyIn slot v = can_run (slice_get v.records slot) ≡ true
 abbrev pub HasTurn : ℕ → World → Type 0
 HasTurn slot v = next v ≡ Some (Run slot)
 
--- Of a world: in the run of any length from it, each window of 8 * slice turns of processes, one after another, in
--- which the process in a slot is ready before each turn, has a turn of that process.
+-- Of a world: in the run of any length from it, each window of turns of processes, one after another, as many as all
+-- slots
+-- have in a slice each, in which the process in a slot is ready before each turn, has a turn of that process.
 abbrev pub IsFair : World → Type 0
 IsFair w =
     (n slot : ℕ) (earlier window later : List World) →
     turn_worlds n w ≡ earlier ++ (window ++ later) →
-    8 * w.pace.slice ≤ length window →
+    SLOT_COUNT * w.pace.slice ≤ length window →
     All (IsReadyIn slot) window →
     Any (HasTurn slot) window
 
--- so it is on a board of at most eight processes
+-- so it is on a board of no more processes than slots
 abbrev pub ReadyProcessesHaveTurns : Type 0
-ReadyProcessesHaveTurns = (w : World) → length w.records ≤ 8 → 1 ≤ w.pace.slice → IsFair w
+ReadyProcessesHaveTurns = (w : World) → length w.records ≤ SLOT_COUNT → 1 ≤ w.pace.slice → IsFair w

@@ -1,32 +1,34 @@
 -- What a process handed to drivers, as the labels of its turns tell it (TRD 104, "Subscribe", "Read-Only Allow",
 -- "Read-Write Allow"): each swap gives back the pair of the last one.
-use Rattle.std.specs.Prelude.{◌≡◌, ℕ, ◌==◌, Bool, false, ◌&&◌, ◌||◌, if◌then◌else◌, List, [], ◌∷◌, ◌++◌, reverse, slice_get, slice_index, Option, None, Some, is_some, is_none, option_and_then, unwrap_or, IfSome}
+use Rattle.std.specs.Prelude.{◌≡◌, ℕ, ◌==◌, Bool, false, ◌&&◌, ◌||◌, if◌then◌else◌, List, [], ◌∷◌, ◌++◌, reverse}
+use Rattle.std.specs.Prelude.{slice_get, slice_index, Option, None, Some, is_some, is_none, option_and_then, unwrap_or}
+use Rattle.std.specs.Prelude.{IfSome}
 use Rattle.std.specs.List.{flat_map}
 use Rattle.tk_base.specs.declared.process.Choice.{Choice}
 use Rattle.tk_base.specs.declared.process.Choice.TheVariants.{Run}
-use Rattle.grant_areas.specs.declared.kinds.PairKind.{PairKind}
-use Rattle.grant_areas.specs.declared.kinds.PairKind.TheVariants.{Upcall, ReadOnly, ReadWrite}
+use Rattle.grant_model.specs.declared.kinds.PairKind.{PairKind}
+use Rattle.grant_model.specs.declared.kinds.PairKind.TheVariants.{Upcall, ReadOnly, ReadWrite}
 use Rattle.process_record.specs.declared.emit.CallMade.{CallMade}
 use Rattle.kernel_model.specs.Record.{Record}
-use Rattle.kernel_model.specs.Turn.{Told}
+use Rattle.kernel_model.specs.Turn.{TurnTrace}
 use Rattle.kernel_model.specs.World.{World, Label, TurnOf, Answered, Printed, after, labels}
 use Rattle.kernel_model.specs.Replay.{after_all}
 use Rattle.kernel_model.specs.Laws.{CanStartAgain}
 
 -- what a label tells of a turn of the process in a slot
-abbrev pub turns_in : ℕ → Label → List Told
+abbrev pub turns_in : ℕ → Label → List TurnTrace
 turns_in slot (TurnOf other time told) = if other == slot then told ∷ [] else []
 turns_in slot (Answered other event) = []
 turns_in slot (Printed other bytes) = []
 
 -- what its turns told while some choices were made, one after another
-abbrev pub turns_of : ℕ → World → List Choice → List Told
+abbrev pub turns_of : ℕ → World → List Choice → List TurnTrace
 turns_of slot w [] = []
 turns_of slot w (choice ∷ choices) =
     flat_map (turns_in slot) (labels w choice) ++ turns_of slot (after w choice) choices
 
 -- what a process hands a driver: an upcall, a read-only buffer or a read-write one, by its number
-pub record Key : Type 0 where
+pub record PairKey : Type 0 where
   pub kind : PairKind
   pub driver : ℕ
   pub number : ℕ
@@ -38,13 +40,13 @@ class_of ReadOnly = 4
 class_of ReadWrite = 3
 
 -- whether a call is a swap of a key
-abbrev pub is_swap : Key → CallMade → Bool
+abbrev pub is_swap : PairKey → CallMade → Bool
 is_swap key made =
     made.class == class_of key.kind
     && (slice_index made.args 0 == key.driver && slice_index made.args 1 == key.number)
 
 -- the pair that a call handed over for a key, if it is a swap of it and broke no rule: its last two arguments
-abbrev pub handed_by : Key → CallMade → Option (ℕ × ℕ)
+abbrev pub handed_by : PairKey → CallMade → Option (ℕ × ℕ)
 handed_by key made =
     if is_swap key made && is_none made.rule then Some (slice_index made.args 2, slice_index made.args 3) else None
 
@@ -53,17 +55,18 @@ handed_by key made =
 abbrev pub is_exit : CallMade → Bool
 is_exit made = made.class == 6 && is_none made.rule
 
+-- whether a turn ended a life of its process by a call, if it made one
 abbrev pub exits : Option CallMade → Bool
 exits None = false
 exits (Some made) = is_exit made
 
 -- whether a turn ended a life: by an exit, or by a denial, whatever the fault policy makes of it
-abbrev pub ends_life : Told → Bool
+abbrev pub ends_life : TurnTrace → Bool
 ends_life told = is_some told.denial || exits told.call
 
 -- The pair of the last swap of a key that succeeded in the present life, looking back over a process's turns, the
 -- latest first; (0, 0) where there was none.
-abbrev pub last_pair : Key → List Told → ℕ × ℕ
+abbrev pub last_pair : PairKey → List TurnTrace → ℕ × ℕ
 last_pair key [] = (0, 0)
 last_pair key (told ∷ earlier) =
     if ends_life told then (0, 0)
@@ -85,7 +88,7 @@ swap_reply former pair = 130 ∷ former.0 ∷ former.1 ∷ pair.1 ∷ []
 -- life, or (0, 0).
 abbrev pub GivesBackTheLast : World → ℕ → Type 0
 GivesBackTheLast w slot =
-    (choices : List Choice) (time : ℕ) (told : Told) (made : CallMade) (key : Key) (pair : ℕ × ℕ) →
+    (choices : List Choice) (time : ℕ) (told : TurnTrace) (made : CallMade) (key : PairKey) (pair : ℕ × ℕ) →
     labels (after_all w choices) (Run slot) ≡ TurnOf slot time told ∷ [] →
     told.call ≡ Some made → handed_by key made ≡ Some pair →
     made.reply ≡ Some (swap_reply (last_pair key (reverse (turns_of slot w choices))) pair)

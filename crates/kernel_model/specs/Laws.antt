@@ -1,5 +1,6 @@
--- Laws over the definitions alone.
-use Rattle.std.specs.Prelude.{◌≡◌, ◌≢◌, ◌<◌, ℕ, true, false, if◌then◌else◌, List, [], Option, None, Some, is_some, IfSome, IsTrue, option_and_then, Result, Ok, Err, slice_get}
+-- Laws over the definitions alone. The calls are those of TRD 104; what a step reaches is this board's own rule.
+use Rattle.std.specs.Prelude.{◌≡◌, ◌≢◌, ◌<◌, ℕ, true, false, if◌then◌else◌, List, [], Option, None, Some, is_some}
+use Rattle.std.specs.Prelude.{IfSome, IsTrue, option_and_then, Result, Ok, Err, slice_get}
 use Rattle.std.specs.Option.{option_map}
 use Rattle.tk_base.specs.declared.limits.TheConstants.{STEP_LIMIT}
 use Rattle.tk_base.specs.declared.process.Choice.{Choice}
@@ -8,27 +9,29 @@ use Rattle.tk_base.specs.declared.process.Dev.{Dev}
 use Rattle.tk_base.specs.declared.call.CallRule.{CallRule}
 use Rattle.tbf_headers.specs.declared.fault.HeaderFault.{HeaderFault}
 use Rattle.tbf_headers.specs.declared.program.Main.{Main}
-use Rattle.tbf_headers.specs.Meaning.{Meaning, reading}
+use Rattle.tbf_headers.specs.Meaning.{Meaning, header_reading}
 use Rattle.syscall_abi.specs.declared.call.Call.{Call as SystemCall}
-use Rattle.process_own.specs.Own.{Own}
-use Rattle.driver_model.specs.Commands.{Act}
-use Rattle.driver_model.specs.Drivers.{Surroundings}
+use Rattle.process_model.specs.Own.{Own}
+use Rattle.driver_model.specs.Commands.{BoardRequest}
+use Rattle.driver_model.specs.Drivers.{CommandContext}
 use Rattle.driver_model.specs.Laws.{CommandDropsAtMostOne, CommandsStayInPlace, IsAtMostOneMore, RefusedByAnyDriver}
 use Rattle.driver_model.specs.Keeping.{KeepsLimit}
 use Rattle.driver_model.specs.Services.{OfEachService}
-use Rattle.driver_model.specs.Lines.{IsWithin, LinesFollowCommands, OfEachDesk, OnlyDriversMoveLines, has_waiting, waits_after, waits_once}
+use Rattle.driver_model.specs.Lines.{IsWithin, LinesFollowCommands, OfEachRequestKind, OnlyDriversMoveLines}
+use Rattle.driver_model.specs.Lines.{has_waiting, waits_after, waits_once}
 use Rattle.process_record.specs.declared.outcome.Outcome.TheVariants.{ToDriver}
 use Rattle.kernel_model.specs.Record.{Record}
 use Rattle.kernel_model.specs.declared.settings.Settings.{Settings}
 use Rattle.kernel_model.specs.Calls.{served, refused_with, failure_of}
 use Rattle.kernel_model.specs.Turn.{Turn, apply, rule_shown, turned}
-use Rattle.kernel_model.specs.World.{World, Answer, after, deed_of, is_ready, labels}
+use Rattle.kernel_model.specs.World.{World, Answer, after, device_step_of, is_ready, labels}
 use Rattle.kernel_model.specs.Run.{next, next_time, ready_devices}
 use Rattle.turn_scheduler.specs.RoundRobin.{ready_device}
 
 -- what a device tells in a step, if it makes one
-abbrev pub answer_of : World → Dev → Option Answer
-answer_of w device = if is_ready w (Device device) then option_and_then (λ deed. deed.told) (deed_of w device) else None
+abbrev pub answer_told : World → Dev → Option Answer
+answer_told w device =
+    if is_ready w (Device device) then option_and_then (λ deed. deed.told) (device_step_of w device) else None
 
 -- A turn changes the record of no process but the one whose turn it is, and that one by its turn; what a device does
 -- that of no process but the one that it tells something, and that one by what it tells it; a pass of time none. A
@@ -39,14 +42,16 @@ pub record OnlyItsOwnEvents : Type 0 where
       ≡ option_map (apply w.settings (Turn w.clock.time)) (slice_get w.records slot)
   pub no_other_turn : (w : World) (slot other : ℕ) → other ≢ slot
       → slice_get (after w (Run slot)).records other ≡ slice_get w.records other
-  pub answer : (w : World) (device : Dev) (a : Answer) → answer_of w device ≡ Some a
+  pub answer : (w : World) (device : Dev) (a : Answer) → answer_told w device ≡ Some a
       → slice_get (after w (Device device)).records a.slot
       ≡ option_map (apply w.settings a.event) (slice_get w.records a.slot)
-  pub no_other_answer : (w : World) (device : Dev) (a : Answer) (other : ℕ) → answer_of w device ≡ Some a
+  pub no_other_answer : (w : World) (device : Dev) (a : Answer) (other : ℕ) → answer_told w device ≡ Some a
       → other ≢ a.slot → slice_get (after w (Device device)).records other ≡ slice_get w.records other
-  pub no_answer : (w : World) (device : Dev) → answer_of w device ≡ None → (after w (Device device)).records ≡ w.records
+  pub no_answer : (w : World) (device : Dev) → answer_told w device ≡ None
+      → (after w (Device device)).records ≡ w.records
   pub pass : (w : World) (ticks : ℕ) → (after w (Pass ticks)).records ≡ w.records
-  pub unready : (w : World) (choice : Choice) → is_ready w choice ≡ false → (after w choice ≡ w) × (labels w choice ≡ [])
+  pub unready : (w : World) (choice : Choice) → is_ready w choice ≡ false
+      → (after w choice ≡ w) × (labels w choice ≡ [])
 
 -- below the limit of steps the next choice of the round robin may be made
 abbrev pub NextIsReady : Type 0
@@ -61,13 +66,13 @@ NextLiesAhead = (w : World) → ready_device (ready_devices w) ≡ None → IfSo
 -- Values").
 abbrev pub RefusedChangesNothingElse : Type 0
 RefusedChangesNothingElse =
-    (around : Surroundings) (r : Record) (call : SystemCall) (rule : CallRule)
+    (around : CommandContext) (r : Record) (call : SystemCall) (rule : CallRule)
     → rule_shown (served around r call).outcome ≡ Some rule
     → served around r call ≡ refused_with r rule (failure_of call rule)
 
 -- a call has come to its end once it is served: no driver has it still to answer
 abbrev pub NoneIsLeft : Type 0
-NoneIsLeft = (around : Surroundings) (r : Record) (call : SystemCall) → (served around r call).outcome ≢ ToDriver
+NoneIsLeft = (around : CommandContext) (r : Record) (call : SystemCall) → (served around r call).outcome ≢ ToDriver
 
 -- What drivers keep of a process changes at its own calls alone, and at what ends its life: a turn without a call and
 -- without a denial leaves its grants as they were, and it lives as before.
@@ -76,7 +81,7 @@ GrantsChangeAtCalls = (settings : Settings) (time : ℕ) (r : Record) →
     let t = turned settings time r in
     t.told.call ≡ None → t.told.denial ≡ None → (t.after.own.grants ≡ r.own.grants) × (t.after.own.lives ≡ r.own.lives)
 
--- a turn drops one upcall at most: one that its command has a driver schedule where ten are pending
+-- a turn drops one upcall at most: one that its command has a driver schedule where as many are pending as may be
 abbrev pub DropsAtMostOne : Type 0
 DropsAtMostOne = (settings : Settings) (time : ℕ) (r : Record) →
     IsAtMostOneMore r.own.dropped (turned settings time r).after.own.dropped
@@ -89,15 +94,19 @@ main_by (Err fault) = None
 -- a process can start again: its object is that of an application (TRD 104, "Exit"; Tock Binary Format, "Main",
 -- "Program")
 abbrev pub CanStartAgain : Record → Type 0
-CanStartAgain r = is_some (main_by (reading r.object)) ≡ true
+CanStartAgain r = is_some (main_by (header_reading r.object)) ≡ true
 
--- What becomes of a process's requests, of which it had some before: it has one at a desk exactly where it waits in that
--- list after what was asked of the board, and it is then in the same life. It begins to wait only where it does not wait
+-- What becomes of a process's requests, of which it had some before: it has one of a kind of request exactly where it
+-- waits in that
+-- list after what was asked of the board, and it is then in the same life. It begins to wait only where it does not
+-- wait
 -- already. One for storage is for some of so many bytes, as one before it was.
-pub record KeepsLines (size : ℕ) (own after : Own) (acts : List Act) : Type 0 where
-  pub lines : OfEachDesk (λ R desk. has_waiting desk after ≡ waits_after desk.line (has_waiting desk own) acts)
-  pub once : OfEachDesk (λ R desk. waits_once desk.line (has_waiting desk own) acts ≡ true)
-  pub life : OfEachDesk (λ R desk. has_waiting desk after ≡ true → after.life ≡ own.life)
+pub record KeepsLines (size : ℕ) (own after : Own) (acts : List BoardRequest) : Type 0 where
+  pub lines : OfEachRequestKind (λ R request_kind.
+      has_waiting request_kind after ≡ waits_after request_kind.line (has_waiting request_kind own) acts)
+  pub once : OfEachRequestKind (λ R request_kind.
+      waits_once request_kind.line (has_waiting request_kind own) acts ≡ true)
+  pub life : OfEachRequestKind (λ R request_kind. has_waiting request_kind after ≡ true → after.life ≡ own.life)
   pub within : IsWithin size own → IsWithin size after
 
 -- so it is with each turn of a process that lives, and whose object is that of an application

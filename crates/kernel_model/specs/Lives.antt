@@ -1,8 +1,10 @@
--- When a process lives, and what stays of it: where it lies, the order of its memory, what a restart makes of it.
+-- When a process lives, and what stays of it: where it lies, the order of its memory, what a restart makes of it. The
+-- order is that of Levy et al., SOSP 2017, section 4; restarts are those of TRD 104, "Exit".
 use Rattle.std.specs.Prelude.{◌≡◌, ◌≢◌, ◌≤◌, ◌<◌, ℕ, Bool, true, false, List, length, slice_get, Some, IfSome}
+use Rattle.tk_base.specs.declared.limits.TheConstants.{PENDING_LIMIT}
 use Rattle.tk_base.specs.declared.process.Choice.{Choice}
-use Rattle.tbf_headers.specs.Meaning.{reading}
-use Rattle.process_layout.specs.Extents.{first_break}
+use Rattle.tbf_headers.specs.Meaning.{header_reading}
+use Rattle.process_layout.specs.LayoutView.{first_break}
 use Rattle.driver_model.specs.Keeping.{IsInOrder}
 use Rattle.process_record.specs.declared.process.State.{State}
 use Rattle.process_record.specs.declared.process.State.TheVariants.{Running, Yielded, Faulted, Terminated}
@@ -12,7 +14,7 @@ use Rattle.kernel_model.specs.World.{World, after}
 use Rattle.kernel_model.specs.Replay.{after_all}
 use Rattle.kernel_model.specs.Laws.{CanStartAgain, main_by}
 
--- whether a process is Running or Yielded
+-- a process lives while it runs or waits (TRD 104, "Yield", "Exit")
 abbrev pub is_alive : State → Bool
 is_alive Running = true
 is_alive Yielded = true
@@ -20,11 +22,12 @@ is_alive Faulted = false
 is_alive (Terminated code) = false
 
 -- what is so of a process in a world is so of it after any choices, ready or not
-abbrev pub Stays : (Record → Type 0) → Type 0
-Stays I = (w : World) (choices : List Choice) (slot : ℕ) →
+abbrev pub HoldsThroughout : (Record → Type 0) → Type 0
+HoldsThroughout I = (w : World) (choices : List Choice) (slot : ℕ) →
     IfSome (slice_get w.records slot) I → IfSome (slice_get (after_all w choices).records slot) I
 
--- A process lives exactly while it is Running or Yielded, and the number of its life is that of its restarts. Its object
+-- A process lives exactly while it is Running or Yielded, and the number of its life is that of its restarts. Its
+-- object
 -- is that of an application.
 pub record LivesAsItRuns (r : Record) : Type 0 where
   pub lives : r.own.lives ≡ is_alive r.process.state
@@ -58,7 +61,8 @@ AsManyStay = (w : World) (choices : List Choice) → length (after_all w choices
 
 -- no address lies in the blocks of both
 abbrev pub AreApart : Record → Record → Type 0
-AreApart r s = (a : ℕ) → r.own.layout.start ≤ a → a < r.own.layout.end → s.own.layout.start ≤ a → a < s.own.layout.end → ⊥
+AreApart r s = (a : ℕ) → r.own.layout.start ≤ a → a < r.own.layout.end → s.own.layout.start ≤ a → a < s.own.layout.end
+    → ⊥
 
 -- no two blocks of a world overlap
 abbrev pub BlocksAreApart : World → Type 0
@@ -68,24 +72,28 @@ BlocksAreApart w = (i j : ℕ) (r s : Record) → i ≢ j →
 abbrev pub BlocksStayApart : Type 0
 BlocksStayApart = (w : World) (choices : List Choice) → BlocksAreApart w → BlocksAreApart (after_all w choices)
 
--- A process's memory is in order: the block's start, the mark, the break, the kernel break, which is the block's end less
+-- A process's memory is in order: the block's start, the mark, the break, the kernel break, which is the block's end
+-- less
 -- what its grants cost. And the least RAM that its object asks for fits its block.
 pub record HasOrder (r : Record) : Type 0 where
   pub places : IsInOrder r.own
-  pub least : IfSome (main_by (reading r.object)) (λ m. first_break r.own.layout.start m.minimum_ram ≤ r.own.layout.end)
+  pub least : IfSome (main_by (header_reading r.object))
+      (λ m. first_break r.own.layout.start m.minimum_ram ≤ r.own.layout.end)
 
--- ten upcalls wait at most
-abbrev pub HasTenAtMost : Record → Type 0
-HasTenAtMost r = length r.own.pending ≤ 10
+-- so many upcalls wait at most
+abbrev pub HasPendingWithinLimit : Record → Type 0
+HasPendingWithinLimit r = length r.own.pending ≤ PENDING_LIMIT
 
--- An upcall of a process is dropped only where ten wait: after any choices a step drops none where fewer did before it.
-abbrev pub DropsOnlyWhereTenWait : Type 0
-DropsOnlyWhereTenWait = (w : World) (choices : List Choice) (choice : Choice) (slot : ℕ) (before now : Record) →
+-- An upcall of a process is dropped only where as many wait as may: after any choices a step drops none where fewer did
+-- before it.
+abbrev pub DropsOnlyWhereFull : Type 0
+DropsOnlyWhereFull = (w : World) (choices : List Choice) (choice : Choice) (slot : ℕ) (before now : Record) →
     slice_get (after_all w choices).records slot ≡ Some before →
     slice_get (after (after_all w choices) choice).records slot ≡ Some now →
-    length before.own.pending < 10 → now.own.dropped ≡ before.own.dropped
+    length before.own.pending < PENDING_LIMIT → now.own.dropped ≡ before.own.dropped
 
--- A process is as another was, but for its turns, its restarts and its life, its dropped upcalls, its last denial, its last
+-- A process is as another was, but for its turns, its restarts and its life, its dropped upcalls, its last denial, its
+-- last
 -- refusal and its storage.
 abbrev pub IsAsAtFirst : Record → Record → Type 0
 IsAsAtFirst first now =

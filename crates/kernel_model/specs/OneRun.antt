@@ -1,6 +1,7 @@
 -- A run by round robin is one run, whether its steps are made one by one or its choices first; and when it is done.
+-- When it is done is this board's own rule.
 use Rattle.std.specs.Prelude.{◌≡◌, ◌≤◌, ◌↔◌, ℕ, ◌+◌, true, false, List, [], length, slice_get, None, IfSome}
-use Rattle.tk_base.specs.declared.limits.TheConstants.{STEP_LIMIT}
+use Rattle.tk_base.specs.declared.limits.TheConstants.{SLOT_COUNT, STEP_LIMIT}
 use Rattle.tk_base.specs.declared.process.Choice.{Choice}
 use Rattle.tk_base.specs.declared.process.Dev.{Dev}
 use Rattle.driver_model.specs.Alarm.{alarm_in}
@@ -32,7 +33,8 @@ pub record NothingIsLeft (w : World) : Type 0 where
   pub alarms : (slot : ℕ) → IfSome (slice_get w.records slot) HasNoAlarm
   pub writes : w.devices.writes ≡ []
 
--- on a board of at most eight processes the round robin is done, after any choices, exactly where nothing is left to do
+-- on a board of no more processes than slots the round robin is done, after any choices, exactly where nothing is left
+-- to do
 abbrev pub IsDoneWhereNothingIsLeft : Type 0
-IsDoneWhereNothingIsLeft = (w : World) (choices : List Choice) → length w.records ≤ 8 →
+IsDoneWhereNothingIsLeft = (w : World) (choices : List Choice) → length w.records ≤ SLOT_COUNT →
     let v = after_all w choices in (next v ≡ None) ↔ NothingIsLeft v

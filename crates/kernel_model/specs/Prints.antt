@@ -1,13 +1,14 @@
 -- That each printed byte is one of the buffer that its process then held (TRD 104, "Read-Only Allow").
-use Rattle.std.specs.Prelude.{◌≡◌, ◌<◌, ℕ, ◌+◌, true, List, length, slice_get, slice_index, All, None, Some, IfSome, is_some}
+use Rattle.std.specs.Prelude.{◌≡◌, ◌<◌, ℕ, ◌+◌, true, List, length, slice_get, slice_index, All, None, Some, IfSome}
+use Rattle.std.specs.Prelude.{is_some}
 use Rattle.tk_base.specs.declared.access.Access.TheVariants.{Load}
 use Rattle.tk_base.specs.declared.access.Width.TheVariants.{Byte}
 use Rattle.tk_base.specs.declared.process.Choice.{Choice}
 use Rattle.grant_values.specs.declared.console.WaitingWrite.{WaitingWrite}
-use Rattle.grant_areas.specs.declared.kinds.PairKind.TheVariants.{ReadOnly}
-use Rattle.process_own.specs.Handed.{held}
-use Rattle.process_own.specs.Permission.{denied}
-use Rattle.process_own.specs.Served.{bytes_at}
+use Rattle.grant_model.specs.declared.kinds.PairKind.TheVariants.{ReadOnly}
+use Rattle.process_model.specs.Handed.{held}
+use Rattle.process_model.specs.Permission.{denied}
+use Rattle.process_model.specs.Served.{bytes_at}
 use Rattle.driver_model.specs.Console.{console, console_writes}
 use Rattle.driver_model.specs.Requests.{request_in}
 use Rattle.kernel_model.specs.Record.{Record}
@@ -20,6 +21,7 @@ use Rattle.kernel_model.specs.Wholes.{AllHaveWholeOwns}
 abbrev pub console_buffer : Record → ℕ × ℕ
 console_buffer r = held ReadOnly console 1 r.own
 
+-- the bytes of the read-only buffer that a process holds of the console
 abbrev pub buffer_bytes : Record → List ℕ
 buffer_bytes r = bytes_at (flash_of r) r.own (console_buffer r)
 
@@ -54,7 +56,8 @@ abbrev pub PrintsWhatItCouldLoad : World → Label → Type 0
 PrintsWhatItCouldLoad w (TurnOf slot time told) = Unit {0}
 PrintsWhatItCouldLoad w (Answered slot event) = Unit {0}
 PrintsWhatItCouldLoad w (Printed slot bytes) =
-    IfSome (slice_get w.records slot) (λ r. IfSome (request_in console_writes r.own) (λ write. CouldLoad r write.taken (length bytes)))
+    IfSome (slice_get w.records slot) (λ r.
+    IfSome (request_in console_writes r.own) (λ write. CouldLoad r write.taken (length bytes)))
 
 -- so it is in each step after any choices, from a world in which what is the processes' own is whole
 abbrev pub PrintsCouldBeLoaded : Type 0

@@ -1,8 +1,8 @@
--- The record of one process.
+-- The record of one process. It has what the kernel of Levy et al., SOSP 2017, keeps of a process.
 use Rattle.std.specs.Prelude.{ℕ, ◌+◌, ◌-◌, ◌&&◌, nat_le, nat_lt, if◌then◌else◌, List, length, slice_index}
 use Rattle.rv32_model.specs.UserTurn.{UserTurn}
-use Rattle.process_own.specs.Own.{Own}
-use Rattle.process_own.specs.Instruction.{instruction_of, with_write}
+use Rattle.process_model.specs.Own.{Own}
+use Rattle.process_model.specs.Instruction.{instruction_of, with_write}
 use Rattle.process_record.specs.declared.process.Process.{Process}
 
 -- one process: its registers, state and counts, the bytes of its object, what the kernel keeps of it, and the bytes of
@@ -21,11 +21,13 @@ byte_at r a =
     if nat_le start a && nat_lt a (start + length r.own.ram) then slice_index r.own.ram (a - start)
     else (if nat_le object a then slice_index r.object (a - object) else 0)
 
+-- a record with other registers, state and counts
 abbrev pub with_process : Record → Process → Record
 with_process r p = record r { process = p }
 
-abbrev pub with_own : Record → Own → Record
-with_own r own = record r { own = own }
+-- a record of which something else is the process's own
+abbrev pub record_with_own : Record → Own → Record
+record_with_own r own = record r { own = own }
 
 -- the instruction at pc, under what the process may access and over its own bytes
 abbrev pub instruction : Record → UserTurn

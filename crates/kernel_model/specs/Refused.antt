@@ -8,27 +8,29 @@ use Rattle.syscall_abi.specs.Call.{call_of}
 use Rattle.process_record.specs.Process.{after_refusal, after_turn}
 use Rattle.kernel_model.specs.Record.{Record, with_process}
 use Rattle.kernel_model.specs.Calls.{failure_of}
-use Rattle.kernel_model.specs.Turn.{Told}
+use Rattle.kernel_model.specs.Turn.{TurnTrace}
 use Rattle.kernel_model.specs.World.{World, Label, TurnOf, Answered, Printed, after, labels}
 
 -- the rule by which the call of a turn was refused
-abbrev pub refusal_in : Told → Option CallRule
+abbrev pub refusal_in : TurnTrace → Option CallRule
 refusal_in told = option_and_then (λ made. made.rule) told.call
 
--- Of the process: the turn counts, the failure of the rule stands in the reply registers, pc is past the `ecall`, and the
+-- Of the process: the turn counts, the failure of the rule stands in the reply registers, pc is past the `ecall`, and
+-- the
 -- refusal is recorded. Its memory, its grants, its upcalls and its storage are as they were.
-abbrev pub IsRefused : CallRule → Record → Record → Type 0
-IsRefused rule r s =
+abbrev pub CallIsRefused : CallRule → Record → Record → Type 0
+CallIsRefused rule r s =
     (call : SystemCall) × (call_of r.process.regs ≡ Some call)
     × (s ≡ with_process r (after_refusal (after_turn r.process) rule (failure_of call rule)))
 
--- Of the world: beside that record the time, the steps, the present slot and its used turns. So no device and no list of
+-- Of the world: beside that record the time, the steps, the present slot and its used turns. So no device and no list
+-- of
 -- those that wait has changed.
 pub record LeavesRefused (w v : World) (slot : ℕ) (rule : CallRule) : Type 0 where
   pub before : Record
   pub after : Record
   pub is_there : slice_get w.records slot ≡ Some before
-  pub refused : IsRefused rule before after
+  pub refused : CallIsRefused rule before after
   pub world : v ≡ record w {
     records = slice_set w.records slot after;
     clock = record { time = w.clock.time + 1; steps = w.clock.steps + 1 };

@@ -1,4 +1,5 @@
--- A process's history: what happened to it, one after another. Its record is the replay of that alone.
+-- A process's history: what happened to it, one after another. Its record is the replay of that alone. Processes are
+-- isolated as in Levy et al., SOSP 2017.
 use Rattle.std.specs.Prelude.{◌≡◌, ℕ, zero, suc, ◌==◌, if◌then◌else◌, List, [], ◌∷◌, ◌++◌, slice_get}
 use Rattle.std.specs.List.{flat_map}
 use Rattle.std.specs.Option.{option_map}

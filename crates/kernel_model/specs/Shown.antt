@@ -1,4 +1,4 @@
--- What a step and a world show: the facts of the report, and of one step.
+-- What a step and a world show: the facts of the report, and of one step. What is shown is this board's own rule.
 use Rattle.std.specs.Prelude.{◌≡◌, List, [], ◌∷◌, ◌++◌, map, Some}
 use Rattle.process_record.specs.declared.emit.Emit.{Emit}
 use Rattle.process_record.specs.declared.summary.SlotLine.{SlotLine}
@@ -8,8 +8,9 @@ use Rattle.process_record.specs.Name.{name_of}
 use Rattle.kernel_model.specs.Record.{Record}
 use Rattle.kernel_model.specs.World.{World, Label, TurnOf, Answered, Printed}
 
-abbrev pub line_of : Record → SlotLine
-line_of r = record {
+-- what the report says of a process
+abbrev pub slot_line_of : Record → SlotLine
+slot_line_of r = record {
   name = record { items = name_of r.object };
   state = r.process.state;
   denial = r.process.denial;
@@ -21,7 +22,7 @@ line_of r = record {
 -- what the report says of a world
 unfoldable pub summary_of : World → Summary
 summary_of w = record {
-  slots = record { items = map line_of w.records };
+  slots = record { items = map slot_line_of w.records };
   unplaced = record { items = w.unplaced };
   leds = w.devices.leds;
   led_count = w.settings.leds;
@@ -29,6 +30,7 @@ summary_of w = record {
   time = w.clock.time;
 }
 
+-- what a step shows once it has told a label; of a device's answer nothing
 abbrev pub with_label : Label → Emit → Emit
 with_label (TurnOf slot time told) e = record e { slot = Some slot; made = told.call; denial = told.denial }
 with_label (Answered slot event) e = e

@@ -6,7 +6,7 @@ use Rattle.rv32_model.specs.declared.turn_end.TurnEnd.TheVariants.{Went}
 use Rattle.process_record.specs.declared.process.State.TheVariants.{Running}
 use Rattle.turn_scheduler.specs.RoundRobin.{next_slot, ready_device, used_after}
 use Rattle.kernel_model.specs.Record.{Record, instruction, with_effect}
-use Rattle.kernel_model.specs.Turn.{counted}
+use Rattle.kernel_model.specs.Turn.{turn_counted}
 use Rattle.kernel_model.specs.World.{World, Label, TurnOf, Answered, Printed}
 use Rattle.kernel_model.specs.Run.{next, printed, ready_devices, ready_slots, round, told_first}
 
@@ -37,18 +37,19 @@ pub record GoesOn (w : World) : Type 0 where
   pub limit : w.clock.steps < STEP_LIMIT
 
 -- the record after one more instruction, which counts; and after so many
-abbrev pub executed : Record → Record
-executed r = with_effect (counted r) (instruction r)
+abbrev pub instruction_made : Record → Record
+instruction_made r = with_effect (turn_counted r) (instruction r)
 
 unfoldable pub after_instructions : ℕ → Record → Record
 after_instructions zero r = r
-after_instructions (suc k) r = after_instructions k (executed r)
+after_instructions (suc k) r = after_instructions k (instruction_made r)
 
 -- so many instructions go, one after another
 abbrev pub AllGo : ℕ → Record → Type 0
 AllGo k r = (j : ℕ) → j < k → (instruction (after_instructions j r)).end ≡ Went
 
--- the same world, but a slot that is to have the next turn is the present one already: with its slice, while that lasts,
+-- the same world, but a slot that is to have the next turn is the present one already: with its slice, while that
+-- lasts,
 -- or at the beginning of one
 abbrev pub at_turn : World → ℕ → World
 at_turn w slot = record w {
@@ -68,7 +69,8 @@ abbrev pub NoneActs : ℕ → World → ℕ → Record → Type 0
 NoneActs k w slot r =
     (j : ℕ) → j < k → ready_device (ready_devices (after_stretch j w slot (after_instructions j r))) ≡ None
 
--- as long as no device step is ready, the round robin makes the instructions of the process that has the next turn, those
+-- as long as no device step is ready, the round robin makes the instructions of the process that has the next turn,
+-- those
 -- that go, up to the end of its slice and to the limit of steps
 abbrev pub RoundIsStretch : Type 0
 RoundIsStretch =

@@ -1,6 +1,6 @@
 -- That the tables agree.
 use Rattle.std.specs.Prelude.{◌≡◌, ℕ, filter, is_some}
-use Rattle.rv32_model.specs.Instructions.{fits, table}
+use Rattle.rv32_model.specs.Instructions.{row_fits, instruction_table}
 use Rattle.grant_values.specs.Drivers.{counts_of}
 use Rattle.driver_model.specs.Drivers.{takes_commands}
 
@@ -10,4 +10,4 @@ SameDrivers = (driver : ℕ) → is_some (counts_of driver) ≡ takes_commands d
 
 -- each row of the instruction table fits a word: the one that has the row's bits, and else zeros
 abbrev pub EachRowFitsAWord : Type 0
-EachRowFitsAWord = filter (λ r. fits r.value r) table ≡ table
+EachRowFitsAWord = filter (λ r. row_fits r.value r) instruction_table ≡ instruction_table

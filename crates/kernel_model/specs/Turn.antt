@@ -1,4 +1,5 @@
--- The turn of a process, and what else may happen to it.
+-- The turn of a process, and what else may happen to it. Its states are those of TRD 104, "Yield" and "Exit"; that a
+-- turn is one instruction is this board's own rule.
 use Rattle.std.specs.Prelude.{ℕ, ◌==◌, Bool, true, false, not, if◌then◌else◌, List, [], ◌∷◌, length, Option, None, Some}
 use Rattle.tk_base.specs.declared.access.Access.TheVariants.{Fetch}
 use Rattle.tk_base.specs.declared.access.Rule.TheVariants.{UnknownClass}
@@ -7,7 +8,7 @@ use Rattle.tk_base.specs.declared.call.CallRule.{CallRule}
 use Rattle.tk_base.specs.Regs.{Registers}
 use Rattle.rv32_model.specs.declared.turn_end.TurnEnd.{TurnEnd}
 use Rattle.rv32_model.specs.declared.turn_end.TurnEnd.TheVariants.{Went, Call, Trap}
-use Rattle.rv32_model.specs.UserTurn.{Touch, denied_at}
+use Rattle.rv32_model.specs.UserTurn.{MemoryAccess, denied_at}
 use Rattle.fault_policy.specs.declared.Action.{Action}
 use Rattle.fault_policy.specs.declared.Action.TheVariants.{Stop, Restart}
 use Rattle.fault_policy.specs.Policy.{decision}
@@ -16,17 +17,17 @@ use Rattle.syscall_abi.specs.declared.call.Call.{Call as SystemCall}
 use Rattle.syscall_abi.specs.declared.call.Call.TheVariants.{Yield, Subscribe, Command, AllowRw, AllowRo, Memop, Exit}
 use Rattle.syscall_abi.specs.Call.{call_of, class, a0, a1, a2, a3}
 use Rattle.syscall_abi.specs.Reply.{put_reply}
-use Rattle.process_own.specs.Own.{ended as ended_own}
+use Rattle.process_model.specs.Own.{own_ended as ended_own}
 use Rattle.board_devices.specs.Clock.{clock_at}
 use Rattle.board_devices.specs.Storage.{overwritten}
 use Rattle.driver_model.specs.Alarm as alarm
 use Rattle.driver_model.specs.Console as console
 use Rattle.driver_model.specs.Random as random
 use Rattle.driver_model.specs.Storage as storage
-use Rattle.driver_model.specs.Commands.{Act, gone}
-use Rattle.driver_model.specs.Drivers.{Surroundings}
-use Rattle.process_own.specs.Flag.{flag_place}
-use Rattle.process_own.specs.Flash.{flash_with}
+use Rattle.driver_model.specs.Commands.{BoardRequest, leaving_all}
+use Rattle.driver_model.specs.Drivers.{CommandContext}
+use Rattle.process_model.specs.Flag.{flag_place}
+use Rattle.process_model.specs.Flash.{flash_with}
 use Rattle.process_record.specs.declared.emit.CallMade.{CallMade}
 use Rattle.process_record.specs.declared.outcome.Outcome.{Outcome}
 use Rattle.process_record.specs.declared.outcome.Outcome.TheVariants as outcomes
@@ -34,13 +35,13 @@ use Rattle.process_record.specs.declared.process.Process.{Process}
 use Rattle.process_record.specs.declared.process.State.{State}
 use Rattle.process_record.specs.declared.process.State.TheVariants.{Running, Yielded, Faulted, Terminated}
 use Rattle.process_record.specs.Process.{after_turn, after_fault}
-use Rattle.kernel_model.specs.Record.{Record, with_own, with_process, instruction, with_effect}
+use Rattle.kernel_model.specs.Record.{Record, record_with_own, with_process, instruction, with_effect}
 use Rattle.kernel_model.specs.declared.settings.Settings.{Settings}
 use Rattle.kernel_model.specs.Calls.{Served, deliver_by, served, restart}
 
 -- what a turn tells: its accesses, the call in it, the address of the flag that its yield wrote, and the denial in it
-pub record Told : Type 0 where
-  pub accesses : List Touch
+pub record TurnTrace : Type 0 where
+  pub accesses : List MemoryAccess
   pub call : Option CallMade
   pub flag : Option ℕ
   pub denial : Option Denial
@@ -48,8 +49,8 @@ pub record Told : Type 0 where
 -- what a turn leaves, what it tells, and what the board is to do for it
 pub record Turned : Type 0 where
   pub after : Record
-  pub told : Told
-  pub acts : List Act
+  pub told : TurnTrace
+  pub acts : List BoardRequest
 
 -- the arguments of a call, or its reply: a0 to a3
 abbrev pub arguments : Registers → List ℕ
@@ -65,6 +66,7 @@ reply_shown regs outcomes.GoesOn = None
 reply_shown regs outcomes.Ended = None
 reply_shown regs outcomes.Again = None
 
+-- the rule that a call broke, where it was refused
 abbrev pub rule_shown : Outcome → Option CallRule
 rule_shown (outcomes.Replied reply rule) = rule
 rule_shown outcomes.ToDriver = None
@@ -93,7 +95,7 @@ abbrev pub faulted : Settings → Record → Denial → Turned
 faulted settings r denial = record {
   after = settled (with_process r (after_fault r.process denial)) (decision settings.policy r.process.restarts);
   told = record { accesses = []; call = None; flag = None; denial = Some denial };
-  acts = gone;
+  acts = leaving_all;
 }
 
 -- A class that is unknown is denied as a fetch at the `ecall`'s address.
@@ -101,56 +103,59 @@ abbrev pub unknown_call : Process → Denial
 unknown_call p = denied_at Fetch p.regs.pc UnknownClass
 
 -- the flag that a call writes: that of a yield which does not wait, where it lies in accessible RAM (TRD 104, "Yield")
-abbrev pub flag_of : Record → SystemCall → Option ℕ
-flag_of r (Yield number a1 a2) = if number == 0 then flag_place a1 r.own else None
-flag_of r (Subscribe driver number function app) = None
-flag_of r (Command driver command a2 a3) = None
-flag_of r (AllowRw driver number address size) = None
-flag_of r (AllowRo driver number address size) = None
-flag_of r (Memop operation argument) = None
-flag_of r (Exit kind code) = None
+abbrev pub yield_flag_of : Record → SystemCall → Option ℕ
+yield_flag_of r (Yield number a1 a2) = if number == 0 then flag_place a1 r.own else None
+yield_flag_of r (Subscribe driver number function app) = None
+yield_flag_of r (Command driver command a2 a3) = None
+yield_flag_of r (AllowRw driver number address size) = None
+yield_flag_of r (AllowRo driver number address size) = None
+yield_flag_of r (Memop operation argument) = None
+yield_flag_of r (Exit kind code) = None
 
 -- a call that was made, with what came of it
-abbrev pub called : Record → List Touch → SystemCall → Served → Turned
+abbrev pub called : Record → List MemoryAccess → SystemCall → Served → Turned
 called r accesses call s = record {
   after = s.after;
   told = record {
     accesses = accesses;
     call = Some (made r.process.regs s.outcome);
-    flag = flag_of r call;
+    flag = yield_flag_of r call;
     denial = None;
   };
   acts = s.acts;
 }
 
 -- what a command sees of the board at a time
-abbrev pub surroundings : Settings → ℕ → Surroundings
+abbrev pub surroundings : Settings → ℕ → CommandContext
 surroundings settings time = record {
   now = clock_at settings.start time;
   leds = settings.leds;
   storage = settings.storage;
 }
 
-abbrev pub calls : Settings → ℕ → Record → List Touch → Option SystemCall → Turned
+-- the call that stands in the registers is served; an unknown class is a fault
+abbrev pub calls : Settings → ℕ → Record → List MemoryAccess → Option SystemCall → Turned
 calls settings time r accesses (Some call) = called r accesses call (served (surroundings settings time) r call)
 calls settings time r accesses None = faulted settings r (unknown_call r.process)
 
 -- what the end of an instruction asks for, once its effect stands; a denied one had none
-abbrev pub ended : Settings → ℕ → Record → List Touch → TurnEnd → Turned
-ended settings time r accesses Went = record {
+abbrev pub at_turn_end : Settings → ℕ → Record → List MemoryAccess → TurnEnd → Turned
+at_turn_end settings time r accesses Went = record {
   after = r;
   told = record { accesses = accesses; call = None; flag = None; denial = None };
   acts = [];
 }
-ended settings time r accesses Call = calls settings time r accesses (call_of r.process.regs)
-ended settings time r accesses (Trap denial) = faulted settings r denial
+at_turn_end settings time r accesses Call = calls settings time r accesses (call_of r.process.regs)
+at_turn_end settings time r accesses (Trap denial) = faulted settings r denial
 
 -- the turn of a process: one instruction, which counts, a faulting one too
-abbrev pub counted : Record → Record
-counted r = with_process r (after_turn r.process)
+abbrev pub turn_counted : Record → Record
+turn_counted r = with_process r (after_turn r.process)
 
+-- the turn of a process that runs: its next instruction, and what its end asks for
 abbrev pub instructed : Settings → ℕ → Record → Turned
-instructed settings time r = let t = instruction r in ended settings time (with_effect (counted r) t) t.accesses t.end
+instructed settings time r = let t = instruction r in
+    at_turn_end settings time (with_effect (turn_counted r) t) t.accesses t.end
 
 -- nothing was done
 abbrev pub idle : Record → Turned
@@ -159,7 +164,7 @@ idle r = record { after = r; told = record { accesses = []; call = None; flag = 
 -- a process that waits gets the first of its pending upcalls, which is its turn (TRD 104, "Yield")
 abbrev pub delivery : Record → List Upcall → Turned
 delivery r [] = idle r
-delivery r (upcall ∷ more) = idle (deliver_by (counted r) (upcall ∷ more))
+delivery r (upcall ∷ more) = idle (deliver_by (turn_counted r) (upcall ∷ more))
 
 -- its turn, as it runs or waits; one that ended has none
 abbrev pub turn_in : Settings → ℕ → State → Record → Turned
@@ -168,6 +173,7 @@ turn_in settings time Yielded r = delivery r r.own.pending
 turn_in settings time Faulted r = idle r
 turn_in settings time (Terminated code) r = idle r
 
+-- the turn of a process at a time, by its state
 unfoldable pub turned : Settings → ℕ → Record → Turned
 turned settings time r = turn_in settings time r.process.state r
 
@@ -202,12 +208,12 @@ stored moved r =
 -- the record after an event; nothing else changes a record, and it reads no other process, list or device
 unfoldable pub apply : Settings → Event → Record → Record
 apply settings (Turn time) r = (turned settings time r).after
-apply settings (Alarmed now) r = with_own r (alarm.answered now r.own)
-apply settings Taken r = with_own r (console.taken r.own)
-apply settings WriteDone r = with_own r (console.write_done r.own)
-apply settings (Input bytes) r = with_own r (console.input bytes r.own)
-apply settings (Word word) r = with_own r (random.answered (word ∷ []) r.own.life r.own).own
-apply settings NoWord r = with_own r (random.answered [] r.own.life r.own).own
+apply settings (Alarmed now) r = record_with_own r (alarm.answered now r.own)
+apply settings Taken r = record_with_own r (console.taken r.own)
+apply settings WriteDone r = record_with_own r (console.write_done r.own)
+apply settings (Input bytes) r = record_with_own r (console.input bytes r.own)
+apply settings (Word word) r = record_with_own r (random.answered (word ∷ []) r.own.life r.own).own
+apply settings NoWord r = record_with_own r (random.answered [] r.own.life r.own).own
 apply settings (Stored moved) r = stored moved r
 
 -- whether a process in a state can have a turn: it runs, or it waits and an upcall is pending
@@ -217,8 +223,10 @@ has_turn Yielded pending = pending
 has_turn Faulted pending = false
 has_turn (Terminated code) pending = false
 
+-- whether an upcall waits to be delivered
 abbrev pub is_pending : List Upcall → Bool
 is_pending pending = not (length pending == 0)
 
+-- whether a process can have a turn
 abbrev pub may_turn : Record → Bool
 may_turn r = has_turn r.process.state (is_pending r.own.pending)

@@ -1,4 +1,5 @@
--- That what is a process's own stays whole, so that each changed byte has its cause in every run.
+-- That what is a process's own stays whole, so that each changed byte has its cause in every run. Buffers lie as in
+-- TRD 104, "Read-Only Allow" and "Read-Write Allow".
 use Rattle.std.specs.Prelude.{ℕ, List, slice_get, IfSome}
 use Rattle.tk_base.specs.declared.process.Choice.{Choice}
 use Rattle.driver_model.specs.Keeping.{IsSettled}
@@ -8,7 +9,8 @@ use Rattle.kernel_model.specs.Replay.{after_all}
 use Rattle.kernel_model.specs.Causes.{AllHaveCauses, AreWhole}
 use Rattle.kernel_model.specs.Lives.{HasOrder}
 
--- A process's memory is in order; its bytes end at the kernel break, where its grants begin; and each buffer that it has
+-- A process's memory is in order; its bytes end at the kernel break, where its grants begin; and each buffer that it
+-- has
 -- allowed lies in accessible flash, or in its RAM below the mark.
 abbrev pub HasWholeOwn : Record → Type 0
 HasWholeOwn r = HasOrder r × IsSettled r.own

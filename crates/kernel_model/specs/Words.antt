@@ -1,4 +1,5 @@
--- That the random words which processes are told, and then those that are left, are those of before.
+-- That the random words which processes are told, and then those that are left, are those of before. The words are
+-- those of this board's own script.
 use Rattle.std.specs.Prelude.{◌≡◌, ℕ, List, [], ◌∷◌, ◌++◌}
 use Rattle.std.specs.List.{flat_map}
 use Rattle.tk_base.specs.declared.process.Choice.{Choice}
@@ -18,6 +19,7 @@ word_in (Word word) = word ∷ []
 word_in NoWord = []
 word_in (Stored moved) = []
 
+-- the random word that a label tells a process, if it does
 abbrev pub word_told : Label → List ℕ
 word_told (TurnOf slot time told) = []
 word_told (Answered slot event) = word_in event
@@ -27,7 +29,8 @@ word_told (Printed slot bytes) = []
 abbrev pub words_told : List Label → List ℕ
 words_told labels = flat_map word_told labels
 
--- Whatever choices are made: the words that were left before them are those that processes were told, in that order, and
+-- Whatever choices are made: the words that were left before them are those that processes were told, in that order,
+-- and
 -- then those that are left. So no word is drawn twice, and none is passed over.
 abbrev pub WordsAreDrawnInOrder : Type 0
 WordsAreDrawnInOrder = (w : World) (choices : List Choice) →

@@ -7,13 +7,13 @@ use Rattle.tk_base.specs.Regs.{with_register}
 use Rattle.fault_policy.specs.declared.Policy.TheVariants.{Stop}
 use Rattle.process_record.specs.declared.process.State.TheVariants.{Running}
 use Rattle.process_record.specs.Process.{cleared}
-use Rattle.grant_areas.specs.declared.kinds.PairKind.TheVariants.{Upcall}
-use Rattle.process_own.specs.Own.{opened}
+use Rattle.grant_model.specs.declared.kinds.PairKind.TheVariants.{Upcall}
+use Rattle.process_model.specs.Own.{opened}
 use Rattle.kernel_model.specs.Record.{Record}
 use Rattle.kernel_model.specs.declared.settings.Settings.{Settings}
 use Rattle.kernel_model.specs.Turn.{Turned, turned}
 use Rattle.kernel_model.specs.World.{World}
-use Rattle.kernel_model.specs.Histories.{Key}
+use Rattle.kernel_model.specs.Histories.{PairKey}
 
 -- a process at the start of its object, which has these bytes, with registers and a block of so many bytes, of which it
 -- may access 8
@@ -59,23 +59,23 @@ subscribes =
     ∷ 0x13 ∷ 0x06 ∷ 0 ∷ 0 ∷ 0x93 ∷ 0x06 ∷ 0x90 ∷ 0 ∷ 0x73 ∷ 0 ∷ 0 ∷ 0 ∷ [] in
     standing object 64 (with_register (with_register (cleared FLASH_START) 14 1) 13 7)
 
-abbrev pub settings : Settings
-settings = record { leds = 0; start = 0; storage = 0; policy = Stop }
+abbrev pub worked_settings : Settings
+worked_settings = record { leds = 0; start = 0; storage = 0; policy = Stop }
 
 -- the key of its upcall
-abbrev pub alarm_upcall : Key
+abbrev pub alarm_upcall : PairKey
 alarm_upcall = record { kind = Upcall; driver = 0; number = 0 }
 
 -- its first turn
 abbrev pub turn_of : Record → Turned
-turn_of r = turned settings 0 r
+turn_of r = turned worked_settings 0 r
 
 -- the world of such processes before the first step, with slices of so many turns
 abbrev pub board : ℕ → List Record → World
 board slice records = record {
   records = records;
   unplaced = [];
-  settings = settings;
+  settings = worked_settings;
   pace = record { slice = slice };
   devices = record {
     writes = [];

@@ -1,13 +1,14 @@
 -- The world only routes: a step finds whose turn it is, or whom a device answers, and applies that event to that one
--- record.
-use Rattle.std.specs.Prelude.{ℕ, ◌+◌, ◌==◌, Bool, false, not, ◌&&◌, nat_le, nat_lt, if◌then◌else◌, List, [], ◌∷◌, ◌++◌, drop, filter, length, map, slice_get, slice_set, Option, None, Some, is_some}
+-- record. Which steps there are, and what the devices do, is this board's own rule.
+use Rattle.std.specs.Prelude.{ℕ, ◌+◌, ◌==◌, Bool, false, not, ◌&&◌, nat_le, nat_lt, if◌then◌else◌, List, [], ◌∷◌, ◌++◌}
+use Rattle.std.specs.Prelude.{drop, filter, length, map, slice_get, slice_set, Option, None, Some, is_some}
 use Rattle.std.specs.Option.{option_map}
 use Rattle.tk_base.specs.declared.limits.TheConstants.{STEP_LIMIT}
 use Rattle.tk_base.specs.declared.process.Choice.{Choice}
 use Rattle.tk_base.specs.declared.process.Choice.TheVariants.{Run, Device, Pass}
 use Rattle.tk_base.specs.declared.process.Dev.{Dev}
 use Rattle.tk_base.specs.declared.process.Dev.TheVariants as dev
-use Rattle.process_record.specs.declared.summary.Unplaced.{Unplaced}
+use Rattle.process_record.specs.Summary.{Unplaced}
 use Rattle.turn_scheduler.specs.RoundRobin.{used_after}
 use Rattle.kernel_model.specs.Record.{Record}
 use Rattle.kernel_model.specs.declared.settings.Settings.{Settings}
@@ -15,15 +16,17 @@ use Rattle.board_devices.specs.Arriving.{is_time}
 use Rattle.board_devices.specs.Clock.{clock_at}
 use Rattle.board_devices.specs.SerialLine.{SerialLine, with_input}
 use Rattle.board_devices.specs.Storage.{is_fault}
-use Rattle.script_text.specs.Settings.{Event as Arrival}
-use Rattle.process_own.specs.Own.{Own}
+use Rattle.script_text.specs.Settings.{ScriptEvent as Arrival}
+use Rattle.process_model.specs.Own.{Own}
 use Rattle.driver_model.specs.Alarm as alarm
 use Rattle.driver_model.specs.Console as console
 use Rattle.driver_model.specs.Random as random
 use Rattle.driver_model.specs.Storage as storage
 use Rattle.driver_model.specs.Leds.{with_switched}
-use Rattle.driver_model.specs.Commands.{Act, Waits, Leaves, Lights, Line, Writes, Reads, Randoms, Stores}
-use Rattle.kernel_model.specs.Turn.{Event, Alarmed, Taken, WriteDone, Input, Word, NoWord, Stored, Told, Turned, apply, flash_of, turned, may_turn}
+use Rattle.driver_model.specs.Told.{Telling, drawn_told, received_told, sent_told, stored_told}
+use Rattle.driver_model.specs.Commands.{BoardRequest, Waits, Leaves, Lights, QueueName, Writes, Reads, Randoms, Stores}
+use Rattle.kernel_model.specs.Turn.{Event, Alarmed, Taken, WriteDone, Input, Word, NoWord, Stored, TurnTrace, Turned}
+use Rattle.kernel_model.specs.Turn.{apply, flash_of, turned, may_turn}
 
 -- what of the settings no process sees: how many turns a slice has
 pub record Pace : Type 0 where
@@ -66,10 +69,11 @@ pub record World : Type 0 where
 
 -- what a step tells: whose turn it was, and what it did; what a device answered whom; what was printed for whom
 pub data Label : Type 0 where
-  TurnOf : (slot time : ℕ) → Told → Label
+  TurnOf : (slot time : ℕ) → TurnTrace → Label
   Answered : (slot : ℕ) → Event → Label
   Printed : (slot : ℕ) → List ℕ → Label
 
+-- whether there is a process that can have a turn
 abbrev pub can_run : Option Record → Bool
 can_run None = false
 can_run (Some r) = may_turn r
@@ -88,110 +92,123 @@ pub record Answer : Type 0 where
   pub event : Event
 
 -- what a device does in a step: what it tells a process, if it tells any; what it prints for it; the devices afterwards
-pub record Deed : Type 0 where
+pub record DeviceStep : Type 0 where
   pub told : Option Answer
   pub printed : List ℕ
   pub devices : Devices
 
-abbrev pub without : ℕ → List ℕ → List ℕ
-without slot slots = filter (λ s. not (s == slot)) slots
+-- the slots but one
+abbrev pub queue_without : ℕ → List ℕ → List ℕ
+queue_without slot slots = filter (λ s. not (s == slot)) slots
 
 -- those that wait after an answer to the first one, whose request completed or did not
-abbrev pub left_of : Bool → ℕ → List ℕ → List ℕ
-left_of completed slot slots = if completed then without slot slots else slots
+abbrev pub queue_after_answer : Bool → ℕ → List ℕ → List ℕ
+queue_after_answer completed slot slots = if completed then queue_without slot slots else slots
 
 -- bytes come in: of those in the ring the newest are kept
-abbrev pub arriving : Devices → Arrival → List Arrival → Deed
+abbrev pub arriving : Devices → Arrival → List Arrival → DeviceStep
 arriving d arrival rest = record {
   told = None;
   printed = [];
   devices = record d { line = with_input arrival.bytes d.line; arrivals = rest };
 }
 
+-- what devices tell, as events of a process
+abbrev pub as_events : Telling Event
+as_events = record {
+  alarmed = Alarmed;
+  taken = Taken;
+  write_done = WriteDone;
+  input = Input;
+  word = Word;
+  no_word = NoWord;
+  stored = Stored;
+}
+
 -- the alarm of the process in a slot fires
-abbrev pub alarmed : World → ℕ → Deed
+abbrev pub alarmed : World → ℕ → DeviceStep
 alarmed w slot = record {
-  told = Some (record { slot = slot; event = Alarmed (now_in w) });
+  told = Some (record { slot = slot; event = as_events.alarmed (now_in w) });
   printed = [];
   devices = w.devices;
 }
 
 -- the UART takes the next bytes of the write of the process in a slot, or the write completes
-abbrev pub transmitting : World → ℕ → Record → Deed
+abbrev pub transmitting : World → ℕ → Record → DeviceStep
 transmitting w slot r =
     let d = w.devices in
     let s = console.sent (flash_of r) r.own.life r.own in
     record {
-      told = Some (record { slot = slot; event = if s.completed then WriteDone else Taken });
+      told = Some (record { slot = slot; event = sent_told as_events s });
       printed = s.printed;
       devices = record d {
-        writes = left_of s.completed slot d.writes;
+        writes = queue_after_answer s.completed slot d.writes;
         line = record d.line { free = console.free_after w.clock.time d.line.ticks s.printed d.line.free };
       };
     }
 
 -- the bytes that came in go to the read of the process in a slot
-abbrev pub receiving : World → ℕ → Record → Deed
-receiving w slot r =
+abbrev pub receive_step : World → ℕ → Record → DeviceStep
+receive_step w slot r =
     let d = w.devices in
     let s = console.received d.line.ring r.own.life r.own in
     record {
-      told = Some (record { slot = slot; event = Input s.moved });
+      told = Some (record { slot = slot; event = received_told as_events s });
       printed = [];
       devices = record d {
-        reads = left_of s.completed slot d.reads;
+        reads = queue_after_answer s.completed slot d.reads;
         line = record d.line { ring = drop (length s.moved) d.line.ring };
       };
     }
 
 -- the word that was drawn, where fewer are left
-abbrev pub drawn : List ℕ → List ℕ → Event
-drawn [] after = NoWord
-drawn (word ∷ words) after = if length after == length words then Word word else NoWord
+abbrev pub word_event : List ℕ → List ℕ → Event
+word_event words after = drawn_told as_events words after
 
 -- a word is drawn for the request of the process in a slot, or none
-abbrev pub drawing : World → ℕ → Record → Deed
-drawing w slot r =
+abbrev pub random_step : World → ℕ → Record → DeviceStep
+random_step w slot r =
     let d = w.devices in
     let a = random.answered d.words r.own.life r.own in
     record {
-      told = Some (record { slot = slot; event = drawn d.words a.words });
+      told = Some (record { slot = slot; event = word_event d.words a.words });
       printed = [];
-      devices = record d { randoms = left_of a.completed slot d.randoms; words = a.words };
+      devices = record d { randoms = queue_after_answer a.completed slot d.randoms; words = a.words };
     }
 
 -- the storage request of the process in a slot is served, or fails, by its number among all that were
-abbrev pub storing : World → ℕ → Record → Deed
+abbrev pub storing : World → ℕ → Record → DeviceStep
 storing w slot r =
     let d = w.devices in
     let fails = is_fault d.faults (d.served + 1) in
     let a = storage.answered fails (flash_of r) r.storage r.own.life r.own in
     record {
-      told = Some (record { slot = slot; event = Stored (not fails) });
+      told = Some (record { slot = slot; event = stored_told as_events fails });
       printed = [];
       devices = record d {
-        stores = left_of a.completed slot d.stores;
+        stores = queue_after_answer a.completed slot d.stores;
         served = if a.completed then d.served + 1 else d.served;
       };
     }
 
 -- the first of those that wait, with its record
-abbrev pub first_of : (World → ℕ → Record → Deed) → World → List ℕ → Option Deed
-first_of deed w [] = None
-first_of deed w (slot ∷ slots) = option_map (deed w slot) (slice_get w.records slot)
+abbrev pub first_waiting : (World → ℕ → Record → DeviceStep) → World → List ℕ → Option DeviceStep
+first_waiting deed w [] = None
+first_waiting deed w (slot ∷ slots) = option_map (deed w slot) (slice_get w.records slot)
 
-abbrev pub arrived : Devices → List Arrival → Option Deed
+-- what the serial line does where bytes are still to come in
+abbrev pub arrived : Devices → List Arrival → Option DeviceStep
 arrived d [] = None
 arrived d (arrival ∷ rest) = Some (arriving d arrival rest)
 
 -- what a device does, where it is ready
-abbrev pub deed_of : World → Dev → Option Deed
-deed_of w dev.Event = arrived w.devices w.devices.arrivals
-deed_of w dev.Alarm = option_map (alarmed w) (alarm.due_slot (now_in w) (owns_in w))
-deed_of w dev.Uart = first_of transmitting w w.devices.writes
-deed_of w dev.Receive = first_of receiving w w.devices.reads
-deed_of w dev.Random = first_of drawing w w.devices.randoms
-deed_of w dev.Store = first_of storing w w.devices.stores
+abbrev pub device_step_of : World → Dev → Option DeviceStep
+device_step_of w dev.Event = arrived w.devices w.devices.arrivals
+device_step_of w dev.Alarm = option_map (alarmed w) (alarm.due_slot (now_in w) (owns_in w))
+device_step_of w dev.Uart = first_waiting transmitting w w.devices.writes
+device_step_of w dev.Receive = first_waiting receive_step w w.devices.reads
+device_step_of w dev.Random = first_waiting random_step w w.devices.randoms
+device_step_of w dev.Store = first_waiting storing w w.devices.stores
 
 -- whether one waits
 abbrev pub is_waited_for : List ℕ → Bool
@@ -214,28 +231,32 @@ may_be_made w (Run slot) = can_run (slice_get w.records slot)
 may_be_made w (Device device) = can_act w device
 may_be_made w (Pass ticks) = nat_lt 0 ticks
 
+-- whether a choice may be made: it is ready, and the limit of steps is not reached
 abbrev pub is_ready : World → Choice → Bool
 is_ready w choice = nat_lt w.clock.steps STEP_LIMIT && may_be_made w choice
 
-abbrev pub begin_wait : ℕ → Line → Devices → Devices
+-- a slot waits in a list, as its last one
+abbrev pub begin_wait : ℕ → QueueName → Devices → Devices
 begin_wait slot Writes d = record d { writes = d.writes ++ slot ∷ [] }
 begin_wait slot Reads d = record d { reads = d.reads ++ slot ∷ [] }
 begin_wait slot Randoms d = record d { randoms = d.randoms ++ slot ∷ [] }
 begin_wait slot Stores d = record d { stores = d.stores ++ slot ∷ [] }
 
-abbrev pub stop_wait : ℕ → Line → Devices → Devices
-stop_wait slot Writes d = record d { writes = without slot d.writes }
-stop_wait slot Reads d = record d { reads = without slot d.reads }
-stop_wait slot Randoms d = record d { randoms = without slot d.randoms }
-stop_wait slot Stores d = record d { stores = without slot d.stores }
+-- a slot waits in a list no more
+abbrev pub stop_wait : ℕ → QueueName → Devices → Devices
+stop_wait slot Writes d = record d { writes = queue_without slot d.writes }
+stop_wait slot Reads d = record d { reads = queue_without slot d.reads }
+stop_wait slot Randoms d = record d { randoms = queue_without slot d.randoms }
+stop_wait slot Stores d = record d { stores = queue_without slot d.stores }
 
-abbrev pub acted : ℕ → Act → Devices → Devices
+-- what an act of a process changes of the devices: it waits, or waits no more, or switches an LED
+abbrev pub acted : ℕ → BoardRequest → Devices → Devices
 acted slot (Waits line) d = begin_wait slot line d
 acted slot (Leaves line) d = stop_wait slot line d
 acted slot (Lights led switch) d = record d { leds = with_switched d.leds led switch }
 
 -- what a turn asks the board to do, one after another
-abbrev pub routed : ℕ → List Act → Devices → Devices
+abbrev pub routed : ℕ → List BoardRequest → Devices → Devices
 routed slot [] d = d
 routed slot (act ∷ acts) d = routed slot acts (acted slot act d)
 
@@ -253,9 +274,11 @@ pub record Stepped : Type 0 where
   pub after : World
   pub labels : List Label
 
+-- a step that is not made
 abbrev pub unmade : World → Stepped
 unmade w = record { after = w; labels = [] }
 
+-- the turn of a process is made, if there is one in the slot
 abbrev pub ran : World → ℕ → Option Record → Stepped
 ran w slot None = unmade w
 ran w slot (Some r) =
@@ -267,6 +290,7 @@ abbrev pub told_to : World → Answer → Option Record → List Record
 told_to w answer None = w.records
 told_to w answer (Some r) = slice_set w.records answer.slot (apply w.settings answer.event r)
 
+-- the records once a device has answered, if it answers anybody
 abbrev pub records_after : World → Option Answer → List Record
 records_after w None = w.records
 records_after w (Some answer) = told_to w answer (slice_get w.records answer.slot)
@@ -275,19 +299,21 @@ records_after w (Some answer) = told_to w answer (slice_get w.records answer.slo
 abbrev pub printing : ℕ → List ℕ → List Label
 printing slot bytes = if length bytes == 0 then [] else Printed slot bytes ∷ []
 
-abbrev pub labels_of : Deed → Option Answer → List Label
+-- what a device's step tells: whom it answered, and what it printed for it
+abbrev pub labels_of : DeviceStep → Option Answer → List Label
 labels_of deed None = []
 labels_of deed (Some answer) = Answered answer.slot answer.event ∷ printing answer.slot deed.printed
 
 -- the world after a device's step, which takes no time
-abbrev pub after_deed : World → Deed → World
+abbrev pub after_deed : World → DeviceStep → World
 after_deed w deed = record w {
   records = records_after w deed.told;
   devices = deed.devices;
   clock = record w.clock { steps = w.clock.steps + 1 };
 }
 
-abbrev pub done : World → Option Deed → Stepped
+-- the step of a device, if it has anything to do
+abbrev pub done : World → Option DeviceStep → Stepped
 done w None = unmade w
 done w (Some deed) = record { after = after_deed w deed; labels = labels_of deed deed.told }
 
@@ -298,15 +324,17 @@ passed w ticks = record w { clock = record { time = w.clock.time + ticks; steps 
 -- what a choice comes to where it is ready
 unfoldable pub carried_out : World → Choice → Stepped
 carried_out w (Run slot) = ran w slot (slice_get w.records slot)
-carried_out w (Device device) = done w (deed_of w device)
+carried_out w (Device device) = done w (device_step_of w device)
 carried_out w (Pass ticks) = record { after = passed w ticks; labels = [] }
 
 -- one step; a choice that is not ready is not made: nothing changes, and nothing is told
 unfoldable pub stepped : World → Choice → Stepped
 stepped w choice = if is_ready w choice then carried_out w choice else unmade w
 
+-- the world after a choice; the same where it may not be made
 abbrev pub after : World → Choice → World
 after w choice = (stepped w choice).after
 
+-- what a choice tells; nothing where it may not be made
 abbrev pub labels : World → Choice → List Label
 labels w choice = (stepped w choice).labels

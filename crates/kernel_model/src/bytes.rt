@@ -4,7 +4,7 @@ ghost use Rattle.kernel_model.specs.Causes.{AnswersHaveCauses, StepsHaveCauses, 
 
 use crate::{each_access_is_permitted, prints_are_of_buffers, refusals_change_little};
 use driver_model::drivers_write_in_buffers;
-use process_own::only_writes_change_bytes;
+use process_model::only_writes_change_bytes;
 
 /// The turn of a process, whatever its record is, changes a byte below its kernel break only by a store that the turn
 /// lists and that covers it, by the flag of a yield that it tells, or as the process starts again; and nothing of its

@@ -1,7 +1,7 @@
 //! Laws that a certifier asks for, each the contract of a function that does nothing.
 ghost use Rattle.kernel_model.specs.Counts.{CountsAddUp};
 ghost use Rattle.kernel_model.specs.Lists.{ListsStay};
-ghost use Rattle.kernel_model.specs.Lives.{AsManyStay, BlocksStayApart, DropsOnlyWhereTenWait, EndedStays, HasOrder, HasTenAtMost, LivesAsItRuns, PlacesStay, RestartsAsOpened, Stays};
+ghost use Rattle.kernel_model.specs.Lives.{AsManyStay, BlocksStayApart, DropsOnlyWhereFull, EndedStays, HasOrder, HasPendingWithinLimit, LivesAsItRuns, PlacesStay, RestartsAsOpened, HoldsThroughout};
 ghost use Rattle.kernel_model.specs.OneRun.{ChosenAreReady, IsDoneWhereNothingIsLeft, OneRun};
 ghost use Rattle.kernel_model.specs.Prints.{PrintsAreOfBuffers, PrintsCouldBeLoaded};
 ghost use Rattle.kernel_model.specs.Tables.{EachRowFitsAWord, SameDrivers};
@@ -14,10 +14,10 @@ use driver_model::{
     an_alarm_is_due_where_no_ticks_are_left, drivers_keep_buffers_below_the_mark,
     drivers_keep_places_and_order, events_tell_steps, lines_follow_answers,
 };
-use process_own::only_handing_changes_pairs;
+use process_model::only_handing_changes_pairs;
 
 /// A run by the round robin is one run: it leads where its choices lead, and tells what their steps tell. Each of its
-/// choices is ready in its turn. On a board of at most eight processes it is done exactly where no process and no
+/// choices is ready in its turn. On a board of no more processes than slots it is done exactly where no process and no
 /// device is ready, no bytes are still to come in, no process that lives has an alarm armed, and no write waits.
 pub fn a_run_is_one_run()
     ensures one { OneRun }
@@ -30,7 +30,7 @@ pub fn a_run_is_one_run()
 /// Whatever choices are made: a process lives exactly while it is Running or Yielded, and its life is the number of its
 /// restarts, where that was so before; and the record of one that has ended changes no more.
 pub fn processes_live_as_they_run()
-    ensures lives { Stays LivesAsItRuns }
+    ensures lives { HoldsThroughout LivesAsItRuns }
     ensures ended { EndedStays }
 {
     drivers_keep_places_and_order();
@@ -38,15 +38,15 @@ pub fn processes_live_as_they_run()
 
 /// Whatever choices are made, where a process lies never changes: its object, its accessible flash and its block; so
 /// blocks that were apart stay so. Its memory stays in order: the block's start, the mark, the break, the kernel break,
-/// which is the block's end less what the drivers cost that it has entered (Levy et al., SOSP 2017). Ten upcalls wait
-/// at most, and one is dropped only where ten do. No process comes or goes.
+/// which is the block's end less what the drivers cost that it has entered (Levy et al., SOSP 2017). At most
+/// [`tk_base::PENDING_LIMIT`] upcalls wait, and one is dropped only where as many do. No process comes or goes.
 pub fn places_never_change()
     ensures places { PlacesStay }
     ensures apart { BlocksStayApart }
-    ensures order { Stays HasOrder }
-    ensures ten { Stays HasTenAtMost }
+    ensures order { HoldsThroughout HasOrder }
+    ensures pending { HoldsThroughout HasPendingWithinLimit }
     ensures many { AsManyStay }
-    ensures drops { DropsOnlyWhereTenWait }
+    ensures drops { DropsOnlyWhereFull }
 {
     drivers_promise();
     drivers_keep_places_and_order();
@@ -107,7 +107,7 @@ pub fn words_are_drawn_in_order()
 /// is its own is then whole in every world, and no step changes a byte of a process without a cause among its labels
 /// (Levy et al., SOSP 2017; TRD 104, "Read-Only Allow", "Read-Write Allow").
 pub fn owns_stay_whole()
-    ensures stays { Stays HasWholeOwn }
+    ensures stays { HoldsThroughout HasWholeOwn }
     ensures whole { OwnsStayWhole }
     ensures causes { ChoicesHaveCauses }
 {

@@ -4,7 +4,7 @@ ghost use Rattle.kernel_model.specs.Deliveries.{DeliveriesAreOfTheLast};
 ghost use Rattle.kernel_model.specs.Fairness.{ReadyProcessesHaveTurns};
 
 use driver_model::{drivers_leave_pairs, drivers_schedule_what_is_held};
-use process_own::only_handing_changes_pairs;
+use process_model::only_handing_changes_pairs;
 use rv32_model::{accesses_are_permitted, data_is_aligned, denials_are_due};
 use turn_scheduler::ready_has_turn;
 
@@ -23,9 +23,9 @@ pub fn each_access_is_permitted()
     denials_are_due();
 }
 
-/// No process that is ready waits for good: in every run by the round robin, on a board of at most eight
-/// processes, every window of `8 * slice` turns of processes in which a process is ready throughout has a turn of
-/// that process. Device steps and passes of time may come between the turns.
+/// No process that is ready waits for good: in every run by the round robin, on a board of no more
+/// processes than slots, every window of as many turns of processes as all slots have in a slice each, in which a
+/// process is ready throughout, has a turn of that process. Device steps and passes of time may come between the turns.
 pub fn ready_processes_have_turns()
     ensures { ReadyProcessesHaveTurns }
 {

@@ -11,7 +11,7 @@ use driver_model::{
     an_alarm_is_due_where_no_ticks_are_left, commands_stay_in_place, drivers_keep_places_and_order,
     drivers_leave_pairs, lines_follow_commands, only_drivers_move_lines,
 };
-use process_own::only_handing_changes_pairs;
+use process_model::only_handing_changes_pairs;
 use rv32_model::denials_are_due;
 
 /// What the laws of calls rest on: the laws of the drivers' commands, and of the requests that drivers keep.

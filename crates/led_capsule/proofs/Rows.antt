@@ -2,23 +2,27 @@
 use Rattle.std.proofs.Common.{◌≡◌, ℕ, Bool, List, Result, refl, sym, subst}
 use Rattle.tk_base.specs.declared.call.CallRule.{CallRule}
 use Rattle.syscall_abi.specs.declared.reply.Reply.{Reply}
-use Rattle.process_own.specs.Own.{Own}
+use Rattle.process_model.specs.Own.{Own}
 use Rattle.driver_model.specs.Commands.{Commanded, On, Off, Toggle}
 use Rattle.driver_model.specs.Leds.{command, commands, switching}
-use Rattle.led_capsule.specs.Obeys.{Obeys}
+use Rattle.led_capsule.specs.Obeys.{LedsObey}
 
-pub turns_on : (count number led : ℕ) (own : Own) → number ≡ 1 → command count number led own ≡ switching count led On own
+pub turns_on : (count number led : ℕ) (own : Own) → number ≡ 1
+    → command count number led own ≡ switching count led On own
 unfolding command commands
 turns_on count number led own e = rw (e) refl
 
-pub turns_off : (count number led : ℕ) (own : Own) → number ≡ 2 → command count number led own ≡ switching count led Off own
+pub turns_off : (count number led : ℕ) (own : Own) → number ≡ 2
+    → command count number led own ≡ switching count led Off own
 unfolding command commands
 turns_off count number led own e = rw (e) refl
 
-pub toggles : (count number led : ℕ) (own : Own) → number ≡ 3 → command count number led own ≡ switching count led Toggle own
+pub toggles : (count number led : ℕ) (own : Own) → number ≡ 3
+    → command count number led own ≡ switching count led Toggle own
 unfolding command commands
 toggles count number led own e = rw (e) refl
 
 -- a command is obeyed where its row is
-pub obeyed : (old new : List Bool) (answer : Result Reply CallRule) (c row : Commanded) → c ≡ row → Obeys row old answer new → Obeys c old answer new
-obeyed old new answer c row is obeys = subst (λ (k : Commanded). Obeys k old answer new) (sym is) obeys
+pub obeyed : (old new : List Bool) (answer : Result Reply CallRule) (c row : Commanded) → c ≡ row
+    → LedsObey row old answer new → LedsObey c old answer new
+obeyed old new answer c row is obeys = subst (λ (k : Commanded). LedsObey k old answer new) (sym is) obeys

@@ -1,18 +1,18 @@
 //! Commands to the LEDs (TRD 104, "Command").
-ghost use Rattle.std.specs.Prelude.{◌≡◌, length, OnErr};
-ghost use Rattle.process_own.specs.Own.{Own};
+ghost use Rattle.std.specs.Prelude.{◌≡◌, length, OnErr, OnSome};
+ghost use Rattle.process_model.specs.Own.{Own};
 ghost use Rattle.driver_model.specs.Commands.{Switch, Toggle};
-ghost use Rattle.driver_model.specs.Leds.{bits_of, command, is_lit, is_on_after, switching};
-ghost use Rattle.led_capsule.specs.Obeys.{Obeys};
+ghost use Rattle.driver_model.specs.Leds.{led_bits, command, is_lit, is_on_after, switching};
+ghost use Rattle.led_capsule.specs.Obeys.{LedsObey, LedsReply};
 
 use board_devices::Leds;
-use driver_model::leds_are_bits;
+use driver_model::{leds_are_bits, reply_of};
 use syscall_abi::Reply;
 use tk_base::CallRule;
 
 /// Whether an LED is on. One that there is not is off.
 fn is_on(leds: &Leds, led: u32) -> bool
-    ensures { result ≡ is_lit (bits_of leds.now) led }
+    ensures { result ≡ is_lit (led_bits leds.now) led }
 {
     leds_are_bits();
     led < leds.len() && leds.is_on(led)
@@ -20,8 +20,9 @@ fn is_on(leds: &Leds, led: u32) -> bool
 
 /// Turns an LED on or off; it is refused where there is none of that number.
 fn light(leds: &mut Leds, led: u32, on: bool) -> Result<Reply, CallRule>
-    ensures obeys { (own : Own) (switch : Switch) → is_on_after switch (is_lit (bits_of leds.old) led) ≡ on
-        → Obeys (switching (length leds.old) led switch own) leds.old result leds.new }
+    ensures obeys { (own : Own) (switch : Switch)
+        → is_on_after switch (is_lit (led_bits leds.old) led) ≡ on
+        → LedsObey (switching (length leds.old) led switch own) leds.old result leds.new }
     ensures kept { OnErr result (leds.new ≡ leds.old) }
 {
     leds_are_bits();
@@ -35,21 +36,18 @@ fn light(leds: &mut Leds, led: u32, on: bool) -> Result<Reply, CallRule>
 /// Turns an LED to what it is not; it is refused where there is none of that number.
 fn toggle(leds: &mut Leds, led: u32) -> Result<Reply, CallRule>
     ensures obeys { (own : Own) →
-        Obeys (switching (length leds.old) led Toggle own) leds.old result leds.new }
+        LedsObey (switching (length leds.old) led Toggle own) leds.old result leds.new }
     ensures kept { OnErr result (leds.new ≡ leds.old) }
 {
     let on = !is_on(leds, led);
     light(leds, led, on)
 }
 
-/// Serves a command of a process to the LEDs: the reply, or the rule that refuses it. 0 asks for the number of
-/// LEDs; 1 turns LED `a2` on, 2 turns it off, 3 turns it to what it is not, each refused with
-/// [`CallRule::Range`] where there is no LED of that number. Any other number is refused with
-/// [`CallRule::NoCommand`]. No LED but `a2` changes, and none where it is refused.
+/// A command of a process to the LEDs: the reply, or the rule that refuses it.
 #[tactic(auto, unfolding(driver_model::specs::Leds::command, driver_model::specs::Leds::commands))]
-pub fn command(leds: &mut Leds, number: u32, a2: u32) -> Result<Reply, CallRule>
+fn obey(leds: &mut Leds, number: u32, a2: u32) -> Result<Reply, CallRule>
     ensures obeys { (own : Own) → let lit = leds.old in
-        Obeys (command (length lit) number a2 own) lit result leds.new }
+        LedsObey (command (length lit) number a2 own) lit result leds.new }
     ensures kept { OnErr result (leds.new ≡ leds.old) }
 {
     match number {
@@ -59,4 +57,16 @@ pub fn command(leds: &mut Leds, number: u32, a2: u32) -> Result<Reply, CallRule>
         3 => toggle(leds, a2),
         _ => Err(CallRule::NoCommand),
     }
+}
+
+/// Serves a command of a process to the LEDs: the reply, and the rule that refuses it, if one does. 0 asks for the
+/// number of LEDs; 1 turns LED `a2` on, 2 turns it off, 3 turns it to what it is not, each refused with
+/// [`CallRule::Range`] where there is no LED of that number. Any other number is refused with [`CallRule::NoCommand`].
+/// No LED but `a2` changes, and none where it is refused.
+pub fn command(leds: &mut Leds, number: u32, a2: u32) -> (Reply, Option<CallRule>)
+    ensures replies { (own : Own) → let lit = leds.old in
+        LedsReply (command (length lit) number a2 own) lit result leds.new }
+    ensures kept { OnSome result.1 (leds.new ≡ leds.old) }
+{
+    reply_of(obey(leds, number, a2))
 }

@@ -4,7 +4,7 @@
 
 ghost use Rattle.std.specs.Prelude.{◌≡◌, ◌↔◌, ◌+◌, ◌%◌, ◌^◌, ◌<◌, ◌≤◌, IfSome, IsTrue, None, length, replicate, slice_set};
 ghost use Rattle.std.specs.Bool.{OnTrue};
-ghost use Rattle.tk_base.specs.Bus.{answered};
+ghost use Rattle.tk_base.specs.Bus.{unless_denied};
 
 use std::marker::Model;
 use std::ops::Range;
@@ -57,9 +57,8 @@ impl Model for Pmp {
 }
 
 impl Pmp {
-    ghost use Rattle.pmp_regions.specs.Entries.{cleared, tor_entry, off_entry, bottom_word};
-    ghost use Rattle.pmp_regions.specs.Spans.{IsSpan};
-    ghost use Rattle.pmp_regions.specs.Check.{denied_by, deciding, matches_any, matches_all};
+    ghost use Rattle.pmp_regions.specs.Entries.{empty_entry, tor_entry, off_entry, bottom_word};
+    ghost use Rattle.pmp_regions.specs.Check.{denied_by_registers, deciding, matches_any, matches_all};
     ghost use Rattle.pmp_regions.specs.Windows.{Permits, PermitsBetween, Decides, EndBy};
     ghost use Rattle.tk_base.specs.declared.access.Access.TheVariants.{Fetch, Load, Store};
 
@@ -68,7 +67,7 @@ impl Pmp {
 
     /// All entries clear, so that user mode may access nothing.
     pub fn new() -> Pmp
-        ensures { result ≡ replicate 8 cleared }
+        ensures { result ≡ replicate 8 empty_entry }
     {
         Pmp {
             entries: [Pmp::CLEARED; 8],
@@ -119,7 +118,7 @@ impl Pmp {
     /// Clears an entry: it is off, and its address 0.
     pub fn clear(&mut self, entry: usize)
         requires { entry < 8 }
-        ensures set { self.new ≡ slice_set self.old entry cleared }
+        ensures set { self.new ≡ slice_set self.old entry empty_entry }
         ensures eight { length self.new ≡ 8 }
     {
         self.set(entry, Pmp::CLEARED);
@@ -222,7 +221,7 @@ impl Pmp {
     /// An access in a window of its kind needs no search.
     #[inline(always)]
     pub fn check(&self, access: Access, at: Addr, width: Width) -> Result<(), Rule>
-        ensures { result ≡ answered (denied_by self.now access at width) tt }
+        ensures { result ≡ unless_denied (denied_by_registers self.now access at width) tt }
     {
         if self.is_in_window(access, at, width) {
             return Ok(());
@@ -243,8 +242,8 @@ impl Pmp {
     /// not, it may be permitted nevertheless.
     #[inline(always)]
     pub fn holds_data(&self, at: Addr, width: Width) -> bool
-        ensures load { OnTrue result (denied_by self.now Load at width ≡ None) }
-        ensures store { OnTrue result (denied_by self.now Store at width ≡ None) }
+        ensures load { OnTrue result (denied_by_registers self.now Load at width ≡ None) }
+        ensures store { OnTrue result (denied_by_registers self.now Store at width ≡ None) }
     {
         self.writable.holds(at, width)
     }
@@ -252,7 +251,7 @@ impl Pmp {
     /// Whether an access lies in a window where its kind is permitted.
     #[inline(always)]
     fn is_in_window(&self, access: Access, at: Addr, width: Width) -> bool
-        ensures { OnTrue result (denied_by self.now access at width ≡ None) }
+        ensures { OnTrue result (denied_by_registers self.now access at width ≡ None) }
     {
         match access {
             Access::Fetch => self.executable.holds(at, width),
@@ -265,7 +264,7 @@ impl Pmp {
     #[cold]
     #[inline(never)]
     fn search(&self, access: Access, at: Addr, width: Width) -> Result<(), Rule>
-        ensures { result ≡ answered (denied_by self.now access at width) tt }
+        ensures { result ≡ unless_denied (denied_by_registers self.now access at width) tt }
     {
         let span = Span::of(at, width);
         let Some(entry) = self.deciding(&span) else {
@@ -285,7 +284,6 @@ impl Pmp {
 
     /// The lowest entry that matches any byte of an access.
     fn deciding(&self, span: &Span) -> Option<usize>
-        requires { IsSpan span.now }
         ensures entry { result ≡ deciding self.now span.now.at span.now.width }
         ensures below { IfSome result (λ i. i < 8) }
     {
@@ -299,8 +297,7 @@ impl Pmp {
 
     #[tactic(auto, using(crate::proofs::Words::any_of_words))]
     fn matches_any(&self, entry: usize, span: &Span) -> bool
-        requires entry { entry < 8 }
-        requires span { IsSpan span.now }
+        requires { entry < 8 }
         ensures { result ≡ matches_any self.now entry span.now.at span.now.width }
     {
         let top = self.entries[entry].address;
@@ -313,8 +310,7 @@ impl Pmp {
 
     #[tactic(auto, using(crate::proofs::Words::all_of_words))]
     fn matches_all(&self, entry: usize, span: &Span) -> bool
-        requires entry { entry < 8 }
-        requires span { IsSpan span.now }
+        requires { entry < 8 }
         ensures { result ≡ matches_all self.now entry span.now.at span.now.width }
     {
         self.entries[entry].mode == Mode::Tor
@@ -336,23 +332,33 @@ impl Pmp {
 }
 
 /// So many addresses from one on. One subtraction and one comparison tell whether an access lies in them.
-#[derive(Clone, Copy, Debug)]
+/// Contracts see its two ends.
+#[derive(Debug, Drop)]
 struct Window {
     from: Addr,
     length: u64,
-    ghost fits: { from + length ≤ 2 ^ 32 },
+}
+
+impl Model for Window {
+    ghost use Rattle.std.specs.Prelude.{◌+◌, ◌^◌, ◌≤◌};
+    ghost use Rattle.pmp_regions.specs.Windows.{Ends};
+
+    ghost Value = { Ends };
+
+    ghost view = { λ w. record { from = w.from; to = w.from + w.length } };
+
+    ghost invariant = { λ w. w.from + w.length ≤ 2 ^ 32 };
 }
 
 impl Window {
-    ghost use Rattle.pmp_regions.specs.Windows.{holds};
+    ghost use Rattle.pmp_regions.specs.Windows.{window_holds};
 
     const EMPTY: Window = Window { from: 0, length: 0 };
 
     /// The addresses from one on up to but not including an end.
     fn between(from: Addr, to: Addr) -> Window
         requires { from ≤ to }
-        ensures from { result.from ≡ from }
-        ensures to { result.from + result.length ≡ to }
+        ensures { result ≡ record { from = from; to = to } }
     {
         Window {
             from,
@@ -364,15 +370,15 @@ impl Window {
     #[inline(always)]
     #[tactic(auto, using(crate::proofs::Windows::place_tells))]
     fn holds(&self, at: Addr, width: Width) -> bool
-        ensures { result ≡ holds self.now at width }
+        ensures { result ≡ window_holds self.now at width }
     {
         u64::from(at.wrapping_sub(self.from)) + u64::from(width.bytes()) <= self.length
     }
 }
 
-/// An access, and the addresses of its first and its last byte divided by 4, as the address registers
-/// hold them.
-#[derive(Clone, Copy)]
+/// Which bytes an access reaches, and the addresses of the first and the last of them divided by 4, as the
+/// address registers hold them. Contracts see its address and its width.
+#[derive(Drop)]
 struct Span {
     at: Addr,
     width: Width,
@@ -380,13 +386,19 @@ struct Span {
     last: u32,
 }
 
-impl Span {
-    ghost use Rattle.pmp_regions.specs.Spans.{IsSpan};
+impl Model for Span {
+    ghost use Rattle.pmp_regions.specs.Spans.{Reach, IsSpan};
 
+    ghost Value = { Reach };
+
+    ghost view = { λ s. record { at = s.at; width = s.width } };
+
+    ghost invariant = { IsSpan };
+}
+
+impl Span {
     fn of(at: Addr, width: Width) -> Span
-        ensures at { result.at ≡ at }
-        ensures width { result.width ≡ width }
-        ensures span { IsSpan result }
+        ensures { result ≡ record { at = at; width = width } }
     {
         let end = u64::from(at) + u64::from(width.bytes());
         Span {

@@ -1,4 +1,4 @@
 pub mod Interval
-pub mod Extents
+pub mod LayoutView
 pub mod Ordered
 pub mod Permission

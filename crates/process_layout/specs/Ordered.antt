@@ -1,10 +1,10 @@
 use Rattle.std.specs.Prelude.{◌≡◌, ◌%◌, ◌≤◌}
-use Rattle.process_layout.specs.Extents.{Extents}
+use Rattle.process_layout.specs.LayoutView.{LayoutView}
 
 -- The places of a process's memory (Levy et al., SOSP 2017) stand in their order. The block, the break and the
 -- kernel break lie at multiples of 4, as the protection registers need them (RISC-V privileged manual, "Physical
 -- Memory Protection").
-pub record IsOrdered (e : Extents) : Type 0 where
+pub record IsOrdered (e : LayoutView) : Type 0 where
   pub flash : e.flash_start ≤ e.flash_end
   pub block : e.start ≤ e.brk
   pub grants : e.brk ≤ e.kernel_break

@@ -34,9 +34,9 @@ pub struct Layout {
 
 impl Model for Layout {
     ghost use Rattle.std.specs.Prelude.{◌≡◌, ◌%◌, ◌≤◌};
-    ghost use Rattle.process_layout.specs.Extents.{Extents};
+    ghost use Rattle.process_layout.specs.LayoutView.{LayoutView};
 
-    ghost Value = { Extents };
+    ghost Value = { LayoutView };
 
     ghost view = { λ l. record {
       flash_start = l.flash_start;
@@ -74,7 +74,7 @@ impl Model for Layout {
 
 impl Layout {
     ghost use Rattle.tk_base.specs.Numbers.{rounded_up};
-    ghost use Rattle.process_layout.specs.Extents.{permits_break, first_break, with_break, extents_at_start};
+    ghost use Rattle.process_layout.specs.LayoutView.{permits_break, first_break, with_break, extents_at_start};
     ghost use Rattle.process_layout.specs.Interval.{lies_within};
 
     /// Where the memory of a process lies at its start (TRD 104, "Exit"; Levy et al., SOSP 2017), by

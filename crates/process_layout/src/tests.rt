@@ -1,5 +1,5 @@
 ghost use Rattle.std.specs.Prelude.{◌≡◌};
-ghost use Rattle.process_layout.specs.Extents.{extents_at_start};
+ghost use Rattle.process_layout.specs.LayoutView.{extents_at_start};
 
 use super::*;
 

@@ -1,3 +1,4 @@
+-- What a step shows before it has shown anything. This is this board's own rule.
 use Rattle.std.specs.Prelude.{[], None}
 use Rattle.process_record.specs.declared.emit.Emit.{Emit}
 

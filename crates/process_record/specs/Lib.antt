@@ -1,3 +1,4 @@
 pub mod Emit
 pub mod Process
 pub mod Name
+pub mod Summary

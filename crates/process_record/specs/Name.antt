@@ -1,7 +1,7 @@
 -- The name of a process (Tock Binary Format, "Package Name").
 use Rattle.std.specs.Prelude.{ℕ, List, [], take, Option, None, Some, Result, Ok, Err}
 use Rattle.tbf_headers.specs.declared.fault.HeaderFault.{HeaderFault}
-use Rattle.tbf_headers.specs.Meaning.{Meaning, reading}
+use Rattle.tbf_headers.specs.Meaning.{Meaning, header_reading}
 
 -- the first 32 bytes of a package name; none where there is no name
 abbrev pub short_name : Option (List ℕ) → List ℕ
@@ -15,4 +15,4 @@ package_name (Err fault) = None
 
 -- the name that is shown of an object with these bytes
 abbrev pub name_of : List ℕ → List ℕ
-name_of object = short_name (package_name (reading object))
+name_of object = short_name (package_name (header_reading object))

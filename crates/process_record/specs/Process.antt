@@ -44,6 +44,7 @@ restarted p h m ram length brk = record p {
   restarts = p.restarts + 1;
 }
 
+-- a process that had one more turn
 abbrev pub after_turn : Process → Process
 after_turn p = record p { turns = p.turns + 1 }
 

@@ -3,7 +3,7 @@ ghost use Rattle.std.specs.Prelude.{◌≡◌};
 ghost use Rattle.process_record.specs.Emit.{nothing};
 
 use arrayvec::ArrayVec;
-use tk_base::{CallRule, Denial, Slot};
+use tk_base::{CallRule, Denial, PRINT_LIMIT, Slot};
 
 /// A system call that was made in a step.
 #[derive(Clone, Copy, Debug, PartialEq, Eq)]
@@ -21,8 +21,8 @@ pub struct CallMade {
 /// What a step printed, whose turn it was, and the call or the denial in it.
 #[derive(Drop)]
 pub struct Emit {
-    /// The bytes that went to the console, at most 64 a step.
-    pub printed: ArrayVec<u8, 64>,
+    /// The bytes that went to the console, at most [`PRINT_LIMIT`] a step.
+    pub printed: ArrayVec<u8, PRINT_LIMIT>,
     /// The slot whose turn it was.
     pub slot: Option<Slot>,
     pub made: Option<CallMade>,

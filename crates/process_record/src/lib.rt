@@ -10,5 +10,5 @@ mod summary;
 pub use emit::{CallMade, Emit};
 pub use name::{object_name, short_name};
 pub use outcome::Outcome;
-pub use process::{Process, Refusal, State};
-pub use summary::{SlotLine, Summary, Unplaced};
+pub use process::{Process, RecordedRefusal, State};
+pub use summary::{SlotLine, Summary};

@@ -5,13 +5,8 @@ use tk_base::CallRule;
 /// What comes of a system call (TRD 104, "Return Values", "Yield", "Exit").
 #[derive(Clone, Copy, Debug, PartialEq, Eq)]
 pub enum Outcome {
-    /// The call returned.
-    Replied {
-        /// What the process got back.
-        reply: Reply,
-        /// The rule that the call broke, where it was refused.
-        rule: Option<CallRule>,
-    },
+    /// The call returned: what the process got back, and the rule that the call broke, where it was refused.
+    Replied(Reply, Option<CallRule>),
     /// The call is a command, and its driver is to answer it.
     ToDriver,
     /// The process waits for an upcall.

@@ -1,12 +1,12 @@
 //! The record of one process, apart from its memory.
-ghost use Rattle.std.specs.Prelude.{◌≡◌, ◌+◌, ◌<◌, ◌^◌, Some};
+ghost use Rattle.std.specs.Prelude.{◌≡◌, ◌+◌, ◌<◌, ◌^◌, Some, IsSome, IfSome};
 ghost use Rattle.tbf_headers.specs.Addresses.{after_protected, entry_of};
 ghost use Rattle.tbf_headers.specs.Shown.{shown};
 ghost use Rattle.process_record.specs.Process.{start_regs, started, restarted, past_call, after_turn, after_fault, after_exit, after_reply, after_refusal, after_call, waiting, delivered};
 
-use process_own::Object;
+use process_model::Object;
 use syscall_abi::Reply;
-use tbf_headers::AppHeader;
+use tbf_headers::{AppHeader, Header};
 use tk_base::{Addr, CallRule, Denial, Regs, Upcall};
 
 /// Whether a process runs (TRD 104, "Yield", "Exit"). It lives while it is Running or Yielded.
@@ -25,7 +25,7 @@ pub enum State {
 
 /// The last system call that was refused.
 #[derive(Clone, Copy, Debug, PartialEq, Eq)]
-pub struct Refusal {
+pub struct RecordedRefusal {
     /// The address of the `ecall`.
     pub address: Addr,
     /// The rule that the call broke.
@@ -45,7 +45,7 @@ pub struct Process {
     /// The last denial.
     pub denial: Option<Denial>,
     /// The last refused system call.
-    pub refusal: Option<Refusal>,
+    pub refusal: Option<RecordedRefusal>,
 }
 
 impl Process {
@@ -53,17 +53,25 @@ impl Process {
     /// address `object` and whose block of RAM is `length` bytes from `ram` on. It has the registers
     /// of a start: pc is the entry, a0 the address after the header and the protected bytes, a1 and
     /// sp the start of the RAM, a2 the length, a3 the break; other registers are 0. It runs, and
-    /// nothing happened to it yet.
-    pub fn start(app: &AppHeader<'_>, object: Addr, ram: Addr, length: u32, brk: Addr) -> Process
-        requires entry { entry_of object (shown app.now.header) app.now.main < 2 ^ 32 }
-        requires protected { after_protected object (shown app.now.header) app.now.main < 2 ^ 32 }
-        ensures { result ≡ started object (shown app.now.header) app.now.main ram length brk }
+    /// nothing happened to it yet. It asks that the header has a Program or a Main TLV, and that
+    /// the entry and the address after the header and the protected bytes are below 2^32.
+    pub fn start(header: &Header<'_>, object: Addr, ram: Addr, length: u32, brk: Addr) -> Process
+        requires main { IsSome header.now.main }
+        requires entry { IfSome header.now.main
+            (λ m. entry_of object (shown header.now) m < 2 ^ 32) }
+        requires protected { IfSome header.now.main
+            (λ m. after_protected object (shown header.now) m < 2 ^ 32) }
+        ensures { IfSome header.now.main
+            (λ m. result ≡ started object (shown header.now) m ram length brk) }
     {
+        let Some(app) = header.app() else {
+            unreachable!()
+        };
         Process {
-            regs: regs_at_start(app, object, ram, length, brk),
+            regs: regs_at_start(&app, object, ram, length, brk),
             object: Object {
                 address: object,
-                size: app.header.total_size,
+                size: header.total_size,
             },
             state: State::Running,
             restarts: 0,
@@ -75,16 +83,22 @@ impl Process {
 
     /// Starts the process again (TRD 104, "Exit"), with the registers of a start and a break. Its
     /// count of restarts rises; its object, its count of turns, its last denial and its last refusal
-    /// stay.
-    pub fn restart(&mut self, app: &AppHeader<'_>, ram: Addr, length: u32, brk: Addr)
+    /// stay. It asks that the header has a Program or a Main TLV, that the entry and the address
+    /// after the header and the protected bytes are below 2^32, and that the count can rise.
+    pub fn restart(&mut self, header: &Header<'_>, ram: Addr, length: u32, brk: Addr)
+        requires main { IsSome header.now.main }
         requires entry { let at = self.old.object.address in
-            entry_of at (shown app.now.header) app.now.main < 2 ^ 32 }
+            IfSome header.now.main (λ m. entry_of at (shown header.now) m < 2 ^ 32) }
         requires protected { let at = self.old.object.address in
-            after_protected at (shown app.now.header) app.now.main < 2 ^ 32 }
+            IfSome header.now.main (λ m. after_protected at (shown header.now) m < 2 ^ 32) }
         requires count { self.old.restarts + 1 < 2 ^ 32 }
-        ensures { self.new ≡ restarted self.old (shown app.now.header) app.now.main ram length brk }
+        ensures { IfSome header.now.main
+            (λ m. self.new ≡ restarted self.old (shown header.now) m ram length brk) }
     {
-        self.regs = regs_at_start(app, self.object.address, ram, length, brk);
+        let Some(app) = header.app() else {
+            unreachable!()
+        };
+        self.regs = regs_at_start(&app, self.object.address, ram, length, brk);
         self.state = State::Running;
         self.restarts += 1;
     }
@@ -126,7 +140,7 @@ impl Process {
     pub fn refuse(&mut self, rule: CallRule, reply: &Reply)
         ensures { self.new ≡ after_refusal self.old rule reply.now }
     {
-        self.refusal = Some(Refusal {
+        self.refusal = Some(RecordedRefusal {
             address: self.regs.pc(),
             rule,
         });
@@ -179,7 +193,7 @@ fn regs_at_start(app: &AppHeader<'_>, object: Addr, ram: Addr, length: u32, brk:
     requires protected { after_protected object (shown app.now.header) app.now.main < 2 ^ 32 }
     ensures { result ≡ start_regs object (shown app.now.header) app.now.main ram length brk }
 {
-    let mut regs = Regs::at(app.entry(object) as u32);
+    let mut regs = Regs::at(app.header.entry(object) as u32);
     regs.set(2, ram);
     regs.set(10, app.after_protected(object) as u32);
     regs.set(11, ram);

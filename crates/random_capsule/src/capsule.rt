@@ -1,43 +1,39 @@
 //! The source of random bytes, and who waits for it.
-ghost use Rattle.std.specs.Prelude.{◌≡◌, [], slice_get, IfNone, IfSome};
+ghost use Rattle.std.specs.Prelude.{◌≡◌, [], slice_get, IfSome, OnErr};
 ghost use Rattle.driver_model.specs.Commands.{Randoms};
-ghost use Rattle.driver_model.specs.Random.{command, randoms as desk};
-ghost use Rattle.driver_requests.specs.Answers.{Answers};
-ghost use Rattle.driver_requests.specs.Asking.{MayAskAt, MayBeTold, Obeys};
+ghost use Rattle.driver_model.specs.Random.{command, randoms as request_kind};
+ghost use Rattle.driver_requests.specs.Answers.{AnswersFirst};
+ghost use Rattle.driver_requests.specs.Waiting.{without};
+ghost use Rattle.driver_requests.specs.Asking.{MayAskAt, MayBeTold, Obeys, Replies};
 ghost use Rattle.random_capsule.specs.Answers.{answer_to};
 
 use crate::visits::randoms;
-use board_devices::Words;
-use driver_requests::Line;
+use board_devices::{Answer, Words};
+use driver_model::reply_of;
+use driver_requests::RequestQueue;
 use grant_enter::Home;
 use grant_values::RandomRequest;
 use syscall_abi::Reply;
-use tk_base::{CallRule, ProcessId};
+use tk_base::{CallRule, NotReady, ProcessId};
 
 /// The source of random bytes.
 #[derive(Default, Drop)]
 pub struct RandomCapsule {
     /// The processes that wait for it.
-    pub waiting: Line<RandomRequest>,
+    pub waiting: RequestQueue<RandomRequest>,
 }
 
 impl RandomCapsule {
-    /// Serves a command of the process of an id to the source: the reply, or the rule that refuses it. 0 asks
-    /// whether the driver is there. 1 asks for `count` bytes; the process then waits, after all others; it is
-    /// refused with [`CallRule::Busy`] where one of its requests waits already, else with
-    /// [`CallRule::NoRoom`] where there is no room for its grant. Any other number is refused with
-    /// [`CallRule::NoCommand`]. Nothing of another process changes, and nothing at all where it is refused.
-    ///
-    /// It asks that the process is there, and that it waits only where it has a request.
+    /// A command of the process of an id to the source: the reply, or the rule that refuses it.
     #[tactic(auto, unfolding(driver_model::specs::Random::command, driver_model::specs::Random::commands))]
-    pub fn command(
+    fn obey(
         &mut self,
         home: &mut Home,
         id: ProcessId,
         number: u32,
         count: u32,
     ) -> Result<Reply, CallRule>
-        requires { MayAskAt desk self.old.waiting home.old id }
+        requires { MayAskAt request_kind self.old.waiting home.old id }
         ensures { Obeys Randoms id (command number count) self.old.waiting home.old
             result self.new.waiting home.new }
     {
@@ -51,19 +47,48 @@ impl RandomCapsule {
         }
     }
 
+    /// Serves a command of the process of an id to the source: the reply, and the rule that refuses it, if one does. 0
+    /// asks whether the driver is there. 1 asks for `count` bytes; the process then waits, after all others; it is
+    /// refused with [`CallRule::Busy`] where one of its requests waits already, else with [`CallRule::NoRoom`] where
+    /// there is no room for its grant. Any other number is refused with [`CallRule::NoCommand`]. Nothing of another
+    /// process changes, and nothing at all where it is refused.
+    ///
+    /// It asks that the process is there, and that it waits only where it has a request.
+    pub fn command(
+        &mut self,
+        home: &mut Home,
+        id: ProcessId,
+        number: u32,
+        count: u32,
+    ) -> (Reply, Option<CallRule>)
+        requires { MayAskAt request_kind self.old.waiting home.old id }
+        ensures { Replies Randoms id (command number count) self.old.waiting home.old
+            result self.new.waiting home.new }
+    {
+        reply_of(self.obey(home, id, number, count))
+    }
+
     /// Answers the process that waits longest: a step of its request, with the next word where it takes one.
     /// The process waits no more exactly where its request completed. Nothing of it changes where it is not
-    /// there in that life, or has no request; and nothing of another slot. The answer is whom it served; None
-    /// exactly where none waits.
+    /// there in that life, or has no request; and nothing of another slot. The answer is whom it served, and what
+    /// it told it: the word that was drawn, or that none was. [`NotReady`] comes exactly where none waits, and
+    /// then nothing changes.
     ///
     /// It asks that the slot of the first is one of the home's, and that its count of dropped upcalls has
     /// room for one more.
-    pub fn answer(&mut self, home: &mut Home, words: &mut Words) -> Option<ProcessId>
+    pub fn answer(&mut self, home: &mut Home, words: &mut Words) -> Result<Answer, NotReady>
         requires { IfSome (slice_get self.old.waiting 0) (MayBeTold home.old) }
-        ensures none { IfNone result (self.old.waiting ≡ []) }
-        ensures answers { Answers (answer_to words.old home.old) self.old.waiting words.old home.old result
-            self.new.waiting words.new home.new }
+        ensures none { OnErr result (self.old.waiting ≡ []) }
+        ensures answers { AnswersFirst (answer_to words.old home.old) self.old.waiting words.old
+            home.old result self.new.waiting words.new home.new }
     {
         self.waiting.answer::<RandomCapsule>(home, words)
+    }
+
+    /// The process of an id ended, or starts again: no request of it waits any more. The others keep their order.
+    pub fn gone(&mut self, id: ProcessId)
+        ensures { self.new.waiting ≡ without id.slot self.old.waiting }
+    {
+        self.waiting.leave(id.slot);
     }
 }

@@ -1,11 +1,11 @@
 //! What the source does with the value that a process keeps for it.
 ghost use Rattle.std.specs.Prelude.{◌≡◌, ◌+◌, ◌-◌, ◌<◌, ◌≤◌, ◌^◌};
-ghost use Rattle.grant_enter.specs.Seen.{Framed, IsLent, own_entered};
-ghost use Rattle.driver_model.specs.Random.{completing, drawing, progress, wanted};
-ghost use Rattle.random_capsule.specs.Steps.{stepped};
+ghost use Rattle.grant_enter.specs.Seen.{Framed, IsLent, own_entered, seen};
+ghost use Rattle.driver_model.specs.Random.{completing, drawing, progress, random, wanted};
+ghost use Rattle.random_capsule.specs.Steps.{step_progress};
 
 use grant_enter::{Entered, Grant, Visit, a_buffer_is_written, buffers_are_whole, frames_join};
-use grant_values::{RANDOM, Random, RandomRequest};
+use grant_values::{Driver, Random, RandomRequest};
 
 /// Bytes of a word.
 const WORD: u32 = 4;
@@ -19,9 +19,9 @@ const NO_WORD: u32 = 1;
 /// The grants that processes keep for the source.
 #[tactic(auto, unfolding(grant_values::specs::Drivers::counts_of, grant_values::specs::Drivers::drivers))]
 pub(crate) fn randoms() -> Grant<Random, 1, 0, 1>
-    ensures { result.driver ≡ 0x40001 }
+    ensures { result.driver ≡ random }
 {
-    Grant::of(RANDOM)
+    Grant::of(Driver::Random.number())
 }
 
 /// What a step of a request came to.
@@ -45,7 +45,7 @@ impl Visit<Random> for Advance {
 
     type Answer = Step;
 
-    ghost asks = { λ advance value seen. (seen.driver ≡ 0x40001) × (0 < seen.counts.upcalls)
+    ghost asks = { λ advance value seen. (seen.driver ≡ random) × (0 < seen.counts.upcalls)
         × (0 < seen.counts.rw) × (seen.own.dropped + 1 < 2 ^ 32) };
 
     ghost leaves = { λ advance value seen answer value' own.
@@ -68,8 +68,8 @@ impl Visit<Random> for Advance {
 /// How many bytes a request gets.
 fn wanted(entered: &mut Entered<'_>, request: &RandomRequest) -> u32
     requires lent { IsLent entered.old }
-    requires driver { entered.old.driver ≡ 0x40001 }
-    requires buffer { 0 < entered.old.counts.rw }
+    requires driver { (seen entered.old).driver ≡ random }
+    requires buffer { 0 < (seen entered.old).counts.rw }
     ensures count { result ≡ wanted request.now (own_entered entered.old) }
     ensures own { own_entered entered.new ≡ own_entered entered.old }
     // what a visitor owes
@@ -85,10 +85,10 @@ fn wanted(entered: &mut Entered<'_>, request: &RandomRequest) -> u32
 /// A request completes.
 fn complete(entered: &mut Entered<'_>, took: bool, outcome: u32, bytes: u32) -> Step
     requires lent { IsLent entered.old }
-    requires driver { entered.old.driver ≡ 0x40001 }
-    requires upcall { 0 < entered.old.counts.upcalls }
+    requires driver { (seen entered.old).driver ≡ random }
+    requires upcall { 0 < (seen entered.old).counts.upcalls }
     requires dropped { (own_entered entered.old).dropped + 1 < 2 ^ 32 }
-    ensures step { stepped result (own_entered entered.new)
+    ensures step { step_progress result (own_entered entered.new)
         ≡ completing took outcome bytes (own_entered entered.old) }
     // what a visitor owes
     ensures lent { IsLent entered.new }
@@ -101,12 +101,12 @@ fn complete(entered: &mut Entered<'_>, took: bool, outcome: u32, bytes: u32) -> 
 /// A word is drawn for a request that wants so many bytes more.
 fn draw(entered: &mut Entered<'_>, request: &RandomRequest, left: u32, word: u32) -> Step
     requires lent { IsLent entered.old }
-    requires driver { entered.old.driver ≡ 0x40001 }
-    requires upcall { 0 < entered.old.counts.upcalls }
-    requires buffer { 0 < entered.old.counts.rw }
+    requires driver { (seen entered.old).driver ≡ random }
+    requires upcall { 0 < (seen entered.old).counts.upcalls }
+    requires buffer { 0 < (seen entered.old).counts.rw }
     requires dropped { (own_entered entered.old).dropped + 1 < 2 ^ 32 }
     requires left { request.now.written + left < 2 ^ 32 }
-    ensures step { stepped result (own_entered entered.new)
+    ensures step { step_progress result (own_entered entered.new)
         ≡ drawing left request.now (own_entered entered.old) (Some word) }
     // what a visitor owes
     ensures lent { IsLent entered.new }
@@ -131,11 +131,11 @@ fn draw(entered: &mut Entered<'_>, request: &RandomRequest, left: u32, word: u32
 /// One step of a request, with the next word, where one is left.
 fn take_step(entered: &mut Entered<'_>, request: &RandomRequest, word: Option<u32>) -> Step
     requires lent { IsLent entered.old }
-    requires driver { entered.old.driver ≡ 0x40001 }
-    requires upcall { 0 < entered.old.counts.upcalls }
-    requires buffer { 0 < entered.old.counts.rw }
+    requires driver { (seen entered.old).driver ≡ random }
+    requires upcall { 0 < (seen entered.old).counts.upcalls }
+    requires buffer { 0 < (seen entered.old).counts.rw }
     requires dropped { (own_entered entered.old).dropped + 1 < 2 ^ 32 }
-    ensures step { stepped result (own_entered entered.new)
+    ensures step { step_progress result (own_entered entered.new)
         ≡ progress word request.now (own_entered entered.old) }
     // what a visitor owes
     ensures lent { IsLent entered.new }

@@ -7,7 +7,10 @@ use Rattle.rv32_model.specs.declared.instr.LoadKind.TheVariants.{Lw}
 use Rattle.rv32_model.specs.declared.instr.Instr.{Instr}
 use Rattle.rv32_model.specs.declared.instr.Instr.TheVariants as instrs
 use Rattle.rv32_model.specs.Instructions.{rd_of}
-use Rattle.rv32_model.specs.Compressed.{rs2_full, rd_short, rs1_short, imm_addi4spn, imm_word, imm_ci, imm_addi16sp, imm_lui, imm_cj, imm_lwsp, imm_swsp, bit_12, is_addi16sp, is_lui, is_shift, is_andi, is_registers, is_jr, is_mv, is_ebreak, is_jalr, is_add, shift_short, registers_short, branch_short}
+use Rattle.rv32_model.specs.Compressed.{rs2_full, rd_short, rs1_short, imm_addi4spn, imm_word, imm_ci, imm_addi16sp}
+use Rattle.rv32_model.specs.Compressed.{imm_lui, imm_cj, imm_lwsp, imm_swsp, bit_12, is_addi16sp, is_lui, is_shift}
+use Rattle.rv32_model.specs.Compressed.{is_andi, is_registers, is_jr, is_mv, is_ebreak, is_jalr, is_add, shift_short}
+use Rattle.rv32_model.specs.Compressed.{registers_short, branch_short}
 
 abbrev pub addi4spn_of : ℕ → Option Instr
 addi4spn_of w = if not (imm_addi4spn w == 0) then Some (instrs.OpImm ops.Add (rd_short w) 2 (imm_addi4spn w)) else None

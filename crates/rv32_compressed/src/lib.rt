@@ -6,8 +6,8 @@ ghost use Rattle.rv32_model.specs.Instructions.{bits_of, rd_of};
 ghost use Rattle.rv32_model.specs.Compressed.{decoding16, rs2_full, rd_short, rs1_short, imm_addi4spn, imm_word, imm_ci, imm_addi16sp, imm_lui, imm_cj, imm_cb, imm_lwsp, imm_swsp, bit_12, shift_short, registers_short, branch_short};
 ghost use Rattle.rv32_compressed.specs.Quadrants.{addi4spn_of, andi_short, quadrant0_of, upper_of, arithmetic_of, quadrant1_of, slli_of, lwsp_of, moves_of, quadrant2_of};
 
-use rv32_model::{BranchTest, Instr, LoadKind, Op};
-use rv32_traits::{AsValue, Handler};
+pub use rv32_model::Instr;
+use rv32_model::{BranchTest, InstrVisitor, LoadKind, Op, ToInstr};
 use tk_base::Width;
 
 #[inline(always)]
@@ -159,7 +159,7 @@ fn immediate_swsp(parcel: u32) -> u32
 }
 
 #[inline(always)]
-fn addi4spn<H: Handler>(parcel: u32, handler: &mut H) -> H::Answer
+fn addi4spn<H: InstrVisitor>(parcel: u32, handler: &mut H) -> H::Answer
     ensures { H.handles handler.old (addi4spn_of parcel) result handler.new }
 {
     let offset = immediate_addi4spn(parcel);
@@ -170,7 +170,7 @@ fn addi4spn<H: Handler>(parcel: u32, handler: &mut H) -> H::Answer
 }
 
 #[inline(always)]
-fn quadrant0<H: Handler>(parcel: u32, handler: &mut H) -> H::Answer
+fn quadrant0<H: InstrVisitor>(parcel: u32, handler: &mut H) -> H::Answer
     ensures { H.handles handler.old (quadrant0_of parcel (bits_of parcel 13 3)) result handler.new }
 {
     match top(parcel) {
@@ -188,7 +188,7 @@ fn quadrant0<H: Handler>(parcel: u32, handler: &mut H) -> H::Answer
 }
 
 #[inline(always)]
-fn upper<H: Handler>(parcel: u32, handler: &mut H) -> H::Answer
+fn upper<H: InstrVisitor>(parcel: u32, handler: &mut H) -> H::Answer
     ensures { H.handles handler.old (upper_of parcel) result handler.new }
 {
     if rd(parcel) == 2 {
@@ -206,7 +206,7 @@ fn upper<H: Handler>(parcel: u32, handler: &mut H) -> H::Answer
 }
 
 #[inline(always)]
-fn shift<H: Handler>(op: Op, parcel: u32, handler: &mut H) -> H::Answer
+fn shift<H: InstrVisitor>(op: Op, parcel: u32, handler: &mut H) -> H::Answer
     ensures { H.handles handler.old (Some (shift_short op parcel)) result handler.new }
 {
     let register = short_rs1(parcel);
@@ -214,7 +214,7 @@ fn shift<H: Handler>(op: Op, parcel: u32, handler: &mut H) -> H::Answer
 }
 
 #[inline(always)]
-fn registers<H: Handler>(op: Op, parcel: u32, handler: &mut H) -> H::Answer
+fn registers<H: InstrVisitor>(op: Op, parcel: u32, handler: &mut H) -> H::Answer
     ensures { H.handles handler.old (Some (registers_short op parcel)) result handler.new }
 {
     let register = short_rs1(parcel);
@@ -222,7 +222,7 @@ fn registers<H: Handler>(op: Op, parcel: u32, handler: &mut H) -> H::Answer
 }
 
 #[inline(always)]
-fn and_immediate<H: Handler>(parcel: u32, handler: &mut H) -> H::Answer
+fn and_immediate<H: InstrVisitor>(parcel: u32, handler: &mut H) -> H::Answer
     ensures { H.handles handler.old (Some (andi_short parcel)) result handler.new }
 {
     let register = short_rs1(parcel);
@@ -230,7 +230,7 @@ fn and_immediate<H: Handler>(parcel: u32, handler: &mut H) -> H::Answer
 }
 
 #[inline(always)]
-fn arithmetic<H: Handler>(parcel: u32, handler: &mut H) -> H::Answer
+fn arithmetic<H: InstrVisitor>(parcel: u32, handler: &mut H) -> H::Answer
     ensures { H.handles handler.old (arithmetic_of parcel) result handler.new }
 {
     match ((parcel >> 10) % 4, bit12(parcel), (parcel >> 5) % 4) {
@@ -246,14 +246,14 @@ fn arithmetic<H: Handler>(parcel: u32, handler: &mut H) -> H::Answer
 }
 
 #[inline(always)]
-fn branch<H: Handler>(test: BranchTest, parcel: u32, handler: &mut H) -> H::Answer
+fn branch<H: InstrVisitor>(test: BranchTest, parcel: u32, handler: &mut H) -> H::Answer
     ensures { H.handles handler.old (Some (branch_short test parcel)) result handler.new }
 {
     handler.branch(test, short_rs1(parcel), 0, immediate_branch(parcel))
 }
 
 #[inline(always)]
-fn quadrant1<H: Handler>(parcel: u32, handler: &mut H) -> H::Answer
+fn quadrant1<H: InstrVisitor>(parcel: u32, handler: &mut H) -> H::Answer
     ensures { H.handles handler.old (quadrant1_of parcel (bits_of parcel 13 3)) result handler.new }
 {
     match top(parcel) {
@@ -270,7 +270,7 @@ fn quadrant1<H: Handler>(parcel: u32, handler: &mut H) -> H::Answer
 }
 
 #[inline(always)]
-fn slli<H: Handler>(parcel: u32, handler: &mut H) -> H::Answer
+fn slli<H: InstrVisitor>(parcel: u32, handler: &mut H) -> H::Answer
     ensures { H.handles handler.old (slli_of parcel) result handler.new }
 {
     if bit12(parcel) != 0 {
@@ -280,7 +280,7 @@ fn slli<H: Handler>(parcel: u32, handler: &mut H) -> H::Answer
 }
 
 #[inline(always)]
-fn lwsp<H: Handler>(parcel: u32, handler: &mut H) -> H::Answer
+fn lwsp<H: InstrVisitor>(parcel: u32, handler: &mut H) -> H::Answer
     ensures { H.handles handler.old (lwsp_of parcel) result handler.new }
 {
     let rd = rd(parcel);
@@ -291,7 +291,7 @@ fn lwsp<H: Handler>(parcel: u32, handler: &mut H) -> H::Answer
 }
 
 #[inline(always)]
-fn moves<H: Handler>(parcel: u32, handler: &mut H) -> H::Answer
+fn moves<H: InstrVisitor>(parcel: u32, handler: &mut H) -> H::Answer
     ensures { H.handles handler.old (moves_of parcel) result handler.new }
 {
     let rd = rd(parcel);
@@ -307,7 +307,7 @@ fn moves<H: Handler>(parcel: u32, handler: &mut H) -> H::Answer
 }
 
 #[inline(always)]
-fn quadrant2<H: Handler>(parcel: u32, handler: &mut H) -> H::Answer
+fn quadrant2<H: InstrVisitor>(parcel: u32, handler: &mut H) -> H::Answer
     ensures { H.handles handler.old (quadrant2_of parcel (bits_of parcel 13 3)) result handler.new }
 {
     match top(parcel) {
@@ -324,7 +324,7 @@ fn quadrant2<H: Handler>(parcel: u32, handler: &mut H) -> H::Answer
 /// the table fits; a hint means its expansion.
 #[inline(always)]
 #[tactic(auto, using(crate::proofs::ByQuadrant::by_quadrants))]
-pub fn handle16<H: Handler>(parcel: u16, handler: &mut H) -> H::Answer
+pub fn handle16<H: InstrVisitor>(parcel: u16, handler: &mut H) -> H::Answer
     ensures { H.handles handler.old (decoding16 parcel) result handler.new }
 {
     let parcel = u32::from(parcel);
@@ -340,7 +340,7 @@ pub fn handle16<H: Handler>(parcel: u16, handler: &mut H) -> H::Answer
 pub fn decode16(parcel: u16) -> Option<Instr>
     ensures { result ≡ decoding16 parcel }
 {
-    handle16(parcel, &mut AsValue)
+    handle16(parcel, &mut ToInstr)
 }
 
 #[cfg(test)]

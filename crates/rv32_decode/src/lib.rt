@@ -5,8 +5,8 @@ ghost use Rattle.std.specs.Prelude.{◌≡◌, Some};
 ghost use Rattle.rv32_model.specs.Instructions.{bits_of, sign_extended, decoding, rd_of, rs1_of, rs2_of, imm_i, imm_s, imm_b, imm_u, imm_j, branch, load, store, op_imm, shift_imm, op_reg};
 ghost use Rattle.rv32_decode.specs.Kinds.{funct3_of, funct7_of, jalr_of, branch_of, load_of, store_of, shift_left_of, shift_right_of, op_imm_of, base_of, other_of, multiply_of, op_reg_of, fence_of, system_of};
 
-use rv32_model::{BranchTest, Instr, LoadKind, Op};
-use rv32_traits::{AsValue, Handler};
+pub use rv32_model::Instr;
+use rv32_model::{BranchTest, InstrVisitor, LoadKind, Op, ToInstr};
 use tk_base::Width;
 
 #[inline(always)]
@@ -97,7 +97,7 @@ fn immediate_j(word: u32) -> u32
 }
 
 #[inline(always)]
-fn jalr<H: Handler>(word: u32, handler: &mut H) -> H::Answer
+fn jalr<H: InstrVisitor>(word: u32, handler: &mut H) -> H::Answer
     ensures { H.handles handler.old (jalr_of word (funct3_of word)) result handler.new }
 {
     if funct3(word) != 0 {
@@ -107,14 +107,14 @@ fn jalr<H: Handler>(word: u32, handler: &mut H) -> H::Answer
 }
 
 #[inline(always)]
-fn branch_on<H: Handler>(test: BranchTest, word: u32, handler: &mut H) -> H::Answer
+fn branch_on<H: InstrVisitor>(test: BranchTest, word: u32, handler: &mut H) -> H::Answer
     ensures { H.handles handler.old (Some (branch test word)) result handler.new }
 {
     handler.branch(test, rs1(word), rs2(word), immediate_b(word))
 }
 
 #[inline(always)]
-fn branches<H: Handler>(word: u32, handler: &mut H) -> H::Answer
+fn branches<H: InstrVisitor>(word: u32, handler: &mut H) -> H::Answer
     ensures { H.handles handler.old (branch_of word (funct3_of word)) result handler.new }
 {
     match funct3(word) {
@@ -129,14 +129,14 @@ fn branches<H: Handler>(word: u32, handler: &mut H) -> H::Answer
 }
 
 #[inline(always)]
-fn load_as<H: Handler>(kind: LoadKind, word: u32, handler: &mut H) -> H::Answer
+fn load_as<H: InstrVisitor>(kind: LoadKind, word: u32, handler: &mut H) -> H::Answer
     ensures { H.handles handler.old (Some (load kind word)) result handler.new }
 {
     handler.load(kind, rd(word), rs1(word), immediate_i(word))
 }
 
 #[inline(always)]
-fn loads<H: Handler>(word: u32, handler: &mut H) -> H::Answer
+fn loads<H: InstrVisitor>(word: u32, handler: &mut H) -> H::Answer
     ensures { H.handles handler.old (load_of word (funct3_of word)) result handler.new }
 {
     match funct3(word) {
@@ -150,14 +150,14 @@ fn loads<H: Handler>(word: u32, handler: &mut H) -> H::Answer
 }
 
 #[inline(always)]
-fn store_as<H: Handler>(width: Width, word: u32, handler: &mut H) -> H::Answer
+fn store_as<H: InstrVisitor>(width: Width, word: u32, handler: &mut H) -> H::Answer
     ensures { H.handles handler.old (Some (store width word)) result handler.new }
 {
     handler.store(width, rs1(word), rs2(word), immediate_s(word))
 }
 
 #[inline(always)]
-fn stores<H: Handler>(word: u32, handler: &mut H) -> H::Answer
+fn stores<H: InstrVisitor>(word: u32, handler: &mut H) -> H::Answer
     ensures { H.handles handler.old (store_of word (funct3_of word)) result handler.new }
 {
     match funct3(word) {
@@ -169,21 +169,21 @@ fn stores<H: Handler>(word: u32, handler: &mut H) -> H::Answer
 }
 
 #[inline(always)]
-fn by_immediate<H: Handler>(op: Op, word: u32, handler: &mut H) -> H::Answer
+fn by_immediate<H: InstrVisitor>(op: Op, word: u32, handler: &mut H) -> H::Answer
     ensures { H.handles handler.old (Some (op_imm op word)) result handler.new }
 {
     handler.op_imm(op, rd(word), rs1(word), immediate_i(word))
 }
 
 #[inline(always)]
-fn by_distance<H: Handler>(op: Op, word: u32, handler: &mut H) -> H::Answer
+fn by_distance<H: InstrVisitor>(op: Op, word: u32, handler: &mut H) -> H::Answer
     ensures { H.handles handler.old (Some (shift_imm op word)) result handler.new }
 {
     handler.op_imm(op, rd(word), rs1(word), u32::from(rs2(word)))
 }
 
 #[inline(always)]
-fn left_shift<H: Handler>(word: u32, handler: &mut H) -> H::Answer
+fn left_shift<H: InstrVisitor>(word: u32, handler: &mut H) -> H::Answer
     ensures { H.handles handler.old (shift_left_of word (funct7_of word)) result handler.new }
 {
     match funct7(word) {
@@ -193,7 +193,7 @@ fn left_shift<H: Handler>(word: u32, handler: &mut H) -> H::Answer
 }
 
 #[inline(always)]
-fn right_shift<H: Handler>(word: u32, handler: &mut H) -> H::Answer
+fn right_shift<H: InstrVisitor>(word: u32, handler: &mut H) -> H::Answer
     ensures { H.handles handler.old (shift_right_of word (funct7_of word)) result handler.new }
 {
     match funct7(word) {
@@ -204,8 +204,9 @@ fn right_shift<H: Handler>(word: u32, handler: &mut H) -> H::Answer
 }
 
 #[inline(always)]
-fn immediates<H: Handler>(word: u32, handler: &mut H) -> H::Answer
-    ensures { H.handles handler.old (op_imm_of word (funct3_of word) (funct7_of word)) result handler.new }
+fn immediates<H: InstrVisitor>(word: u32, handler: &mut H) -> H::Answer
+    ensures { H.handles handler.old (op_imm_of word (funct3_of word) (funct7_of word)) result
+        handler.new }
 {
     match funct3(word) {
         0 => by_immediate(Op::Add, word, handler),
@@ -221,14 +222,14 @@ fn immediates<H: Handler>(word: u32, handler: &mut H) -> H::Answer
 }
 
 #[inline(always)]
-fn by_register<H: Handler>(op: Op, word: u32, handler: &mut H) -> H::Answer
+fn by_register<H: InstrVisitor>(op: Op, word: u32, handler: &mut H) -> H::Answer
     ensures { H.handles handler.old (Some (op_reg op word)) result handler.new }
 {
     handler.op(op, rd(word), rs1(word), rs2(word))
 }
 
 #[inline(always)]
-fn base_operations<H: Handler>(word: u32, handler: &mut H) -> H::Answer
+fn base_operations<H: InstrVisitor>(word: u32, handler: &mut H) -> H::Answer
     ensures { H.handles handler.old (base_of word (funct3_of word)) result handler.new }
 {
     match funct3(word) {
@@ -245,7 +246,7 @@ fn base_operations<H: Handler>(word: u32, handler: &mut H) -> H::Answer
 }
 
 #[inline(always)]
-fn other_operations<H: Handler>(word: u32, handler: &mut H) -> H::Answer
+fn other_operations<H: InstrVisitor>(word: u32, handler: &mut H) -> H::Answer
     ensures { H.handles handler.old (other_of word (funct3_of word)) result handler.new }
 {
     match funct3(word) {
@@ -256,7 +257,7 @@ fn other_operations<H: Handler>(word: u32, handler: &mut H) -> H::Answer
 }
 
 #[inline(always)]
-fn multiplications<H: Handler>(word: u32, handler: &mut H) -> H::Answer
+fn multiplications<H: InstrVisitor>(word: u32, handler: &mut H) -> H::Answer
     ensures { H.handles handler.old (multiply_of word (funct3_of word)) result handler.new }
 {
     match funct3(word) {
@@ -273,8 +274,9 @@ fn multiplications<H: Handler>(word: u32, handler: &mut H) -> H::Answer
 }
 
 #[inline(always)]
-fn operations<H: Handler>(word: u32, handler: &mut H) -> H::Answer
-    ensures { H.handles handler.old (op_reg_of word (funct3_of word) (funct7_of word)) result handler.new }
+fn operations<H: InstrVisitor>(word: u32, handler: &mut H) -> H::Answer
+    ensures { H.handles handler.old (op_reg_of word (funct3_of word) (funct7_of word)) result
+        handler.new }
 {
     match funct7(word) {
         0x00 => base_operations(word, handler),
@@ -285,7 +287,7 @@ fn operations<H: Handler>(word: u32, handler: &mut H) -> H::Answer
 }
 
 #[inline(always)]
-fn fence<H: Handler>(word: u32, handler: &mut H) -> H::Answer
+fn fence<H: InstrVisitor>(word: u32, handler: &mut H) -> H::Answer
     ensures { H.handles handler.old (fence_of word (funct3_of word)) result handler.new }
 {
     if funct3(word) == 0 {
@@ -296,7 +298,7 @@ fn fence<H: Handler>(word: u32, handler: &mut H) -> H::Answer
 }
 
 #[inline(always)]
-fn system<H: Handler>(word: u32, handler: &mut H) -> H::Answer
+fn system<H: InstrVisitor>(word: u32, handler: &mut H) -> H::Answer
     ensures { H.handles handler.old (system_of word) result handler.new }
 {
     match word {
@@ -310,7 +312,7 @@ fn system<H: Handler>(word: u32, handler: &mut H) -> H::Answer
 /// Listings", RV32I and M) on to a handler. It is none exactly where no row of the table fits.
 #[inline(always)]
 #[tactic(auto, using(crate::proofs::ByOpcode::by_opcodes))]
-pub fn handle32<H: Handler>(word: u32, handler: &mut H) -> H::Answer
+pub fn handle32<H: InstrVisitor>(word: u32, handler: &mut H) -> H::Answer
     ensures { H.handles handler.old (decoding word) result handler.new }
 {
     match word % 128 {
@@ -333,7 +335,7 @@ pub fn handle32<H: Handler>(word: u32, handler: &mut H) -> H::Answer
 pub fn decode32(word: u32) -> Option<Instr>
     ensures { result ≡ decoding word }
 {
-    handle32(word, &mut AsValue)
+    handle32(word, &mut ToInstr)
 }
 
 #[cfg(test)]

@@ -1,5 +1,6 @@
 -- What a turn is denied for, by cases on what was fetched, the row and the instruction.
-use Rattle.std.proofs.Common.{◌≡◌, inl, inr, ℕ, ◌+◌, ◌%◌, ◌==◌, Bool, true, false, cond, Option, None, Some, Result, Ok, Err, refl, ap, subst, eqb-true}
+use Rattle.std.proofs.Common.{◌≡◌, inl, inr, ℕ, ◌+◌, ◌%◌, ◌==◌, Bool, true, false, cond, Option, None, Some, Result, Ok}
+use Rattle.std.proofs.Common.{Err, refl, ap, subst, eqb-true}
 use Rattle.tk_base.specs.declared.access.Access.{Access}
 use Rattle.tk_base.specs.declared.access.Access.TheVariants.{Fetch, Load, Store}
 use Rattle.tk_base.specs.declared.access.Width.{Width}
@@ -15,8 +16,11 @@ use Rattle.rv32_model.specs.declared.instr.LoadKind.{LoadKind}
 use Rattle.rv32_model.specs.declared.instr.Instr.{Instr}
 use Rattle.rv32_model.specs.declared.instr.Instr.TheVariants as instrs
 use Rattle.rv32_model.specs.declared.turn_end.TurnEnd.TheVariants.{Call, Trap}
-use Rattle.rv32_model.specs.Laws.{CallsAreOfEcall, Denies, DenialsAreDue, IsAt, IsDue, IsDueData, IsDueOf, IsDueParcel}
-use Rattle.rv32_model.specs.UserTurn.{UserTurn, user_turn, on_word, executed, fetched, after_load, after_store, denied_at, effect, load_width, w32_of, judged_parcel, with_first, with_second, parcel_at, length_of, instr_of, trapped}
+use Rattle.rv32_model.specs.Laws.{CallsAreOfEcall, Denies, DenialsAreDue, IsInstrAt, IsDue, IsDueData, IsDueOf}
+use Rattle.rv32_model.specs.Laws.{IsDueParcel}
+use Rattle.rv32_model.specs.UserTurn.{UserTurn, user_turn, on_word, executed, fetched, after_load, after_store}
+use Rattle.rv32_model.specs.UserTurn.{denied_at, effect, load_width, w32_of, judged_parcel, with_first, with_second}
+use Rattle.rv32_model.specs.UserTurn.{parcel_at, length_of, instr_of, trapped}
 
 module _ (denies : Denies) (bytes : ℕ → ℕ) (regs : Registers) where
   -- a turn that is denied for nothing but what has a property
@@ -28,17 +32,23 @@ module _ (denies : Denies) (bytes : ℕ → ℕ) (regs : Registers) where
   unfolding IsDeniedFor
   denied_for P denial is d e = let same : denial ≡ d = cc in subst P same is
 
-  load_due : (length : ℕ) (kind : LoadKind) (rd at number : ℕ) (o : Option Rule) → misaligned_first denies Load at (load_width kind) ≡ o → IsDeniedFor (IsDueData denies Load at (load_width kind)) (after_load length regs kind rd at number o)
+  load_due : (length : ℕ) (kind : LoadKind) (rd at number : ℕ) (o : Option Rule)
+      → misaligned_first denies Load at (load_width kind) ≡ o
+      → IsDeniedFor (IsDueData denies Load at (load_width kind)) (after_load length regs kind rd at number o)
   unfolding IsDeniedFor
   load_due length kind rd at number None is d e = absurd (cc)
-  load_due length kind rd at number (Some rule) is d e = denied_for (IsDueData denies Load at (load_width kind)) (denied_at Load at rule) (refl, refl, is) d e
+  load_due length kind rd at number (Some rule) is d e =
+      denied_for (IsDueData denies Load at (load_width kind)) (denied_at Load at rule) (refl, refl, is) d e
 
-  store_due : (length : ℕ) (width : Width) (at value : ℕ) (o : Option Rule) → misaligned_first denies Store at width ≡ o → IsDeniedFor (IsDueData denies Store at width) (after_store length regs width at value o)
+  store_due : (length : ℕ) (width : Width) (at value : ℕ) (o : Option Rule) → misaligned_first denies Store at width ≡ o
+      → IsDeniedFor (IsDueData denies Store at width) (after_store length regs width at value o)
   unfolding IsDeniedFor
   store_due length width at value None is d e = absurd (cc)
-  store_due length width at value (Some rule) is d e = denied_for (IsDueData denies Store at width) (denied_at Store at rule) (refl, refl, is) d e
+  store_due length width at value (Some rule) is d e =
+      denied_for (IsDueData denies Store at width) (denied_at Store at rule) (refl, refl, is) d e
 
-  effect_due : (length : ℕ) (i : Instr) → IsDeniedFor (λ d. IsDueOf denies regs d (Some i)) (effect denies bytes length i regs)
+  effect_due : (length : ℕ) (i : Instr)
+      → IsDeniedFor (λ d. IsDueOf denies regs d (Some i)) (effect denies bytes length i regs)
   unfolding IsDeniedFor
   effect_due length (instrs.Lui rd imm) d e = absurd (cc)
   effect_due length (instrs.Auipc rd imm) d e = absurd (cc)
@@ -47,7 +57,8 @@ module _ (denies : Denies) (bytes : ℕ → ℕ) (regs : Registers) where
   effect_due length (instrs.Branch test rs1 rs2 offset) d e = absurd (cc)
   effect_due length (instrs.Load kind rd rs1 offset) d e =
       let at = w32_of (register regs rs1 + offset) in
-      load_due length kind rd at (number_at bytes at (load_width kind)) (misaligned_first denies Load at (load_width kind)) refl d e
+      load_due length kind rd at (number_at bytes at (load_width kind))
+      (misaligned_first denies Load at (load_width kind)) refl d e
   effect_due length (instrs.Store width rs1 rs2 offset) d e =
       let at = w32_of (register regs rs1 + offset) in
       store_due length width at (register regs rs2) (misaligned_first denies Store at width) refl d e
@@ -57,7 +68,8 @@ module _ (denies : Denies) (bytes : ℕ → ℕ) (regs : Registers) where
   effect_due length instrs.Ecall d e = absurd (cc)
   effect_due length instrs.Ebreak d e = denied_for (λ d. d ≡ denied_at Fetch regs.pc Breakpoint) _ refl d e
 
-  executed_due : (length : ℕ) (o : Option Instr) → IsDeniedFor (λ d. IsDueOf denies regs d o) (executed denies bytes length o regs)
+  executed_due : (length : ℕ) (o : Option Instr)
+      → IsDeniedFor (λ d. IsDueOf denies regs d o) (executed denies bytes length o regs)
   unfolding executed
   executed_due length (Some i) = effect_due length i
   executed_due length None = denied_for (λ d. d ≡ denied_at Fetch regs.pc Illegal) _ refl
@@ -67,13 +79,15 @@ module _ (denies : Denies) (bytes : ℕ → ℕ) (regs : Registers) where
   IsFetchDenied (Ok n) = Unit {0}
   IsFetchDenied (Err denial) = IsDueParcel denies bytes regs.pc denial
 
-  second_denied : (o : Option Rule) → let at = w32_of (regs.pc + 2) in denies Fetch at Half ≡ o → denies Fetch regs.pc Half ≡ None → number_at bytes regs.pc Half % 4 ≡ 3
+  second_denied : (o : Option Rule) → let at = w32_of (regs.pc + 2) in
+      denies Fetch at Half ≡ o → denies Fetch regs.pc Half ≡ None → number_at bytes regs.pc Half % 4 ≡ 3
       → IsFetchDenied (with_second (number_at bytes regs.pc Half) (judged_parcel at o (number_at bytes at Half)))
   unfolding IsFetchDenied
   second_denied None is first long = tt
   second_denied (Some rule) is first long = (refl, is, inr (refl, first, long))
 
-  first_denied : (o : Option Rule) → denies Fetch regs.pc Half ≡ o → IsFetchDenied (with_first denies bytes regs.pc (judged_parcel regs.pc o (number_at bytes regs.pc Half)))
+  first_denied : (o : Option Rule) → denies Fetch regs.pc Half ≡ o
+      → IsFetchDenied (with_first denies bytes regs.pc (judged_parcel regs.pc o (number_at bytes regs.pc Half)))
   unfolding IsFetchDenied
   first_denied None is = by_length (number_at bytes regs.pc Half % 4 == 3) refl
     where
@@ -83,7 +97,8 @@ module _ (denies : Denies) (bytes : ℕ → ℕ) (regs : Registers) where
       at : ℕ
       at = w32_of (regs.pc + 2)
 
-      by_length : (b : Bool) → (first % 4 == 3) ≡ b → IsFetchDenied (cond b (with_second first (parcel_at denies bytes at)) (Ok first))
+      by_length : (b : Bool) → (first % 4 == 3) ≡ b
+          → IsFetchDenied (cond b (with_second first (parcel_at denies bytes at)) (Ok first))
       by_length true long = second_denied (denies Fetch at Half) refl is (eqb-true (first % 4) 3 long)
       by_length false long = tt
   first_denied (Some rule) is = (refl, is, inl refl)
@@ -92,24 +107,33 @@ module _ (denies : Denies) (bytes : ℕ → ℕ) (regs : Registers) where
   unfolding fetched
   fetch_denied = first_denied (denies Fetch regs.pc Half) refl
 
-  word_due : (r : Result ℕ Denial) → fetched denies bytes regs.pc ≡ r → IsFetchDenied r → IsDeniedFor (IsDue denies bytes regs) (on_word denies bytes r regs)
+  word_due : (r : Result ℕ Denial) → fetched denies bytes regs.pc ≡ r → IsFetchDenied r
+      → IsDeniedFor (IsDue denies bytes regs) (on_word denies bytes r regs)
   unfolding IsFetchDenied IsDeniedFor on_word
-  word_due (Ok word) at is d e = inr (instr_of word, record { word = word; fetch = at; means = refl }, executed_due (length_of word) (instr_of word) d e)
+  word_due (Ok word) at is d e =
+      inr (
+        instr_of word,
+        record { word = word; fetch = at; means = refl },
+        executed_due (length_of word) (instr_of word) d e,
+      )
   word_due (Err denial) at is d e = inl (denied_for (IsDueParcel denies bytes regs.pc) denial is d e)
 
   -- an instruction that makes a call
-  is_ecall : (length : ℕ) (i : Instr) → let t = effect denies bytes length i regs in t.end ≡ Call → (i ≡ instrs.Ecall) × (t.regs ≡ regs) × (t.write ≡ None)
+  is_ecall : (length : ℕ) (i : Instr) → let t = effect denies bytes length i regs in
+      t.end ≡ Call → (i ≡ instrs.Ecall) × (t.regs ≡ regs) × (t.write ≡ None)
   is_ecall length (instrs.Lui rd imm) e = absurd (cc)
   is_ecall length (instrs.Auipc rd imm) e = absurd (cc)
   is_ecall length (instrs.Jal rd offset) e = absurd (cc)
   is_ecall length (instrs.Jalr rd rs1 offset) e = absurd (cc)
   is_ecall length (instrs.Branch test rs1 rs2 offset) e = absurd (cc)
-  is_ecall length (instrs.Load kind rd rs1 offset) e = absurd (no_load (misaligned_first denies Load at (load_width kind)) e)
+  is_ecall length (instrs.Load kind rd rs1 offset) e =
+      absurd (no_load (misaligned_first denies Load at (load_width kind)) e)
     where
       at : ℕ
       at = w32_of (register regs rs1 + offset)
 
-      no_load : (o : Option Rule) → (after_load length regs kind rd at (number_at bytes at (load_width kind)) o).end ≡ Call → ⊥
+      no_load : (o : Option Rule)
+          → (after_load length regs kind rd at (number_at bytes at (load_width kind)) o).end ≡ Call → ⊥
       no_load None e = cc
       no_load (Some rule) e = cc
   is_ecall length (instrs.Store width rs1 rs2 offset) e = absurd (no_store (misaligned_first denies Store at width) e)
@@ -126,13 +150,15 @@ module _ (denies : Denies) (bytes : ℕ → ℕ) (regs : Registers) where
   is_ecall length instrs.Ecall e = (refl, refl, refl)
   is_ecall length instrs.Ebreak e = absurd (cc)
 
-  executed_call : (length : ℕ) (o : Option Instr) → let t = executed denies bytes length o regs in t.end ≡ Call → (o ≡ Some instrs.Ecall) × (t.regs ≡ regs) × (t.write ≡ None)
+  executed_call : (length : ℕ) (o : Option Instr) → let t = executed denies bytes length o regs in
+      t.end ≡ Call → (o ≡ Some instrs.Ecall) × (t.regs ≡ regs) × (t.write ≡ None)
   unfolding executed
   executed_call length (Some i) e = let is = is_ecall length i e in (ap Some is.0, is.1, is.2)
   executed_call length None e = absurd (cc)
 
-  word_call : (r : Result ℕ Denial) → fetched denies bytes regs.pc ≡ r → let t = on_word denies bytes r regs in t.end ≡ Call
-      → IsAt denies bytes regs.pc (Some instrs.Ecall) × (t.regs ≡ regs) × (t.write ≡ None)
+  word_call : (r : Result ℕ Denial) → fetched denies bytes regs.pc ≡ r → let t = on_word denies bytes r regs in
+      t.end ≡ Call
+      → IsInstrAt denies bytes regs.pc (Some instrs.Ecall) × (t.regs ≡ regs) × (t.write ≡ None)
   unfolding on_word
   word_call (Ok word) at e =
       let is = executed_call (length_of word) (instr_of word) e in
@@ -141,7 +167,8 @@ module _ (denies : Denies) (bytes : ℕ → ℕ) (regs : Registers) where
 
 pub denials_are_due : DenialsAreDue
 unfolding user_turn IsDeniedFor
-denials_are_due denies bytes regs = word_due denies bytes regs (fetched denies bytes regs.pc) refl (fetch_denied denies bytes regs)
+denials_are_due denies bytes regs =
+    word_due denies bytes regs (fetched denies bytes regs.pc) refl (fetch_denied denies bytes regs)
 
 pub calls_are_of_ecall : CallsAreOfEcall
 unfolding user_turn

@@ -1,5 +1,6 @@
 -- A turn that writes goes, and lists the store.
-use Rattle.std.proofs.Common.{◌≡◌, ℕ, ◌+◌, ◌||◌, Bool, true, false, [], ◌∷◌, Option, None, Some, Result, Ok, Err, refl, ◌∙◌}
+use Rattle.std.proofs.Common.{◌≡◌, ℕ, ◌+◌, ◌||◌, Bool, true, false, [], ◌∷◌, Option, None, Some, Result, Ok, Err, refl}
+use Rattle.std.proofs.Common.{◌∙◌}
 use Rattle.std.specs.Prelude.{IfSome, IsTrue}
 use Rattle.std.specs.List.{list_any}
 use Rattle.std.proofs.lemmas.List.Folds.{list_any-append}
@@ -15,31 +16,38 @@ use Rattle.rv32_model.specs.declared.instr.Instr.{Instr}
 use Rattle.rv32_model.specs.declared.instr.Instr.TheVariants as instrs
 use Rattle.rv32_model.specs.declared.turn_end.TurnEnd.TheVariants.{Went}
 use Rattle.rv32_model.specs.Laws.{Denies, stores_at, WritesAreListed}
-use Rattle.rv32_model.specs.UserTurn.{UserTurn, user_turn, on_word, executed, fetched, after_load, after_store, effect, fetches, load_width, touch_of, w32_of, length_of, instr_of}
+use Rattle.rv32_model.specs.UserTurn.{UserTurn, user_turn, on_word, executed, fetched, after_load, after_store, effect}
+use Rattle.rv32_model.specs.UserTurn.{fetches, load_width, touch_of, w32_of, length_of, instr_of}
 
 Listed : UserTurn → Type 0
-Listed t = IfSome t.write (λ w. (t.end ≡ Went) × ((at : ℕ) → IsTrue (stores_at at (touch_of Store w.address w.width)) → IsTrue (list_any (stores_at at) t.accesses)))
+Listed t = IfSome t.write (λ w. (t.end ≡ Went)
+    × ((at : ℕ) → IsTrue (stores_at at (touch_of Store w.address w.width))
+    → IsTrue (list_any (stores_at at) t.accesses)))
 
 last_of : (x y : Bool) → y ≡ true → (x || (y || false)) ≡ true
 last_of true y e = refl
 last_of false true e = refl
 last_of false false e = e
 
-store_listed : (length : ℕ) (regs : Registers) (width : Width) (at value : ℕ) (o : Option Rule) → Listed (after_store length regs width at value o)
+store_listed : (length : ℕ) (regs : Registers) (width : Width) (at value : ℕ) (o : Option Rule)
+    → Listed (after_store length regs width at value o)
 unfolding Listed
 store_listed length regs width at value None = (
   refl,
   λ a covers.
-      list_any-append (stores_at a) (fetches length regs) (touch_of Store at width ∷ []) ∙ last_of (list_any (stores_at a) (fetches length regs)) (stores_at a (touch_of Store at width)) covers,
+      list_any-append (stores_at a) (fetches length regs) (touch_of Store at width ∷ [])
+      ∙ last_of (list_any (stores_at a) (fetches length regs)) (stores_at a (touch_of Store at width)) covers,
 )
 store_listed length regs width at value (Some rule) = tt
 
-load_listed : (length : ℕ) (regs : Registers) (kind : LoadKind) (rd at number : ℕ) (o : Option Rule) → Listed (after_load length regs kind rd at number o)
+load_listed : (length : ℕ) (regs : Registers) (kind : LoadKind) (rd at number : ℕ) (o : Option Rule)
+    → Listed (after_load length regs kind rd at number o)
 unfolding Listed
 load_listed length regs kind rd at number None = tt
 load_listed length regs kind rd at number (Some rule) = tt
 
-effect_listed : (denies : Denies) (bytes : ℕ → ℕ) (length : ℕ) (i : Instr) (regs : Registers) → Listed (effect denies bytes length i regs)
+effect_listed : (denies : Denies) (bytes : ℕ → ℕ) (length : ℕ) (i : Instr) (regs : Registers)
+    → Listed (effect denies bytes length i regs)
 unfolding Listed
 effect_listed denies bytes length (instrs.Lui rd imm) regs = tt
 effect_listed denies bytes length (instrs.Auipc rd imm) regs = tt
@@ -48,21 +56,25 @@ effect_listed denies bytes length (instrs.Jalr rd rs1 offset) regs = tt
 effect_listed denies bytes length (instrs.Branch test rs1 rs2 offset) regs = tt
 effect_listed denies bytes length (instrs.Load kind rd rs1 offset) regs =
     let at = w32_of (register regs rs1 + offset) in
-    load_listed length regs kind rd at (number_at bytes at (load_width kind)) (misaligned_first denies Load at (load_width kind))
+    load_listed length regs kind rd at (number_at bytes at (load_width kind))
+    (misaligned_first denies Load at (load_width kind))
 effect_listed denies bytes length (instrs.Store width rs1 rs2 offset) regs =
-    store_listed length regs width (w32_of (register regs rs1 + offset)) (register regs rs2) (misaligned_first denies Store (w32_of (register regs rs1 + offset)) width)
+    store_listed length regs width (w32_of (register regs rs1 + offset)) (register regs rs2)
+    (misaligned_first denies Store (w32_of (register regs rs1 + offset)) width)
 effect_listed denies bytes length (instrs.OpImm op rd rs1 imm) regs = tt
 effect_listed denies bytes length (instrs.Op op rd rs1 rs2) regs = tt
 effect_listed denies bytes length instrs.Fence regs = tt
 effect_listed denies bytes length instrs.Ecall regs = tt
 effect_listed denies bytes length instrs.Ebreak regs = tt
 
-executed_listed : (denies : Denies) (bytes : ℕ → ℕ) (length : ℕ) (o : Option Instr) (regs : Registers) → Listed (executed denies bytes length o regs)
+executed_listed : (denies : Denies) (bytes : ℕ → ℕ) (length : ℕ) (o : Option Instr) (regs : Registers)
+    → Listed (executed denies bytes length o regs)
 unfolding Listed executed
 executed_listed denies bytes length (Some i) regs = effect_listed denies bytes length i regs
 executed_listed denies bytes length None regs = tt
 
-word_listed : (denies : Denies) (bytes : ℕ → ℕ) (r : Result ℕ Denial) (regs : Registers) → Listed (on_word denies bytes r regs)
+word_listed : (denies : Denies) (bytes : ℕ → ℕ) (r : Result ℕ Denial) (regs : Registers)
+    → Listed (on_word denies bytes r regs)
 unfolding Listed on_word
 word_listed denies bytes (Ok word) regs = executed_listed denies bytes (length_of word) (instr_of word) regs
 word_listed denies bytes (Err denial) regs = tt

@@ -1,5 +1,6 @@
 -- The laws of a turn, by cases on what was fetched, the row and the instruction.
-use Rattle.std.proofs.Common.{ap, List, ◌≡◌, ◌≢◌, ℕ, ◌+◌, ◌%◌, ◌==◌, ◌||◌, Bool, true, false, [], ◌∷◌, Option, None, Some, Result, Ok, Err, if◌then◌else◌, refl, sym, ◌∙◌, arith}
+use Rattle.std.proofs.Common.{ap, List, ◌≡◌, ◌≢◌, ℕ, ◌+◌, ◌%◌, ◌==◌, ◌||◌, Bool, true, false, [], ◌∷◌, Option, None}
+use Rattle.std.proofs.Common.{Some, Result, Ok, Err, if◌then◌else◌, refl, sym, ◌∙◌, arith}
 use Rattle.std.specs.Prelude.{All, IfSome}
 use Rattle.std.specs.List.{list_any}
 use Rattle.std.proofs.lemmas.Bool.Decides.{nat_tests}
@@ -20,9 +21,12 @@ use Rattle.rv32_model.specs.declared.instr.LoadKind.{LoadKind}
 use Rattle.rv32_model.specs.declared.instr.Instr.{Instr}
 use Rattle.rv32_model.specs.declared.instr.Instr.TheVariants as instrs
 use Rattle.rv32_model.specs.declared.turn_end.TurnEnd.TheVariants.{Call, Trap, Went}
-use Rattle.rv32_model.specs.Laws.{Denies, stores_at, AccessesArePermitted, DataIsAligned, DeniedTurnsChangeNothing, OnlyStoresWrite, WritesArePermitted}
+use Rattle.rv32_model.specs.Laws.{Denies, stores_at, AccessesArePermitted, DataIsAligned, DeniedTurnsChangeNothing}
+use Rattle.rv32_model.specs.Laws.{OnlyStoresWrite, WritesArePermitted}
 use Rattle.rv32_model.specs.Stretch.{StoppedTurnsChangeNothing}
-use Rattle.rv32_model.specs.UserTurn.{Touch, UserTurn, denied_at, trapped, user_turn, on_word, executed, fetched, after_write, after_load, after_store, effect, fetches, load_width, touch_of, w32_of, judged_parcel, with_first, with_second, parcel_at, length_of, instr_of}
+use Rattle.rv32_model.specs.UserTurn.{MemoryAccess, UserTurn, denied_at, trapped, user_turn, on_word, executed, fetched}
+use Rattle.rv32_model.specs.UserTurn.{after_write, after_load, after_store, effect, fetches, load_width, touch_of}
+use Rattle.rv32_model.specs.UserTurn.{w32_of, judged_parcel, with_first, with_second, parcel_at, length_of, instr_of}
 
 -- a turn that does not go changes nothing, and a denied one lists no access
 Kept : (ℕ → ℕ) → Registers → UserTurn → Type 0
@@ -38,19 +42,24 @@ denied_kept : (bytes : ℕ → ℕ) (regs : Registers) (denial : Denial) → Kep
 unfolding Kept
 denied_kept bytes regs denial = (λ n. (refl, refl), λ d f. refl)
 
-call_kept : (bytes : ℕ → ℕ) (length : ℕ) (regs : Registers) → Kept bytes regs (record { regs = regs; write = None; accesses = fetches length regs; end = Call })
+call_kept : (bytes : ℕ → ℕ) (length : ℕ) (regs : Registers)
+    → Kept bytes regs (record { regs = regs; write = None; accesses = fetches length regs; end = Call })
 unfolding Kept
 call_kept bytes length regs = (λ n. (refl, refl), λ d f. cc)
 
-load_kept : (bytes : ℕ → ℕ) (length : ℕ) (regs : Registers) (kind : LoadKind) (rd at number : ℕ) (o : Option Rule) → Kept bytes regs (after_load length regs kind rd at number o)
-load_kept bytes length regs kind rd at number None = went bytes regs (after_load length regs kind rd at number None) refl
+load_kept : (bytes : ℕ → ℕ) (length : ℕ) (regs : Registers) (kind : LoadKind) (rd at number : ℕ) (o : Option Rule)
+    → Kept bytes regs (after_load length regs kind rd at number o)
+load_kept bytes length regs kind rd at number None =
+    went bytes regs (after_load length regs kind rd at number None) refl
 load_kept bytes length regs kind rd at number (Some rule) = denied_kept bytes regs (denied_at Load at rule)
 
-store_kept : (bytes : ℕ → ℕ) (length : ℕ) (regs : Registers) (width : Width) (at value : ℕ) (o : Option Rule) → Kept bytes regs (after_store length regs width at value o)
+store_kept : (bytes : ℕ → ℕ) (length : ℕ) (regs : Registers) (width : Width) (at value : ℕ) (o : Option Rule)
+    → Kept bytes regs (after_store length regs width at value o)
 store_kept bytes length regs width at value None = went bytes regs (after_store length regs width at value None) refl
 store_kept bytes length regs width at value (Some rule) = denied_kept bytes regs (denied_at Store at rule)
 
-effect_kept : (denies : Denies) (bytes : ℕ → ℕ) (length : ℕ) (i : Instr) (regs : Registers) → Kept bytes regs (effect denies bytes length i regs)
+effect_kept : (denies : Denies) (bytes : ℕ → ℕ) (length : ℕ) (i : Instr) (regs : Registers)
+    → Kept bytes regs (effect denies bytes length i regs)
 effect_kept denies bytes length (instrs.Lui rd imm) regs = went bytes regs _ refl
 effect_kept denies bytes length (instrs.Auipc rd imm) regs = went bytes regs _ refl
 effect_kept denies bytes length (instrs.Jal rd offset) regs = went bytes regs _ refl
@@ -58,7 +67,8 @@ effect_kept denies bytes length (instrs.Jalr rd rs1 offset) regs = went bytes re
 effect_kept denies bytes length (instrs.Branch test rs1 rs2 offset) regs = went bytes regs _ refl
 effect_kept denies bytes length (instrs.Load kind rd rs1 offset) regs =
     let at = w32_of (register regs rs1 + offset) in
-    load_kept bytes length regs kind rd at (number_at bytes at (load_width kind)) (misaligned_first denies Load at (load_width kind))
+    load_kept bytes length regs kind rd at (number_at bytes at (load_width kind))
+    (misaligned_first denies Load at (load_width kind))
 effect_kept denies bytes length (instrs.Store width rs1 rs2 offset) regs =
     let at = w32_of (register regs rs1 + offset) in
     store_kept bytes length regs width at (register regs rs2) (misaligned_first denies Store at width)
@@ -68,12 +78,14 @@ effect_kept denies bytes length instrs.Fence regs = went bytes regs _ refl
 effect_kept denies bytes length instrs.Ecall regs = call_kept bytes length regs
 effect_kept denies bytes length instrs.Ebreak regs = denied_kept bytes regs (denied_at Fetch regs.pc Breakpoint)
 
-executed_kept : (denies : Denies) (bytes : ℕ → ℕ) (length : ℕ) (o : Option Instr) (regs : Registers) → Kept bytes regs (executed denies bytes length o regs)
+executed_kept : (denies : Denies) (bytes : ℕ → ℕ) (length : ℕ) (o : Option Instr) (regs : Registers)
+    → Kept bytes regs (executed denies bytes length o regs)
 unfolding executed
 executed_kept denies bytes length (Some i) regs = effect_kept denies bytes length i regs
 executed_kept denies bytes length None regs = denied_kept bytes regs (denied_at Fetch regs.pc Illegal)
 
-word_kept : (denies : Denies) (bytes : ℕ → ℕ) (r : Result ℕ Denial) (regs : Registers) → Kept bytes regs (on_word denies bytes r regs)
+word_kept : (denies : Denies) (bytes : ℕ → ℕ) (r : Result ℕ Denial) (regs : Registers)
+    → Kept bytes regs (on_word denies bytes r regs)
 unfolding on_word
 word_kept denies bytes (Ok word) regs = executed_kept denies bytes (length_of word) (instr_of word) regs
 word_kept denies bytes (Err denial) regs = denied_kept bytes regs denial
@@ -94,15 +106,26 @@ denied_turns_change_nothing denies bytes regs d e =
     (nothing.0, nothing.1, kept.1 d e)
 
 -- what holds of each fetch, and of each load and store that is not denied, holds of each access
-load_touches : (P : Touch → Type 0) (length : ℕ) (regs : Registers) (kind : LoadKind) (rd at number : ℕ) (o : Option Rule) → All P (fetches length regs) → (o ≡ None → P (touch_of Load at (load_width kind))) → All P (after_load length regs kind rd at number o).accesses
-load_touches P length regs kind rd at number None f p = All-append P (fetches length regs) (touch_of Load at (load_width kind) ∷ []) f (All-cons P (touch_of Load at (load_width kind)) [] (p refl) (All-nil P))
+load_touches : (P : MemoryAccess → Type 0) (length : ℕ) (regs : Registers) (kind : LoadKind) (rd at number : ℕ)
+    (o : Option Rule) → All P (fetches length regs) → (o ≡ None → P (touch_of Load at (load_width kind)))
+    → All P (after_load length regs kind rd at number o).accesses
+load_touches P length regs kind rd at number None f p =
+    All-append P (fetches length regs) (touch_of Load at (load_width kind) ∷ []) f
+    (All-cons P (touch_of Load at (load_width kind)) [] (p refl) (All-nil P))
 load_touches P length regs kind rd at number (Some rule) f p = All-nil P
 
-store_touches : (P : Touch → Type 0) (length : ℕ) (regs : Registers) (width : Width) (at value : ℕ) (o : Option Rule) → All P (fetches length regs) → (o ≡ None → P (touch_of Store at width)) → All P (after_store length regs width at value o).accesses
-store_touches P length regs width at value None f p = All-append P (fetches length regs) (touch_of Store at width ∷ []) f (All-cons P (touch_of Store at width) [] (p refl) (All-nil P))
+store_touches : (P : MemoryAccess → Type 0) (length : ℕ) (regs : Registers) (width : Width) (at value : ℕ)
+    (o : Option Rule) → All P (fetches length regs) → (o ≡ None → P (touch_of Store at width))
+    → All P (after_store length regs width at value o).accesses
+store_touches P length regs width at value None f p =
+    All-append P (fetches length regs) (touch_of Store at width ∷ []) f
+    (All-cons P (touch_of Store at width) [] (p refl) (All-nil P))
 store_touches P length regs width at value (Some rule) f p = All-nil P
 
-effect_touches : (P : Touch → Type 0) (denies : Denies) (bytes : ℕ → ℕ) (length : ℕ) (i : Instr) (regs : Registers) → All P (fetches length regs) → ((access : Access) (at : ℕ) (width : Width) → misaligned_first denies access at width ≡ None → P (touch_of access at width)) → All P (effect denies bytes length i regs).accesses
+effect_touches : (P : MemoryAccess → Type 0) (denies : Denies) (bytes : ℕ → ℕ) (length : ℕ) (i : Instr)
+    (regs : Registers) → All P (fetches length regs)
+    → ((access : Access) (at : ℕ) (width : Width) → misaligned_first denies access at width ≡ None
+    → P (touch_of access at width)) → All P (effect denies bytes length i regs).accesses
 effect_touches P denies bytes length (instrs.Lui rd imm) regs f p = f
 effect_touches P denies bytes length (instrs.Auipc rd imm) regs f p = f
 effect_touches P denies bytes length (instrs.Jal rd offset) regs f p = f
@@ -110,23 +133,29 @@ effect_touches P denies bytes length (instrs.Jalr rd rs1 offset) regs f p = f
 effect_touches P denies bytes length (instrs.Branch test rs1 rs2 offset) regs f p = f
 effect_touches P denies bytes length (instrs.Load kind rd rs1 offset) regs f p =
     let at = w32_of (register regs rs1 + offset) in
-    load_touches P length regs kind rd at (number_at bytes at (load_width kind)) (misaligned_first denies Load at (load_width kind)) f (p Load at (load_width kind))
+    load_touches P length regs kind rd at (number_at bytes at (load_width kind))
+    (misaligned_first denies Load at (load_width kind)) f (p Load at (load_width kind))
 effect_touches P denies bytes length (instrs.Store width rs1 rs2 offset) regs f p =
     let at = w32_of (register regs rs1 + offset) in
-    store_touches P length regs width at (register regs rs2) (misaligned_first denies Store at width) f (p Store at width)
+    store_touches P length regs width at (register regs rs2) (misaligned_first denies Store at width) f
+    (p Store at width)
 effect_touches P denies bytes length (instrs.OpImm op rd rs1 imm) regs f p = f
 effect_touches P denies bytes length (instrs.Op op rd rs1 rs2) regs f p = f
 effect_touches P denies bytes length instrs.Fence regs f p = f
 effect_touches P denies bytes length instrs.Ecall regs f p = f
 effect_touches P denies bytes length instrs.Ebreak regs f p = All-nil P
 
-executed_touches : (P : Touch → Type 0) (denies : Denies) (bytes : ℕ → ℕ) (length : ℕ) (o : Option Instr) (regs : Registers) → All P (fetches length regs) → ((access : Access) (at : ℕ) (width : Width) → misaligned_first denies access at width ≡ None → P (touch_of access at width)) → All P (executed denies bytes length o regs).accesses
+executed_touches : (P : MemoryAccess → Type 0) (denies : Denies) (bytes : ℕ → ℕ) (length : ℕ) (o : Option Instr)
+    (regs : Registers) → All P (fetches length regs)
+    → ((access : Access) (at : ℕ) (width : Width) → misaligned_first denies access at width ≡ None
+    → P (touch_of access at width)) → All P (executed denies bytes length o regs).accesses
 unfolding executed
 executed_touches P denies bytes length (Some i) regs f p = effect_touches P denies bytes length i regs f p
 executed_touches P denies bytes length None regs f p = All-nil P
 
 -- an instruction was fetched only where each of its parcels is permitted
-second_word : (first second : ℕ) (at : ℕ) (o : Option Rule) (word : ℕ) → with_second first (judged_parcel at o second) ≡ Ok word → o ≡ None
+second_word : (first second : ℕ) (at : ℕ) (o : Option Rule) (word : ℕ)
+    → with_second first (judged_parcel at o second) ≡ Ok word → o ≡ None
 second_word first second at None word e = refl
 second_word first second at (Some rule) word e = cc
 
@@ -138,46 +167,63 @@ one_parcel : (denies : Denies) (pc word : ℕ) → (word % 4 == 3) ≡ false →
 unfolding SecondPermitted
 one_parcel denies pc word t n = absurd (grind (arith, nat_tests))
 
-with_first_permitted : (denies : Denies) (bytes : ℕ → ℕ) (pc first word : ℕ) (b : Bool) → (first % 4 == 3) ≡ b → (if b then with_second first (parcel_at denies bytes (w32_of (pc + 2))) else Ok first) ≡ Ok word → SecondPermitted denies pc (length_of word)
+with_first_permitted : (denies : Denies) (bytes : ℕ → ℕ) (pc first word : ℕ) (b : Bool) → (first % 4 == 3) ≡ b
+    → (if b then with_second first (parcel_at denies bytes (w32_of (pc + 2))) else Ok first) ≡ Ok word
+    → SecondPermitted denies pc (length_of word)
 unfolding SecondPermitted
-with_first_permitted denies bytes pc first word true t e n = second_word first (number_at bytes (w32_of (pc + 2)) Half) (w32_of (pc + 2)) (denies Fetch (w32_of (pc + 2)) Half) word e
+with_first_permitted denies bytes pc first word true t e n =
+    second_word first (number_at bytes (w32_of (pc + 2)) Half) (w32_of (pc + 2)) (denies Fetch (w32_of (pc + 2)) Half)
+    word e
 with_first_permitted denies bytes pc first word false t e n =
     let same : first ≡ word = cc in
     one_parcel denies pc word (ap (λ x. x % 4 == 3) (sym same) ∙ t) n
 
-first_permitted : (denies : Denies) (bytes : ℕ → ℕ) (pc first : ℕ) (o : Option Rule) (word : ℕ) → with_first denies bytes pc (judged_parcel pc o first) ≡ Ok word → (o ≡ None) × SecondPermitted denies pc (length_of word)
-first_permitted denies bytes pc first None word e = (refl, with_first_permitted denies bytes pc first word (first % 4 == 3) refl e)
+first_permitted : (denies : Denies) (bytes : ℕ → ℕ) (pc first : ℕ) (o : Option Rule) (word : ℕ)
+    → with_first denies bytes pc (judged_parcel pc o first) ≡ Ok word
+    → (o ≡ None) × SecondPermitted denies pc (length_of word)
+first_permitted denies bytes pc first None word e =
+    (refl, with_first_permitted denies bytes pc first word (first % 4 == 3) refl e)
 first_permitted denies bytes pc first (Some rule) word e = cc
 
-word_permitted : (denies : Denies) (bytes : ℕ → ℕ) (pc word : ℕ) → fetched denies bytes pc ≡ Ok word → (denies Fetch pc Half ≡ None) × SecondPermitted denies pc (length_of word)
+word_permitted : (denies : Denies) (bytes : ℕ → ℕ) (pc word : ℕ) → fetched denies bytes pc ≡ Ok word
+    → (denies Fetch pc Half ≡ None) × SecondPermitted denies pc (length_of word)
 unfolding fetched
-word_permitted denies bytes pc word e = first_permitted denies bytes pc (number_at bytes pc Half) (denies Fetch pc Half) word e
+word_permitted denies bytes pc word e =
+    first_permitted denies bytes pc (number_at bytes pc Half) (denies Fetch pc Half) word e
 
-second_fetch : Registers → Bool → List Touch
+second_fetch : Registers → Bool → List MemoryAccess
 second_fetch regs b = if b then [] else touch_of Fetch (w32_of (regs.pc + 2)) Half ∷ []
 
-second_each : (P : Touch → Type 0) (regs : Registers) (b : Bool) → (b ≡ false → P (touch_of Fetch (w32_of (regs.pc + 2)) Half)) → All P (second_fetch regs b)
+second_each : (P : MemoryAccess → Type 0) (regs : Registers) (b : Bool)
+    → (b ≡ false → P (touch_of Fetch (w32_of (regs.pc + 2)) Half)) → All P (second_fetch regs b)
 unfolding second_fetch
 second_each P regs true q = All-nil P
 second_each P regs false q = All-cons P (touch_of Fetch (w32_of (regs.pc + 2)) Half) [] (q refl) (All-nil P)
 
-fetches_each : (P : Touch → Type 0) (length : ℕ) (regs : Registers) → P (touch_of Fetch regs.pc Half) → ((length == 2) ≡ false → P (touch_of Fetch (w32_of (regs.pc + 2)) Half)) → All P (fetches length regs)
+fetches_each : (P : MemoryAccess → Type 0) (length : ℕ) (regs : Registers) → P (touch_of Fetch regs.pc Half)
+    → ((length == 2) ≡ false → P (touch_of Fetch (w32_of (regs.pc + 2)) Half)) → All P (fetches length regs)
 unfolding second_fetch
 fetches_each P length regs p q =
     All-cons P (touch_of Fetch regs.pc Half) (second_fetch regs (length == 2)) p (second_each P regs (length == 2) q)
 
 -- what holds of each permitted fetch, and of each load and store that is not denied
-Holds : Denies → (Touch → Type 0) → Type 0
-Holds denies P = ((at : ℕ) → denies Fetch at Half ≡ None → P (touch_of Fetch at Half)) × ((access : Access) (at : ℕ) (width : Width) → misaligned_first denies access at width ≡ None → P (touch_of access at width))
+Holds : Denies → (MemoryAccess → Type 0) → Type 0
+Holds denies P =
+    ((at : ℕ) → denies Fetch at Half ≡ None → P (touch_of Fetch at Half))
+    × ((access : Access) (at : ℕ) (width : Width) → misaligned_first denies access at width ≡ None
+    → P (touch_of access at width))
 
-word_touches : (P : Touch → Type 0) (denies : Denies) (bytes : ℕ → ℕ) (regs : Registers) (r : Result ℕ Denial) → fetched denies bytes regs.pc ≡ r → Holds denies P → All P (on_word denies bytes r regs).accesses
+word_touches : (P : MemoryAccess → Type 0) (denies : Denies) (bytes : ℕ → ℕ) (regs : Registers) (r : Result ℕ Denial)
+    → fetched denies bytes regs.pc ≡ r → Holds denies P → All P (on_word denies bytes r regs).accesses
 unfolding on_word Holds SecondPermitted
 word_touches P denies bytes regs (Ok word) e h =
     let both = word_permitted denies bytes regs.pc word e in
-    executed_touches P denies bytes (length_of word) (instr_of word) regs (fetches_each P (length_of word) regs (h.0 regs.pc both.0) (λ n. h.0 (w32_of (regs.pc + 2)) (both.1 n))) h.1
+    executed_touches P denies bytes (length_of word) (instr_of word) regs
+    (fetches_each P (length_of word) regs (h.0 regs.pc both.0) (λ n. h.0 (w32_of (regs.pc + 2)) (both.1 n))) h.1
 word_touches P denies bytes regs (Err denial) e h = All-nil P
 
-turn_touches : (P : Touch → Type 0) (denies : Denies) (bytes : ℕ → ℕ) (regs : Registers) → Holds denies P → All P (user_turn denies bytes regs).accesses
+turn_touches : (P : MemoryAccess → Type 0) (denies : Denies) (bytes : ℕ → ℕ) (regs : Registers) → Holds denies P
+    → All P (user_turn denies bytes regs).accesses
 unfolding user_turn
 turn_touches P denies bytes regs h = word_touches P denies bytes regs (fetched denies bytes regs.pc) refl h
 
@@ -186,21 +232,29 @@ none_first true o rule e = cc
 none_first false o rule e = (refl, e)
 
 -- what is not denied, misaligned first, is permitted and aligned
-data_permitted : (denies : Denies) (access : Access) (at : ℕ) (width : Width) → misaligned_first denies access at width ≡ None → denies access at width ≡ None
-data_permitted denies access at width e = (none_first (is_misaligned access at width) (denies access at width) Misaligned e).1
+data_permitted : (denies : Denies) (access : Access) (at : ℕ) (width : Width)
+    → misaligned_first denies access at width ≡ None → denies access at width ≡ None
+data_permitted denies access at width e =
+    (none_first (is_misaligned access at width) (denies access at width) Misaligned e).1
 
-data_aligned : (denies : Denies) (access : Access) (at : ℕ) (width : Width) → misaligned_first denies access at width ≡ None → access ≢ Fetch → at % width_bytes width ≡ 0
+data_aligned : (denies : Denies) (access : Access) (at : ℕ) (width : Width)
+    → misaligned_first denies access at width ≡ None → access ≢ Fetch → at % width_bytes width ≡ 0
 data_aligned denies Fetch at width e n = absurd (n refl)
-data_aligned denies Load at width e n = let aligned = (none_first (is_misaligned Load at width) (denies Load at width) Misaligned e).0 in grind (arith, nat_tests)
-data_aligned denies Store at width e n = let aligned = (none_first (is_misaligned Store at width) (denies Store at width) Misaligned e).0 in grind (arith, nat_tests)
+data_aligned denies Load at width e n = let aligned =
+    (none_first (is_misaligned Load at width) (denies Load at width) Misaligned e).0 in grind (arith, nat_tests)
+data_aligned denies Store at width e n = let aligned =
+    (none_first (is_misaligned Store at width) (denies Store at width) Misaligned e).0 in grind (arith, nat_tests)
 
 pub accesses_are_permitted : AccessesArePermitted
 unfolding Holds
-accesses_are_permitted denies bytes regs = turn_touches (λ t. denies t.access t.address t.width ≡ None) denies bytes regs ((λ at h. h), data_permitted denies)
+accesses_are_permitted denies bytes regs =
+    turn_touches (λ t. denies t.access t.address t.width ≡ None) denies bytes regs ((λ at h. h), data_permitted denies)
 
 pub data_is_aligned : DataIsAligned
 unfolding Holds
-data_is_aligned denies bytes regs = turn_touches (λ t. t.access ≢ Fetch → t.address % width_bytes t.width ≡ 0) denies bytes regs ((λ at h n. absurd (n refl)), data_aligned denies)
+data_is_aligned denies bytes regs =
+    turn_touches (λ t. t.access ≢ Fetch → t.address % width_bytes t.width ≡ 0) denies bytes regs
+    ((λ at h n. absurd (n refl)), data_aligned denies)
 
 -- a byte that no store covers stays
 Stays : ℕ → (ℕ → ℕ) → UserTurn → Type 0
@@ -211,20 +265,25 @@ none_of true y e = cc
 none_of false true e = cc
 none_of false false e = refl
 
-store_stays : (a : ℕ) (bytes : ℕ → ℕ) (length : ℕ) (regs : Registers) (width : Width) (at value : ℕ) (o : Option Rule) → Stays a bytes (after_store length regs width at value o)
+store_stays : (a : ℕ) (bytes : ℕ → ℕ) (length : ℕ) (regs : Registers) (width : Width) (at value : ℕ) (o : Option Rule)
+    → Stays a bytes (after_store length regs width at value o)
 unfolding Stays
 store_stays a bytes length regs width at value None e =
-    let both : (list_any (stores_at a) (fetches length regs) || (stores_at a (touch_of Store at width) || false)) ≡ false = sym (list_any-append (stores_at a) (fetches length regs) (touch_of Store at width ∷ [])) ∙ e in
-    let last : stores_at a (touch_of Store at width) ≡ false = none_of (list_any (stores_at a) (fetches length regs)) (stores_at a (touch_of Store at width)) both in
+    let both : (list_any (stores_at a) (fetches length regs) || (stores_at a (touch_of Store at width) || false))
+    ≡ false = sym (list_any-append (stores_at a) (fetches length regs) (touch_of Store at width ∷ [])) ∙ e in
+    let last : stores_at a (touch_of Store at width) ≡ false =
+    none_of (list_any (stores_at a) (fetches length regs)) (stores_at a (touch_of Store at width)) both in
     simp last
 store_stays a bytes length regs width at value (Some rule) e = refl
 
-load_stays : (a : ℕ) (bytes : ℕ → ℕ) (length : ℕ) (regs : Registers) (kind : LoadKind) (rd at number : ℕ) (o : Option Rule) → Stays a bytes (after_load length regs kind rd at number o)
+load_stays : (a : ℕ) (bytes : ℕ → ℕ) (length : ℕ) (regs : Registers) (kind : LoadKind) (rd at number : ℕ)
+    (o : Option Rule) → Stays a bytes (after_load length regs kind rd at number o)
 unfolding Stays
 load_stays a bytes length regs kind rd at number None e = refl
 load_stays a bytes length regs kind rd at number (Some rule) e = refl
 
-effect_stays : (a : ℕ) (denies : Denies) (bytes : ℕ → ℕ) (length : ℕ) (i : Instr) (regs : Registers) → Stays a bytes (effect denies bytes length i regs)
+effect_stays : (a : ℕ) (denies : Denies) (bytes : ℕ → ℕ) (length : ℕ) (i : Instr) (regs : Registers)
+    → Stays a bytes (effect denies bytes length i regs)
 unfolding Stays
 effect_stays a denies bytes length (instrs.Lui rd imm) regs e = refl
 effect_stays a denies bytes length (instrs.Auipc rd imm) regs e = refl
@@ -233,7 +292,8 @@ effect_stays a denies bytes length (instrs.Jalr rd rs1 offset) regs e = refl
 effect_stays a denies bytes length (instrs.Branch test rs1 rs2 offset) regs e = refl
 effect_stays a denies bytes length (instrs.Load kind rd rs1 offset) regs e =
     let at = w32_of (register regs rs1 + offset) in
-    load_stays a bytes length regs kind rd at (number_at bytes at (load_width kind)) (misaligned_first denies Load at (load_width kind)) e
+    load_stays a bytes length regs kind rd at (number_at bytes at (load_width kind))
+    (misaligned_first denies Load at (load_width kind)) e
 effect_stays a denies bytes length (instrs.Store width rs1 rs2 offset) regs e =
     let at = w32_of (register regs rs1 + offset) in
     store_stays a bytes length regs width at (register regs rs2) (misaligned_first denies Store at width) e
@@ -243,12 +303,14 @@ effect_stays a denies bytes length instrs.Fence regs e = refl
 effect_stays a denies bytes length instrs.Ecall regs e = refl
 effect_stays a denies bytes length instrs.Ebreak regs e = refl
 
-executed_stays : (a : ℕ) (denies : Denies) (bytes : ℕ → ℕ) (length : ℕ) (o : Option Instr) (regs : Registers) → Stays a bytes (executed denies bytes length o regs)
+executed_stays : (a : ℕ) (denies : Denies) (bytes : ℕ → ℕ) (length : ℕ) (o : Option Instr) (regs : Registers)
+    → Stays a bytes (executed denies bytes length o regs)
 unfolding Stays executed
 executed_stays a denies bytes length (Some i) regs e = effect_stays a denies bytes length i regs e
 executed_stays a denies bytes length None regs e = refl
 
-word_stays : (a : ℕ) (denies : Denies) (bytes : ℕ → ℕ) (r : Result ℕ Denial) (regs : Registers) → Stays a bytes (on_word denies bytes r regs)
+word_stays : (a : ℕ) (denies : Denies) (bytes : ℕ → ℕ) (r : Result ℕ Denial) (regs : Registers)
+    → Stays a bytes (on_word denies bytes r regs)
 unfolding Stays on_word
 word_stays a denies bytes (Ok word) regs e = executed_stays a denies bytes (length_of word) (instr_of word) regs e
 word_stays a denies bytes (Err denial) regs e = refl
@@ -261,17 +323,20 @@ only_stores_write denies bytes regs a e = word_stays a denies bytes (fetched den
 Permitted : Denies → UserTurn → Type 0
 Permitted denies t = IfSome t.write (λ w. denies Store w.address w.width ≡ None)
 
-store_permitted : (denies : Denies) (length : ℕ) (regs : Registers) (width : Width) (at value : ℕ) (o : Option Rule) → o ≡ misaligned_first denies Store at width → Permitted denies (after_store length regs width at value o)
+store_permitted : (denies : Denies) (length : ℕ) (regs : Registers) (width : Width) (at value : ℕ) (o : Option Rule)
+    → o ≡ misaligned_first denies Store at width → Permitted denies (after_store length regs width at value o)
 unfolding Permitted
 store_permitted denies length regs width at value None e = data_permitted denies Store at width (sym e)
 store_permitted denies length regs width at value (Some rule) e = tt
 
-load_permitted : (denies : Denies) (length : ℕ) (regs : Registers) (kind : LoadKind) (rd at number : ℕ) (o : Option Rule) → Permitted denies (after_load length regs kind rd at number o)
+load_permitted : (denies : Denies) (length : ℕ) (regs : Registers) (kind : LoadKind) (rd at number : ℕ)
+    (o : Option Rule) → Permitted denies (after_load length regs kind rd at number o)
 unfolding Permitted
 load_permitted denies length regs kind rd at number None = tt
 load_permitted denies length regs kind rd at number (Some rule) = tt
 
-effect_permitted : (denies : Denies) (bytes : ℕ → ℕ) (length : ℕ) (i : Instr) (regs : Registers) → Permitted denies (effect denies bytes length i regs)
+effect_permitted : (denies : Denies) (bytes : ℕ → ℕ) (length : ℕ) (i : Instr) (regs : Registers)
+    → Permitted denies (effect denies bytes length i regs)
 unfolding Permitted
 effect_permitted denies bytes length (instrs.Lui rd imm) regs = tt
 effect_permitted denies bytes length (instrs.Auipc rd imm) regs = tt
@@ -280,7 +345,8 @@ effect_permitted denies bytes length (instrs.Jalr rd rs1 offset) regs = tt
 effect_permitted denies bytes length (instrs.Branch test rs1 rs2 offset) regs = tt
 effect_permitted denies bytes length (instrs.Load kind rd rs1 offset) regs =
     let at = w32_of (register regs rs1 + offset) in
-    load_permitted denies length regs kind rd at (number_at bytes at (load_width kind)) (misaligned_first denies Load at (load_width kind))
+    load_permitted denies length regs kind rd at (number_at bytes at (load_width kind))
+    (misaligned_first denies Load at (load_width kind))
 effect_permitted denies bytes length (instrs.Store width rs1 rs2 offset) regs =
     let at = w32_of (register regs rs1 + offset) in
     store_permitted denies length regs width at (register regs rs2) (misaligned_first denies Store at width) refl
@@ -290,12 +356,14 @@ effect_permitted denies bytes length instrs.Fence regs = tt
 effect_permitted denies bytes length instrs.Ecall regs = tt
 effect_permitted denies bytes length instrs.Ebreak regs = tt
 
-executed_permitted : (denies : Denies) (bytes : ℕ → ℕ) (length : ℕ) (o : Option Instr) (regs : Registers) → Permitted denies (executed denies bytes length o regs)
+executed_permitted : (denies : Denies) (bytes : ℕ → ℕ) (length : ℕ) (o : Option Instr) (regs : Registers)
+    → Permitted denies (executed denies bytes length o regs)
 unfolding Permitted executed
 executed_permitted denies bytes length (Some i) regs = effect_permitted denies bytes length i regs
 executed_permitted denies bytes length None regs = tt
 
-run_permitted : (denies : Denies) (bytes : ℕ → ℕ) (r : Result ℕ Denial) (regs : Registers) → Permitted denies (on_word denies bytes r regs)
+run_permitted : (denies : Denies) (bytes : ℕ → ℕ) (r : Result ℕ Denial) (regs : Registers)
+    → Permitted denies (on_word denies bytes r regs)
 unfolding Permitted on_word
 run_permitted denies bytes (Ok word) regs = executed_permitted denies bytes (length_of word) (instr_of word) regs
 run_permitted denies bytes (Err denial) regs = tt

@@ -1,5 +1,6 @@
 -- The instruction table: RISC-V unprivileged manual, "RV32/64G Instruction Set Listings", RV32I and M.
-use Rattle.std.specs.Prelude.{ℕ, ◌+◌, ◌-◌, ◌*◌, ◌/◌, ◌%◌, ◌^◌, ◌==◌, Bool, nat_lt, if◌then◌else◌, List, [], ◌∷◌, Option, bit_and, find}
+use Rattle.std.specs.Prelude.{ℕ, ◌+◌, ◌-◌, ◌*◌, ◌/◌, ◌%◌, ◌^◌, ◌==◌, Bool, nat_lt, if◌then◌else◌, List, [], ◌∷◌, Option}
+use Rattle.std.specs.Prelude.{bit_and, find}
 use Rattle.std.specs.Option.{option_map}
 use Rattle.tk_base.specs.declared.access.Width.{Width}
 use Rattle.tk_base.specs.declared.access.Width.TheVariants.{Byte, Half, Word}
@@ -24,9 +25,11 @@ sign_extended k x = if nat_lt x (2 ^ (k - 1)) then x else x + (2 ^ 32 - 2 ^ k)
 abbrev pub rd_of : ℕ → ℕ
 rd_of w = bits_of w 7 5
 
+-- the number of the first source register
 abbrev pub rs1_of : ℕ → ℕ
 rs1_of w = bits_of w 15 5
 
+-- the number of the second source register
 abbrev pub rs2_of : ℕ → ℕ
 rs2_of w = bits_of w 20 5
 
@@ -35,57 +38,68 @@ rs2_of w = bits_of w 20 5
 abbrev pub imm_i : ℕ → ℕ
 imm_i w = sign_extended 12 (bits_of w 20 12)
 
+-- the immediate of the S format
 abbrev pub imm_s : ℕ → ℕ
 imm_s w = sign_extended 12 (bits_of w 25 7 * 2 ^ 5 + bits_of w 7 5)
 
+-- the immediate of the B format
 abbrev pub imm_b : ℕ → ℕ
 imm_b w =
     sign_extended 13 (bits_of w 31 1 * 2 ^ 12 + bits_of w 7 1 * 2 ^ 11 + bits_of w 25 6 * 2 ^ 5 + bits_of w 8 4 * 2)
 
+-- the immediate of the U format, in the upper 20 bits
 abbrev pub imm_u : ℕ → ℕ
 imm_u w = bits_of w 12 20 * 4096
 
+-- the immediate of the J format
 abbrev pub imm_j : ℕ → ℕ
 imm_j w =
     sign_extended 21 (bits_of w 31 1 * 2 ^ 20 + bits_of w 12 8 * 2 ^ 12 + bits_of w 20 1 * 2 ^ 11 + bits_of w 21 10 * 2)
 
 -- a row fits the words whose bits under the mask are those of its value
-pub record Row : Type 0 where
+pub record InstrRow : Type 0 where
   pub mask : ℕ
   pub value : ℕ
   pub form : ℕ → Instr
 
-abbrev pub fits : ℕ → Row → Bool
-fits w r = bit_and w r.mask == r.value
+-- whether a word fits a row
+abbrev pub row_fits : ℕ → InstrRow → Bool
+row_fits w r = bit_and w r.mask == r.value
 
 -- rows by their opcode, bits 6 to 0; with funct3, bits 14 to 12; with funct7, bits 31 to 25; and by
 -- the whole word
-abbrev pub by_opcode : ℕ → (ℕ → Instr) → Row
+abbrev pub by_opcode : ℕ → (ℕ → Instr) → InstrRow
 by_opcode opcode form = record { mask = 0x7f; value = opcode; form = form }
 
-abbrev pub by_funct3 : ℕ → ℕ → (ℕ → Instr) → Row
+-- a row that is known by its opcode and funct3
+abbrev pub by_funct3 : ℕ → ℕ → (ℕ → Instr) → InstrRow
 by_funct3 opcode funct3 form = record { mask = 0x707f; value = opcode + funct3 * 2 ^ 12; form = form }
 
-abbrev pub by_funct7 : ℕ → ℕ → ℕ → (ℕ → Instr) → Row
+-- a row that is known by its opcode, funct3 and funct7
+abbrev pub by_funct7 : ℕ → ℕ → ℕ → (ℕ → Instr) → InstrRow
 by_funct7 opcode funct3 funct7 form = record {
   mask = 0xfe00707f;
   value = opcode + funct3 * 2 ^ 12 + funct7 * 2 ^ 25;
   form = form;
 }
 
-abbrev pub by_word : ℕ → Instr → Row
+-- a row that one word fits alone
+abbrev pub by_word : ℕ → Instr → InstrRow
 by_word word instr = record { mask = 0xffffffff; value = word; form = λ _. instr }
 
 -- the forms of the kinds of rows
 abbrev pub branch : BranchTest → ℕ → Instr
 branch test w = instrs.Branch test (rs1_of w) (rs2_of w) (imm_b w)
 
+-- a load of a kind
 abbrev pub load : LoadKind → ℕ → Instr
 load kind w = instrs.Load kind (rd_of w) (rs1_of w) (imm_i w)
 
+-- a store of a width
 abbrev pub store : Width → ℕ → Instr
 store width w = instrs.Store width (rs1_of w) (rs2_of w) (imm_s w)
 
+-- an operation on a register and an immediate
 abbrev pub op_imm : Op → ℕ → Instr
 op_imm op w = instrs.OpImm op (rd_of w) (rs1_of w) (imm_i w)
 
@@ -93,11 +107,13 @@ op_imm op w = instrs.OpImm op (rd_of w) (rs1_of w) (imm_i w)
 abbrev pub shift_imm : Op → ℕ → Instr
 shift_imm op w = instrs.OpImm op (rd_of w) (rs1_of w) (rs2_of w)
 
+-- an operation on two registers
 abbrev pub op_reg : Op → ℕ → Instr
 op_reg op w = instrs.Op op (rd_of w) (rs1_of w) (rs2_of w)
 
-unfoldable pub table : List Row
-table =
+-- The table of RV32I and M. A word that no row fits is illegal.
+unfoldable pub instruction_table : List InstrRow
+instruction_table =
     by_opcode 0x37 (λ w. instrs.Lui (rd_of w) (imm_u w))
     ∷ by_opcode 0x17 (λ w. instrs.Auipc (rd_of w) (imm_u w))
     ∷ by_opcode 0x6f (λ w. instrs.Jal (rd_of w) (imm_j w))
@@ -150,4 +166,4 @@ table =
 
 -- the instruction of a word; none where no row fits
 unfoldable pub decoding : ℕ → Option Instr
-decoding w = option_map (λ r. r.form w) (find (fits w) table)
+decoding w = option_map (λ r. r.form w) (find (row_fits w) instruction_table)

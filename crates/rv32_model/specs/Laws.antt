@@ -1,5 +1,7 @@
--- What holds of the instruction table and of every turn.
-use Rattle.std.specs.Prelude.{◌≡◌, ◌≢◌, ◌⊎◌, ℕ, ◌+◌, ◌%◌, ◌≤◌, Bool, true, false, ◌&&◌, nat_le, nat_lt, [], length, Option, None, Some, Ok, IfSome, IsTrue, filter, All}
+-- What holds of the instruction table and of every turn. The table is that of the RISC-V unprivileged manual, "RV32/64G
+-- Instruction Set Listings".
+use Rattle.std.specs.Prelude.{◌≡◌, ◌≢◌, ◌⊎◌, ℕ, ◌+◌, ◌%◌, ◌≤◌, Bool, true, false, ◌&&◌, nat_le, nat_lt, [], length}
+use Rattle.std.specs.Prelude.{Option, None, Some, Ok, IfSome, IsTrue, filter, All}
 use Rattle.std.specs.List.{list_any}
 use Rattle.tk_base.specs.declared.access.Access.{Access}
 use Rattle.tk_base.specs.declared.access.Access.TheVariants.{Fetch, Load, Store}
@@ -14,12 +16,13 @@ use Rattle.tk_base.specs.Bus.{number_at}
 use Rattle.rv32_model.specs.declared.instr.Instr.{Instr}
 use Rattle.rv32_model.specs.declared.instr.Instr.TheVariants as instrs
 use Rattle.rv32_model.specs.declared.turn_end.TurnEnd.TheVariants.{Call, Trap, Went}
-use Rattle.rv32_model.specs.Instructions.{fits, table}
-use Rattle.rv32_model.specs.UserTurn.{Touch, user_turn, bytes_after, denied_at, fetched, instr_of, load_width, touch_of, w32_of}
+use Rattle.rv32_model.specs.Instructions.{row_fits, instruction_table}
+use Rattle.rv32_model.specs.UserTurn.{MemoryAccess, user_turn, bytes_after, denied_at, fetched, instr_of, load_width}
+use Rattle.rv32_model.specs.UserTurn.{touch_of, w32_of}
 
 -- no word fits two rows of the table
 abbrev pub NoWordFitsTwoRows : Type 0
-NoWordFitsTwoRows = (word : ℕ) → length (filter (fits word) table) ≤ 1
+NoWordFitsTwoRows = (word : ℕ) → length (filter (row_fits word) instruction_table) ≤ 1
 
 -- what denies the accesses of a process, and the bytes that it sees
 abbrev pub Denies : Type 0
@@ -37,7 +40,8 @@ DataIsAligned =
     (denies : Denies) (bytes : ℕ → ℕ) (regs : Registers)
     → All (λ t. t.access ≢ Fetch → t.address % width_bytes t.width ≡ 0) (user_turn denies bytes regs).accesses
 
--- A parcel that may not be fetched: the one at pc, or the one after it, where that at pc may be fetched and is the first
+-- A parcel that may not be fetched: the one at pc, or the one after it, where that at pc may be fetched and is the
+-- first
 -- half of an instruction of 32 bits ("Base Instruction-Length Encoding").
 abbrev pub IsDueParcel : Denies → (ℕ → ℕ) → ℕ → Denial → Type 0
 IsDueParcel denies bytes pc d =
@@ -70,7 +74,7 @@ IsDueOf denies regs d (Some instrs.Fence) = ⊥
 IsDueOf denies regs d (Some instrs.Ecall) = ⊥
 
 -- the instruction at pc, which may be fetched
-pub record IsAt (denies : Denies) (bytes : ℕ → ℕ) (pc : ℕ) (instr : Option Instr) : Type 0 where
+pub record IsInstrAt (denies : Denies) (bytes : ℕ → ℕ) (pc : ℕ) (instr : Option Instr) : Type 0 where
   pub word : ℕ
   pub fetch : fetched denies bytes pc ≡ Ok word
   pub means : instr_of word ≡ instr
@@ -79,7 +83,7 @@ pub record IsAt (denies : Denies) (bytes : ℕ → ℕ) (pc : ℕ) (instr : Opti
 abbrev pub IsDue : Denies → (ℕ → ℕ) → Registers → Denial → Type 0
 IsDue denies bytes regs d =
     IsDueParcel denies bytes regs.pc d
-    ⊎ ((instr : Option Instr) × IsAt denies bytes regs.pc instr × IsDueOf denies regs d instr)
+    ⊎ ((instr : Option Instr) × IsInstrAt denies bytes regs.pc instr × IsDueOf denies regs d instr)
 
 -- so is the one of each denied turn
 abbrev pub DenialsAreDue : Type 0
@@ -92,7 +96,7 @@ abbrev pub CallsAreOfEcall : Type 0
 CallsAreOfEcall =
     (denies : Denies) (bytes : ℕ → ℕ) (regs : Registers) →
     let t = user_turn denies bytes regs in
-    t.end ≡ Call → IsAt denies bytes regs.pc (Some instrs.Ecall) × (t.regs ≡ regs) × (t.write ≡ None)
+    t.end ≡ Call → IsInstrAt denies bytes regs.pc (Some instrs.Ecall) × (t.regs ≡ regs) × (t.write ≡ None)
 
 -- a denied turn changes neither registers nor bytes, and lists no access
 abbrev pub DeniedTurnsChangeNothing : Type 0
@@ -103,13 +107,14 @@ DeniedTurnsChangeNothing =
     × (bytes_after denies bytes regs ≡ bytes)
     × ((user_turn denies bytes regs).accesses ≡ [])
 
+-- whether an access is a store
 abbrev pub is_store : Access → Bool
 is_store Fetch = false
 is_store Load = false
 is_store Store = true
 
 -- whether an access is a store that covers the byte at an address
-abbrev pub stores_at : ℕ → Touch → Bool
+abbrev pub stores_at : ℕ → MemoryAccess → Bool
 stores_at at t = is_store t.access && (nat_le t.address at && nat_lt at (t.address + width_bytes t.width))
 
 -- a byte that no store of the turn covers is as it was

@@ -1,3 +1,4 @@
+pub mod AtHand
 pub mod Compressed
 pub mod Instructions
 pub mod Laws

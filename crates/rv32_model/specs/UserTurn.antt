@@ -1,7 +1,8 @@
 -- One turn of a process in user mode: RISC-V unprivileged manual, the chapters "RV32I Base Integer
 -- Instruction Set" and "M Standard Extension for Integer Multiplication and Division"; exceptions as in
 -- the privileged manual, "Machine Cause Register".
-use Rattle.std.specs.Prelude.{ℕ, ◌+◌, ◌-◌, ◌*◌, ◌/◌, ◌%◌, ◌^◌, ◌==◌, Bool, not, nat_lt, if◌then◌else◌, List, [], ◌∷◌, ◌++◌, Option, None, Some, Result, Ok, Err, ℤ, pos, ◌*ℤ◌, int_lt, bit_and, bit_or, bit_xor}
+use Rattle.std.specs.Prelude.{ℕ, ◌+◌, ◌-◌, ◌*◌, ◌/◌, ◌%◌, ◌^◌, ◌==◌, Bool, not, nat_lt, if◌then◌else◌, List, [], ◌∷◌}
+use Rattle.std.specs.Prelude.{◌++◌, Option, None, Some, Result, Ok, Err, ℤ, pos, ◌*ℤ◌, int_lt, bit_and, bit_or, bit_xor}
 use Rattle.std.specs.Int.{cast_signed, cast_unsigned, w32, w64, int_shr}
 use Rattle.std.specs.Int.RustNames.{int_div, int_rem}
 use Rattle.tk_base.specs.declared.access.Access.{Access}
@@ -29,7 +30,7 @@ use Rattle.rv32_model.specs.Instructions.{decoding, sign_extended}
 use Rattle.rv32_model.specs.Compressed.{decoding16}
 
 -- one access of a turn
-pub record Touch : Type 0 where
+pub record MemoryAccess : Type 0 where
   pub access : Access
   pub address : ℕ
   pub width : Width
@@ -44,7 +45,7 @@ pub record Write : Type 0 where
 pub record UserTurn : Type 0 where
   pub regs : Registers
   pub write : Option Write
-  pub accesses : List Touch
+  pub accesses : List MemoryAccess
   pub end : TurnEnd
 
 -- the bytes after a turn
@@ -59,6 +60,7 @@ bytes_left turn bytes = after_write turn.write bytes
 abbrev pub w32_of : ℕ → ℕ
 w32_of n = n % 2 ^ 32
 
+-- a denial of an access at an address, by a rule
 abbrev pub denied_at : Access → ℕ → Rule → Denial
 denied_at access address rule = record { access = access; address = address; rule = rule }
 
@@ -75,6 +77,7 @@ judged_parcel at (Some rule) n = Err (denied_at Fetch at rule)
 abbrev pub parcel_at : (Access → ℕ → Width → Option Rule) → (ℕ → ℕ) → ℕ → Result ℕ Denial
 parcel_at denies bytes at = judged_parcel at (denies Fetch at Half) (number_at bytes at Half)
 
+-- a word by its first parcel and what fetching the second one came to
 abbrev pub with_second : ℕ → Result ℕ Denial → Result ℕ Denial
 with_second first (Ok second) = Ok (first + 65536 * second)
 with_second first (Err denial) = Err denial
@@ -94,6 +97,7 @@ fetched denies bytes pc = with_first denies bytes pc (parcel_at denies bytes pc)
 abbrev pub length_of : ℕ → ℕ
 length_of word = if word % 4 == 3 then 4 else 2
 
+-- the instruction of a word, by the 32-bit table where its two lowest bits are set, else by the compressed one
 unfoldable pub instr_of : ℕ → Option Instr
 instr_of word = if word % 4 == 3 then decoding word else decoding16 word
 
@@ -101,17 +105,18 @@ instr_of word = if word % 4 == 3 then decoding word else decoding16 word
 abbrev pub link : ℕ → Registers → ℕ
 link length regs = w32_of (regs.pc + length)
 
-abbrev pub touch_of : Access → ℕ → Width → Touch
+-- an access that is made, of a width at an address
+abbrev pub touch_of : Access → ℕ → Width → MemoryAccess
 touch_of access address width = record { access = access; address = address; width = width }
 
 -- the accesses that fetch an instruction: each parcel is one of its own
-abbrev pub fetches : ℕ → Registers → List Touch
+abbrev pub fetches : ℕ → Registers → List MemoryAccess
 fetches length regs =
     touch_of Fetch regs.pc Half ∷ (if length == 2 then [] else touch_of Fetch (w32_of (regs.pc + 2)) Half ∷ [])
 
 -- a turn that leaves these registers and goes on at an address, and accesses nothing but its instruction
-abbrev pub gone : ℕ → Registers → Registers → ℕ → UserTurn
-gone length regs after to = record {
+abbrev pub going_on_at : ℕ → Registers → Registers → ℕ → UserTurn
+going_on_at length regs after to = record {
   regs = record after { pc = to };
   write = None;
   accesses = fetches length regs;
@@ -120,16 +125,17 @@ gone length regs after to = record {
 
 -- an instruction that only sets a register
 abbrev pub computed : ℕ → Registers → ℕ → ℕ → UserTurn
-computed length regs rd value = gone length regs (with_register regs rd value) (link length regs)
+computed length regs rd value = going_on_at length regs (with_register regs rd value) (link length regs)
 
 -- a jump that sets a register to the address of the instruction after it
 abbrev pub jumped : ℕ → Registers → ℕ → ℕ → UserTurn
-jumped length regs rd to = gone length regs (with_register regs rd (link length regs)) to
+jumped length regs rd to = going_on_at length regs (with_register regs rd (link length regs)) to
 
 -- a value as a signed number, and a signed number modulo 2^32
 abbrev pub signed : ℕ → ℤ
 signed n = cast_signed w32 n
 
+-- a signed number modulo 2^32
 abbrev pub unsigned : ℤ → ℕ
 unsigned n = cast_unsigned w32 n
 
@@ -137,6 +143,7 @@ unsigned n = cast_unsigned w32 n
 abbrev pub upper_half : ℤ → ℕ
 upper_half product = cast_unsigned w64 product / 2 ^ 32
 
+-- 1 where it is so, else 0
 abbrev pub one_if : Bool → ℕ
 one_if b = if b then 1 else 0
 
@@ -171,6 +178,7 @@ is_taken Bge x y = not (int_lt (signed x) (signed y))
 is_taken Bltu x y = nat_lt x y
 is_taken Bgeu x y = not (nat_lt x y)
 
+-- the width of a load
 abbrev pub load_width : LoadKind → Width
 load_width Lb = Byte
 load_width Lh = Half
@@ -186,12 +194,14 @@ loaded Lw n = n
 loaded Lbu n = n % 2 ^ 8
 loaded Lhu n = n % 2 ^ 16
 
+-- the turn of a load that read a number, or that is denied by a rule
 abbrev pub after_load : ℕ → Registers → LoadKind → ℕ → ℕ → ℕ → Option Rule → UserTurn
 after_load length regs kind rd at number None = record (computed length regs rd (loaded kind number)) {
   accesses = fetches length regs ++ (touch_of Load at (load_width kind) ∷ []);
 }
 after_load length regs kind rd at number (Some rule) = trapped regs (denied_at Load at rule)
 
+-- the turn of a store, or of one that is denied by a rule
 abbrev pub after_store : ℕ → Registers → Width → ℕ → ℕ → Option Rule → UserTurn
 after_store length regs width at value None = record {
   regs = record regs { pc = link length regs };
@@ -204,7 +214,7 @@ after_store length regs width at value (Some rule) = trapped regs (denied_at Sto
 -- the effect of a branch by an instruction of a length in bytes
 abbrev pub branch_effect : ℕ → Registers → BranchTest → ℕ → ℕ → ℕ → UserTurn
 branch_effect length regs test rs1 rs2 offset =
-    gone length regs regs
+    going_on_at length regs regs
     (if is_taken test (register regs rs1) (register regs rs2) then w32_of (regs.pc + offset) else link length regs)
 
 -- the effect of a load from an address, and of a store at one, by an instruction of a length in bytes
@@ -213,6 +223,7 @@ load_effect denies bytes length regs kind rd at =
     after_load length regs kind rd at (number_at bytes at (load_width kind))
     (misaligned_first denies Load at (load_width kind))
 
+-- the turn of a store: misaligned is tested before permission
 abbrev pub store_effect : (Access → ℕ → Width → Option Rule) → ℕ → Registers → Width → ℕ → ℕ → UserTurn
 store_effect denies length regs width at value =
     after_store length regs width at value (misaligned_first denies Store at width)
@@ -233,7 +244,7 @@ effect denies bytes length (instrs.OpImm op rd rs1 imm) regs =
     computed length regs rd (operation op (register regs rs1) imm)
 effect denies bytes length (instrs.Op op rd rs1 rs2) regs =
     computed length regs rd (operation op (register regs rs1) (register regs rs2))
-effect denies bytes length instrs.Fence regs = gone length regs regs (link length regs)
+effect denies bytes length instrs.Fence regs = going_on_at length regs regs (link length regs)
 effect denies bytes length instrs.Ecall regs = record {
   regs = regs;
   write = None;
@@ -247,6 +258,7 @@ unfoldable pub executed : (Access → ℕ → Width → Option Rule) → (ℕ �
 executed denies bytes length (Some instr) regs = effect denies bytes length instr regs
 executed denies bytes length None regs = trapped regs (denied_at Fetch regs.pc Illegal)
 
+-- the turn by what fetching came to: the instruction, or a denial
 unfoldable pub on_word : (Access → ℕ → Width → Option Rule) → (ℕ → ℕ) → Result ℕ Denial → Registers → UserTurn
 on_word denies bytes (Ok word) regs = executed denies bytes (length_of word) (instr_of word) regs
 on_word denies bytes (Err denial) regs = trapped regs denial

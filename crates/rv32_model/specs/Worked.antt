@@ -19,5 +19,5 @@ abbrev pub begun : Registers
 begun = record { x = replicate 32 0; pc = 0 }
 
 -- the turn of an instruction there
-abbrev pub turn_of : ℕ → UserTurn
-turn_of word = user_turn only_fetches (byte_of word) begun
+abbrev pub worked_turn_of : ℕ → UserTurn
+worked_turn_of word = user_turn only_fetches (byte_of word) begun

@@ -1,12 +1,19 @@
-//! What an instruction means: the instructions as values, and in `specs/` the table of their bits,
-//! their effects and one whole turn of a process in user mode, with the laws of both. Nothing here
-//! runs.
+//! What an instruction means, and what the interpreter of instructions is generic in. The instructions
+//! stand here as values, and in `specs/` the table of their bits, their effects and one whole turn of a
+//! process in user mode, with the laws of both. The traits are the memory that is fetched from, and what
+//! is done with an instruction once its bits are known.
 #![tactic(auto)]
 
+mod as_value;
+mod fetch_ahead;
+mod handler;
 mod instr;
 mod laws;
 mod turn_end;
 
+pub use as_value::ToInstr;
+pub use fetch_ahead::Prefetch;
+pub use handler::InstrVisitor;
 pub use instr::{BranchTest, Instr, LoadKind, Op};
 pub use laws::{
     accesses_are_permitted, data_is_aligned, denials_are_due, denied_turns_change_nothing,

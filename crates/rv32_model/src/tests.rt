@@ -12,10 +12,10 @@ ghost use Rattle.rv32_model.specs.declared.turn_end.TurnEnd.TheVariants as ends;
 ghost use Rattle.rv32_model.specs.Instructions.{decoding};
 ghost use Rattle.rv32_model.specs.Compressed.{decoding16};
 ghost use Rattle.rv32_model.specs.UserTurn.{loaded, operation};
-ghost use Rattle.rv32_model.specs.Worked.{turn_of};
+ghost use Rattle.rv32_model.specs.Worked.{worked_turn_of};
 
 /// `addi x1, x0, -1`, `sw x5, 40(x2)` and `fence.i`, which this processor does not have.
-#[tactic(auto, unfolding(crate::specs::Instructions::decoding, crate::specs::Instructions::table))]
+#[tactic(auto, unfolding(crate::specs::Instructions::decoding, crate::specs::Instructions::instruction_table))]
 fn words_by_the_table()
     ensures addi { decoding 0xfff00093 ≡ Some (instrs.OpImm ops.Add 1 0 0xffffffff) }
     ensures sw { decoding 0x02512423 ≡ Some (instrs.Store widths.Word 2 5 40) }
@@ -37,15 +37,15 @@ fn values_of_the_manual()
 {}
 
 /// `sw x0, 1(x11)` where nothing may be stored: it is misaligned first. `ecall` leaves pc.
-#[tactic(auto, unfolding(crate::specs::UserTurn::user_turn, crate::specs::UserTurn::on_word, crate::specs::UserTurn::executed, crate::specs::UserTurn::fetched, crate::specs::UserTurn::instr_of, crate::specs::Instructions::decoding, crate::specs::Instructions::table))]
+#[tactic(auto, unfolding(crate::specs::UserTurn::user_turn, crate::specs::UserTurn::on_word, crate::specs::UserTurn::executed, crate::specs::UserTurn::fetched, crate::specs::UserTurn::instr_of, crate::specs::Instructions::decoding, crate::specs::Instructions::instruction_table))]
 fn turns_end()
-    ensures store { (turn_of 0x0005a0a3).end ≡ ends.Trap (record {
+    ensures store { (worked_turn_of 0x0005a0a3).end ≡ ends.Trap (record {
       access = accesses.Store;
       address = 1;
       rule = rules.Misaligned;
     }) }
-    ensures call { (turn_of 0x00000073).end ≡ ends.Call }
-    ensures pc { (turn_of 0x00000073).regs.pc ≡ 0 }
+    ensures call { (worked_turn_of 0x00000073).end ≡ ends.Call }
+    ensures pc { (worked_turn_of 0x00000073).regs.pc ≡ 0 }
 {}
 
 #[test]

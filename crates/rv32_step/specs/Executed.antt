@@ -7,10 +7,10 @@ use Rattle.rv32_model.specs.declared.turn_end.TurnEnd.TheVariants.{Went, Call, T
 use Rattle.rv32_model.specs.UserTurn.{UserTurn, bytes_left}
 
 -- how a turn ended: it went, or it was denied, or it is a system call
-abbrev pub end_of : Bool → Option Denial → TurnEnd
-end_of true denial = Went
-end_of false None = Call
-end_of false (Some denial) = Trap denial
+abbrev pub turn_end_of : Bool → Option Denial → TurnEnd
+turn_end_of true denial = Went
+turn_end_of false None = Call
+turn_end_of false (Some denial) = Trap denial
 
 -- how a load or a store ended, which tells where the next instruction is; and where it is
 abbrev pub access_end : Result ℕ Denial → TurnEnd
@@ -26,7 +26,7 @@ abbrev pub at_pc : Registers → ℕ → Registers
 at_pc regs pc = record regs { pc = pc }
 
 -- registers, bytes and end are those of a turn
-pub record Leaves (turn : UserTurn) (bytes_before : ℕ → ℕ) (regs_after : Registers) (bytes_after : ℕ → ℕ)
+pub record LeavesTurn (turn : UserTurn) (bytes_before : ℕ → ℕ) (regs_after : Registers) (bytes_after : ℕ → ℕ)
     (answer : TurnEnd) : Type 0 where
   pub regs : regs_after ≡ turn.regs
   pub end : answer ≡ turn.end

@@ -2,7 +2,7 @@
 ghost use Rattle.std.specs.Prelude.{◌≡◌, if◌then◌else◌};
 ghost use Rattle.tk_base.specs.declared.access.Rule.TheVariants as rules;
 ghost use Rattle.tk_base.specs.Access.{is_misaligned};
-ghost use Rattle.tk_base.specs.Bus.{answered};
+ghost use Rattle.tk_base.specs.Bus.{unless_denied};
 ghost use Rattle.tk_base.specs.Regs.{register};
 ghost use Rattle.rv32_model.specs.UserTurn.{bytes_left, denied_at, branch_effect, load_effect, store_effect, computed, jumped, load_width, loaded};
 ghost use Rattle.rv32_step.specs.Executed.{access_end, at_pc, next_pc};
@@ -51,7 +51,8 @@ fn extend(kind: LoadKind, number: u32) -> u32
 /// Refuses a misaligned load or store, before the bus is asked.
 #[inline(always)]
 fn require_aligned(access: Access, at: Addr, width: Width) -> Result<(), Rule>
-    ensures { result ≡ answered (if is_misaligned access at width then Some rules.Misaligned else None) tt }
+    ensures { result
+        ≡ unless_denied (if is_misaligned access at width then Some rules.Misaligned else None) tt }
 {
     if access == Access::Fetch || at % width.bytes() == 0 {
         Ok(())
@@ -72,9 +73,11 @@ pub fn load<B: Bus>(
     bus: &B,
 ) -> Result<Addr, Denial>
     ensures regs { at_pc regs.new (next_pc pc result)
-        ≡ (load_effect (B.denies bus.now) (B.bytes bus.now) length (at_pc regs.old pc) kind rd at).regs }
+        ≡ (load_effect (B.denies bus.now) (B.bytes bus.now) length (at_pc regs.old pc) kind rd
+        at).regs }
     ensures end { access_end result
-        ≡ (load_effect (B.denies bus.now) (B.bytes bus.now) length (at_pc regs.old pc) kind rd at).end }
+        ≡ (load_effect (B.denies bus.now) (B.bytes bus.now) length (at_pc regs.old pc) kind rd
+        at).end }
 {
     let width = read_width(kind);
     let answer = match require_aligned(Access::Load, at, width) {
@@ -102,11 +105,14 @@ pub fn store<B: Bus>(
     bus: &mut B,
 ) -> Result<Addr, Denial>
     ensures regs { at_pc regs.now (next_pc pc result)
-        ≡ (store_effect (B.denies bus.old) length (at_pc regs.now pc) width at (register regs.now rs2)).regs }
+        ≡ (store_effect (B.denies bus.old) length (at_pc regs.now pc) width at
+        (register regs.now rs2)).regs }
     ensures end { access_end result
-        ≡ (store_effect (B.denies bus.old) length (at_pc regs.now pc) width at (register regs.now rs2)).end }
-    ensures bytes { let turn = store_effect (B.denies bus.old) length (at_pc regs.now pc) width at (register regs.now rs2) in
-        B.bytes bus.new ≡ bytes_left turn (B.bytes bus.old) }
+        ≡ (store_effect (B.denies bus.old) length (at_pc regs.now pc) width at
+        (register regs.now rs2)).end }
+    ensures bytes { let turn =
+        store_effect (B.denies bus.old) length (at_pc regs.now pc) width at
+        (register regs.now rs2) in B.bytes bus.new ≡ bytes_left turn (B.bytes bus.old) }
     ensures denies { B.denies bus.new ≡ B.denies bus.old }
     ensures frame { B.frame bus.new ≡ B.frame bus.old }
 {
@@ -149,7 +155,8 @@ pub fn branch(
     length: u32,
     regs: &Regs,
 ) -> Addr
-    ensures { at_pc regs.now result ≡ (branch_effect length (at_pc regs.now pc) test rs1 rs2 offset).regs }
+    ensures { at_pc regs.now result
+        ≡ (branch_effect length (at_pc regs.now pc) test rs1 rs2 offset).regs }
 {
     let taken = takes(test, regs.get(rs1), regs.get(rs2));
     pc.wrapping_add(if taken { offset } else { length })

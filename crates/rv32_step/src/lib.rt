@@ -2,24 +2,26 @@
 #![tactic(auto)]
 
 mod execute;
+mod nothing_ahead;
 mod operate;
 mod processor;
 
 ghost use Rattle.std.specs.Prelude.{◌≡◌, ◌≢◌, ◌%◌, ◌<◌, ◌≤◌, ◌^◌, IfOk};
 ghost use Rattle.rv32_model.specs.UserTurn.{user_turn, fetched, parcel_at, bytes_after};
 ghost use Rattle.rv32_model.specs.Stretch.{Goes, Stops};
-ghost use Rattle.rv32_step.specs.Executed.{Leaves, at_pc, end_of};
+ghost use Rattle.rv32_step.specs.Executed.{LeavesTurn, at_pc, turn_end_of};
 ghost use Rattle.rv32_step.specs.Fetched.{Fetches};
 ghost use Rattle.rv32_model.specs.Laws.{MayWrite};
 
 use crate::execute::denial;
+use crate::nothing_ahead::NothingAhead;
 use crate::processor::Hart;
 use rv32_compressed::handle16;
 use rv32_decode::handle32;
+pub use rv32_model::TurnEnd;
 use rv32_model::{
-    TurnEnd, one_is_the_turn, stopped_turns_change_nothing, turns_follow, writes_are_permitted,
+    Prefetch, one_is_the_turn, stopped_turns_change_nothing, turns_follow, writes_are_permitted,
 };
-use rv32_traits::FetchAhead;
 use tk_base::{Access, Addr, Bus, Denial, Regs};
 
 #[inline(always)]
@@ -50,7 +52,7 @@ fn fetch_parcels<B: Bus>(bus: &B, pc: Addr) -> Result<u32, Denial>
 /// The bits of the instruction at pc, and what follows them where it has 16.
 #[inline(always)]
 #[tactic(auto, unfolding(rv32_model::specs::UserTurn::fetched))]
-fn fetch<B: FetchAhead>(bus: &B, pc: Addr) -> Result<u32, Denial>
+fn fetch<B: Prefetch>(bus: &B, pc: Addr) -> Result<u32, Denial>
     ensures { Fetches (fetched (B.denies bus.now) (B.bytes bus.now) pc) result }
 {
     match bus.word(pc) {
@@ -62,10 +64,12 @@ fn fetch<B: FetchAhead>(bus: &B, pc: Addr) -> Result<u32, Denial>
 /// The instruction at pc, as [`turn`] has it, and whether it went.
 #[inline(always)]
 #[tactic(auto, unfolding(rv32_model::specs::UserTurn::user_turn, rv32_model::specs::UserTurn::on_word, rv32_model::specs::UserTurn::instr_of))]
-fn turn_of<B: FetchAhead>(hart: &mut Hart<'_, B>) -> bool
+fn turn_of<B: Prefetch>(hart: &mut Hart<'_, B>) -> bool
     ensures leaves { let bytes = B.bytes hart.old.bus.now in
-        Leaves (user_turn (B.denies hart.old.bus.now) bytes (at_pc hart.old.regs.now hart.old.pc)) bytes
-        (at_pc hart.new.regs.now hart.new.pc) (B.bytes hart.new.bus.now) (end_of result hart.new.denial) }
+        LeavesTurn (user_turn (B.denies hart.old.bus.now) bytes
+        (at_pc hart.old.regs.now hart.old.pc)) bytes
+        (at_pc hart.new.regs.now hart.new.pc) (B.bytes hart.new.bus.now)
+        (turn_end_of result hart.new.denial) }
     ensures denies { B.denies hart.new.bus.now ≡ B.denies hart.old.bus.now }
     ensures frame { B.frame hart.new.bus.now ≡ B.frame hart.old.bus.now }
     ensures regs { hart.new.regs.ghost_name ≡ hart.old.regs.ghost_name }
@@ -95,10 +99,12 @@ pub struct Stretch {
 
 /// As many instructions as go, one after another, at most `most`. It stops before one that makes a system call or is
 /// denied, and says how that one ends: it leaves registers and bytes as they are. Where all went, the end is `Went`.
-pub fn turns<B: FetchAhead>(regs: &mut Regs, bus: &mut B, most: u32) -> Stretch
+pub fn turns<B: Prefetch>(regs: &mut Regs, bus: &mut B, most: u32) -> Stretch
     ensures most { result.went ≤ most }
-    ensures goes { Goes (B.denies bus.old) result.went regs.old (B.bytes bus.old) regs.new (B.bytes bus.new) }
-    ensures stops { Stops (B.denies bus.old) most result.went result.end regs.new (B.bytes bus.new) }
+    ensures goes { Goes (B.denies bus.old) result.went regs.old (B.bytes bus.old) regs.new
+        (B.bytes bus.new) }
+    ensures stops { Stops (B.denies bus.old) most result.went result.end regs.new
+        (B.bytes bus.new) }
     ensures denies { B.denies bus.new ≡ B.denies bus.old }
     ensures frame { B.frame bus.new ≡ B.frame bus.old }
 {
@@ -130,7 +136,7 @@ pub fn turns<B: FetchAhead>(regs: &mut Regs, bus: &mut B, most: u32) -> Stretch
 /// One instruction of the process whose registers these are, 32 or 16 bits long (RISC-V
 /// unprivileged manual). `Call` leaves pc at the `ecall`; a trap leaves registers and bytes as they
 /// were. The answer, the registers and the bytes are those of the definition of a user turn.
-pub fn turn<B: FetchAhead>(regs: &mut Regs, bus: &mut B) -> TurnEnd
+pub fn turn<B: Bus>(regs: &mut Regs, bus: &mut B) -> TurnEnd
     ensures regs { regs.new ≡ (user_turn (B.denies bus.old) (B.bytes bus.old) regs.old).regs }
     ensures end { result ≡ (user_turn (B.denies bus.old) (B.bytes bus.old) regs.old).end }
     ensures bytes { B.bytes bus.new ≡ bytes_after (B.denies bus.old) (B.bytes bus.old) regs.old }
@@ -140,7 +146,8 @@ pub fn turn<B: FetchAhead>(regs: &mut Regs, bus: &mut B) -> TurnEnd
 {
     writes_are_permitted();
     one_is_the_turn();
-    turns(regs, bus, 1).end
+    let mut memory = NothingAhead { bus };
+    turns(regs, &mut memory, 1).end
 }
 
 #[cfg(test)]

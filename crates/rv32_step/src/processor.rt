@@ -1,12 +1,11 @@
 //! A processor that executes an instruction as soon as the decoder knows it.
 ghost use Rattle.std.specs.Prelude.{◌≡◌, true};
 ghost use Rattle.rv32_model.specs.declared.turn_end.TurnEnd.TheVariants.{Trap};
-ghost use Rattle.rv32_step.specs.Executed.{access_end, end_of, next_pc};
+ghost use Rattle.rv32_step.specs.Executed.{access_end, turn_end_of, next_pc};
 
 use crate::execute::{branch, compute, denial, jump, load, store};
 use crate::operate::operate;
-use rv32_model::{BranchTest, LoadKind, Op};
-use rv32_traits::Handler;
+use rv32_model::{BranchTest, InstrVisitor, LoadKind, Op};
 use tk_base::{Access, Addr, Bus, Denial, Regs, Rule, Width};
 
 /// The registers and the bus of a process, and its present instruction.
@@ -27,7 +26,7 @@ impl<B> Hart<'_, B> {
     /// The instruction did not go, since it was denied.
     #[inline(always)]
     pub fn deny(&mut self, denial: Denial) -> bool
-        ensures end { end_of result self.new.denial ≡ Trap denial }
+        ensures end { turn_end_of result self.new.denial ≡ Trap denial }
         ensures pc { self.new.pc ≡ self.old.pc }
         ensures regs { self.new.regs ≡ self.old.regs }
         ensures bus { self.new.bus ≡ self.old.bus }
@@ -51,7 +50,7 @@ impl<B> Hart<'_, B> {
     /// How the instruction ended, after an access that may have been denied.
     #[inline(always)]
     fn after(&mut self, access: Result<Addr, Denial>) -> bool
-        ensures end { end_of result self.new.denial ≡ access_end access }
+        ensures end { turn_end_of result self.new.denial ≡ access_end access }
         ensures pc { self.new.pc ≡ next_pc self.old.pc access }
         ensures regs { self.new.regs ≡ self.old.regs }
         ensures bus { self.new.bus ≡ self.old.bus }
@@ -65,16 +64,18 @@ impl<B> Hart<'_, B> {
 
 /// A denied load or store, a breakpoint and bits that are no instruction leave registers and bytes as they
 /// were; a system call leaves pc at its address.
-impl<B: Bus> Handler for Hart<'_, B> {
+impl<B: Bus> InstrVisitor for Hart<'_, B> {
     ghost use Rattle.rv32_model.specs.UserTurn.{executed};
-    ghost use Rattle.rv32_step.specs.Executed.{Leaves, at_pc, end_of};
+    ghost use Rattle.rv32_step.specs.Executed.{LeavesTurn, at_pc, turn_end_of};
 
     type Answer = bool;
 
     ghost handles = { λ before instr went after.
         let bytes = B.bytes before.bus.now in
-        let turn = executed (B.denies before.bus.now) bytes before.length instr (at_pc before.regs.now before.pc) in
-        Leaves turn bytes (at_pc after.regs.now after.pc) (B.bytes after.bus.now) (end_of went after.denial)
+        let turn = executed (B.denies before.bus.now) bytes before.length instr
+        (at_pc before.regs.now before.pc) in
+        LeavesTurn turn bytes (at_pc after.regs.now after.pc) (B.bytes after.bus.now)
+        (turn_end_of went after.denial)
         × (B.denies after.bus.now ≡ B.denies before.bus.now)
         × (B.frame after.bus.now ≡ B.frame before.bus.now)
         × (after.regs.ghost_name ≡ before.regs.ghost_name)

@@ -64,7 +64,7 @@ impl Bus for SmallMemory {
     }
 }
 
-impl FetchAhead for SmallMemory {
+impl Prefetch for SmallMemory {
     fn word(&self, at: Addr) -> Option<u32> {
         if at > 28 {
             return None;
@@ -136,9 +136,9 @@ fn a_store_is_read_back_with_its_sign(rt: HostRuntime) {
     ]);
     let mut regs = Regs::at(0);
     regs.set(5, 0x80ff_7f01);
-    for _ in 0..6 {
-        assert_eq!(rt; turn(&mut regs, &mut memory), TurnEnd::Went);
-    }
+    let stretch = turns(&mut regs, &mut memory, 6);
+    assert_eq!(rt; stretch.went, 6);
+    assert_eq!(rt; stretch.end, TurnEnd::Went);
     for (n, value) in [
         (6, 0xffff_ff80),
         (7, 0x80),

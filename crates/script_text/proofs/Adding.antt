@@ -1,10 +1,9 @@
 -- What is kept of one more line.
 use Rattle.std.proofs.Common.{◌≡◌, ℕ, true, false, List, [], ◌∷◌, ◌++◌, Some, None, refl, sym, ap, subst, ◌∙◌}
-use Rattle.script_text.specs.declared.draft.Draft.{Draft}
 use Rattle.script_text.specs.declared.rule.ScriptRule.TheVariants.{Repeated, Order, TooMany}
 use Rattle.script_text.specs.declared.table.Line.{Line}
 use Rattle.script_text.specs.Alone.{IsLine}
-use Rattle.script_text.specs.Progress.{Made, said_by, with_line}
+use Rattle.script_text.specs.Progress.{Drafted, DraftSays, with_line}
 use Rattle.script_text.specs.Rules.{broken, skips, disorders, exceeds}
 use Rattle.script_text.specs.Said.{settings}
 use Rattle.script_text.specs.Seats.{stood_at, stood_after}
@@ -15,7 +14,8 @@ use Rattle.script_text.proofs.Said.{stood_is, settings_with, stood_with, setting
 use Rattle.script_text.proofs.Sound.{sound_with}
 
 -- a line that is skipped says nothing
-pub adds_skipped : (before : List (List ℕ)) (text : List ℕ) (d : Draft) → skips (words text) ≡ true → Made before d → (broken before text ≡ None) × Made (before ++ text ∷ []) d
+pub adds_skipped : (before : List (List ℕ)) (text : List ℕ) (d : Drafted) → skips (words text) ≡ true
+    → DraftSays before d → (broken before text ≡ None) × DraftSays (before ++ text ∷ []) d
 adds_skipped before text d h m = (
   skipped_is_whole before text h,
   record {
@@ -26,24 +26,38 @@ adds_skipped before text d h m = (
 )
 
 -- the rules that look at the lines before, by what is kept of them
-broken_where : (before : List (List ℕ)) (text : List ℕ) (line : Line) (d : Draft) → IsLine (words text) line → Made before d → broken before text ≡ last_of (stood_at line d.stood) (disorders line (said_by d) (words text)) (exceeds line (said_by d) (words text))
+broken_where : (before : List (List ℕ)) (text : List ℕ) (line : Line) (d : Drafted) → IsLine (words text) line
+    → DraftSays before d
+    → broken before text
+    ≡ last_of (stood_at line d.stood) (disorders line d.said (words text)) (exceeds line d.said (words text))
 broken_where before text line d h m =
     broken_after before text line h
-    ∙ (ap (λ again. last_of again (disorders line (settings before) (words text)) (exceeds line (settings before) (words text))) (sym (stood_is line before) ∙ ap (stood_at line) (sym m.stood))
-    ∙ ap (λ s. last_of (stood_at line d.stood) (disorders line s (words text)) (exceeds line s (words text))) (sym m.said))
+    ∙ (ap (λ again.
+    last_of again (disorders line (settings before) (words text)) (exceeds line (settings before) (words text)))
+    (sym (stood_is line before) ∙ ap (stood_at line) (sym m.stood))
+    ∙ ap (λ s. last_of (stood_at line d.stood) (disorders line s (words text)) (exceeds line s (words text)))
+    (sym m.said))
 
-pub is_repeated : (before : List (List ℕ)) (text : List ℕ) (line : Line) (d : Draft) → IsLine (words text) line → Made before d → stood_at line d.stood ≡ true → broken before text ≡ Some Repeated
+pub is_repeated : (before : List (List ℕ)) (text : List ℕ) (line : Line) (d : Drafted) → IsLine (words text) line
+    → DraftSays before d → stood_at line d.stood ≡ true → broken before text ≡ Some Repeated
 is_repeated before text line d h m again = broken_where before text line d h m ∙ rw again refl
 
-pub is_disordered : (before : List (List ℕ)) (text : List ℕ) (line : Line) (d : Draft) → IsLine (words text) line → Made before d → stood_at line d.stood ≡ false → disorders line (said_by d) (words text) ≡ true → broken before text ≡ Some Order
+pub is_disordered : (before : List (List ℕ)) (text : List ℕ) (line : Line) (d : Drafted) → IsLine (words text) line
+    → DraftSays before d → stood_at line d.stood ≡ false → disorders line d.said (words text) ≡ true
+    → broken before text ≡ Some Order
 is_disordered before text line d h m again order = broken_where before text line d h m ∙ rw (again, order) refl
 
-pub is_too_much : (before : List (List ℕ)) (text : List ℕ) (line : Line) (d : Draft) → IsLine (words text) line → Made before d → stood_at line d.stood ≡ false → disorders line (said_by d) (words text) ≡ false → exceeds line (said_by d) (words text) ≡ true → broken before text ≡ Some TooMany
+pub is_too_much : (before : List (List ℕ)) (text : List ℕ) (line : Line) (d : Drafted) → IsLine (words text) line
+    → DraftSays before d → stood_at line d.stood ≡ false → disorders line d.said (words text) ≡ false
+    → exceeds line d.said (words text) ≡ true → broken before text ≡ Some TooMany
 is_too_much before text line d h m again order many = broken_where before text line d h m ∙ rw (again, order, many) refl
 
 -- a line that breaks none is said
-pub adds_line : (before : List (List ℕ)) (text : List ℕ) (line : Line) (d e : Draft) → IsLine (words text) line → Made before d → stood_at line d.stood ≡ false → disorders line (said_by d) (words text) ≡ false → exceeds line (said_by d) (words text) ≡ false
-    → said_by e ≡ with_line line (words text) (said_by d) → e.stood ≡ stood_after line d.stood → (broken before text ≡ None) × Made (before ++ text ∷ []) e
+pub adds_line : (before : List (List ℕ)) (text : List ℕ) (line : Line) (d e : Drafted) → IsLine (words text) line
+    → DraftSays before d → stood_at line d.stood ≡ false → disorders line d.said (words text) ≡ false
+    → exceeds line d.said (words text) ≡ false
+    → e.said ≡ with_line line (words text) d.said → e.stood ≡ stood_after line d.stood
+    → (broken before text ≡ None) × DraftSays (before ++ text ∷ []) e
 adds_line before text line d e h m again order many said stood =
     let single = sym (stood_is line before) ∙ (ap (stood_at line) (sym m.stood) ∙ again) in
     let new = settings_with line before text h.is single in (
@@ -51,6 +65,8 @@ adds_line before text line d e h m again order many said stood =
       record {
         said = said ∙ (ap (with_line line (words text)) m.said ∙ sym new);
         stood = stood ∙ (ap (stood_after line) m.stood ∙ sym (stood_with line before text h.is));
-        sound = subst AreSound (sym new) (sound_with line text (settings before) h (ap (λ s. disorders line s (words text)) (sym m.said) ∙ order) (ap (λ s. exceeds line s (words text)) (sym m.said) ∙ many) m.sound);
+        sound = subst AreSound (sym new) (sound_with line text (settings before) h
+            (ap (λ s. disorders line s (words text)) (sym m.said) ∙ order)
+            (ap (λ s. exceeds line s (words text)) (sym m.said) ∙ many) m.sound);
       },
     )

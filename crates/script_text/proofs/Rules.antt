@@ -1,12 +1,15 @@
 -- The first rule that a line breaks, from what was found of it.
-use Rattle.std.proofs.Common.{◌≡◌, ◌==◌, ◌&&◌, ℕ, Bool, true, false, cond, not, List, ◌∷◌, slice_index, Option, Some, None, is_none, refl, sym, ap, ◌∙◌}
+use Rattle.std.proofs.Common.{◌≡◌, ◌==◌, ◌&&◌, ℕ, Bool, true, false, cond, not, List, ◌∷◌, slice_index, Option, Some}
+use Rattle.std.proofs.Common.{None, is_none, refl, sym, ap, ◌∙◌}
 use Rattle.std.specs.Option.{option_map_or}
 use Rattle.script_text.specs.declared.rule.ScriptRule.{ScriptRule}
-use Rattle.script_text.specs.declared.rule.ScriptRule.TheVariants.{UnknownWord, Words, BadNumber, BadHex, OutOfRange, Repeated, Order, TooMany}
+use Rattle.script_text.specs.declared.rule.ScriptRule.TheVariants.{UnknownWord, Words, BadNumber, BadHex, OutOfRange}
+use Rattle.script_text.specs.declared.rule.ScriptRule.TheVariants.{Repeated, Order, TooMany}
 use Rattle.script_text.specs.declared.table.Form.{Form}
 use Rattle.script_text.specs.declared.table.Line.{Line}
 use Rattle.script_text.specs.Alone.{IsLine, broken_alone}
-use Rattle.script_text.specs.Rules.{skips, miscounts, misspells, has_bad_hex, is_outside, is_single, disorders, exceeds, breaks_rule, broken}
+use Rattle.script_text.specs.Rules.{skips, miscounts, misspells, has_bad_hex, is_outside, is_single, disorders, exceeds}
+use Rattle.script_text.specs.Rules.{breaks_rule, broken}
 use Rattle.script_text.specs.Said.{settings, stands}
 use Rattle.script_text.specs.Table.{row, line_of}
 use Rattle.script_text.specs.Text.{words}
@@ -14,13 +17,26 @@ use Rattle.script_text.specs.Text.{words}
 -- the first of the rules that a line breaks, from the tests of all of them
 abbrev first_of : Bool → Bool → Bool → Bool → Bool → Bool → Bool → Bool → Bool → Option ScriptRule
 first_of skipped unknown counts spells hex outside again order many =
-    cond (not skipped && unknown) (Some UnknownWord) (cond (not skipped && counts) (Some Words) (cond (not skipped && spells) (Some BadNumber) (cond (not skipped && hex) (Some BadHex) (cond (not skipped && outside) (Some OutOfRange) (cond (not skipped && again) (Some Repeated) (cond (not skipped && order) (Some Order) (cond (not skipped && many) (Some TooMany) None)))))))
+    cond (not skipped && unknown) (Some UnknownWord)
+    (cond (not skipped && counts) (Some Words)
+    (cond (not skipped && spells) (Some BadNumber)
+    (cond (not skipped && hex) (Some BadHex)
+    (cond (not skipped && outside) (Some OutOfRange)
+    (cond (not skipped && again) (Some Repeated)
+    (cond (not skipped && order) (Some Order) (cond (not skipped && many) (Some TooMany) None)))))))
 
 abbrev broken_at : List (List ℕ) → List (List ℕ) → Bool → Option Line → Option ScriptRule
 broken_at before ws skipped line =
-    first_of skipped (is_none line) (option_map_or (breaks_rule Words before ws) line false) (option_map_or (breaks_rule BadNumber before ws) line false) (option_map_or (breaks_rule BadHex before ws) line false) (option_map_or (breaks_rule OutOfRange before ws) line false) (option_map_or (breaks_rule Repeated before ws) line false) (option_map_or (breaks_rule Order before ws) line false) (option_map_or (breaks_rule TooMany before ws) line false)
+    first_of skipped (is_none line) (option_map_or (breaks_rule Words before ws) line false)
+    (option_map_or (breaks_rule BadNumber before ws) line false)
+    (option_map_or (breaks_rule BadHex before ws) line false)
+    (option_map_or (breaks_rule OutOfRange before ws) line false)
+    (option_map_or (breaks_rule Repeated before ws) line false)
+    (option_map_or (breaks_rule Order before ws) line false)
+    (option_map_or (breaks_rule TooMany before ws) line false)
 
-broken_is : (before : List (List ℕ)) (text : List ℕ) → broken before text ≡ broken_at before (words text) (skips (words text)) (line_of (words text))
+broken_is : (before : List (List ℕ)) (text : List ℕ)
+    → broken before text ≡ broken_at before (words text) (skips (words text)) (line_of (words text))
 unfolding broken
 broken_is before text = refl
 
@@ -29,26 +45,41 @@ breaks_none u c s h o a r m = refl
 
 -- a line that is skipped breaks no rule
 pub skipped_is_whole : (before : List (List ℕ)) (text : List ℕ) → skips (words text) ≡ true → broken before text ≡ None
-skipped_is_whole before text h = broken_is before text ∙ ap (λ s. broken_at before (words text) s (line_of (words text))) h
+skipped_is_whole before text h =
+    broken_is before text ∙ ap (λ s. broken_at before (words text) s (line_of (words text))) h
 
 -- the rules that a line of the table may break
-broken_by : (before : List (List ℕ)) (text : List ℕ) (line : Line) → skips (words text) ≡ false → line_of (words text) ≡ Some line
-    → broken before text ≡ first_of false false (miscounts (row line).form (words text)) (misspells (row line).form (words text)) (has_bad_hex (row line).form (words text)) (is_outside (row line).form (words text)) (is_single line && stands line before) (disorders line (settings before) (words text)) (exceeds line (settings before) (words text))
-broken_by before text line s l = broken_is before text ∙ (ap (λ b. broken_at before (words text) b (line_of (words text))) s ∙ ap (broken_at before (words text) false) l)
+broken_by : (before : List (List ℕ)) (text : List ℕ) (line : Line) → skips (words text) ≡ false
+    → line_of (words text) ≡ Some line
+    → broken before text
+    ≡ first_of false false (miscounts (row line).form (words text)) (misspells (row line).form (words text))
+    (has_bad_hex (row line).form (words text)) (is_outside (row line).form (words text))
+    (is_single line && stands line before) (disorders line (settings before) (words text))
+    (exceeds line (settings before) (words text))
+broken_by before text line s l =
+    broken_is before text
+    ∙ (ap (λ b. broken_at before (words text) b (line_of (words text))) s ∙ ap (broken_at before (words text) false) l)
 
 -- what is known of a line that begins with a word and is not skipped
-goes_on : (ws : List (List ℕ)) (w : List ℕ) (rest : List (List ℕ)) → ws ≡ w ∷ rest → (slice_index w 0 == 35) ≡ false → skips ws ≡ false
+goes_on : (ws : List (List ℕ)) (w : List ℕ) (rest : List (List ℕ)) → ws ≡ w ∷ rest → (slice_index w 0 == 35) ≡ false
+    → skips ws ≡ false
 goes_on ws w rest h e = ap skips h ∙ e
 
-pub unknown_word : (text w : List ℕ) (rest : List (List ℕ)) → words text ≡ w ∷ rest → (slice_index w 0 == 35) ≡ false → line_of (words text) ≡ None → (before : List (List ℕ)) → broken before text ≡ Some UnknownWord
+pub unknown_word : (text w : List ℕ) (rest : List (List ℕ)) → words text ≡ w ∷ rest → (slice_index w 0 == 35) ≡ false
+    → line_of (words text) ≡ None → (before : List (List ℕ)) → broken before text ≡ Some UnknownWord
 unknown_word text w rest h e l before =
-    broken_is before text ∙ (ap (λ b. broken_at before (words text) b (line_of (words text))) (goes_on _ w rest h e) ∙ ap (broken_at before (words text) false) l)
+    broken_is before text
+    ∙ (ap (λ b. broken_at before (words text) b (line_of (words text))) (goes_on _ w rest h e)
+    ∙ ap (broken_at before (words text) false) l)
 
 -- the rules that look at the line alone come first
 abbrev alone_of : Bool → Bool → Bool → Bool → Option ScriptRule
-alone_of counts spells hex outside = cond counts (Some Words) (cond spells (Some BadNumber) (cond hex (Some BadHex) (cond outside (Some OutOfRange) None)))
+alone_of counts spells hex outside =
+    cond counts (Some Words) (cond spells (Some BadNumber)
+    (cond hex (Some BadHex) (cond outside (Some OutOfRange) None)))
 
-come_first : (c s h o a r m : Bool) (rule : ScriptRule) → alone_of c s h o ≡ Some rule → first_of false false c s h o a r m ≡ Some rule
+come_first : (c s h o a r m : Bool) (rule : ScriptRule) → alone_of c s h o ≡ Some rule
+    → first_of false false c s h o a r m ≡ Some rule
 come_first true s h o a r m rule e = e
 come_first false true h o a r m rule e = e
 come_first false false true o a r m rule e = e
@@ -62,21 +93,32 @@ breaks_no false false true o e = cc
 breaks_no false false false true e = cc
 breaks_no false false false false e = (refl, refl, refl, refl)
 
-pub bad_alone : (text w : List ℕ) (rest : List (List ℕ)) (line : Line) (form : Form) (rule : ScriptRule) → words text ≡ w ∷ rest → (slice_index w 0 == 35) ≡ false → line_of (words text) ≡ Some line → form ≡ (row line).form → broken_alone form (words text) ≡ Some rule → (before : List (List ℕ)) → broken before text ≡ Some rule
+pub bad_alone : (text w : List ℕ) (rest : List (List ℕ)) (line : Line) (form : Form) (rule : ScriptRule)
+    → words text ≡ w ∷ rest → (slice_index w 0 == 35) ≡ false → line_of (words text) ≡ Some line
+    → form ≡ (row line).form → broken_alone form (words text) ≡ Some rule → (before : List (List ℕ))
+    → broken before text ≡ Some rule
 bad_alone text w rest line form rule h e l f b before =
-    broken_by before text line (goes_on _ w rest h e) l ∙ come_first _ _ _ _ _ _ _ rule (ap (λ k. broken_alone k (words text)) (sym f) ∙ b)
+    broken_by before text line (goes_on _ w rest h e) l
+    ∙ come_first _ _ _ _ _ _ _ rule (ap (λ k. broken_alone k (words text)) (sym f) ∙ b)
 
-pub good_alone : (text w : List ℕ) (rest : List (List ℕ)) (line : Line) (form : Form) → words text ≡ w ∷ rest → (slice_index w 0 == 35) ≡ false → line_of (words text) ≡ Some line → form ≡ (row line).form → broken_alone form (words text) ≡ None → IsLine (words text) line
+pub good_alone : (text w : List ℕ) (rest : List (List ℕ)) (line : Line) (form : Form) → words text ≡ w ∷ rest
+    → (slice_index w 0 == 35) ≡ false → line_of (words text) ≡ Some line → form ≡ (row line).form
+    → broken_alone form (words text) ≡ None → IsLine (words text) line
 good_alone text w rest line form h e l f b =
     let ws = words text in
-    let none = breaks_no (miscounts (row line).form ws) (misspells (row line).form ws) (has_bad_hex (row line).form ws) (is_outside (row line).form ws) (ap (λ k. broken_alone k ws) (sym f) ∙ b) in
+    let none = breaks_no (miscounts (row line).form ws) (misspells (row line).form ws) (has_bad_hex (row line).form ws)
+    (is_outside (row line).form ws) (ap (λ k. broken_alone k ws) (sym f) ∙ b) in
     record { goes_on = goes_on _ w rest h e; is = l; counted = none.0; spelled = none.1; hex = none.2; within = none.3 }
 
 -- a line of the table breaks one of the rules that look at those before it, or none
 abbrev pub last_of : Bool → Bool → Bool → Option ScriptRule
 last_of again order many = cond again (Some Repeated) (cond order (Some Order) (cond many (Some TooMany) None))
 
-pub broken_after : (before : List (List ℕ)) (text : List ℕ) (line : Line) → IsLine (words text) line → broken before text ≡ last_of (is_single line && stands line before) (disorders line (settings before) (words text)) (exceeds line (settings before) (words text))
-broken_after before text line h = broken_by before text line h.goes_on h.is ∙ rw (h.counted, h.spelled, h.hex, h.within) refl
+pub broken_after : (before : List (List ℕ)) (text : List ℕ) (line : Line) → IsLine (words text) line
+    → broken before text
+    ≡ last_of (is_single line && stands line before) (disorders line (settings before) (words text))
+    (exceeds line (settings before) (words text))
+broken_after before text line h =
+    broken_by before text line h.goes_on h.is ∙ rw (h.counted, h.spelled, h.hex, h.within) refl
 
 pub ruleset refusals = (unknown_word, bad_alone, good_alone)

@@ -1,5 +1,7 @@
 -- Settings stay in their ranges, and lists in their order.
-use Rattle.std.proofs.Common.{◌≡◌, ◌≤◌, ◌<◌, ◌+◌, ◌-◌, ◌/◌, ◌||◌, not, nat_lt, nat_le, ℕ, Bool, true, false, cond, List, [], ◌∷◌, ◌++◌, map, length, find, drop, slice_index, Option, Some, None, is_some, inl, inr, refl, sym, ap, subst, ◌∙◌, arith, length-append}
+use Rattle.std.proofs.Common.{◌≡◌, ◌≤◌, ◌<◌, ◌+◌, ◌-◌, ◌/◌, ◌||◌, not, nat_lt, nat_le, ℕ, Bool, true, false, cond, List}
+use Rattle.std.proofs.Common.{[], ◌∷◌, ◌++◌, map, length, find, drop, slice_index, Option, Some, None, is_some, inl}
+use Rattle.std.proofs.Common.{inr, refl, sym, ap, subst, ◌∙◌, arith, length-append}
 use Rattle.std.proofs.lemmas.Bool.{eqb-true, ltb-false, leb-false}
 use Rattle.std.proofs.lemmas.Bool.Decides.{nat_tests}
 use Rattle.std.proofs.lemmas.Bool.{cases_lt}
@@ -7,16 +9,20 @@ use Rattle.std.proofs.lemmas.List.{get_or_append_left, get_or-append-add, drop_m
 use Rattle.std.proofs.lemmas.List.Elements.{All-append, All-cons, All-nil, filter_passes}
 use Rattle.std.specs.List.{slice_split}
 use Rattle.tk_base.specs.Limits.{IsRamSize}
+use Rattle.tk_base.specs.declared.limits.TheConstants.{BYTE_TICKS_LIMIT, EVENT_LIMIT, FAULT_LIMIT, INPUT_LIMIT}
+use Rattle.tk_base.specs.declared.limits.TheConstants.{LED_LIMIT, RAM_LEAST, RAM_LIMIT, RAM_UNIT, SLICE_LIMIT}
+use Rattle.tk_base.specs.declared.limits.TheConstants.{STORAGE_LIMIT, WORD_LIMIT}
 use Rattle.fault_policy.specs.declared.Policy.TheVariants as policies
 use Rattle.decimal_number.specs.Number.{number}
 use Rattle.script_text.specs.declared.table.Line.{Line}
-use Rattle.script_text.specs.declared.table.Line.TheVariants.{Ram, Leds, Slice, Start, Uart, Storage, Stop, Restart, Threshold, StorageFault, Random, Input}
+use Rattle.script_text.specs.declared.table.Line.TheVariants.{Ram, Leds, Slice, Start, Uart, Storage, Stop, Restart}
+use Rattle.script_text.specs.declared.table.Line.TheVariants.{Threshold, StorageFault, Random, Input}
 use Rattle.script_text.specs.Alone.{IsLine}
 use Rattle.script_text.specs.Progress.{with_line, stood_in}
 use Rattle.script_text.specs.Rules.{disorders, exceeds, is_hex}
 use Rattle.script_text.specs.Said.{settings, lines_of, last, hex_word, hex_bytes}
-use Rattle.script_text.specs.Settings.{Settings, Event, AreSound, AreFaults, AreEvents, NeverFalls}
-use Rattle.script_text.specs.Table.{permits}
+use Rattle.script_text.specs.Settings.{ScriptSettings, ScriptEvent, AreSound, AreFaults, AreEvents, NeverFalls}
+use Rattle.script_text.specs.Table.{in_range}
 use Rattle.script_text.specs.Text.{words, word, is_blank, is_empty}
 use Rattle.script_text.proofs.HexDigits.{length-hex_bytes}
 
@@ -24,13 +30,19 @@ permitted : (b : Bool) → not b ≡ false → b ≡ true
 permitted true h = refl
 permitted false h = cc
 
-ram_size : (n : ℕ) → permits (record { least = 4096; most = 262144; multiple = 1024 }) n ≡ true → IsRamSize n
-ram_size n h = record { least = grind (arith, nat_tests); most = grind (arith, nat_tests); multiple = grind (arith, nat_tests) }
+ram_size : (n : ℕ) → in_range (record { least = RAM_LEAST; most = RAM_LIMIT; multiple = RAM_UNIT }) n ≡ true
+    → IsRamSize n
+ram_size n h = record {
+  least = grind (arith, nat_tests);
+  most = grind (arith, nat_tests);
+  multiple =
+      grind (arith, nat_tests);
+}
 
-at_least : (least most n : ℕ) → permits (record { least = least; most = most; multiple = 1 }) n ≡ true → least ≤ n
+at_least : (least most n : ℕ) → in_range (record { least = least; most = most; multiple = 1 }) n ≡ true → least ≤ n
 at_least least most n h = grind (arith, nat_tests)
 
-at_most : (least most n : ℕ) → permits (record { least = least; most = most; multiple = 1 }) n ≡ true → n ≤ most
+at_most : (least most n : ℕ) → in_range (record { least = least; most = most; multiple = 1 }) n ≡ true → n ≤ most
 at_most least most n h = grind (arith, nat_tests)
 
 neither : (a b : Bool) → (a || b) ≡ false → (a ≡ false) × (b ≡ false)
@@ -39,40 +51,50 @@ neither true b h = cc
 
 -- the number that is put behind others, and those before it
 at_end : (xs : List ℕ) (x i : ℕ) → i ≡ length xs → slice_index (xs ++ x ∷ []) i ≡ x
-at_end xs x i h = let e : i ≡ length xs + 0 = omega arith in ap (slice_index (xs ++ x ∷ [])) e ∙ get_or-append-add xs (x ∷ []) 0 0
+at_end xs x i h = let e : i ≡ length xs + 0 = omega arith in
+    ap (slice_index (xs ++ x ∷ [])) e ∙ get_or-append-add xs (x ∷ []) 0 0
 
 before_end : (xs : List ℕ) (x i : ℕ) → i < length xs → slice_index (xs ++ x ∷ []) i ≡ slice_index xs i
 before_end xs x i h = get_or_append_left xs (x ∷ []) 0 i h
 
 -- what holds of neighbours holds with one number more
-neighbours : (R : ℕ → ℕ → Type 0) (xs : List ℕ) (x : ℕ) → ((i : ℕ) → i + 1 < length xs → R (slice_index xs i) (slice_index xs (i + 1))) → (0 < length xs → R (last xs) x) → (i : ℕ) → i + 1 < length (xs ++ x ∷ []) → R (slice_index (xs ++ x ∷ []) i) (slice_index (xs ++ x ∷ []) (i + 1))
+neighbours : (R : ℕ → ℕ → Type 0) (xs : List ℕ) (x : ℕ)
+    → ((i : ℕ) → i + 1 < length xs → R (slice_index xs i) (slice_index xs (i + 1))) → (0 < length xs → R (last xs) x)
+    → (i : ℕ) → i + 1 < length (xs ++ x ∷ []) → R (slice_index (xs ++ x ∷ []) i) (slice_index (xs ++ x ∷ []) (i + 1))
 neighbours R xs x all new i l =
     let whole = length-append xs (x ∷ []) in
     elim (cases_lt (i + 1) (length xs)) [
-      | inl below ↦ subst (λ n. R n (slice_index (xs ++ x ∷ []) (i + 1))) (sym (before_end xs x i (omega arith))) (subst (R (slice_index xs i)) (sym (before_end xs x (i + 1) below)) (all i below))
+      | inl below ↦ subst (λ n. R n (slice_index (xs ++ x ∷ []) (i + 1))) (sym (before_end xs x i (omega arith)))
+          (subst (R (slice_index xs i)) (sym (before_end xs x (i + 1) below)) (all i below))
       | inr top ↦
           let here : i ≡ length xs - 1 = omega arith in
           let next : i + 1 ≡ length xs = omega arith in
-          subst (λ n. R n (slice_index (xs ++ x ∷ []) (i + 1))) (sym (before_end xs x i (omega arith))) (subst (R (slice_index xs i)) (sym (at_end xs x (i + 1) next)) (subst (λ n. R (slice_index xs n) x) (sym here) (new (omega arith))))
+          subst (λ n. R n (slice_index (xs ++ x ∷ []) (i + 1))) (sym (before_end xs x i (omega arith)))
+          (subst (R (slice_index xs i)) (sym (at_end xs x (i + 1) next))
+          (subst (λ n. R (slice_index xs n) x) (sym here) (new (omega arith))))
     ]
 
-faults_more : (ks : List ℕ) (k : ℕ) → 1 ≤ k → nat_le 64 (length ks) ≡ false → nat_le k (last ks) ≡ false → AreFaults ks → AreFaults (ks ++ k ∷ [])
+faults_more : (ks : List ℕ) (k : ℕ) → 1 ≤ k → nat_le FAULT_LIMIT (length ks) ≡ false → nat_le k (last ks) ≡ false
+    → AreFaults ks → AreFaults (ks ++ k ∷ [])
 faults_more ks k some few above h = record {
-  few = omega (arith, length-append ks (k ∷ []), leb-false 64 (length ks) few);
+  few = omega (arith, length-append ks (k ∷ []), leb-false FAULT_LIMIT (length ks) few);
   least = All-append (λ n. 1 ≤ n) ks (k ∷ []) h.least (All-cons (λ n. 1 ≤ n) k [] some (All-nil (λ n. 1 ≤ n)));
   rising = neighbours (λ a b. a < b) ks k h.rising (λ n. omega (arith, leb-false k (last ks) above));
 }
 
 -- the bytes of an event
-abbrev has_bytes : Event → Type 0
-has_bytes e = (1 ≤ length e.bytes) × (length e.bytes ≤ 64)
+abbrev has_bytes : ScriptEvent → Type 0
+has_bytes e = (1 ≤ length e.bytes) × (length e.bytes ≤ INPUT_LIMIT)
 
-events_more : (es : List Event) (e : Event) → 1 ≤ length e.bytes → length e.bytes ≤ 64 → nat_le 4096 (length es) ≡ false → nat_lt e.time (last (map (λ v. v.time) es)) ≡ false → AreEvents es → AreEvents (es ++ e ∷ [])
+events_more : (es : List ScriptEvent) (e : ScriptEvent) → 1 ≤ length e.bytes → length e.bytes ≤ INPUT_LIMIT
+    → nat_le EVENT_LIMIT (length es) ≡ false → nat_lt e.time (last (map (λ v. v.time) es)) ≡ false → AreEvents es
+    → AreEvents (es ++ e ∷ [])
 events_more es e some most few after h =
-    let times = neighbours (λ a b. a ≤ b) (map (λ (v : Event). v.time) es) e.time h.in_time (λ n. omega (arith, ltb-false e.time (last (map (λ (v : Event). v.time) es)) after)) in
+    let times = neighbours (λ a b. a ≤ b) (map (λ (v : ScriptEvent). v.time) es) e.time h.in_time
+    (λ n. omega (arith, ltb-false e.time (last (map (λ (v : ScriptEvent). v.time) es)) after)) in
     record {
-      few = omega (arith, length-append es (e ∷ []), leb-false 4096 (length es) few);
-      in_time = subst NeverFalls (sym (map-append (λ (v : Event). v.time) es (e ∷ []))) times;
+      few = omega (arith, length-append es (e ∷ []), leb-false EVENT_LIMIT (length es) few);
+      in_time = subst NeverFalls (sym (map-append (λ (v : ScriptEvent). v.time) es (e ∷ []))) times;
       bytes = All-append has_bytes es (e ∷ []) h.bytes (All-cons has_bytes e [] (some, most) (All-nil has_bytes));
     }
 
@@ -83,49 +105,225 @@ filled_by (b ∷ w) h = omega arith
 
 filled : (text : List ℕ) (n : ℕ) → n < length (words text) → 1 ≤ length (word (words text) n)
 unfolding words
-filled text n l = filled_by (word (words text) n) (filter_passes (λ w. not (is_empty w)) (slice_split is_blank text) n [] l)
+filled text n l =
+    filled_by (word (words text) n) (filter_passes (λ w. not (is_empty w)) (slice_split is_blank text) n [] l)
 
 -- the first of some words is hex where none is not
 first_hex : (p : Bool) (w : List ℕ) (rest : Option (List ℕ)) → is_some (cond (not p) (Some w) rest) ≡ false → p ≡ true
 first_hex true w rest h = refl
 first_hex false w rest h = cc
 
-hex_at : (ws : List (List ℕ)) → length ws ≡ 4 → is_some (find (λ w. not (is_hex None w)) (drop 3 ws)) ≡ false → is_hex None (word ws 3) ≡ true
+hex_at : (ws : List (List ℕ)) → length ws ≡ 4 → is_some (find (λ w. not (is_hex None w)) (drop 3 ws)) ≡ false
+    → is_hex None (word ws 3) ≡ true
 hex_at ws l h =
-    first_hex (is_hex None (word ws 3)) (word ws 3) (find (λ w. not (is_hex None w)) (drop 4 ws)) (ap (λ xs. is_some (find (λ w. not (is_hex None w)) xs)) (sym (drop_more ws 3 [] (omega arith))) ∙ h)
+    first_hex (is_hex None (word ws 3)) (word ws 3) (find (λ w. not (is_hex None w)) (drop 4 ws))
+    (ap (λ xs. is_some (find (λ w. not (is_hex None w)) xs)) (sym (drop_more ws 3 [] (omega arith))) ∙ h)
 
 -- the settings with a line of the table more
-pub sound_with : (line : Line) (text : List ℕ) (s : Settings) → IsLine (words text) line → disorders line s (words text) ≡ false → exceeds line s (words text) ≡ false → AreSound s → AreSound (with_line line (words text) s)
-sound_with Ram text s h d x a = record { ram = ram_size (number (word (words text) 1)) (permitted _ h.within); leds = a.leds; slice_least = a.slice_least; slice_most = a.slice_most; uart = a.uart; storage = a.storage; faults = a.faults; words = a.words; events = a.events }
-sound_with Leds text s h d x a = record { ram = a.ram; leds = at_most 0 16 (number (word (words text) 1)) (permitted _ h.within); slice_least = a.slice_least; slice_most = a.slice_most; uart = a.uart; storage = a.storage; faults = a.faults; words = a.words; events = a.events }
-sound_with Slice text s h d x a = record { ram = a.ram; leds = a.leds; slice_least = at_least 1 1000000 (number (word (words text) 1)) (permitted _ h.within); slice_most = at_most 1 1000000 (number (word (words text) 1)) (permitted _ h.within); uart = a.uart; storage = a.storage; faults = a.faults; words = a.words; events = a.events }
-sound_with Start text s h d x a = record { ram = a.ram; leds = a.leds; slice_least = a.slice_least; slice_most = a.slice_most; uart = a.uart; storage = a.storage; faults = a.faults; words = a.words; events = a.events }
-sound_with Uart text s h d x a = record { ram = a.ram; leds = a.leds; slice_least = a.slice_least; slice_most = a.slice_most; uart = at_most 0 1000 (number (word (words text) 1)) (permitted _ h.within); storage = a.storage; faults = a.faults; words = a.words; events = a.events }
-sound_with Storage text s h d x a = record { ram = a.ram; leds = a.leds; slice_least = a.slice_least; slice_most = a.slice_most; uart = a.uart; storage = at_most 0 4096 (number (word (words text) 1)) (permitted _ h.within); faults = a.faults; words = a.words; events = a.events }
-sound_with Stop text s h d x a = record { ram = a.ram; leds = a.leds; slice_least = a.slice_least; slice_most = a.slice_most; uart = a.uart; storage = a.storage; faults = a.faults; words = a.words; events = a.events }
-sound_with Restart text s h d x a = record { ram = a.ram; leds = a.leds; slice_least = a.slice_least; slice_most = a.slice_most; uart = a.uart; storage = a.storage; faults = a.faults; words = a.words; events = a.events }
-sound_with Threshold text s h d x a = record { ram = a.ram; leds = a.leds; slice_least = a.slice_least; slice_most = a.slice_most; uart = a.uart; storage = a.storage; faults = a.faults; words = a.words; events = a.events }
+pub sound_with : (line : Line) (text : List ℕ) (s : ScriptSettings) → IsLine (words text) line
+    → disorders line s (words text) ≡ false → exceeds line s (words text) ≡ false → AreSound s
+    → AreSound (with_line line (words text) s)
+sound_with Ram text s h d x a =
+    record {
+      ram = ram_size (number (word (words text) 1)) (permitted _ h.within);
+      leds = a.leds;
+      slice_least =
+          a.slice_least;
+      slice_most = a.slice_most;
+      uart = a.uart;
+      storage = a.storage;
+      faults = a.faults;
+      words =
+          a.words;
+      events = a.events;
+    }
+sound_with Leds text s h d x a =
+    record {
+      ram = a.ram;
+      leds =
+          at_most 0 LED_LIMIT (number (word (words text) 1)) (permitted _ h.within);
+      slice_least = a.slice_least;
+      slice_most =
+          a.slice_most;
+      uart = a.uart;
+      storage = a.storage;
+      faults = a.faults;
+      words = a.words;
+      events = a.events;
+    }
+sound_with Slice text s h d x a =
+    record {
+      ram = a.ram;
+      leds = a.leds;
+      slice_least =
+          at_least 1 SLICE_LIMIT (number (word (words text) 1)) (permitted _ h.within);
+      slice_most =
+          at_most 1 SLICE_LIMIT (number (word (words text) 1)) (permitted _ h.within);
+      uart = a.uart;
+      storage =
+          a.storage;
+      faults = a.faults;
+      words = a.words;
+      events = a.events;
+    }
+sound_with Start text s h d x a =
+    record {
+      ram = a.ram;
+      leds = a.leds;
+      slice_least = a.slice_least;
+      slice_most = a.slice_most;
+      uart =
+          a.uart;
+      storage = a.storage;
+      faults = a.faults;
+      words = a.words;
+      events = a.events;
+    }
+sound_with Uart text s h d x a =
+    record {
+      ram = a.ram;
+      leds = a.leds;
+      slice_least = a.slice_least;
+      slice_most = a.slice_most;
+      uart =
+          at_most 0 BYTE_TICKS_LIMIT (number (word (words text) 1)) (permitted _ h.within);
+      storage = a.storage;
+      faults =
+          a.faults;
+      words = a.words;
+      events = a.events;
+    }
+sound_with Storage text s h d x a =
+    record {
+      ram = a.ram;
+      leds = a.leds;
+      slice_least = a.slice_least;
+      slice_most = a.slice_most;
+      uart =
+          a.uart;
+      storage = at_most 0 STORAGE_LIMIT (number (word (words text) 1)) (permitted _ h.within);
+      faults =
+          a.faults;
+      words = a.words;
+      events = a.events;
+    }
+sound_with Stop text s h d x a =
+    record {
+      ram = a.ram;
+      leds = a.leds;
+      slice_least = a.slice_least;
+      slice_most = a.slice_most;
+      uart =
+          a.uart;
+      storage = a.storage;
+      faults = a.faults;
+      words = a.words;
+      events = a.events;
+    }
+sound_with Restart text s h d x a =
+    record {
+      ram = a.ram;
+      leds = a.leds;
+      slice_least = a.slice_least;
+      slice_most = a.slice_most;
+      uart =
+          a.uart;
+      storage = a.storage;
+      faults = a.faults;
+      words = a.words;
+      events = a.events;
+    }
+sound_with Threshold text s h d x a =
+    record {
+      ram = a.ram;
+      leds = a.leds;
+      slice_least = a.slice_least;
+      slice_most = a.slice_most;
+      uart =
+          a.uart;
+      storage = a.storage;
+      faults = a.faults;
+      words = a.words;
+      events = a.events;
+    }
 sound_with StorageFault text s h d x a =
     let n = number (word (words text) 1) in
     let after = neither (nat_lt 0 (length s.events)) (nat_le n (last s.faults)) d in
-    record { ram = a.ram; leds = a.leds; slice_least = a.slice_least; slice_most = a.slice_most; uart = a.uart; storage = a.storage; faults = faults_more s.faults n (at_least 1 4294967295 n (permitted _ h.within)) x after.1 a.faults; words = a.words; events = a.events }
+    record {
+      ram = a.ram;
+      leds = a.leds;
+      slice_least = a.slice_least;
+      slice_most = a.slice_most;
+      uart =
+          a.uart;
+      storage = a.storage;
+      faults =
+          faults_more s.faults n (at_least 1 4294967295 n (permitted _ h.within)) x after.1 a.faults;
+      words =
+          a.words;
+      events = a.events;
+    }
 sound_with Random text s h d x a =
-    let few : length (s.words ++ map hex_word (drop 1 (words text))) ≤ 4096 = omega (arith, ltb-false 4096 (length s.words + length (drop 1 (words text))) x, length-append s.words (map hex_word (drop 1 (words text))), length-map (drop 1 (words text)) hex_word) in
-    record { ram = a.ram; leds = a.leds; slice_least = a.slice_least; slice_most = a.slice_most; uart = a.uart; storage = a.storage; faults = a.faults; words = few; events = a.events }
+    let few : length (s.words ++ map hex_word (drop 1 (words text))) ≤ WORD_LIMIT =
+    omega (
+      arith,
+      ltb-false WORD_LIMIT (length s.words + length (drop 1 (words text))) x,
+      length-append s.words (map hex_word (drop 1 (words text))),
+      length-map (drop 1 (words text)) hex_word,
+    ) in
+    record {
+      ram = a.ram;
+      leds = a.leds;
+      slice_least = a.slice_least;
+      slice_most = a.slice_most;
+      uart =
+          a.uart;
+      storage = a.storage;
+      faults = a.faults;
+      words = few;
+      events = a.events;
+    }
 sound_with Input text s h d x a =
     let ws = words text in
     let w = word ws 3 in
     let counted : length ws ≡ 4 = eqb-true (length ws) 4 (permitted _ h.counted) in
     let hex = hex_at ws counted h.hex in
     let pairs = length-hex_bytes w hex in
-    let limits = neither (nat_le 4096 (length s.events)) (nat_lt 64 (length w / 2)) x in
+    let limits = neither (nat_le EVENT_LIMIT (length s.events)) (nat_lt INPUT_LIMIT (length w / 2)) x in
     let some : 1 ≤ length (hex_bytes w) = omega (arith, pairs, filled text 3 (omega arith)) in
-    let most : length (hex_bytes w) ≤ 64 = omega (arith, pairs, ltb-false 64 (length w / 2) limits.1) in
-    record { ram = a.ram; leds = a.leds; slice_least = a.slice_least; slice_most = a.slice_most; uart = a.uart; storage = a.storage; faults = a.faults; words = a.words; events = events_more s.events (record { time = number (word ws 1); bytes = hex_bytes w }) some most limits.0 d a.events }
+    let most : length (hex_bytes w) ≤ INPUT_LIMIT =
+    omega (arith, pairs, ltb-false INPUT_LIMIT (length w / 2) limits.1) in
+    record {
+      ram = a.ram;
+      leds = a.leds;
+      slice_least = a.slice_least;
+      slice_most = a.slice_most;
+      uart =
+          a.uart;
+      storage = a.storage;
+      faults = a.faults;
+      words = a.words;
+      events =
+          events_more s.events (record { time = number (word ws 1); bytes = hex_bytes w }) some most limits.0 d
+          a.events;
+    }
 
 -- the settings of no lines
-pub said_at_first : (ram leds slice start uart storage : ℕ) (ks ws : List ℕ) (es : List Event) → ram ≡ 65536 → leds ≡ 4 → slice ≡ 100 → start ≡ 0 → uart ≡ 1 → storage ≡ 512 → ks ≡ [] → ws ≡ [] → es ≡ []
-    → ◌≡◌ {A = Settings} (record { ram = ram; leds = leds; slice = slice; start = start; uart = uart; storage = storage; policy = policies.Stop; faults = ks; words = ws; events = es }) (settings [])
+pub said_at_first : (ram leds slice start uart storage : ℕ) (ks ws : List ℕ) (es : List ScriptEvent) → ram ≡ 65536
+    → leds ≡ 4 → slice ≡ 100 → start ≡ 0 → uart ≡ 1 → storage ≡ 512 → ks ≡ [] → ws ≡ [] → es ≡ []
+    → ◌≡◌ {A = ScriptSettings} (record {
+      ram = ram;
+      leds = leds;
+      slice = slice;
+      start = start;
+      uart = uart;
+      storage =
+          storage;
+      policy = policies.Stop;
+      faults = ks;
+      words = ws;
+      events = es;
+    }) (settings [])
 unfolding lines_of
 said_at_first ram leds slice start uart storage ks ws es a b c d e f k w v = rw (a, b, c, d, e, f, k, w, v) refl
 

@@ -4,16 +4,17 @@ use Rattle.std.proofs.Common.{◌≡◌, ℕ, List, [], ◌∷◌, ◌++◌, map
 use Rattle.hex.specs.Hex.{decode_pairs}
 use Rattle.fault_policy.specs.declared.Policy.TheVariants.{Stop, Restart, Threshold}
 use Rattle.script_text.specs.declared.rule.ScriptRule.{ScriptRule}
-use Rattle.script_text.specs.declared.rule.ScriptRule.TheVariants.{UnknownWord, Words, BadNumber, BadHex, OutOfRange, Repeated, Order, TooMany}
-use Rattle.script_text.specs.Settings.{Settings}
+use Rattle.script_text.specs.declared.rule.ScriptRule.TheVariants.{UnknownWord, Words, BadNumber, BadHex, OutOfRange}
+use Rattle.script_text.specs.declared.rule.ScriptRule.TheVariants.{Repeated, Order, TooMany}
+use Rattle.script_text.specs.Settings.{ScriptSettings}
 use Rattle.script_text.specs.Reading.{Fault, reading, faults}
 use Rattle.script_text.specs.Text.{lines, words}
-use Rattle.script_text.specs.Rules.{in_order, broken, word_of}
+use Rattle.script_text.specs.Rules.{in_order, broken, name_of_rule}
 use Rattle.script_text.specs.Said.{lines_of, hex_bytes}
 use Rattle.script_text.specs.Table.{line_of}
 
 -- what a script without a line says
-nothing : Settings
+nothing : ScriptSettings
 nothing = record {
   ram = 65536;
   leds = 4;
@@ -28,7 +29,7 @@ nothing = record {
 }
 
 -- scripts, each with what it says: blanks and comments
-blank : List (List ℕ × Settings)
+blank : List (List ℕ × ScriptSettings)
 blank =
     (codes "", nothing)
     ∷ (codes "# nothing", nothing)
@@ -40,7 +41,7 @@ blank =
     ∷ []
 
 -- the ends of the ranges, and the policies
-numbers : List (List ℕ × Settings)
+numbers : List (List ℕ × ScriptSettings)
 numbers =
     (codes "ram 262144\n", record nothing { ram = 262144 })
     ∷ (codes "ram 0000004096", record nothing { ram = 4096 })
@@ -58,7 +59,7 @@ numbers =
     ∷ []
 
 -- the lines that may repeat
-lists : List (List ℕ × Settings)
+lists : List (List ℕ × ScriptSettings)
 lists =
     (codes "random 00000000", record nothing { words = 0 ∷ [] })
     ∷ (
@@ -106,7 +107,7 @@ refused_for TooMany =
     (1, codes "at 5 input " ++ replicate 130 48) ∷ []
 
 -- each of these is read as what stands beside it
-AreRead : (cases : List (List ℕ × Settings)) → Type 0
+AreRead : (cases : List (List ℕ × ScriptSettings)) → Type 0
 AreRead cases = map (λ case. reading case.0) cases ≡ map (λ case. Ok case.1) cases
 
 blanks_are_skipped : AreRead blank
@@ -121,7 +122,7 @@ lists_are_read : AreRead lists
 unfolding AreRead lists nothing reading faults lines words broken lines_of line_of hex_bytes decode_pairs
 lists_are_read = refl
 
-refusal : ScriptRule → ℕ × List ℕ → Result Settings Fault
+refusal : ScriptRule → ℕ × List ℕ → Result ScriptSettings Fault
 refusal rule case = Err (record { line = case.0; rule = rule })
 
 each_is_refused : (rule : ScriptRule)
@@ -136,7 +137,7 @@ each_is_refused Repeated = refl
 each_is_refused Order = refl
 each_is_refused TooMany = refl
 
-rules_are_named : map word_of in_order
+rules_are_named : map name_of_rule in_order
     ≡ codes "unknown-word" ∷ codes "words" ∷ codes "bad-number" ∷ codes "bad-hex" ∷ codes "out-of-range"
     ∷ codes "repeated" ∷ codes "order" ∷ codes "too-many" ∷ []
 rules_are_named = refl

@@ -1,29 +1,37 @@
 -- Only proofs use this: what is kept of the lines so far.
 use Rattle.std.specs.Prelude.{◌≡◌, ℕ, Bool, List, [], ◌∷◌, ◌++◌, map, drop, Some, None, Result, Ok, Err}
-use Rattle.script_text.specs.declared.draft.Draft.{Draft}
+use Rattle.script_text.specs.declared.draft.Draft.TheInside.{Inside}
 use Rattle.script_text.specs.declared.draft.Trouble.{Trouble}
 use Rattle.script_text.specs.declared.draft.Trouble.TheVariants.{Breaks, Memory}
 use Rattle.script_text.specs.declared.table.Line.{Line}
-use Rattle.script_text.specs.declared.table.Line.TheVariants.{Ram, Leds, Slice, Start, Uart, Storage, Stop, StorageFault, Random, Input}
+use Rattle.script_text.specs.declared.table.Line.TheVariants.{Ram, Leds, Slice, Start, Uart, Storage, Stop}
+use Rattle.script_text.specs.declared.table.Line.TheVariants.{StorageFault, Random, Input}
 use Rattle.decimal_number.specs.Number.{number}
-use Rattle.script_text.specs.Settings.{Settings, AreSound}
+use Rattle.script_text.specs.Settings.{ScriptSettings, AreSound}
 use Rattle.script_text.specs.Text.{word}
 use Rattle.script_text.specs.Rules.{broken}
 use Rattle.script_text.specs.Said.{settings, stands, policy_by, hex_word, hex_bytes}
 
--- the settings so far
-abbrev pub said_by : Draft → Settings
-said_by d = record {
-  ram = d.ram;
-  leds = d.leds;
-  slice = d.slice;
-  start = d.start;
-  uart = d.uart;
-  storage = d.storage;
-  policy = d.policy;
-  faults = d.faults.items;
-  words = d.words.items;
-  events = d.events.items;
+-- what the lines so far say, and which of those that may not repeat stand already
+pub record Drafted : Type 0 where
+  pub said : ScriptSettings
+  pub stood : List Bool
+
+abbrev pub drafted_by : Inside → Drafted
+drafted_by d = record {
+  said = record {
+    ram = d.ram;
+    leds = d.leds;
+    slice = d.slice;
+    start = d.start;
+    uart = d.uart;
+    storage = d.storage;
+    policy = d.policy;
+    faults = d.faults.items;
+    words = d.words.items;
+    events = d.events.items;
+  };
+  stood = d.stood;
 }
 
 -- which of them stand among lines
@@ -33,13 +41,13 @@ stood_in all =
     ∷ stands Stop all ∷ []
 
 -- a draft has what these lines say
-pub record Made (before : List (List ℕ)) (draft : Draft) : Type 0 where
-  pub said : said_by draft ≡ settings before
+pub record DraftSays (before : List (List ℕ)) (draft : Drafted) : Type 0 where
+  pub said : draft.said ≡ settings before
   pub stood : draft.stood ≡ stood_in before
   pub sound : AreSound (settings before)
 
 -- the settings with what a line more says
-abbrev pub with_line : Line → List (List ℕ) → Settings → Settings
+abbrev pub with_line : Line → List (List ℕ) → ScriptSettings → ScriptSettings
 with_line Ram ws said = record said { ram = number (word ws 1) }
 with_line Leds ws said = record said { leds = number (word ws 1) }
 with_line Slice ws said = record said { slice = number (word ws 1) }
@@ -54,7 +62,7 @@ with_line Input ws said = record said {
 with_line line ws said = record said { policy = policy_by line ws }
 
 -- a line was added, or the first rule that it breaks was found
-abbrev pub Adds : List (List ℕ) → List ℕ → Draft → Result (Unit {0}) Trouble → Type 0
-Adds before text p (Ok done) = (broken before text ≡ None) × Made (before ++ text ∷ []) p
+abbrev pub Adds : List (List ℕ) → List ℕ → Drafted → Result (Unit {0}) Trouble → Type 0
+Adds before text p (Ok done) = (broken before text ≡ None) × DraftSays (before ++ text ∷ []) p
 Adds before text p (Err (Breaks rule)) = broken before text ≡ Some rule
 Adds before text p (Err Memory) = Unit {0}

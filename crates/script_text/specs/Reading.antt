@@ -1,10 +1,10 @@
--- The reading of a script: what it says, or its first bad line.
+-- The reading of a script: what it says, or its first bad line. It is this board's own rule.
 use Rattle.std.specs.Prelude.{◌≡◌, ℕ, ◌-◌, List, [], ◌∷◌, take, filter_map, Option, option_map, Result, Ok, Err}
 use Rattle.std.specs.List.{enumerate_from}
 use Rattle.script_text.specs.declared.rule.ScriptError.{ScriptError}
 use Rattle.script_text.specs.declared.rule.ScriptError.TheVariants.{Bad, Memory}
 use Rattle.script_text.specs.declared.rule.ScriptRule.{ScriptRule}
-use Rattle.script_text.specs.Settings.{Settings}
+use Rattle.script_text.specs.Settings.{ScriptSettings}
 use Rattle.script_text.specs.Text.{lines}
 use Rattle.script_text.specs.Rules.{broken}
 use Rattle.script_text.specs.Said.{settings}
@@ -23,16 +23,16 @@ unfoldable pub faults : List (List ℕ) → List Fault
 faults all = filter_map (fault_of all) (enumerate_from 1 all)
 
 -- the settings, unless there is a fault: then the first one
-abbrev pub unless_bad : List Fault → Settings → Result Settings Fault
-unless_bad [] said = Ok said
-unless_bad (fault ∷ more) said = Err fault
+abbrev pub unless_fault : List Fault → ScriptSettings → Result ScriptSettings Fault
+unless_fault [] said = Ok said
+unless_fault (fault ∷ more) said = Err fault
 
 -- the reading of a script's bytes
-unfoldable pub reading : List ℕ → Result Settings Fault
-reading script = unless_bad (faults (lines script)) (settings (lines script))
+unfoldable pub reading : List ℕ → Result ScriptSettings Fault
+reading script = unless_fault (faults (lines script)) (settings (lines script))
 
 -- what was read is the reading, unless there was no memory for it
-abbrev pub Reads : Result Settings ScriptError → Result Settings Fault → Type 0
+abbrev pub Reads : Result ScriptSettings ScriptError → Result ScriptSettings Fault → Type 0
 Reads (Ok said) read = read ≡ Ok said
 Reads (Err (Bad line rule)) read = read ≡ Err (record { line = line; rule = rule })
 Reads (Err Memory) read = Unit {0}

@@ -1,15 +1,19 @@
--- The rules that a line may break.
-use Rattle.std.specs.Prelude.{ℕ, ◌+◌, ◌/◌, ◌%◌, ◌==◌, Bool, true, false, not, ◌&&◌, ◌||◌, nat_le, nat_lt, if◌then◌else◌, List, [], ◌∷◌, map, length, drop, find, position, slice_index, codes, Option, is_some, is_none}
+-- The rules that a line may break. They are this board's own.
+use Rattle.std.specs.Prelude.{ℕ, ◌+◌, ◌/◌, ◌%◌, ◌==◌, Bool, true, false, not, ◌&&◌, ◌||◌, nat_le, nat_lt, if◌then◌else◌}
+use Rattle.std.specs.Prelude.{List, [], ◌∷◌, map, length, drop, find, position, slice_index, codes, Option, is_some}
+use Rattle.std.specs.Prelude.{is_none}
 use Rattle.std.specs.Option.{option_map_or}
+use Rattle.tk_base.specs.declared.limits.TheConstants.{EVENT_LIMIT, FAULT_LIMIT, INPUT_LIMIT, WORD_LIMIT}
 use Rattle.hex.specs.Hex.{is_hex_digit}
 use Rattle.script_text.specs.declared.rule.ScriptRule.{ScriptRule}
-use Rattle.script_text.specs.declared.rule.ScriptRule.TheVariants.{UnknownWord, Words, BadNumber, BadHex, OutOfRange, Repeated, Order, TooMany}
+use Rattle.script_text.specs.declared.rule.ScriptRule.TheVariants.{UnknownWord, Words, BadNumber, BadHex, OutOfRange}
+use Rattle.script_text.specs.declared.rule.ScriptRule.TheVariants.{Repeated, Order, TooMany}
 use Rattle.script_text.specs.declared.table.Form.{Form}
 use Rattle.script_text.specs.declared.table.Line.{Line}
 use Rattle.script_text.specs.declared.table.Line.TheVariants.{StorageFault, Random, Input}
 use Rattle.decimal_number.specs.Number.{is_number, number}
-use Rattle.script_text.specs.Settings.{Settings}
-use Rattle.script_text.specs.Table.{row, permits, line_of}
+use Rattle.script_text.specs.Settings.{ScriptSettings}
+use Rattle.script_text.specs.Table.{row, in_range, line_of}
 use Rattle.script_text.specs.Text.{words, word}
 use Rattle.script_text.specs.Said.{settings, stands, last}
 
@@ -36,11 +40,12 @@ misspells form ws = option_map_or (λ n. not (is_number (word ws n.place))) form
 
 -- a word that has to be hex is not
 abbrev pub has_bad_hex : Form → List (List ℕ) → Bool
-has_bad_hex form ws = option_map_or (λ h. is_some (find (λ w. not (is_hex h.digits w)) (drop h.place ws))) form.hex false
+has_bad_hex form ws =
+    option_map_or (λ h. is_some (find (λ w. not (is_hex h.digits w)) (drop h.place ws))) form.hex false
 
 -- a number is outside its range
 abbrev pub is_outside : Form → List (List ℕ) → Bool
-is_outside form ws = option_map_or (λ n. not (permits n.range (number (word ws n.place)))) form.number false
+is_outside form ws = option_map_or (λ n. not (in_range n.range (number (word ws n.place)))) form.number false
 
 -- a line may not repeat
 abbrev pub is_single : Line → Bool
@@ -50,16 +55,16 @@ is_single Input = false
 is_single line = true
 
 -- where lines said this: times do not fall, the numbers of faults rise, and no other line stands after an event
-abbrev pub disorders : Line → Settings → List (List ℕ) → Bool
+abbrev pub disorders : Line → ScriptSettings → List (List ℕ) → Bool
 disorders Input said ws = nat_lt (number (word ws 1)) (last (map (λ e. e.time) said.events))
 disorders StorageFault said ws = nat_lt 0 (length said.events) || nat_le (number (word ws 1)) (last said.faults)
 disorders line said ws = nat_lt 0 (length said.events)
 
--- 64 faults, 4096 words, 4096 events and 64 bytes in each there may be
-abbrev pub exceeds : Line → Settings → List (List ℕ) → Bool
-exceeds StorageFault said ws = nat_le 64 (length said.faults)
-exceeds Random said ws = nat_lt 4096 (length said.words + length (drop 1 ws))
-exceeds Input said ws = nat_le 4096 (length said.events) || nat_lt 64 (length (word ws 3) / 2)
+-- so many faults, words, events and bytes in each event there may be
+abbrev pub exceeds : Line → ScriptSettings → List (List ℕ) → Bool
+exceeds StorageFault said ws = nat_le FAULT_LIMIT (length said.faults)
+exceeds Random said ws = nat_lt WORD_LIMIT (length said.words + length (drop 1 ws))
+exceeds Input said ws = nat_le EVENT_LIMIT (length said.events) || nat_lt INPUT_LIMIT (length (word ws 3) / 2)
 exceeds line said ws = false
 
 -- a line of the table breaks a rule with its words, where these lines stand before it
@@ -87,12 +92,12 @@ unfoldable pub broken : List (List ℕ) → List ℕ → Option ScriptRule
 broken before line = find (λ rule. not (skips (words line)) && breaks rule before (words line)) in_order
 
 -- the rules as the tool names them
-abbrev pub word_of : ScriptRule → List ℕ
-word_of UnknownWord = codes "unknown-word"
-word_of Words = codes "words"
-word_of BadNumber = codes "bad-number"
-word_of BadHex = codes "bad-hex"
-word_of OutOfRange = codes "out-of-range"
-word_of Repeated = codes "repeated"
-word_of Order = codes "order"
-word_of TooMany = codes "too-many"
+abbrev pub name_of_rule : ScriptRule → List ℕ
+name_of_rule UnknownWord = codes "unknown-word"
+name_of_rule Words = codes "words"
+name_of_rule BadNumber = codes "bad-number"
+name_of_rule BadHex = codes "bad-hex"
+name_of_rule OutOfRange = codes "out-of-range"
+name_of_rule Repeated = codes "repeated"
+name_of_rule Order = codes "order"
+name_of_rule TooMany = codes "too-many"

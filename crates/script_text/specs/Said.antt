@@ -1,5 +1,6 @@
--- What lines say that have no fault.
-use Rattle.std.specs.Prelude.{ℕ, ◌-◌, Bool, nat_lt, List, [], map, filter, flat_map, length, drop, slice_index, slice_index_or}
+-- What lines say that have no fault. It is this board's own rule.
+use Rattle.std.specs.Prelude.{ℕ, ◌-◌, Bool, nat_lt, List, [], map, filter, flat_map, length, drop, slice_index}
+use Rattle.std.specs.Prelude.{slice_index_or}
 use Rattle.std.specs.Int.{w32, from_be_bytes}
 use Rattle.std.specs.Option.{option_map_or}
 use Rattle.std.specs.Result.{result_unwrap_or}
@@ -9,8 +10,9 @@ use Rattle.decimal_number.specs.Number.{number}
 use Rattle.fault_policy.specs.declared.Policy.{Policy}
 use Rattle.fault_policy.specs.declared.Policy.TheVariants as policies
 use Rattle.script_text.specs.declared.table.Line.{Line}
-use Rattle.script_text.specs.declared.table.Line.TheVariants.{Ram, Leds, Slice, Start, Uart, Storage, Stop, Restart, Threshold, StorageFault, Random, Input}
-use Rattle.script_text.specs.Settings.{Settings, Event}
+use Rattle.script_text.specs.declared.table.Line.TheVariants.{Ram, Leds, Slice, Start, Uart, Storage, Stop, Restart}
+use Rattle.script_text.specs.declared.table.Line.TheVariants.{Threshold, StorageFault, Random, Input}
+use Rattle.script_text.specs.Settings.{ScriptSettings, ScriptEvent}
 use Rattle.script_text.specs.Table.{row, line_of}
 use Rattle.script_text.specs.Text.{words, word}
 
@@ -18,6 +20,7 @@ use Rattle.script_text.specs.Text.{words, word}
 unfoldable pub lines_of : Line → List (List ℕ) → List (List ℕ)
 lines_of line all = filter (λ text. bytes_eq (word (words text) 0) (row line).name) all
 
+-- whether there is such a line
 abbrev pub stands : Line → List (List ℕ) → Bool
 stands line all = nat_lt 0 (length (lines_of line all))
 
@@ -25,12 +28,13 @@ stands line all = nat_lt 0 (length (lines_of line all))
 abbrev pub number_on : List ℕ → ℕ
 number_on text = number (word (words text) 1)
 
+-- the numbers that these lines give, in their order
 abbrev pub numbers_of : Line → List (List ℕ) → List ℕ
 numbers_of line all = map number_on (lines_of line all)
 
 -- the number that the first such line gives, or that holds where there is none
-abbrev pub given : Line → List (List ℕ) → ℕ
-given line all = slice_index_or (numbers_of line all) 0 (row line).default
+abbrev pub number_said : Line → List (List ℕ) → ℕ
+number_said line all = slice_index_or (numbers_of line all) 0 (row line).default
 
 -- the policy that a line names
 abbrev pub policy_by : Line → List (List ℕ) → Policy
@@ -38,6 +42,7 @@ policy_by Restart ws = policies.Restart
 policy_by Threshold ws = policies.Threshold (number (word ws 2))
 policy_by line ws = policies.Stop
 
+-- the policy that a `policy` line names
 abbrev pub policy_on : List ℕ → Policy
 policy_on text = option_map_or (λ line. policy_by line (words text)) (line_of (words text)) policies.Stop
 
@@ -53,18 +58,19 @@ hex_word w = from_be_bytes w32 (hex_bytes w)
 abbrev pub words_on : List ℕ → List ℕ
 words_on text = map hex_word (drop 1 (words text))
 
-abbrev pub event_on : List ℕ → Event
+-- the event of an `at` line: its time, and the bytes that its hex digits write
+abbrev pub event_on : List ℕ → ScriptEvent
 event_on text = record { time = number_on text; bytes = hex_bytes (word (words text) 3) }
 
 -- the settings of all lines
-abbrev pub settings : List (List ℕ) → Settings
+abbrev pub settings : List (List ℕ) → ScriptSettings
 settings all = record {
-  ram = given Ram all;
-  leds = given Leds all;
-  slice = given Slice all;
-  start = given Start all;
-  uart = given Uart all;
-  storage = given Storage all;
+  ram = number_said Ram all;
+  leds = number_said Leds all;
+  slice = number_said Slice all;
+  start = number_said Start all;
+  uart = number_said Uart all;
+  storage = number_said Storage all;
   policy = slice_index_or (map policy_on (lines_of Stop all)) 0 policies.Stop;
   faults = numbers_of StorageFault all;
   words = flat_map words_on (lines_of Random all);

@@ -1,15 +1,18 @@
--- What a script says.
+-- What a script says. It is this board's own.
 use Rattle.std.specs.Prelude.{ℕ, ◌+◌, ◌<◌, ◌≤◌, List, length, map, slice_index}
 use Rattle.std.specs.List.{All}
+use Rattle.tk_base.specs.declared.limits.TheConstants.{BYTE_TICKS_LIMIT, EVENT_LIMIT, FAULT_LIMIT, INPUT_LIMIT}
+use Rattle.tk_base.specs.declared.limits.TheConstants.{LED_LIMIT, SLICE_LIMIT, STORAGE_LIMIT, WORD_LIMIT}
 use Rattle.fault_policy.specs.declared.Policy.{Policy}
 use Rattle.tk_base.specs.Limits.{IsRamSize}
 
 -- bytes that the serial line gets, and when
-pub record Event : Type 0 where
+pub record ScriptEvent : Type 0 where
   pub time : ℕ
   pub bytes : List ℕ
 
-pub record Settings : Type 0 where
+-- what a script says, each setting by its line or by its default
+pub record ScriptSettings : Type 0 where
   -- the bytes of RAM that the board has
   pub ram : ℕ
   -- the number of LEDs
@@ -27,7 +30,7 @@ pub record Settings : Type 0 where
   pub faults : List ℕ
   -- the words that the source of random words gives
   pub words : List ℕ
-  pub events : List Event
+  pub events : List ScriptEvent
 
 -- each number is above the one before it
 abbrev pub Rises : List ℕ → Type 0
@@ -37,26 +40,26 @@ Rises xs = (i : ℕ) → i + 1 < length xs → slice_index xs i < slice_index xs
 abbrev pub NeverFalls : List ℕ → Type 0
 NeverFalls xs = (i : ℕ) → i + 1 < length xs → slice_index xs i ≤ slice_index xs (i + 1)
 
--- at most 64 numbers from 1 on, which rise
+-- numbers from 1 on, not too many, which rise
 pub record AreFaults (faults : List ℕ) : Type 0 where
-  pub few : length faults ≤ 64
+  pub few : length faults ≤ FAULT_LIMIT
   pub least : All (λ k. 1 ≤ k) faults
   pub rising : Rises faults
 
--- at most 4096 events of 1 to 64 bytes, whose times never fall
-pub record AreEvents (events : List Event) : Type 0 where
-  pub few : length events ≤ 4096
+-- events, not too many, of 1 byte at least and not too many each, whose times never fall
+pub record AreEvents (events : List ScriptEvent) : Type 0 where
+  pub few : length events ≤ EVENT_LIMIT
   pub in_time : NeverFalls (map (λ e. e.time) events)
-  pub bytes : All (λ e. (1 ≤ length e.bytes) × (length e.bytes ≤ 64)) events
+  pub bytes : All (λ e. (1 ≤ length e.bytes) × (length e.bytes ≤ INPUT_LIMIT)) events
 
 -- every setting is in its range, and every list in its order and within its limit
-pub record AreSound (s : Settings) : Type 0 where
+pub record AreSound (s : ScriptSettings) : Type 0 where
   pub ram : IsRamSize s.ram
-  pub leds : s.leds ≤ 16
+  pub leds : s.leds ≤ LED_LIMIT
   pub slice_least : 1 ≤ s.slice
-  pub slice_most : s.slice ≤ 1000000
-  pub uart : s.uart ≤ 1000
-  pub storage : s.storage ≤ 4096
+  pub slice_most : s.slice ≤ SLICE_LIMIT
+  pub uart : s.uart ≤ BYTE_TICKS_LIMIT
+  pub storage : s.storage ≤ STORAGE_LIMIT
   pub faults : AreFaults s.faults
-  pub words : length s.words ≤ 4096
+  pub words : length s.words ≤ WORD_LIMIT
   pub events : AreEvents s.events

@@ -1,8 +1,8 @@
 -- The settings that a script shows. Only proofs use this.
 use Rattle.script_text.specs.declared.script.Script.TheInside.{Inside}
-use Rattle.script_text.specs.Settings.{AreSound, Settings}
+use Rattle.script_text.specs.Settings.{AreSound, ScriptSettings}
 
-abbrev pub settings_of : Inside → Settings
+abbrev pub settings_of : Inside → ScriptSettings
 settings_of s = record {
   ram = s.ram;
   leds = s.leds;
@@ -17,5 +17,5 @@ settings_of s = record {
 }
 
 -- they are in their ranges
-abbrev pub IsSound : Inside → Type 0
-IsSound s = AreSound (settings_of s)
+abbrev pub ScriptIsSound : Inside → Type 0
+ScriptIsSound s = AreSound (settings_of s)

@@ -1,26 +1,31 @@
 -- The table of lines: the words of each, which numbers may stand in it, and the number that holds where no line gives
--- it. Places count from 0.
-use Rattle.std.specs.Prelude.{ℕ, ◌%◌, ◌==◌, Bool, true, false, ◌&&◌, ◌||◌, nat_le, List, [], ◌∷◌, length, find, codes, Option, Some, None}
+-- it. Places count from 0. It is this board's own.
+use Rattle.std.specs.Prelude.{ℕ, ◌%◌, ◌==◌, Bool, true, false, ◌&&◌, ◌||◌, nat_le, List, [], ◌∷◌, length, find, codes}
+use Rattle.std.specs.Prelude.{Option, Some, None}
 use Rattle.std.specs.Option.{option_map_or}
 use Rattle.std.specs.Str.{bytes_eq}
-use Rattle.tk_base.specs.declared.limits.TheConstants.{RAM_LEAST, RAM_LIMIT, RAM_UNIT}
+use Rattle.tk_base.specs.declared.limits.TheConstants.{BYTE_TICKS_LIMIT, LED_LIMIT, RAM_LEAST, RAM_LIMIT, RAM_UNIT}
+use Rattle.tk_base.specs.declared.limits.TheConstants.{SLICE_LIMIT, STORAGE_LIMIT}
 use Rattle.script_text.specs.declared.table.Form.{Form}
 use Rattle.script_text.specs.declared.table.Key.{Key as KeyWord}
 use Rattle.script_text.specs.declared.table.Line.{Line}
-use Rattle.script_text.specs.declared.table.Line.TheVariants.{Ram, Leds, Slice, Start, Uart, Storage, Stop, Restart, Threshold, StorageFault, Random, Input}
+use Rattle.script_text.specs.declared.table.Line.TheVariants.{Ram, Leds, Slice, Start, Uart, Storage, Stop, Restart}
+use Rattle.script_text.specs.declared.table.Line.TheVariants.{Threshold, StorageFault, Random, Input}
 use Rattle.script_text.specs.declared.table.NumberAt.{NumberAt}
 use Rattle.script_text.specs.declared.table.Range.{Range}
 use Rattle.script_text.specs.Text.{word}
 
 -- the lines of the table, in its order
-abbrev pub table : List Line
-table = Ram ∷ Leds ∷ Slice ∷ Start ∷ Uart ∷ Storage ∷ Stop ∷ Restart ∷ Threshold ∷ StorageFault ∷ Random ∷ Input ∷ []
+abbrev pub line_table : List Line
+line_table = Ram ∷ Leds ∷ Slice ∷ Start ∷ Uart ∷ Storage ∷ Stop ∷ Restart ∷ Threshold ∷ StorageFault ∷ Random ∷ Input
+    ∷ []
 
 -- the word that tells a line from others of its name, and its place
 pub record Key : Type 0 where
   pub place : ℕ
   pub word : List ℕ
 
+-- what the table says of a line: its name, the word that tells it from others of that name, its form, its default
 pub record Row : Type 0 where
   pub name : List ℕ
   pub key : Option Key
@@ -49,13 +54,14 @@ policy word words number = record {
   default = 0;
 }
 
+-- the rows of the table, with their ranges and defaults
 abbrev pub row : Line → Row
 row Ram = numbered (codes "ram") (record { least = RAM_LEAST; most = RAM_LIMIT; multiple = RAM_UNIT }) 65536
-row Leds = numbered (codes "leds") (from_to 0 16) 4
-row Slice = numbered (codes "slice") (from_to 1 1000000) 100
+row Leds = numbered (codes "leds") (from_to 0 LED_LIMIT) 4
+row Slice = numbered (codes "slice") (from_to 1 SLICE_LIMIT) 100
 row Start = numbered (codes "start") (from_to 0 4294967295) 0
-row Uart = numbered (codes "uart") (from_to 0 1000) 1
-row Storage = numbered (codes "storage") (from_to 0 4096) 512
+row Uart = numbered (codes "uart") (from_to 0 BYTE_TICKS_LIMIT) 1
+row Storage = numbered (codes "storage") (from_to 0 STORAGE_LIMIT) 512
 row Stop = policy (codes "stop") 2 None
 row Restart = policy (codes "restart") 2 None
 row Threshold = policy (codes "threshold") 3 (Some (record { place = 2; range = from_to 0 4294967295 }))
@@ -79,8 +85,8 @@ row Input = record {
 }
 
 -- a number may stand in a line
-abbrev pub permits : Range → ℕ → Bool
-permits range n = nat_le range.least n && nat_le n range.most && n % range.multiple == 0
+abbrev pub in_range : Range → ℕ → Bool
+in_range range n = nat_le range.least n && nat_le n range.most && n % range.multiple == 0
 
 -- what the code has of a key
 abbrev pub key_of : KeyWord → Key
@@ -91,9 +97,9 @@ abbrev pub is_key : List (List ℕ) → Key → Bool
 is_key ws key = nat_le (length ws) key.place || bytes_eq (word ws key.place) key.word
 
 -- a line's words are those of a row, as far as its name and its key go
-abbrev pub fits : List (List ℕ) → Line → Bool
-fits ws line = bytes_eq (word ws 0) (row line).name && option_map_or (is_key ws) (row line).key true
+abbrev pub line_fits : List (List ℕ) → Line → Bool
+line_fits ws line = bytes_eq (word ws 0) (row line).name && option_map_or (is_key ws) (row line).key true
 
 -- the line of the table that words are: the first one that fits
 unfoldable pub line_of : List (List ℕ) → Option Line
-line_of ws = find (fits ws) table
+line_of ws = find (line_fits ws) line_table

@@ -1,7 +1,9 @@
--- The bytes of a script: its lines, and the words of a line.
-use Rattle.std.specs.Prelude.{ℕ, ◌-◌, ◌==◌, Bool, not, ◌||◌, if◌then◌else◌, List, [], ◌∷◌, map, filter, length, take, slice_index, slice_index_or}
+-- The bytes of a script: its lines, and the words of a line. They are parted by this board's own rule.
+use Rattle.std.specs.Prelude.{ℕ, ◌-◌, ◌==◌, Bool, not, ◌||◌, if◌then◌else◌, List, [], ◌∷◌, map, filter, length, take}
+use Rattle.std.specs.Prelude.{slice_index, slice_index_or}
 use Rattle.std.specs.List.{slice_split}
 
+-- the byte that ends a line
 abbrev pub is_line_feed : ℕ → Bool
 is_line_feed byte = byte == 10
 
@@ -9,6 +11,7 @@ is_line_feed byte = byte == 10
 abbrev pub is_blank : ℕ → Bool
 is_blank byte = byte == 32 || byte == 9
 
+-- whether there are no bytes
 abbrev pub is_empty : List ℕ → Bool
 is_empty bytes = length bytes == 0
 

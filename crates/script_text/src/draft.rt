@@ -1,5 +1,6 @@
 //! What the lines so far say.
 ghost use Rattle.std.specs.Prelude.{◌≡◌, ◌≤◌, ◌++◌, ◌*◌, ◌/◌, true, false, nat_lt, length, map, drop, Some, None, IfOk};
+ghost use Rattle.tk_base.specs.declared.limits.TheConstants.{INPUT_LIMIT};
 ghost use Rattle.decimal_number.specs.Number.{is_number, number};
 ghost use Rattle.script_text.specs.Said.{hex_bytes, hex_word};
 ghost use Rattle.script_text.specs.Rules.{is_hex, has_bad_hex};
@@ -15,16 +16,8 @@ use arrayvec::ArrayVec;
 use fault_policy::Policy;
 use hex::FromHex;
 use std::alloc::{AllocError, Global};
-use tk_base::WordList;
-
-/// How many words a script gives at most.
-const WORD_LIMIT: usize = 4096;
-
-/// How many events there are at most.
-const EVENT_LIMIT: usize = 4096;
-
-/// How many bytes an event has at most.
-const EVENT_BYTES: usize = 64;
+use std::marker::Model;
+use tk_base::{EVENT_LIMIT, FAULT_LIMIT, INPUT_LIMIT, WORD_LIMIT, WordList};
 
 /// Why a line is not added.
 #[derive(Clone, Copy, Debug, PartialEq, Eq)]
@@ -35,7 +28,8 @@ pub enum Trouble {
     Memory,
 }
 
-/// What the lines so far say, and which of those that may not repeat stand already.
+/// What the lines so far say, and which of those that may not repeat stand already. Contracts see the
+/// settings, and of those that may not repeat whether each stands.
 #[derive(Drop)]
 pub struct Draft {
     ram: u32,
@@ -45,10 +39,18 @@ pub struct Draft {
     uart: u32,
     storage: u32,
     policy: Policy,
-    faults: ArrayVec<u32, 64>,
+    faults: ArrayVec<u32, FAULT_LIMIT>,
     words: Vec<u32>,
     events: Vec<TimedEvent>,
     stood: [bool; 7],
+}
+
+impl Model for Draft {
+    ghost use Rattle.script_text.specs.Progress.{Drafted, drafted_by};
+
+    ghost Value = { Drafted };
+
+    ghost view = { drafted_by };
 }
 
 impl Line {
@@ -90,14 +92,14 @@ fn decode_into(word: &[u8], bytes: &mut [u8])
     let _ = hex::decode_to_slice(word, bytes);
 }
 
-/// The bytes that hex digits write, of which there are at most [`EVENT_BYTES`].
+/// The bytes that hex digits write, of which there are at most [`INPUT_LIMIT`].
 #[tactic(auto, using(crate::proofs::HexDigits::even_digits))]
-fn hex_bytes(word: &[u8]) -> ArrayVec<u8, 64>
+fn hex_bytes(word: &[u8]) -> ArrayVec<u8, INPUT_LIMIT>
     requires digits { is_hex None word.now ≡ true }
-    requires few { length word.now ≤ 2 * EVENT_BYTES }
+    requires few { length word.now ≤ 2 * INPUT_LIMIT }
     ensures { result.items ≡ hex_bytes word.now }
 {
-    let mut buffer = [0; EVENT_BYTES];
+    let mut buffer = [0; INPUT_LIMIT];
     let bytes = &mut buffer[..word.len() / 2];
     decode_into(word, bytes);
     let mut list = ArrayVec::new();
@@ -108,7 +110,8 @@ fn hex_bytes(word: &[u8]) -> ArrayVec<u8, 64>
 /// Appends the words that a `random` line gives.
 fn add_words(list: &mut Vec<u32>, text: &[u8]) -> Result<(), AllocError>
     requires { has_bad_hex random_form (words text.now) ≡ false }
-    ensures { IfOk result (λ _. list.new.items ≡ list.old.items ++ map hex_word (drop 1 (words text.now))) }
+    ensures { IfOk result (λ _.
+        list.new.items ≡ list.old.items ++ map hex_word (drop 1 (words text.now))) }
 {
     for word in words_from(text, 1) {
         list.push(hex_word(word))?;
@@ -118,9 +121,9 @@ fn add_words(list: &mut Vec<u32>, text: &[u8]) -> Result<(), AllocError>
 
 /// Whether hex digits write more bytes than an event has at most.
 fn is_long(word: &[u8]) -> bool
-    ensures { result ≡ nat_lt 64 (length word.now / 2) }
+    ensures { result ≡ nat_lt INPUT_LIMIT (length word.now / 2) }
 {
-    word.len() / 2 > EVENT_BYTES
+    word.len() / 2 > INPUT_LIMIT
 }
 
 /// Whether a time lies before that of an event.
@@ -146,11 +149,11 @@ impl Draft {
     ghost use Rattle.script_text.specs.Settings.{AreSound};
     ghost use Rattle.script_text.specs.Text.{words};
     ghost use Rattle.script_text.specs.Seats.{stood_at, stood_after};
-    ghost use Rattle.script_text.specs.Progress.{Made, Adds, said_by, with_line};
+    ghost use Rattle.script_text.specs.Progress.{DraftSays, Adds, with_line};
 
     /// No lines.
     pub fn new(alloc: Global) -> Draft
-        ensures { Made [] result }
+        ensures { DraftSays [] result }
     {
         Draft {
             ram: Line::Ram.row().default,
@@ -180,7 +183,7 @@ impl Draft {
     /// Whether the line may not stand after those so far.
     fn disorders(&self, line: Line, text: &[u8]) -> bool
         requires { IsLine (words text.now) line }
-        ensures { result ≡ disorders line (said_by self.now) (words text.now) }
+        ensures { result ≡ disorders line self.now.said (words text.now) }
     {
         match line {
             Line::Input => match self.events.last() {
@@ -201,7 +204,7 @@ impl Draft {
     /// Whether there are too many of what the line gives.
     fn exceeds(&self, line: Line, text: &[u8]) -> bool
         requires { IsLine (words text.now) line }
-        ensures { result ≡ exceeds line (said_by self.now) (words text.now) }
+        ensures { result ≡ exceeds line self.now.said (words text.now) }
     {
         match line {
             Line::StorageFault => self.faults.is_full(),
@@ -214,7 +217,7 @@ impl Draft {
     /// Notes that the line stands now.
     fn mark(&mut self, line: Line)
         ensures stood { self.new.stood ≡ stood_after line self.old.stood }
-        ensures said { said_by self.new ≡ said_by self.old }
+        ensures said { self.new.said ≡ self.old.said }
     {
         if let Some(seat) = line.seat() {
             self.stood[seat] = true;
@@ -224,8 +227,9 @@ impl Draft {
     /// Takes what the line says. It fails where there is no memory for it.
     fn take(&mut self, line: Line, text: &[u8]) -> Result<(), AllocError>
         requires line { IsLine (words text.now) line }
-        requires few { exceeds line (said_by self.old) (words text.now) ≡ false }
-        ensures said { IfOk result (λ _. said_by self.new ≡ with_line line (words text.now) (said_by self.old)) }
+        requires few { exceeds line self.old.said (words text.now) ≡ false }
+        ensures said { IfOk result (λ _.
+            self.new.said ≡ with_line line (words text.now) self.old.said) }
         ensures stood { self.new.stood ≡ self.old.stood }
     {
         match line {
@@ -251,7 +255,8 @@ impl Draft {
     /// Adds a line, or tells the first rule that it breaks. Where there is no memory for what it says,
     /// the draft is of no use any more.
     pub fn add(&mut self, text: &[u8]) -> Result<(), Trouble>
-        ensures { (before : List (List ℕ)) → Made before self.old → Adds before text.now self.new result }
+        ensures { (before : List (List ℕ)) → DraftSays before self.old
+            → Adds before text.now self.new result }
     {
         let line = match read_line(text) {
             Ok(Some(line)) => line,
@@ -276,8 +281,8 @@ impl Draft {
 
     /// The settings.
     pub fn script(self) -> Script
-        requires { AreSound (said_by self) }
-        ensures { result ≡ said_by self }
+        requires { AreSound self.said }
+        ensures { result ≡ self.said }
     {
         Script {
             ram: self.ram,

@@ -4,7 +4,7 @@ ghost use Rattle.hex.specs.Hex.{is_hex_digit};
 ghost use Rattle.decimal_number.specs.Number.{is_number, number};
 ghost use Rattle.script_text.specs.Alone.{Says, broken_alone};
 ghost use Rattle.script_text.specs.Rules.{has_digits, is_hex, miscounts, misspells, has_bad_hex, is_outside};
-ghost use Rattle.script_text.specs.Table.{permits};
+ghost use Rattle.script_text.specs.Table.{in_range};
 ghost use Rattle.script_text.specs.Text.{words, word};
 
 use crate::rule::ScriptRule;
@@ -69,7 +69,7 @@ impl Range {
     /// Whether a number lies in it.
     fn permits(self, number: u64) -> bool
         requires { 0 < self.multiple }
-        ensures { result ≡ permits self number }
+        ensures { result ≡ in_range self number }
     {
         self.least <= number && number <= self.most && number % self.multiple == 0
     }

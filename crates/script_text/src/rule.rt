@@ -1,6 +1,6 @@
 //! Why a script is refused.
 ghost use Rattle.std.specs.Prelude.{◌≡◌};
-ghost use Rattle.script_text.specs.Rules.{word_of};
+ghost use Rattle.script_text.specs.Rules.{name_of_rule};
 
 use thiserror::Error;
 
@@ -29,7 +29,7 @@ pub enum ScriptRule {
 impl ScriptRule {
     /// The rule as the tool names it.
     pub fn word(self) -> &'static [u8]
-        ensures { result.now ≡ word_of self }
+        ensures { result.now ≡ name_of_rule self }
     {
         match self {
             ScriptRule::UnknownWord => b"unknown-word",

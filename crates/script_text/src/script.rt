@@ -4,19 +4,19 @@ ghost use Rattle.std.specs.Prelude.{◌≡◌};
 use arrayvec::ArrayVec;
 use fault_policy::Policy;
 use std::marker::Model;
-use tk_base::WordList;
+use tk_base::{FAULT_LIMIT, INPUT_LIMIT, WordList};
 
 /// Bytes that the serial line gets, and when. Contracts see the time and the list of bytes.
 #[derive(Drop)]
 pub struct TimedEvent {
     pub time: u32,
-    pub bytes: ArrayVec<u8, 64>,
+    pub bytes: ArrayVec<u8, INPUT_LIMIT>,
 }
 
 impl Model for TimedEvent {
-    ghost use Rattle.script_text.specs.Settings.{Event};
+    ghost use Rattle.script_text.specs.Settings.{ScriptEvent};
 
-    ghost Value = { Event };
+    ghost Value = { ScriptEvent };
 
     ghost view = { λ e. record { time = e.time; bytes = e.bytes.items } };
 }
@@ -29,9 +29,9 @@ pub struct EventList {
 
 impl Model for EventList {
     ghost use Rattle.std.specs.Prelude.{List};
-    ghost use Rattle.script_text.specs.Settings.{Event};
+    ghost use Rattle.script_text.specs.Settings.{ScriptEvent};
 
-    ghost Value = { List Event };
+    ghost Value = { List ScriptEvent };
 
     ghost view = { λ l. l.events.items };
 }
@@ -78,19 +78,19 @@ pub struct Script {
     pub storage: u32,
     pub policy: Policy,
     /// The numbers of the storage requests that fail, counted from 1.
-    pub faults: ArrayVec<u32, 64>,
+    pub faults: ArrayVec<u32, FAULT_LIMIT>,
     /// The words that the source of random words gives.
     pub words: WordList,
     pub events: EventList,
 }
 
 impl Model for Script {
-    ghost use Rattle.script_text.specs.Settings.{Settings};
-    ghost use Rattle.script_text.specs.Shown.{IsSound, settings_of};
+    ghost use Rattle.script_text.specs.Settings.{ScriptSettings};
+    ghost use Rattle.script_text.specs.Shown.{ScriptIsSound, settings_of};
 
-    ghost Value = { Settings };
+    ghost Value = { ScriptSettings };
 
     ghost view = { settings_of };
 
-    ghost invariant = { IsSound };
+    ghost invariant = { ScriptIsSound };
 }

@@ -1,10 +1,12 @@
 //! The table of lines.
 ghost use Rattle.std.specs.Prelude.{◌≡◌, ◌<◌, false, codes, Some, None, option_map, IfSome};
-ghost use Rattle.script_text.specs.Table.{row, key_of, fits, line_of};
+ghost use Rattle.script_text.specs.Table.{row, key_of, line_fits, line_of};
 ghost use Rattle.script_text.specs.Text.{words};
 
 use crate::text::{word_at, word_count};
-use tk_base::{RAM_LEAST, RAM_LIMIT, RAM_UNIT};
+use tk_base::{
+    BYTE_TICKS_LIMIT, LED_LIMIT, RAM_LEAST, RAM_LIMIT, RAM_UNIT, SLICE_LIMIT, STORAGE_LIMIT,
+};
 
 /// A line of the table.
 #[derive(Clone, Copy, Debug, PartialEq, Eq)]
@@ -154,7 +156,8 @@ const fn numbered(name: &'static [u8], range: Range, default: u32) -> Row
 const fn policy(word: &'static [u8], words: usize, number: Option<NumberAt>) -> Row
     ensures name { result.name.now ≡ codes "policy" }
     ensures key { option_map key_of result.key ≡ Some (record { place = 1; word = word.now }) }
-    ensures form { result.form ≡ record { words = words; more = false; number = number; hex = None } }
+    ensures form { result.form
+        ≡ record { words = words; more = false; number = number; hex = None } }
     ensures default { result.default ≡ 0 }
 {
     Row {
@@ -189,11 +192,11 @@ impl Line {
                 },
                 65536,
             ),
-            Line::Leds => numbered(b"leds", from_to(0, 16), 4),
-            Line::Slice => numbered(b"slice", from_to(1, 1_000_000), 100),
+            Line::Leds => numbered(b"leds", from_to(0, LED_LIMIT as u64), 4),
+            Line::Slice => numbered(b"slice", from_to(1, SLICE_LIMIT as u64), 100),
             Line::Start => numbered(b"start", from_to(0, 4_294_967_295), 0),
-            Line::Uart => numbered(b"uart", from_to(0, 1000), 1),
-            Line::Storage => numbered(b"storage", from_to(0, 4096), 512),
+            Line::Uart => numbered(b"uart", from_to(0, BYTE_TICKS_LIMIT as u64), 1),
+            Line::Storage => numbered(b"storage", from_to(0, STORAGE_LIMIT as u64), 512),
             Line::Stop => policy(b"stop", 2, None),
             Line::Restart => policy(b"restart", 2, None),
             Line::Threshold => policy(
@@ -245,7 +248,7 @@ impl Line {
     /// Whether the first word of a text is its name, and the word that tells it from others of its name
     /// stands there too, where any word stands in that place.
     fn fits(self, text: &[u8]) -> bool
-        ensures { result ≡ fits (words text.now) self }
+        ensures { result ≡ line_fits (words text.now) self }
     {
         let row = self.row();
         if word_at(text, 0) != row.name {

@@ -3,17 +3,28 @@ ghost use Rattle.std.specs.Prelude.{◌≡◌, ◌+◌, ◌≤◌, [], ◌∷◌
 ghost use Rattle.std.specs.Iterator.{YieldsFirstRef, item_count};
 ghost use Rattle.script_text.specs.Text.{is_line_feed, is_blank, lines, words, word, without_return};
 
+use std::marker::Model;
+
 /// The lines of a script that are left, in order. A line ends at a line feed or at the script's
-/// end, and comes without the one carriage return at its end.
+/// end, and comes without the one carriage return at its end. Contracts see the list of them.
 #[derive(Drop)]
 pub struct Lines<'a> {
     rest: &'a [u8],
 }
 
+impl<'a> Model for Lines<'a> {
+    ghost use Rattle.std.specs.Prelude.{ℕ, List};
+    ghost use Rattle.script_text.specs.Text.{lines};
+
+    ghost Value = { List (List ℕ) };
+
+    ghost view = { λ s. lines s.rest.now };
+}
+
 impl<'a> Lines<'a> {
     /// All lines of a script.
     pub fn of(script: &'a [u8]) -> Lines<'a>
-        ensures { result.rest.now ≡ script.now }
+        ensures { result ≡ lines script.now }
     {
         Lines { rest: script }
     }
@@ -22,9 +33,9 @@ impl<'a> Lines<'a> {
 impl<'a> Iterator for Lines<'a> {
     type Item = &'a [u8];
 
-    ghost next_gives = { YieldsFirstRef (λ s. lines s.rest.now) };
+    ghost next_gives = { YieldsFirstRef (λ s. s) };
 
-    ghost remaining = { item_count (λ s. lines s.rest.now) };
+    ghost remaining = { item_count (λ s. s) };
 
     fn next(&mut self) -> Option<&'a [u8]> {
         let (line, rest) = first_line(self.rest)?;
@@ -65,16 +76,26 @@ fn trimmed(line: &[u8]) -> &[u8]
     }
 }
 
-/// The words of a line that are left, in order. Spaces and tabs stand between them.
+/// The words of a line that are left, in order. Spaces and tabs stand between them. Contracts see the
+/// list of them.
 #[derive(Drop)]
 pub struct Words<'a> {
     rest: &'a [u8],
 }
 
+impl<'a> Model for Words<'a> {
+    ghost use Rattle.std.specs.Prelude.{ℕ, List};
+    ghost use Rattle.script_text.specs.Text.{words};
+
+    ghost Value = { List (List ℕ) };
+
+    ghost view = { λ s. words s.rest.now };
+}
+
 impl<'a> Words<'a> {
     /// All words of a line.
     pub fn of(line: &'a [u8]) -> Words<'a>
-        ensures { result.rest.now ≡ line.now }
+        ensures { result ≡ words line.now }
     {
         Words { rest: line }
     }
@@ -83,9 +104,9 @@ impl<'a> Words<'a> {
 impl<'a> Iterator for Words<'a> {
     type Item = &'a [u8];
 
-    ghost next_gives = { YieldsFirstRef (λ s. words s.rest.now) };
+    ghost next_gives = { YieldsFirstRef (λ s. s) };
 
-    ghost remaining = { item_count (λ s. words s.rest.now) };
+    ghost remaining = { item_count (λ s. s) };
 
     fn next(&mut self) -> Option<&'a [u8]> {
         let (word, rest) = first_word(self.rest)?;
@@ -109,7 +130,7 @@ fn first_word(line: &[u8]) -> Option<(&[u8], &[u8])>
 
 /// The words of a line from a place on. Places count from 0.
 pub fn words_from(line: &[u8], place: usize) -> Words<'_>
-    ensures { words result.rest.now ≡ drop place (words line.now) }
+    ensures { result ≡ drop place (words line.now) }
 {
     let mut words = Words::of(line);
     for _ in 0..place {

@@ -1,18 +1,20 @@
 -- What the storage answers (driver 0x50001 in Tock's list of drivers).
 use Rattle.std.specs.Prelude.{if◌then◌else◌}
 use Rattle.tk_base.specs.declared.process.ProcessId.{ProcessId}
-use Rattle.board_devices.specs.Storage.{Storage as Bytes, slot_bytes}
+use Rattle.board_devices.specs.Storage.{StoredSlots as Bytes, slot_bytes}
 use Rattle.grant_enter.specs.Homes.{Homes, own_of}
 use Rattle.driver_model.specs.Storage.{answered}
-use Rattle.driver_requests.specs.Answers.{Answered}
-use Rattle.storage_capsule.specs.Serving.{after_count, fails_next, stored}
+use Rattle.driver_model.specs.Told.{stored_told}
+use Rattle.driver_requests.specs.Answers.{Answered, kinds}
+use Rattle.storage_capsule.specs.Serving.{after_count, store_fails_next, storage_after}
 
 -- the answer to the process of an id; where a request completed the storage has counted it
 abbrev pub answer_to : Bytes → Homes → ProcessId → Answered Bytes
 answer_to s home id =
-    let a = answered (fails_next s) home.flash (slot_bytes s id.slot) id.life (own_of home id.slot) in
+    let a = answered (store_fails_next s) home.flash (slot_bytes s id.slot) id.life (own_of home id.slot) in
     record {
+      kind = stored_told kinds (store_fails_next s);
       own = a.own;
-      device = if a.completed then stored id.slot a.written (after_count s) else s;
+      device = if a.completed then storage_after id.slot a.written (after_count s) else s;
       completed = a.completed;
     }

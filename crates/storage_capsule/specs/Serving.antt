@@ -3,33 +3,34 @@ use Rattle.std.specs.Prelude.{◌≡◌, ℕ, Bool, List, Option, None, Some}
 use Rattle.tk_outside.specs.Count.{counted}
 use Rattle.grant_values.specs.declared.storage.Storage.{Storage as Value}
 use Rattle.grant_values.specs.declared.storage.StorageRequest.{StorageRequest}
-use Rattle.board_devices.specs.Storage.{Storage, is_fault, slot_bytes, with_bytes}
-use Rattle.process_own.specs.Own.{Own}
+use Rattle.board_devices.specs.Storage.{StoredSlots, is_fault, slot_bytes, with_slot_bytes}
+use Rattle.process_model.specs.Own.{Own}
 use Rattle.driver_model.specs.Requests.{with_request}
-use Rattle.driver_model.specs.Storage.{served, storages}
+use Rattle.driver_model.specs.Storage.{storage_served, storages}
 
 -- the storage with bytes written over those of a slot, from an offset on, if any are
-abbrev pub stored : ℕ → Option (ℕ × List ℕ) → Storage → Storage
-stored slot None s = s
-stored slot (Some written) s = with_bytes s slot written.0 written.1
+abbrev pub storage_after : ℕ → Option (ℕ × List ℕ) → StoredSlots → StoredSlots
+storage_after slot None s = s
+storage_after slot (Some written) s = with_slot_bytes s slot written.0 written.1
 
 -- the storage after it counted one more request
-abbrev pub after_count : Storage → Storage
+abbrev pub after_count : StoredSlots → StoredSlots
 after_count s = record s { served = counted s.served }
 
 -- whether the next request that is served fails
-abbrev pub fails_next : Storage → Bool
-fails_next s = is_fault s.faults (counted s.served)
+abbrev pub store_fails_next : StoredSlots → Bool
+store_fails_next s = is_fault s.faults (counted s.served)
 
 -- what a visit to a process leaves that has a request: it is served, and waits no more
-abbrev pub Serves : ℕ → Bool → List ℕ → Storage → Option StorageRequest → Own → Storage → Value → Own → Type 0
-Serves slot fault flash old None own new value own' = Unit {0}
-Serves slot fault flash old (Some request) own new value own' =
-    let s = served fault flash (slot_bytes old slot) request own in
-    (own' ≡ s.own) × (new ≡ stored slot s.written old) × (value ≡ record { request = None })
+abbrev pub ServesStorage : ℕ → Bool → List ℕ → StoredSlots → Option StorageRequest → Own → StoredSlots → Value → Own
+    → Type 0
+ServesStorage slot fault flash old None own new value own' = Unit {0}
+ServesStorage slot fault flash old (Some request) own new value own' =
+    let s = storage_served fault flash (slot_bytes old slot) request own in
+    (own' ≡ s.own) × (new ≡ storage_after slot s.written old) × (value ≡ record { request = None })
 
 -- what serving a process's request leaves of it, and of the storage, which counts it
-abbrev pub Completes : ℕ → List ℕ → Storage → Own → Storage → Own → StorageRequest → Type 0
+abbrev pub Completes : ℕ → List ℕ → StoredSlots → Own → StoredSlots → Own → StorageRequest → Type 0
 Completes slot flash old own new own' request =
-    let s = served (fails_next old) flash (slot_bytes old slot) request own in
-    (own' ≡ with_request storages None s.own) × (new ≡ stored slot s.written (after_count old))
+    let s = storage_served (store_fails_next old) flash (slot_bytes old slot) request own in
+    (own' ≡ with_request storages None s.own) × (new ≡ storage_after slot s.written (after_count old))

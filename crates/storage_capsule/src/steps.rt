@@ -3,14 +3,14 @@ ghost use Rattle.std.specs.Prelude.{◌≡◌, true, is_some, IfSome};
 ghost use Rattle.grant_enter.specs.Homes.{own_of, ChangesOnly};
 ghost use Rattle.driver_model.specs.Lines.{IsWithin};
 ghost use Rattle.driver_model.specs.Requests.{waiting_of};
-ghost use Rattle.driver_model.specs.Storage.{storages as desk};
+ghost use Rattle.driver_model.specs.Storage.{storages as request_kind};
 ghost use Rattle.driver_requests.specs.Asking.{MayBeTold};
 ghost use Rattle.storage_capsule.specs.Serving.{Completes};
 
 use crate::capsule::StorageCapsule;
 use crate::visits::{Transfer, storages};
-use board_devices::Stores;
-use driver_requests::{Serve, has_request};
+use board_devices::{Kind, Stores};
+use driver_requests::{Serve, Service, has_request};
 use grant_enter::Home;
 use grant_values::StorageRequest;
 use tk_base::ProcessId;
@@ -18,11 +18,11 @@ use tk_base::ProcessId;
 /// Counts the request of a process, and serves it.
 fn count_and_serve(home: &mut Home, id: ProcessId, stores: &mut Stores)
     requires told { MayBeTold home.old id }
-    requires request { is_some (waiting_of desk id.life (own_of home.old id.slot)) ≡ true }
+    requires request { is_some (waiting_of request_kind id.life (own_of home.old id.slot)) ≡ true }
     requires within { IsWithin stores.old.size (own_of home.old id.slot) }
     ensures completes { let own = own_of home.old id.slot in
-        IfSome (waiting_of desk id.life own) (Completes id.slot home.old.flash stores.old own
-        stores.new (own_of home.new id.slot)) }
+        IfSome (waiting_of request_kind id.life own)
+        (Completes id.slot home.old.flash stores.old own stores.new (own_of home.new id.slot)) }
     ensures rest { ChangesOnly id.slot home.old home.new }
 {
     let fault = stores.count();
@@ -48,13 +48,14 @@ impl Serve<StorageRequest> for StorageCapsule {
 
     ghost answer_to = { answer_to };
 
-    /// Serves the request of a process, if it is there and has one. The answer is whether it has.
+    /// Serves the request of a process, if it is there and has one: whether bytes are moved, and whether it has one.
     #[tactic(auto, unfolding(driver_model::specs::Storage::answered))]
-    fn serve(home: &mut Home, id: &ProcessId, stores: &mut Stores) -> bool {
-        if !has_request::<StorageRequest, 2, 1, 1>(&storages(), home, id) {
-            return false;
+    fn serve(home: &mut Home, id: &ProcessId, stores: &mut Stores) -> Service {
+        let kind = Kind::Stored(!stores.fails_next());
+        let completed = has_request::<StorageRequest, 2, 1, 1>(&storages(), home, id);
+        if completed {
+            count_and_serve(home, *id, stores);
         }
-        count_and_serve(home, *id, stores);
-        true
+        Service { kind, completed }
     }
 }

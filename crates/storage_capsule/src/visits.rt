@@ -1,17 +1,17 @@
 //! What the storage does with the value that a process keeps for it.
 ghost use Rattle.std.specs.Prelude.{◌≡◌, ◌+◌, ◌<◌, ◌≤◌, ◌^◌, min, length};
-ghost use Rattle.grant_areas.specs.declared.kinds.PairKind.TheVariants.{ReadWrite};
-ghost use Rattle.process_own.specs.Handed.{held};
+ghost use Rattle.grant_model.specs.declared.kinds.PairKind.TheVariants.{ReadWrite};
+ghost use Rattle.process_model.specs.Handed.{held};
 ghost use Rattle.board_devices.specs.Storage.{bytes_from, slot_bytes};
-ghost use Rattle.process_own.specs.Served.{ram_at, with_written};
-ghost use Rattle.grant_enter.specs.Seen.{Framed, IsLent, own_entered};
-ghost use Rattle.driver_model.specs.Storage.{completing, moving, served};
-ghost use Rattle.storage_capsule.specs.Serving.{stored};
+ghost use Rattle.process_model.specs.Served.{ram_at, with_written};
+ghost use Rattle.grant_enter.specs.Seen.{Framed, IsLent, own_entered, seen};
+ghost use Rattle.driver_model.specs.Storage.{completing, moving, storage_served, storage};
+ghost use Rattle.storage_capsule.specs.Serving.{storage_after};
 
 use crate::moves::{fill, put};
 use board_devices::Stores;
 use grant_enter::{Entered, Grant, Visit, a_buffer_is_written, buffers_are_whole, frames_join};
-use grant_values::{STORAGE, Storage, StorageKind, StorageRequest};
+use grant_values::{Driver, Storage, StorageKind, StorageRequest};
 use tk_base::Slot;
 
 /// How an upcall tells that bytes were moved.
@@ -23,9 +23,9 @@ const FAULT: u32 = 1;
 /// The grants that processes keep for the storage.
 #[tactic(auto, unfolding(grant_values::specs::Drivers::counts_of, grant_values::specs::Drivers::drivers))]
 pub(crate) fn storages() -> Grant<Storage, 2, 1, 1>
-    ensures { result.driver ≡ 0x50001 }
+    ensures { result.driver ≡ storage }
 {
-    Grant::of(STORAGE)
+    Grant::of(Driver::Storage.number())
 }
 
 /// Serves the request that waits, over the storage of a slot; on a fault it moves nothing. It hands the
@@ -39,16 +39,17 @@ pub(crate) struct Transfer<'a> {
 
 impl<'a> Visit<Storage> for Transfer<'a> {
     ghost use Rattle.std.specs.Prelude.{◌≡◌, ◌+◌, ◌<◌, ◌≤◌, ◌^◌, IfSome};
-    ghost use Rattle.storage_capsule.specs.Serving.{Serves};
+    ghost use Rattle.storage_capsule.specs.Serving.{ServesStorage};
 
     type Answer = &'a mut Stores;
 
-    ghost asks = { λ serve value seen. (seen.driver ≡ 0x50001) × (1 < seen.counts.upcalls)
+    ghost asks = { λ serve value seen. (seen.driver ≡ storage) × (1 < seen.counts.upcalls)
         × (0 < seen.counts.ro) × (0 < seen.counts.rw) × (seen.own.dropped + 1 < 2 ^ 32)
-        × IfSome value.request (λ request. request.offset + request.length ≤ serve.stores.now.size) };
+        × IfSome value.request (λ request.
+        request.offset + request.length ≤ serve.stores.now.size) };
 
     ghost leaves = { λ serve value seen stores value' own. (stores.ghost_name ≡ serve.stores.ghost_name)
-        × Serves serve.slot serve.fault seen.flash serve.stores.now value.request seen.own
+        × ServesStorage serve.slot serve.fault seen.flash serve.stores.now value.request seen.own
         stores.now value' own };
 
     fn run(self, value: &mut Storage, entered: &mut Entered<'_>) -> &'a mut Stores {
@@ -69,12 +70,13 @@ impl<'a> Visit<Storage> for Transfer<'a> {
 /// Copies bytes of the storage into the buffer of a process. The answer is how many.
 fn read(entered: &mut Entered<'_>, stores: &Stores, slot: Slot, request: &StorageRequest) -> u32
     requires lent { IsLent entered.old }
-    requires driver { entered.old.driver ≡ 0x50001 }
-    requires buffer { 0 < entered.old.counts.rw }
+    requires driver { (seen entered.old).driver ≡ storage }
+    requires buffer { 0 < (seen entered.old).counts.rw }
     requires within { request.now.offset + request.now.length ≤ stores.now.size }
     ensures count { result ≡ min request.now.length
-        (length (ram_at (own_entered entered.old) (held ReadWrite 0x50001 0 (own_entered entered.old)))) }
-    ensures own { own_entered entered.new ≡ with_written 0x50001 0 0
+        (length (ram_at (own_entered entered.old)
+        (held ReadWrite storage 0 (own_entered entered.old)))) }
+    ensures own { own_entered entered.new ≡ with_written storage 0 0
         (bytes_from stores.now slot request.now.offset result) (own_entered entered.old) }
     // what a visitor owes
     ensures lent { IsLent entered.new }
@@ -93,14 +95,14 @@ fn move_bytes(
     request: &StorageRequest,
 ) -> u32
     requires lent { IsLent entered.old }
-    requires driver { entered.old.driver ≡ 0x50001 }
-    requires read { 0 < entered.old.counts.ro }
-    requires write { 0 < entered.old.counts.rw }
+    requires driver { (seen entered.old).driver ≡ storage }
+    requires read { 0 < (seen entered.old).counts.ro }
+    requires write { 0 < (seen entered.old).counts.rw }
     requires within { request.now.offset + request.now.length ≤ stores.old.size }
-    ensures moved { let s = moving request.now.kind entered.old.memory.now.flash
+    ensures moved { let s = moving request.now.kind (seen entered.old).flash
         (slot_bytes stores.old slot) request.now (own_entered entered.old) in
         (completing request.now.kind result 0 (own_entered entered.new) ≡ s.own)
-        × (stores.new ≡ stored slot s.written stores.old) }
+        × (stores.new ≡ storage_after slot s.written stores.old) }
     ensures dropped { (own_entered entered.new).dropped ≡ (own_entered entered.old).dropped }
     // what a visitor owes
     ensures lent { IsLent entered.new }
@@ -116,10 +118,11 @@ fn move_bytes(
 /// Has a request complete: its upcall tells how many bytes were moved, and how.
 fn complete(entered: &mut Entered<'_>, kind: StorageKind, count: u32, outcome: u32)
     requires lent { IsLent entered.old }
-    requires driver { entered.old.driver ≡ 0x50001 }
-    requires upcalls { 1 < entered.old.counts.upcalls }
+    requires driver { (seen entered.old).driver ≡ storage }
+    requires upcalls { 1 < (seen entered.old).counts.upcalls }
     requires dropped { (own_entered entered.old).dropped + 1 < 2 ^ 32 }
-    ensures own { own_entered entered.new ≡ completing kind count outcome (own_entered entered.old) }
+    ensures own { own_entered entered.new
+        ≡ completing kind count outcome (own_entered entered.old) }
     // what a visitor owes
     ensures lent { IsLent entered.new }
     ensures framed { Framed entered.old entered.new }
@@ -139,15 +142,15 @@ fn serve_request(
     fault: bool,
 )
     requires lent { IsLent entered.old }
-    requires driver { entered.old.driver ≡ 0x50001 }
-    requires upcalls { 1 < entered.old.counts.upcalls }
-    requires read { 0 < entered.old.counts.ro }
-    requires write { 0 < entered.old.counts.rw }
+    requires driver { (seen entered.old).driver ≡ storage }
+    requires upcalls { 1 < (seen entered.old).counts.upcalls }
+    requires read { 0 < (seen entered.old).counts.ro }
+    requires write { 0 < (seen entered.old).counts.rw }
     requires dropped { (own_entered entered.old).dropped + 1 < 2 ^ 32 }
     requires within { request.now.offset + request.now.length ≤ stores.old.size }
-    ensures served { let s = served fault entered.old.memory.now.flash
+    ensures served { let s = storage_served fault (seen entered.old).flash
         (slot_bytes stores.old slot) request.now (own_entered entered.old) in
-        (own_entered entered.new ≡ s.own) × (stores.new ≡ stored slot s.written stores.old) }
+        (own_entered entered.new ≡ s.own) × (stores.new ≡ storage_after slot s.written stores.old) }
     // what a visitor owes
     ensures lent { IsLent entered.new }
     ensures framed { Framed entered.old entered.new }

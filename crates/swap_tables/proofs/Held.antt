@@ -1,14 +1,15 @@
 -- The pair of a driver that has been entered.
-use Rattle.std.proofs.Common.{arith, ap, sym, subst, ◌∙◌, ◌≡◌, ◌<◌, ◌^◌, ◌≤◌, ℕ, ◌+◌, ◌*◌, ◌/◌, List, length, get_or, set, Some}
+use Rattle.std.proofs.Common.{arith, ap, sym, subst, ◌∙◌, ◌≡◌, ◌<◌, ◌^◌, ◌≤◌, ℕ, ◌+◌, ◌*◌, ◌/◌, List, length, get_or}
+use Rattle.std.proofs.Common.{set, Some}
 use Rattle.tk_base.specs.declared.upcall.Counts.{Counts}
-use Rattle.grant_values.specs.Words.{WordsInBytes, bytes_of, words_of}
+use Rattle.grant_values.specs.Words.{WordsInBytes, bytes_of_words, words_of}
 use Rattle.grant_values.specs.Drivers.{counts_of}
-use Rattle.grant_areas.specs.declared.kinds.PairKind.{PairKind}
-use Rattle.grant_areas.specs.declared.places.Area.{Area}
-use Rattle.grant_areas.specs.Kinds.{count_of, pairs_before}
-use Rattle.grant_areas.specs.Grants.{shape_of, counts_or_none, with_grant, with_pair}
-use Rattle.grant_areas.specs.Laid.{IsLaid, Tells, area_of, read_back}
-use Rattle.grant_areas.specs.Laws.{ArePair, PairsAreFound}
+use Rattle.grant_model.specs.declared.kinds.PairKind.{PairKind}
+use Rattle.grant_model.specs.declared.places.Area.{Area}
+use Rattle.grant_model.specs.Kinds.{count_of, pairs_before}
+use Rattle.grant_model.specs.Grants.{shape_of, counts_or_none, with_grant, with_pair}
+use Rattle.grant_model.specs.Encoding.{EncodesGrants, Tells, area_of, decode_grants}
+use Rattle.grant_model.specs.Laws.{ArePair, PairsAreFound}
 use Rattle.swap_tables.specs.Swaps.{IsPair, held_pair}
 
 pub shape-is : (driver : ℕ) (counts : Counts) → counts_of driver ≡ Some counts → shape_of driver ≡ counts
@@ -20,19 +21,25 @@ pub record HeldAt (at : ℕ) (kind : PairKind) (driver number : ℕ) (kernel : L
   pub within : 4 * at + 8 ≤ length kernel
   pub read : (get_or (words_of kernel) at 0, get_or (words_of kernel) (at + 1) 0) ≡ held_pair kind driver number kernel
   pub put : (pair : ℕ × ℕ) (kernel' : List ℕ) → pair.0 < 2 ^ 32 → pair.1 < 2 ^ 32
-      → ((ws : List ℕ) → kernel ≡ bytes_of ws → kernel' ≡ bytes_of (set (set ws at pair.0) (at + 1) pair.1))
-      → Tells kernel' (with_grant driver (with_pair kind number pair) (read_back kernel))
+      → ((ws : List ℕ) → kernel ≡ bytes_of_words ws → kernel' ≡ bytes_of_words (set (set ws at pair.0) (at + 1) pair.1))
+      → Tells kernel' (with_grant driver (with_pair kind number pair) (decode_grants kernel))
 
-pub held : WordsInBytes → PairsAreFound → (at : ℕ) (kind : PairKind) (driver number : ℕ) (counts : Counts) (kernel : List ℕ) (area : Area) → IsLaid kernel → Some area ≡ area_of driver (read_back kernel) → IsPair kind driver counts number → at ≡ area.offset / 4 + 2 + 2 * (pairs_before kind counts + number) → HeldAt at kind driver number kernel
+pub held : WordsInBytes → PairsAreFound
+    → (at : ℕ) (kind : PairKind) (driver number : ℕ) (counts : Counts) (kernel : List ℕ) (area : Area)
+    → EncodesGrants kernel → Some area ≡ area_of driver (decode_grants kernel) → IsPair kind driver counts number
+    → at ≡ area.offset / 4 + 2 + 2 * (pairs_before kind counts + number) → HeldAt at kind driver number kernel
 held words law at kind driver number counts kernel area is found pair e =
     let k = shape-is driver counts pair.counts_are in
     let h = law.at kind driver number kernel area is found (subst (λ c. number < count_of kind c) (sym k) pair.below) in
-    let there : at ≡ area.offset / 4 + 2 + 2 * (pairs_before kind (shape_of driver) + number) = e ∙ ap (λ c. area.offset / 4 + 2 + 2 * (pairs_before kind c + number)) (sym k) in
+    let there : at ≡ area.offset / 4 + 2 + 2 * (pairs_before kind (shape_of driver) + number) =
+    e ∙ ap (λ c. area.offset / 4 + 2 + 2 * (pairs_before kind c + number)) (sym k) in
     let g = subst (λ i. ArePair kernel i kind driver number) (sym there) h in
     record {
       within = inside at (length (words_of kernel)) (length kernel) g.within (words.count kernel);
       read = both _ _ (held_pair kind driver number kernel) g.first g.second;
-      put = λ p kernel' a b new. subst (λ bytes. Tells bytes (with_grant driver (with_pair kind number p) (read_back kernel))) (sym (new (words_of kernel) g.bytes)) (g.put p a b);
+      put = λ p kernel' a b new.
+          subst (λ bytes. Tells bytes (with_grant driver (with_pair kind number p) (decode_grants kernel)))
+          (sym (new (words_of kernel) g.bytes)) (g.put p a b);
     }
   where
     inside : (at w l : ℕ) → at + 1 < w → w ≡ l / 4 → 4 * at + 8 ≤ l

@@ -1,58 +1,67 @@
 -- A swap of a pair, by whether the driver has been entered.
-use Rattle.std.proofs.Common.{arith, refl, ap, sym, subst, ◌∙◌, ◌≡◌, ◌<◌, ◌≤◌, ◌^◌, ℕ, ◌+◌, ◌-◌, ◌==◌, List, [], ◌∷◌, ◌++◌, length, drop, cond, length-append, Bool, true, false, Option, None, Some, eq-eqb}
+use Rattle.std.proofs.Common.{arith, refl, ap, sym, subst, ◌∙◌, ◌≡◌, ◌<◌, ◌≤◌, ◌^◌, ℕ, ◌+◌, ◌-◌, List, [], ◌∷◌, ◌++◌}
+use Rattle.std.proofs.Common.{length, drop, cond, length-append, Option, None, Some, eq-eqb}
 use Rattle.std.specs.Prelude.{option_map, IfSome, IfNone}
-use Rattle.std.specs.List.{AllByRecursion, find}
 use Rattle.std.proofs.lemmas.List.{take_at, drop_at, length-take-le, length-drop}
 use Rattle.tk_base.specs.declared.upcall.Counts.{Counts}
-use Rattle.process_layout.specs.Extents.{Extents}
-use Rattle.grant_values.specs.Drivers.{drivers, counts_of, cost_of}
-use Rattle.grant_areas.specs.declared.kinds.PairKind.{PairKind}
-use Rattle.grant_areas.specs.Grants.{Grant, grant_of, with_grant, entering, fresh, pair_of, with_pair}
-use Rattle.grant_areas.specs.Laid.{IsLaid, Tells, read_back}
+use Rattle.process_layout.specs.LayoutView.{LayoutView}
+use Rattle.grant_values.specs.declared.drivers.Driver.{Driver}
+use Rattle.grant_values.specs.declared.drivers.Driver.TheVariants.{Alarm, Console, Leds, Random, Storage}
+use Rattle.grant_values.specs.Drivers.{cost_of, counts_by, counts_of, driver_of}
+use Rattle.grant_model.specs.declared.kinds.PairKind.{PairKind}
+use Rattle.grant_model.specs.Grants.{Grant, grant_of, with_grant, entering, fresh, pair_of, with_pair}
+use Rattle.grant_model.specs.Encoding.{EncodesGrants, Tells, decode_grants}
 use Rattle.grant_region.specs.Region.{with_room, roomed, below, above, Leaves, LeavesArea}
 use Rattle.grant_region.specs.Laws.{PartsJoin}
 use Rattle.swap_tables.specs.Swaps.{Swaps, SwapsHeld, swapped}
 use Rattle.swap_tables.proofs.Held.{shape-is}
 
 -- each driver's cost is a word
-abbrev Fits : ℕ × Counts → Type 0
-Fits row = cost_of row.1 < 2 ^ 32
+fits : (driver : Driver) → cost_of (counts_by driver) < 2 ^ 32
+fits Alarm = omega arith
+fits Console = omega arith
+fits Leds = omega arith
+fits Random = omega arith
+fits Storage = omega arith
 
-fits_by : (test : ℕ × Counts → Bool) (row : ℕ × Counts) (rows : List (ℕ × Counts)) (b : Bool) (counts : Counts) → Fits row → option_map (λ (row : ℕ × Counts). row.1) (cond b (Some row) (find test rows)) ≡ Some counts → (option_map (λ (row : ℕ × Counts). row.1) (find test rows) ≡ Some counts → cost_of counts < 2 ^ 32) → cost_of counts < 2 ^ 32
-fits_by test row rows true counts fit is on = let same : row.1 ≡ counts = cc in subst (λ c. cost_of c < 2 ^ 32) same fit
-fits_by test row rows false counts fit is on = on is
-
-fits_in : (test : ℕ × Counts → Bool) (rows : List (ℕ × Counts)) (counts : Counts) → AllByRecursion Fits rows → option_map (λ (row : ℕ × Counts). row.1) (find test rows) ≡ Some counts → cost_of counts < 2 ^ 32
-fits_in test [] counts all is = absurd (cc)
-fits_in test (row ∷ rows) counts all is = fits_by test row rows (test row) counts all.0 is (fits_in test rows counts all.1)
-
-all_fit : AllByRecursion Fits drivers
-unfolding drivers
-all_fit = (omega arith, (omega arith, (omega arith, (omega arith, (omega arith, tt)))))
-
-pub cost-fits : (driver : ℕ) (counts : Counts) → counts_of driver ≡ Some counts → cost_of counts < 2 ^ 32
+pub cost-fits : (number : ℕ) (counts : Counts) → counts_of number ≡ Some counts → cost_of counts < 2 ^ 32
 unfolding counts_of
-cost-fits driver counts is = fits_in (λ row. row.0 == driver) drivers counts all_fit is
+cost-fits number counts is = by_driver (driver_of number) is
+  where
+    by_driver : (driver : Option Driver) → option_map counts_by driver ≡ Some counts → cost_of counts < 2 ^ 32
+    by_driver None e = absurd (cc)
+    by_driver (Some driver) e = let same : counts_by driver ≡ counts = cc in
+        subst (λ c. cost_of c < 2 ^ 32) same (fits driver)
 
 -- a new grant is the first of its driver
-with_fresh : (driver : ℕ) (gs : List Grant) (change : Grant → Grant) → with_grant driver change (fresh driver ∷ gs) ≡ change (fresh driver) ∷ gs
-with_fresh driver gs change = ap (λ b. cond b (change (fresh driver) ∷ gs) (fresh driver ∷ with_grant driver change gs)) (eq-eqb driver driver refl)
+with_fresh : (driver : ℕ) (gs : List Grant) (change : Grant → Grant)
+    → with_grant driver change (fresh driver ∷ gs) ≡ change (fresh driver) ∷ gs
+with_fresh driver gs change =
+    ap (λ b. cond b (change (fresh driver) ∷ gs) (fresh driver ∷ with_grant driver change gs))
+    (eq-eqb driver driver refl)
 
 fresh_is : (driver : ℕ) → grant_of driver (fresh driver ∷ []) ≡ Some (fresh driver)
 fresh_is driver = ap (λ b. cond b (Some (fresh driver)) None) (eq-eqb driver driver refl)
 
 -- its pair is swapped
-there : (kind : PairKind) (driver number : ℕ) (pair : ℕ × ℕ) (area area' : List ℕ) (r : Option (ℕ × ℕ)) → read_back area ≡ fresh driver ∷ [] → IfSome r (SwapsHeld kind driver number pair area area') → IfNone r (grant_of driver (read_back area) ≡ None) → Tells area' (with_pair kind number pair (fresh driver) ∷ [])
+there : (kind : PairKind) (driver number : ℕ) (pair : ℕ × ℕ) (area area' : List ℕ) (r : Option (ℕ × ℕ))
+    → decode_grants area ≡ fresh driver ∷ [] → IfSome r (SwapsHeld kind driver number pair area area')
+    → IfNone r (grant_of driver (decode_grants area) ≡ None)
+    → Tells area' (with_pair kind number pair (fresh driver) ∷ [])
 there kind driver number pair area area' (Some former) made some none =
-    let whole : with_grant driver (with_pair kind number pair) (read_back area) ≡ with_pair kind number pair (fresh driver) ∷ [] = ap (with_grant driver (with_pair kind number pair)) made ∙ with_fresh driver [] (with_pair kind number pair) in
+    let whole : with_grant driver (with_pair kind number pair) (decode_grants area)
+    ≡ with_pair kind number pair (fresh driver) ∷ [] =
+    ap (with_grant driver (with_pair kind number pair)) made ∙ with_fresh driver [] (with_pair kind number pair) in
     subst (Tells area') whole some.tells
 there kind driver number pair area area' None made some none =
-    let h : grant_of driver (read_back area) ≡ Some (fresh driver) = ap (grant_of driver) made ∙ fresh_is driver in
-    let n : grant_of driver (read_back area) ≡ None = none in
+    let h : grant_of driver (decode_grants area) ≡ Some (fresh driver) = ap (grant_of driver) made ∙ fresh_is driver in
+    let n : grant_of driver (decode_grants area) ≡ None = none in
     absurd (cc)
 
 -- an area, in which a pair was put, is left at the end of a part
-left : (e : Extents) (app app' front area area' : List ℕ) (g h : Grant) → LeavesArea e app app' g → front ≡ below e app' → area ≡ above e app' → length area' ≡ length area → Tells area' (h ∷ []) → LeavesArea e app (front ++ area') h
+left : (e : LayoutView) (app app' front area area' : List ℕ) (g h : Grant) → LeavesArea e app app' g
+    → front ≡ below e app' → area ≡ above e app' → length area' ≡ length area → Tells area' (h ∷ [])
+    → LeavesArea e app (front ++ area') h
 left e app app' front area area' g h l first rest long tells =
     let n = e.kernel_break - e.start in
     let room : n ≤ length app' = subst (λ k. n ≤ k) (sym l.size) l.within in
@@ -60,7 +69,8 @@ left e app app' front area area' g h l first rest long tells =
     let alen : length area ≡ length app' - n = ap length rest ∙ length-drop n app' in
     let back : drop n (front ++ area') ≡ area' = drop_at front area' n flen in
     record {
-      size = both (length front) (length area') (length area) n (length app') flen long alen room (length-append front area') ∙ l.size;
+      size = both (length front) (length area') (length area) n (length app') flen long alen room
+          (length-append front area') ∙ l.size;
       within = l.within;
       own = take_at front area' n flen ∙ first ∙ l.own;
       tells = subst (λ bytes. Tells bytes (h ∷ [])) (sym back) tells;
@@ -70,19 +80,30 @@ left e app app' front area area' g h l first rest long tells =
     both f b a n l u v w x y = omega arith
 
 -- the driver has not been entered: its area is made, and a pair of it swapped
-pub swaps-made : PartsJoin → (kind : PairKind) (driver number : ℕ) (counts : Counts) (pair : ℕ × ℕ) (r : Option (ℕ × ℕ)) (e e' : Extents) (app app' front area area' kernel kernel' : List ℕ)
-    → counts_of driver ≡ Some counts → IsLaid kernel → kernel' ≡ kernel → grant_of driver (read_back kernel) ≡ None
-    → e' ≡ with_room (cost_of counts) e → LeavesArea e' app app' (fresh driver) → front ≡ below e' app' → area ≡ above e' app' → length area' ≡ length area
-    → IfSome r (SwapsHeld kind driver number pair area area') → IfNone r (grant_of driver (read_back area) ≡ None)
+pub swaps-made : PartsJoin
+    → (kind : PairKind) (driver number : ℕ) (counts : Counts) (pair : ℕ × ℕ) (r : Option (ℕ × ℕ)) (e e' : LayoutView)
+    (app app' front area area' kernel kernel' : List ℕ)
+    → counts_of driver ≡ Some counts → EncodesGrants kernel → kernel' ≡ kernel
+    → grant_of driver (decode_grants kernel) ≡ None
+    → e' ≡ with_room (cost_of counts) e → LeavesArea e' app app' (fresh driver) → front ≡ below e' app'
+    → area ≡ above e' app' → length area' ≡ length area
+    → IfSome r (SwapsHeld kind driver number pair area area') → IfNone r (grant_of driver (decode_grants area) ≡ None)
     → Swaps kind driver number pair e e' app (front ++ area') kernel kernel' (0, 0)
-swaps-made law kind driver number counts pair r e e' app app' front area area' kernel kernel' known is same absent layout l first rest long some none =
-    let gs = read_back kernel in
+swaps-made law kind driver number counts pair r e e' app app' front area area' kernel kernel' known is same absent
+    layout l first rest long some none =
+    let gs = decode_grants kernel in
     let change = with_pair kind number pair in
-    let made : read_back area ≡ fresh driver ∷ [] = ap read_back rest ∙ l.tells.grants in
-    let new : LeavesArea e' app (front ++ area') (change (fresh driver)) = left e' app app' front area area' (fresh driver) (change (fresh driver)) l first rest long (there kind driver number pair area area' r made some none) in
-    let whole : change (fresh driver) ∷ gs ≡ swapped kind driver number pair kernel = sym (with_fresh driver gs change) ∙ ap (with_grant driver change) (sym (ap (entering driver gs) absent)) in
+    let made : decode_grants area ≡ fresh driver ∷ [] = ap decode_grants rest ∙ l.tells.grants in
+    let new : LeavesArea e' app (front ++ area') (change (fresh driver)) =
+    left e' app app' front area area' (fresh driver) (change (fresh driver)) l first rest long
+    (there kind driver number pair area area' r made some none) in
+    let whole : change (fresh driver) ∷ gs ≡ swapped kind driver number pair kernel =
+    sym (with_fresh driver gs change) ∙ ap (with_grant driver change) (sym (ap (entering driver gs) absent)) in
     record {
       former = sym (ap (pair_of kind number) absent);
-      layout = layout ∙ ap (λ c. with_room (cost_of c) e) (sym (shape-is driver counts known)) ∙ sym (ap (roomed driver e) absent);
-      grants = subst (λ k. Leaves e' app (front ++ area') k (swapped kind driver number pair kernel)) (sym same) (subst (Leaves e' app (front ++ area') kernel) whole (law.made e' app (front ++ area') kernel (change (fresh driver)) is new));
+      layout = layout ∙ ap (λ c. with_room (cost_of c) e) (sym (shape-is driver counts known))
+          ∙ sym (ap (roomed driver e) absent);
+      grants = subst (λ k. Leaves e' app (front ++ area') k (swapped kind driver number pair kernel)) (sym same)
+          (subst (Leaves e' app (front ++ area') kernel) whole
+          (law.made e' app (front ++ area') kernel (change (fresh driver)) is new));
     }

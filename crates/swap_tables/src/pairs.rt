@@ -1,11 +1,11 @@
 //! The pairs that a process holds.
 ghost use Rattle.std.specs.Prelude.{◌≡◌, ℕ, ◌+◌, ◌*◌, ◌/◌, ◌≤◌, List, length, slice_index, slice_set};
-ghost use Rattle.grant_values.specs.Words.{bytes_of, words_of};
-ghost use Rattle.grant_areas.specs.declared.kinds.PairKind.TheVariants.{Upcall, ReadOnly, ReadWrite};
-ghost use Rattle.grant_areas.specs.Kinds.{pairs_before};
+ghost use Rattle.grant_values.specs.Words.{bytes_of_words, words_of};
+ghost use Rattle.grant_model.specs.declared.kinds.PairKind.TheVariants.{Upcall, ReadOnly, ReadWrite};
+ghost use Rattle.grant_model.specs.Kinds.{pairs_before};
 ghost use Rattle.swap_tables.specs.Swaps.{CanLookUp, held_pair};
 
-use grant_areas::{Area, PairKind, areas_are_found, pairs_are_found};
+use grant_model::{Area, PairKind, areas_are_found, pairs_are_found};
 use grant_region::area;
 use grant_values::{put_word, word_at, words_in_bytes};
 use tk_base::Counts;
@@ -72,8 +72,8 @@ pub(crate) fn pair_at(bytes: &[u8], at: usize) -> (u32, u32)
 /// Puts a pair at word `at` of some bytes. All other bytes stay.
 pub(crate) fn put_pair(bytes: &mut [u8], at: usize, pair: (u32, u32))
     requires { 4 * at + 8 ≤ length bytes.old }
-    ensures bytes { (words : List ℕ) → bytes.old ≡ bytes_of words
-        → bytes.new ≡ bytes_of (slice_set (slice_set words at pair.0) (at + 1) pair.1) }
+    ensures bytes { (words : List ℕ) → bytes.old ≡ bytes_of_words words
+        → bytes.new ≡ bytes_of_words (slice_set (slice_set words at pair.0) (at + 1) pair.1) }
     ensures length { length bytes.new ≡ length bytes.old }
 {
     put_word(bytes, at, pair.0);

@@ -1,12 +1,12 @@
 //! Swaps of the pairs that a process holds.
 ghost use Rattle.std.specs.Prelude.{◌≡◌, length, IfSome, IfNone, None};
-ghost use Rattle.grant_areas.specs.declared.kinds.PairKind.TheVariants.{Upcall, ReadOnly, ReadWrite};
-ghost use Rattle.grant_areas.specs.Grants.{grant_of};
-ghost use Rattle.grant_areas.specs.Laid.{read_back};
+ghost use Rattle.grant_model.specs.declared.kinds.PairKind.TheVariants.{Upcall, ReadOnly, ReadWrite};
+ghost use Rattle.grant_model.specs.Grants.{grant_of};
+ghost use Rattle.grant_model.specs.Encoding.{decode_grants};
 ghost use Rattle.swap_tables.specs.Swaps.{CanLookUp, CanSwap, SwapOutcome, SwapsHeld};
 
 use crate::pairs::{first_word, pair_at, put_pair};
-use grant_areas::{PairKind, areas_are_found, pairs_are_found};
+use grant_model::{PairKind, areas_are_found, pairs_are_found};
 use grant_region::{NoRoom, area, make_area, parts_join};
 use grant_values::{cost_of, words_in_bytes};
 use process_layout::Layout;
@@ -112,7 +112,7 @@ fn swap_held(
 ) -> Option<(u32, u32)>
     requires { CanLookUp kind driver counts.now number kernel.old }
     ensures some { IfSome result (SwapsHeld kind driver number pair kernel.old kernel.new) }
-    ensures none { IfNone result (grant_of driver (read_back kernel.old) ≡ None) }
+    ensures none { IfNone result (grant_of driver (decode_grants kernel.old) ≡ None) }
     ensures unchanged { IfNone result (kernel.new ≡ kernel.old) }
     ensures length { length kernel.new ≡ length kernel.old }
 {

@@ -1,5 +1,5 @@
 -- The system call interface: TRD 104, "System Call API".
-use Rattle.std.specs.Prelude.{ℕ, ◌==◌, List, [], ◌∷◌, find, Option, option_map}
+use Rattle.std.specs.Prelude.{ℕ, ◌==◌, List, [], ◌∷◌, find, Option, None, Some, option_map}
 use Rattle.tk_base.specs.Regs.{Registers}
 use Rattle.tk_base.specs.Regs.{register}
 use Rattle.syscall_abi.specs.declared.call.Call.{Call}
@@ -9,21 +9,25 @@ use Rattle.syscall_abi.specs.declared.call.Call.TheVariants.{Yield, Subscribe, C
 abbrev pub class : Registers → ℕ
 class regs = register regs 14
 
+-- register a0, the first argument
 abbrev pub a0 : Registers → ℕ
 a0 regs = register regs 10
 
+-- register a1, the second argument
 abbrev pub a1 : Registers → ℕ
 a1 regs = register regs 11
 
+-- register a2, the third argument
 abbrev pub a2 : Registers → ℕ
 a2 regs = register regs 12
 
+-- register a3, the fourth argument
 abbrev pub a3 : Registers → ℕ
 a3 regs = register regs 13
 
 -- each class, and the call that the registers make in it
-unfoldable pub table : Registers → List (ℕ × Call)
-table regs =
+unfoldable pub class_table : Registers → List (ℕ × Call)
+class_table regs =
     (0, Yield (a0 regs) (a1 regs) (a2 regs))
     ∷ (1, Subscribe (a0 regs) (a1 regs) (a2 regs) (a3 regs))
     ∷ (2, Command (a0 regs) (a1 regs) (a2 regs) (a3 regs))
@@ -35,4 +39,14 @@ table regs =
 
 -- the call that the registers make, which is that of their class; none for a class that is not in the table
 unfoldable pub call_of : Registers → Option Call
-call_of regs = option_map (λ row. row.1) (find (λ row. row.0 == class regs) (table regs))
+call_of regs = option_map (λ row. row.1) (find (λ row. row.0 == class regs) (class_table regs))
+
+-- the driver that a call names; none of a yield, a memop and an exit
+abbrev pub driver_named : Call → Option ℕ
+driver_named (Yield number a1 a2) = None
+driver_named (Subscribe driver number function app) = Some driver
+driver_named (Command driver command a2 a3) = Some driver
+driver_named (AllowRw driver number address size) = Some driver
+driver_named (AllowRo driver number address size) = Some driver
+driver_named (Memop operation argument) = None
+driver_named (Exit kind code) = None

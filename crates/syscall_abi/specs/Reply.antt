@@ -4,27 +4,30 @@ use Rattle.tk_base.specs.Regs.{Registers}
 use Rattle.tk_base.specs.Call.{code_of}
 use Rattle.tk_base.specs.Regs.{with_register}
 use Rattle.syscall_abi.specs.declared.reply.Reply.{Reply}
-use Rattle.syscall_abi.specs.declared.reply.Reply.TheVariants.{Failure, FailureU32, FailureU32U32, FailureU64, Success, SuccessU32, SuccessU32U32, SuccessU64, SuccessU32U32U32, SuccessU32U64}
+use Rattle.syscall_abi.specs.declared.reply.Reply.TheVariants.{Failure, FailureU32, FailureU32U32, FailureU64, Success}
+use Rattle.syscall_abi.specs.declared.reply.Reply.TheVariants.{SuccessU32, SuccessU32U32, SuccessU64, SuccessU32U32U32}
+use Rattle.syscall_abi.specs.declared.reply.Reply.TheVariants.{SuccessU32U64}
 
 -- the two words of a number of 64 bits
 abbrev pub low : ℕ → ℕ
 low value = value % 2 ^ 32
 
+-- the upper 32 bits of a number of 64
 abbrev pub high : ℕ → ℕ
 high value = value / 2 ^ 32
 
 -- the words of a reply: the variant's number, and then its values
-abbrev pub words_of : Reply → List ℕ
-words_of (Failure error) = 0 ∷ code_of error ∷ []
-words_of (FailureU32 error first) = 1 ∷ code_of error ∷ first ∷ []
-words_of (FailureU32U32 error first second) = 2 ∷ code_of error ∷ first ∷ second ∷ []
-words_of (FailureU64 error value) = 3 ∷ code_of error ∷ low value ∷ high value ∷ []
-words_of Success = 128 ∷ []
-words_of (SuccessU32 first) = 129 ∷ first ∷ []
-words_of (SuccessU32U32 first second) = 130 ∷ first ∷ second ∷ []
-words_of (SuccessU64 value) = 131 ∷ low value ∷ high value ∷ []
-words_of (SuccessU32U32U32 first second third) = 132 ∷ first ∷ second ∷ third ∷ []
-words_of (SuccessU32U64 first value) = 133 ∷ first ∷ low value ∷ high value ∷ []
+abbrev pub reply_words : Reply → List ℕ
+reply_words (Failure error) = 0 ∷ code_of error ∷ []
+reply_words (FailureU32 error first) = 1 ∷ code_of error ∷ first ∷ []
+reply_words (FailureU32U32 error first second) = 2 ∷ code_of error ∷ first ∷ second ∷ []
+reply_words (FailureU64 error value) = 3 ∷ code_of error ∷ low value ∷ high value ∷ []
+reply_words Success = 128 ∷ []
+reply_words (SuccessU32 first) = 129 ∷ first ∷ []
+reply_words (SuccessU32U32 first second) = 130 ∷ first ∷ second ∷ []
+reply_words (SuccessU64 value) = 131 ∷ low value ∷ high value ∷ []
+reply_words (SuccessU32U32U32 first second third) = 132 ∷ first ∷ second ∷ third ∷ []
+reply_words (SuccessU32U64 first value) = 133 ∷ first ∷ low value ∷ high value ∷ []
 
 -- the registers with words put into one after another, from a number on
 abbrev pub with_words : ℕ → List ℕ → Registers → Registers
@@ -33,7 +36,7 @@ with_words n (word ∷ words) regs = with_words (n + 1) words (with_register reg
 
 -- the registers with a reply: its words stand in a0 and those after it, and no other register changes
 abbrev pub put_reply : Reply → Registers → Registers
-put_reply reply regs = with_words 10 (words_of reply) regs
+put_reply reply regs = with_words 10 (reply_words reply) regs
 
 -- the variants whose first value is an error
 abbrev pub is_failure : Reply → Bool

@@ -1,6 +1,6 @@
 //! What a process asks for by `ecall`.
 ghost use Rattle.std.specs.Prelude.{◌≡◌, ◌<◌, ◌↔◌, IsNone};
-ghost use Rattle.syscall_abi.specs.Call.{call_of, class};
+ghost use Rattle.syscall_abi.specs.Call.{call_of, class, driver_named};
 
 use tk_base::Regs;
 
@@ -57,9 +57,23 @@ impl Call {
     /// The number of the register that holds the class, a4.
     pub const CLASS: u8 = 14;
 
+    /// The driver that the call names, which it may need permission for (Tock Binary Format,
+    /// "Permissions"). None of a yield, a memop and an exit, which are every process's to make.
+    pub fn driver(&self) -> Option<u32>
+        ensures { result ≡ driver_named self.now }
+    {
+        match *self {
+            Call::Subscribe { driver, .. }
+            | Call::Command { driver, .. }
+            | Call::AllowRw { driver, .. }
+            | Call::AllowRo { driver, .. } => Some(driver),
+            Call::Yield { .. } | Call::Memop { .. } | Call::Exit { .. } => None,
+        }
+    }
+
     /// The call that the registers make: the class stands in a4, the arguments in a0 to a3. None
     /// exactly for a class above 6 (TRD 104, "System Call API").
-    #[tactic(auto, unfolding(crate::specs::Call::call_of, crate::specs::Call::table))]
+    #[tactic(auto, unfolding(crate::specs::Call::call_of, crate::specs::Call::class_table))]
     pub fn of(regs: &Regs) -> Option<Call>
         ensures call { result ≡ call_of regs.now }
         ensures none { IsNone result ↔ (6 < class regs.now) }

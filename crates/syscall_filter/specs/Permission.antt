@@ -6,18 +6,19 @@ use Rattle.tk_base.specs.declared.call.CallRule.TheVariants.{Permission}
 use Rattle.tbf_headers.specs.Meaning.{Meaning}
 use Rattle.tbf_headers.specs.Permissions.{allows, lists}
 use Rattle.syscall_abi.specs.declared.call.Call.{Call}
-use Rattle.syscall_abi.specs.declared.call.Call.TheVariants.{Yield, Subscribe, Command, AllowRw, AllowRo, Memop, Exit}
+use Rattle.syscall_abi.specs.declared.call.Call.TheVariants.{Command}
+use Rattle.syscall_abi.specs.Call.{driver_named}
+
+-- what the entries permit of a call that names a driver, if it names one: it needs any entry of that driver
+abbrev pub listed_by : List ℕ → Option ℕ → Bool
+listed_by entries None = true
+listed_by entries (Some driver) = lists entries driver
 
 -- what the entries of the Permissions TLV permit: a command where an entry of its driver has its bit; a subscribe
 -- or an allow where any entry is of its driver; every other call
 abbrev pub listed : List ℕ → Call → Bool
 listed entries (Command driver command a2 a3) = allows entries driver command
-listed entries (Subscribe driver number function app) = lists entries driver
-listed entries (AllowRw driver number address size) = lists entries driver
-listed entries (AllowRo driver number address size) = lists entries driver
-listed entries (Yield number a1 a2) = true
-listed entries (Memop operation argument) = true
-listed entries (Exit kind code) = true
+listed entries call = listed_by entries (driver_named call)
 
 -- without the TLV every call is permitted
 abbrev pub permitted : Option (List ℕ) → Call → Bool

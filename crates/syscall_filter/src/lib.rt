@@ -26,15 +26,11 @@ pub fn filter(header: &Header<'_>, call: &Call) -> Result<(), CallRule>
 fn lists_call(perms: &Perms<'_>, call: &Call) -> bool
     ensures { result ≡ listed (permissions_of perms.now) call.now }
 {
+    let Some(driver) = call.driver() else {
+        return true;
+    };
     match *call {
-        Call::Command {
-            driver,
-            command,
-            ..
-        } => perms.allows(driver, command),
-        Call::Subscribe { driver, .. }
-        | Call::AllowRw { driver, .. }
-        | Call::AllowRo { driver, .. } => perms.lists(driver),
-        Call::Yield { .. } | Call::Memop { .. } | Call::Exit { .. } => true,
+        Call::Command { command, .. } => perms.allows(driver, command),
+        _ => perms.lists(driver),
     }
 }

@@ -4,24 +4,30 @@ use Rattle.std.specs.List.{list_any}
 use Rattle.tbf_headers.specs.Permissions.{Entry, entry_at, entries_from}
 
 -- the entry that a walk stands at, and those that are left
-pub entries_from-step : (n : ℕ) (content : List ℕ) (k : ℕ) → k < n → entries_from (n - k) content k ≡ entry_at content k ∷ entries_from (n - (k + 1)) content (k + 1)
+pub entries_from-step : (n : ℕ) (content : List ℕ) (k : ℕ) → k < n
+    → entries_from (n - k) content k ≡ entry_at content k ∷ entries_from (n - (k + 1)) content (k + 1)
 unfolding entries_from
 entries_from-step n content k h =
     let one : n - k ≡ suc (n - (k + 1)) = omega arith in
     ap (λ m. entries_from m content k) one
 
 -- a walk that stands at an entry that passes has found one
-pub any_here : (test : Entry → Bool) (n : ℕ) (content : List ℕ) (k : ℕ) → k < n → test (entry_at content k) ≡ true → list_any test (entries_from (n - k) content k) ≡ true
+pub any_here : (test : Entry → Bool) (n : ℕ) (content : List ℕ) (k : ℕ) → k < n → test (entry_at content k) ≡ true
+    → list_any test (entries_from (n - k) content k) ≡ true
 any_here test n content k h t =
-    ap (list_any test) (entries_from-step n content k h) ∙ ap (λ b. b || list_any test (entries_from (n - (k + 1)) content (k + 1))) t
+    ap (list_any test) (entries_from-step n content k h)
+    ∙ ap (λ b. b || list_any test (entries_from (n - (k + 1)) content (k + 1))) t
 
 -- it goes on past one that does not
-pub any_later : (test : Entry → Bool) (n : ℕ) (content : List ℕ) (k : ℕ) → k < n → test (entry_at content k) ≡ false → list_any test (entries_from (n - k) content k) ≡ list_any test (entries_from (n - (k + 1)) content (k + 1))
+pub any_later : (test : Entry → Bool) (n : ℕ) (content : List ℕ) (k : ℕ) → k < n → test (entry_at content k) ≡ false
+    → list_any test (entries_from (n - k) content k) ≡ list_any test (entries_from (n - (k + 1)) content (k + 1))
 any_later test n content k h t =
-    ap (list_any test) (entries_from-step n content k h) ∙ ap (λ b. b || list_any test (entries_from (n - (k + 1)) content (k + 1))) t
+    ap (list_any test) (entries_from-step n content k h)
+    ∙ ap (λ b. b || list_any test (entries_from (n - (k + 1)) content (k + 1))) t
 
 -- none is left at the end
-pub any_none : (test : Entry → Bool) (n : ℕ) (content : List ℕ) (k : ℕ) → n ≤ k → list_any test (entries_from (n - k) content k) ≡ false
+pub any_none : (test : Entry → Bool) (n : ℕ) (content : List ℕ) (k : ℕ) → n ≤ k
+    → list_any test (entries_from (n - k) content k) ≡ false
 unfolding entries_from
 any_none test n content k h =
     let none : n - k ≡ 0 = omega arith in

@@ -1,67 +1,88 @@
 -- Walking over the places of TLVs one by one.
-use Rattle.std.proofs.Common.{◌≡◌, ℕ, zero, suc, ◌+◌, ◌-◌, ◌*◌, ◌<◌, ◌≤◌, ◌==◌, Bool, true, false, cond, ◌⊎◌, List, [], ◌∷◌, length, take, drop, subst, Option, Some, None, bit_xor, inl, inr, refl, sym, ap, ◌∙◌, arith}
+use Rattle.std.proofs.Common.{◌≡◌, ℕ, zero, suc, ◌+◌, ◌-◌, ◌*◌, ◌<◌, ◌≤◌, ◌==◌, Bool, true, false, cond, ◌⊎◌, List, []}
+use Rattle.std.proofs.Common.{◌∷◌, length, take, drop, subst, Option, Some, None, bit_xor, inl, inr, refl, sym, ap, ◌∙◌}
+use Rattle.std.proofs.Common.{arith}
 use Rattle.std.specs.List.{find}
 use Rattle.std.proofs.lemmas.Bool.{le-leb, lt-leb, cases_lt, eqb-true, eqb-false, ltb-false, or_parts, and_cases}
 use Rattle.std.proofs.lemmas.Grind.{common_steps}
 use Rattle.std.proofs.Math.Numerals.{add-one}
-use Rattle.tbf_headers.specs.Numbers.{half, word, xor_of_words}
-use Rattle.tbf_headers.specs.Tlv.{type_at, length_at, least_length, is_bad, is_of, first_bad, first_of, places, places_from, place_after}
+use Rattle.tbf_headers.specs.Numbers.{half, word_at, xor_of_words}
+use Rattle.tbf_headers.specs.Tlv.{type_at, length_at, least_length, is_bad, is_of_type, first_bad, first_of, tlv_places}
+use Rattle.tbf_headers.specs.Tlv.{tlv_places_from, place_after}
 
 -- one word more under the checksum
-pub xor_of_words-more : (k : ℕ) (header : List ℕ) → xor_of_words (k + 1) header ≡ bit_xor (xor_of_words k header) (cond (k == 3) 0 (word header (4 * k)))
+pub xor_of_words-more : (k : ℕ) (header : List ℕ)
+    → xor_of_words (k + 1) header ≡ bit_xor (xor_of_words k header) (cond (k == 3) 0 (word_at header (4 * k)))
 xor_of_words-more k header = rw add-one refl
 
 -- no place is at the header's end or past it
-pub places_from-end : (n : ℕ) (header : List ℕ) (at : ℕ) → length header ≤ at → places_from n header at ≡ []
-unfolding places_from
+pub places_from-end : (n : ℕ) (header : List ℕ) (at : ℕ) → length header ≤ at → tlv_places_from n header at ≡ []
+unfolding tlv_places_from
 places_from-end zero header at h = refl
-places_from-end (suc n) header at h = ap (λ b. cond b [] (at ∷ places_from n header (place_after header at))) (le-leb (length header) at h)
+places_from-end (suc n) header at h =
+    ap (λ b. cond b [] (at ∷ tlv_places_from n header (place_after header at))) (le-leb (length header) at h)
 
 -- a place before the end is the first
-pub places_from-suc : (n : ℕ) (header : List ℕ) (at : ℕ) → at < length header → places_from (suc n) header at ≡ at ∷ places_from n header (place_after header at)
-unfolding places_from
-places_from-suc n header at h = ap (λ b. cond b [] (at ∷ places_from n header (place_after header at))) (lt-leb (length header) at h)
+pub places_from-suc : (n : ℕ) (header : List ℕ) (at : ℕ) → at < length header
+    → tlv_places_from (suc n) header at ≡ at ∷ tlv_places_from n header (place_after header at)
+unfolding tlv_places_from
+places_from-suc n header at h =
+    ap (λ b. cond b [] (at ∷ tlv_places_from n header (place_after header at))) (lt-leb (length header) at h)
 
 -- any number that suffices gives the same places
-pub places_from-enough : (n m : ℕ) (header : List ℕ) (at : ℕ) → length header ≤ at + n → length header ≤ at + m → places_from n header at ≡ places_from m header at
-places_from-enough zero m header at a b = places_from-end zero header at (omega arith) ∙ sym (places_from-end m header at (omega arith))
-places_from-enough (suc n) zero header at a b = places_from-end (suc n) header at (omega arith) ∙ sym (places_from-end zero header at (omega arith))
+pub places_from-enough : (n m : ℕ) (header : List ℕ) (at : ℕ) → length header ≤ at + n → length header ≤ at + m
+    → tlv_places_from n header at ≡ tlv_places_from m header at
+places_from-enough zero m header at a b =
+    places_from-end zero header at (omega arith) ∙ sym (places_from-end m header at (omega arith))
+places_from-enough (suc n) zero header at a b =
+    places_from-end (suc n) header at (omega arith) ∙ sym (places_from-end zero header at (omega arith))
 places_from-enough (suc n) (suc m) header at a b =
     elim (cases_lt at (length header)) [
-      | inl h ↦ places_from-suc n header at h ∙ ap (λ xs. at ∷ xs) (places_from-enough n m header (place_after header at) (omega arith) (omega arith)) ∙ sym (places_from-suc m header at h)
+      | inl h ↦ places_from-suc n header at h
+          ∙ ap (λ xs. at ∷ xs) (places_from-enough n m header (place_after header at) (omega arith) (omega arith))
+          ∙ sym (places_from-suc m header at h)
       | inr h ↦ places_from-end (suc n) header at h ∙ sym (places_from-end (suc m) header at h)
     ]
 
 -- the place that a walk stands at, and those that are left
-pub places_from-step : (header : List ℕ) (at next : ℕ) → at < length header → next ≡ place_after header at → places_from (length header - at) header at ≡ at ∷ places_from (length header - next) header next
+pub places_from-step : (header : List ℕ) (at next : ℕ) → at < length header → next ≡ place_after header at
+    → tlv_places_from (length header - at) header at ≡ at ∷ tlv_places_from (length header - next) header next
 places_from-step header at next h e =
     let one : length header - at ≡ suc (length header - at - 1) = omega arith in
-    ap (λ n. places_from n header at) one
+    ap (λ n. tlv_places_from n header at) one
     ∙ places_from-suc (length header - at - 1) header at h
-    ∙ ap (λ xs. at ∷ xs) (places_from-enough (length header - at - 1) (length header - next) header (place_after header at) (omega arith) (omega arith))
-    ∙ ap (λ p. at ∷ places_from (length header - next) header p) (sym e)
+    ∙ ap (λ xs. at ∷ xs) (places_from-enough (length header - at - 1) (length header - next) header
+    (place_after header at) (omega arith) (omega arith))
+    ∙ ap (λ p. at ∷ tlv_places_from (length header - next) header p) (sym e)
 
 -- a walk that stands at a place that passes has found the first
-pub find_here : (test : ℕ → Bool) (header : List ℕ) (at : ℕ) → at < length header → test at ≡ true → find test (places_from (length header - at) header at) ≡ Some at
+pub find_here : (test : ℕ → Bool) (header : List ℕ) (at : ℕ) → at < length header → test at ≡ true
+    → find test (tlv_places_from (length header - at) header at) ≡ Some at
 find_here test header at h t =
     ap (find test) (places_from-step header at (place_after header at) h refl)
-    ∙ ap (λ b. cond b (Some at) (find test (places_from (length header - place_after header at) header (place_after header at)))) t
+    ∙ ap (λ b. cond b (Some at) (find test
+    (tlv_places_from (length header - place_after header at) header (place_after header at)))) t
 
 -- it goes on past one that does not
-pub find_later : (test : ℕ → Bool) (header : List ℕ) (at next : ℕ) → at < length header → next ≡ place_after header at → test at ≡ false → find test (places_from (length header - at) header at) ≡ find test (places_from (length header - next) header next)
+pub find_later : (test : ℕ → Bool) (header : List ℕ) (at next : ℕ) → at < length header → next ≡ place_after header at
+    → test at ≡ false
+    → find test (tlv_places_from (length header - at) header at)
+    ≡ find test (tlv_places_from (length header - next) header next)
 find_later test header at next h e t =
     ap (find test) (places_from-step header at next h e)
-    ∙ ap (λ b. cond b (Some at) (find test (places_from (length header - next) header next))) t
+    ∙ ap (λ b. cond b (Some at) (find test (tlv_places_from (length header - next) header next))) t
 
 -- it ends at the header's end
-pub find_none : (test : ℕ → Bool) (header : List ℕ) (n at : ℕ) → length header ≤ at → find test (places_from n header at) ≡ None
+pub find_none : (test : ℕ → Bool) (header : List ℕ) (n at : ℕ) → length header ≤ at
+    → find test (tlv_places_from n header at) ≡ None
 find_none test header n at h = ap (find test) (places_from-end n header at h)
 
 none_of_cond : (b : Bool) (x : ℕ) (r : Option ℕ) → cond b (Some x) r ≡ None → (b ≡ false) × (r ≡ None)
 none_of_cond true x r e = cc
 none_of_cond false x r e = (refl, e)
 
-some_of_cond : (b : Bool) (x at : ℕ) (r : Option ℕ) → cond b (Some x) r ≡ Some at → ((b ≡ true) × (x ≡ at)) ⊎ (r ≡ Some at)
+some_of_cond : (b : Bool) (x at : ℕ) (r : Option ℕ) → cond b (Some x) r ≡ Some at
+    → ((b ≡ true) × (x ≡ at)) ⊎ (r ≡ Some at)
 some_of_cond true x at r e = inl (refl, cc)
 some_of_cond false x at r e = inr e
 
@@ -90,10 +111,12 @@ pub record IsGood (kind : ℕ) (header : List ℕ) (at : ℕ) : Type 0 where
   pub long : least_length kind ≤ length_at header at
   pub counted : kind ≡ 6 → 2 + 16 * half header (at + 4) ≤ length_at header at
 
-pub IsGood-first : (kind : ℕ) (header : List ℕ) (at : ℕ) → first_bad header ≡ None → first_of kind header ≡ Some at → IsGood kind header at
+pub IsGood-first : (kind : ℕ) (header : List ℕ) (at : ℕ) → first_bad header ≡ None → first_of kind header ≡ Some at
+    → IsGood kind header at
 IsGood-first kind header at none some =
-    let same : type_at header at ≡ kind = eqb-true _ _ (find_passes (is_of kind header) (places header) at some) in
-    let parts = or_parts _ _ (find_fails (is_bad header) (is_of kind header) (places header) at none some) in
+    let same : type_at header at ≡ kind =
+    eqb-true _ _ (find_passes (is_of_type kind header) (tlv_places header) at some) in
+    let parts = or_parts _ _ (find_fails (is_bad header) (is_of_type kind header) (tlv_places header) at none some) in
     let sizes = or_parts _ _ parts.0 in
     record {
       fits = ltb-false _ _ sizes.0;

@@ -1,11 +1,13 @@
 -- What the bytes of an object's header mean, or the first fault in them (Tock Binary Format, "TBF Header Base").
-use Rattle.std.specs.Prelude.{ℕ, ◌+◌, ◌*◌, ◌/◌, ◌%◌, ◌==◌, Bool, not, ◌||◌, nat_lt, if◌then◌else◌, List, length, take, Option, Some, None, option_map, Result, Ok, Err}
+use Rattle.std.specs.Prelude.{ℕ, ◌+◌, ◌*◌, ◌/◌, ◌%◌, ◌==◌, Bool, not, ◌||◌, nat_lt, if◌then◌else◌, List, length, take}
+use Rattle.std.specs.Prelude.{Option, Some, None, option_map, Result, Ok, Err}
 use Rattle.tbf_headers.specs.declared.fault.HeaderFault.{HeaderFault}
 use Rattle.tbf_headers.specs.declared.fault.HeaderFault.TheVariants.{Short, Version, Sizes, Checksum, Tlv}
 use Rattle.tbf_headers.specs.declared.program.Main.{Main}
-use Rattle.tbf_headers.specs.Numbers.{half, word, checksum}
+use Rattle.tbf_headers.specs.Numbers.{half, word_at, checksum}
 use Rattle.tbf_headers.specs.Tlv.{first_bad, content}
 
+-- what a header says: its size and the object's, its flags, and of each TLV that it has the content
 pub record Meaning : Type 0 where
   pub header_size : ℕ
   pub total_size : ℕ
@@ -21,26 +23,28 @@ pub record Meaning : Type 0 where
 
 -- the content of Main
 abbrev pub main_of : List ℕ → Main
-main_of c = record { init = word c 0; protected = word c 4; minimum_ram = word c 8; binary_end = None }
+main_of c = record { init = word_at c 0; protected = word_at c 4; minimum_ram = word_at c 8; binary_end = None }
 
 -- the content of Program: the same, and then the binary's end
 abbrev pub program_of : List ℕ → Main
-program_of c = record (main_of c) { binary_end = Some (word c 12) }
+program_of c = record (main_of c) { binary_end = Some (word_at c 12) }
 
 -- Program takes precedence over Main
 abbrev pub program_or_main : Option (List ℕ) → Option (List ℕ) → Option Main
 program_or_main (Some program) main = Some (program_of program)
 program_or_main None main = option_map main_of main
 
+-- the content of Fixed Addresses: where its RAM begins, and where its flash does
 abbrev pub fixed_of : List ℕ → ℕ × ℕ
-fixed_of c = (word c 0, word c 4)
+fixed_of c = (word_at c 0, word_at c 4)
 
 -- the total size is 0, beyond the bytes or no multiple of 4, or the header size is below 16, above the total
 -- or no multiple of 4
 abbrev pub has_bad_sizes : List ℕ → Bool
 has_bad_sizes bytes =
-    word bytes 4 == 0 || nat_lt (length bytes) (word bytes 4) || not (word bytes 4 % 4 == 0) || nat_lt (half bytes 2) 16
-    || nat_lt (word bytes 4) (half bytes 2) || not (half bytes 2 % 4 == 0)
+    word_at bytes 4 == 0 || nat_lt (length bytes) (word_at bytes 4) || not (word_at bytes 4 % 4 == 0)
+    || nat_lt (half bytes 2) 16
+    || nat_lt (word_at bytes 4) (half bytes 2) || not (half bytes 2 % 4 == 0)
 
 -- the bytes of the header
 abbrev pub header_of : List ℕ → List ℕ
@@ -50,8 +54,8 @@ header_of bytes = take (half bytes 2) bytes
 unfoldable pub meaning_of : List ℕ → Meaning
 meaning_of bytes = record {
   header_size = half bytes 2;
-  total_size = word bytes 4;
-  flags = word bytes 8;
+  total_size = word_at bytes 4;
+  flags = word_at bytes 8;
   main = program_or_main (content 9 (header_of bytes)) (content 1 (header_of bytes));
   fixed = option_map fixed_of (content 5 (header_of bytes));
   name = content 3 (header_of bytes);
@@ -65,17 +69,17 @@ unless_bad None meaning = Ok meaning
 unless_bad (Some at) meaning = Err (Tlv at)
 
 -- the meaning of an object's bytes, or the first fault, in this order
-unfoldable pub reading : List ℕ → Result Meaning HeaderFault
-reading bytes =
+unfoldable pub header_reading : List ℕ → Result Meaning HeaderFault
+header_reading bytes =
     if nat_lt (length bytes) 16 then Err Short
     else (if not (half bytes 0 == 2) then Err Version
     else (if has_bad_sizes bytes then Err Sizes
-    else (if not (word bytes 12 == checksum (header_of bytes)) then Err Checksum
+    else (if not (word_at bytes 12 == checksum (header_of bytes)) then Err Checksum
     else unless_bad (first_bad (header_of bytes)) (meaning_of bytes))))
 
 -- writeable flash region n (Tock Binary Format, "Writeable Flash Regions"): pairs of offset and size
 abbrev pub region_in : ℕ → List ℕ → Option (ℕ × ℕ)
-region_in n c = if nat_lt n (length c / 8) then Some (word c (8 * n), word c (8 * n + 4)) else None
+region_in n c = if nat_lt n (length c / 8) then Some (word_at c (8 * n), word_at c (8 * n + 4)) else None
 
 -- how many regions there are
 abbrev pub region_count : Option (List ℕ) → ℕ

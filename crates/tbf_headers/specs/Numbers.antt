@@ -8,17 +8,17 @@ abbrev pub half : List ℕ → ℕ → ℕ
 half bytes at = number_at (slice_index bytes) at Half
 
 -- the number of four bytes at a place
-abbrev pub word : List ℕ → ℕ → ℕ
-word bytes at = number_at (slice_index bytes) at Word
+abbrev pub word_at : List ℕ → ℕ → ℕ
+word_at bytes at = number_at (slice_index bytes) at Word
 
 -- the number of eight bytes at a place
 abbrev pub double : List ℕ → ℕ → ℕ
-double bytes at = word bytes at + 4294967296 * word bytes (at + 4)
+double bytes at = word_at bytes at + 4294967296 * word_at bytes (at + 4)
 
 -- the exclusive or of the first words of a header, but for word 3, which is the checksum itself
 abbrev pub xor_of_words : ℕ → List ℕ → ℕ
 xor_of_words zero header = 0
-xor_of_words (suc k) header = bit_xor (xor_of_words k header) (if k == 3 then 0 else word header (4 * k))
+xor_of_words (suc k) header = bit_xor (xor_of_words k header) (if k == 3 then 0 else word_at header (4 * k))
 
 -- the checksum (Tock Binary Format, "TBF Header Base"): the exclusive or of all words of the header but its own
 abbrev pub checksum : List ℕ → ℕ

@@ -1,7 +1,7 @@
 -- The Permissions TLV (Tock Binary Format, "Permissions"): a count, then that many entries.
 use Rattle.std.specs.Prelude.{ℕ, zero, suc, ◌+◌, ◌*◌, ◌/◌, ◌%◌, ◌^◌, ◌==◌, Bool, ◌&&◌, List, [], ◌∷◌}
 use Rattle.std.specs.List.{list_any}
-use Rattle.tbf_headers.specs.Numbers.{half, word, double}
+use Rattle.tbf_headers.specs.Numbers.{half, word_at, double}
 
 -- bit i of allowed permits command 64 * offset + i of the driver
 pub record Entry : Type 0 where
@@ -12,8 +12,8 @@ pub record Entry : Type 0 where
 -- the entry of a number
 abbrev pub entry_at : List ℕ → ℕ → Entry
 entry_at content k = record {
-  driver = word content (2 + 16 * k);
-  offset = word content (2 + 16 * k + 4);
+  driver = word_at content (2 + 16 * k);
+  offset = word_at content (2 + 16 * k + 4);
   allowed = double content (2 + 16 * k + 8);
 }
 

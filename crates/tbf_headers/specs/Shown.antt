@@ -5,9 +5,9 @@ use Rattle.tbf_headers.specs.declared.fault.HeaderFault.{HeaderFault}
 use Rattle.tbf_headers.specs.declared.header.Header.{Header}
 use Rattle.tbf_headers.specs.declared.perms.Perms.{Perms}
 use Rattle.tbf_headers.specs.declared.regions.Regions.{Regions}
-use Rattle.tbf_headers.specs.Numbers.{half, word}
+use Rattle.tbf_headers.specs.Numbers.{half, word_at}
 use Rattle.tbf_headers.specs.Tlv.{first_bad}
-use Rattle.tbf_headers.specs.Meaning.{Meaning, reading, header_of, unless_bad, meaning_of}
+use Rattle.tbf_headers.specs.Meaning.{Meaning, header_reading, header_of, unless_bad, meaning_of}
 
 -- the content of the Permissions TLV
 abbrev pub permissions_of : Perms → List ℕ
@@ -38,13 +38,13 @@ shown_result (Err fault) = Err fault
 -- these are the header's bytes, and only a bad TLV may be wrong with them
 pub record IsChecked (bytes header : List ℕ) : Type 0 where
   pub long : 16 ≤ half bytes 2
-  pub within : half bytes 2 ≤ word bytes 4
-  pub total : word bytes 4 ≤ length bytes
-  pub total_aligned : word bytes 4 % 4 ≡ 0
+  pub within : half bytes 2 ≤ word_at bytes 4
+  pub total : word_at bytes 4 ≤ length bytes
+  pub total_aligned : word_at bytes 4 % 4 ≡ 0
   pub whole : header ≡ header_of bytes
   pub aligned : length header % 4 ≡ 0
   pub short : length header < 65536
-  pub read : reading bytes ≡ unless_bad (first_bad header) (meaning_of bytes)
+  pub read : header_reading bytes ≡ unless_bad (first_bad header) (meaning_of bytes)
 
 -- the sizes of a header that was read from these bytes
 pub record IsSized (bytes : List ℕ) (h : Header) : Type 0 where

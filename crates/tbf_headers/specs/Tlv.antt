@@ -1,6 +1,7 @@
 -- The TLVs of a header (Tock Binary Format, "TLV Elements"): type u16, length u16, content padded to a
 -- multiple of 4. They stand from place 16 to the header's end. Places are counted from the header's start.
-use Rattle.std.specs.Prelude.{ℕ, zero, suc, ◌+◌, ◌-◌, ◌*◌, ◌==◌, Bool, ◌||◌, ◌&&◌, nat_lt, nat_le, if◌then◌else◌, List, [], ◌∷◌, length, find, slice_range, Option, option_map}
+use Rattle.std.specs.Prelude.{ℕ, zero, suc, ◌+◌, ◌-◌, ◌*◌, ◌==◌, Bool, ◌||◌, ◌&&◌, nat_lt, nat_le, if◌then◌else◌, List}
+use Rattle.std.specs.Prelude.{[], ◌∷◌, length, find, slice_range, Option, option_map}
 use Rattle.tk_base.specs.Numbers.{rounded_up}
 use Rattle.tbf_headers.specs.Numbers.{half}
 
@@ -8,6 +9,7 @@ use Rattle.tbf_headers.specs.Numbers.{half}
 abbrev pub type_at : List ℕ → ℕ → ℕ
 type_at header at = half header at
 
+-- the length of the TLV at a place
 abbrev pub length_at : List ℕ → ℕ → ℕ
 length_at header at = half header (at + 2)
 
@@ -16,14 +18,14 @@ abbrev pub place_after : List ℕ → ℕ → ℕ
 place_after header at = at + 4 + rounded_up (length_at header at)
 
 -- the places of the TLVs from a place on: none at the header's end, of which there are no more than the number
-unfoldable pub places_from : ℕ → List ℕ → ℕ → List ℕ
-places_from zero header at = []
-places_from (suc n) header at =
-    if nat_le (length header) at then [] else at ∷ places_from n header (place_after header at)
+unfoldable pub tlv_places_from : ℕ → List ℕ → ℕ → List ℕ
+tlv_places_from zero header at = []
+tlv_places_from (suc n) header at =
+    if nat_le (length header) at then [] else at ∷ tlv_places_from n header (place_after header at)
 
 -- the places of all TLVs of a header
-abbrev pub places : List ℕ → List ℕ
-places header = places_from (length header - 16) header 16
+abbrev pub tlv_places : List ℕ → List ℕ
+tlv_places header = tlv_places_from (length header - 16) header 16
 
 -- the shortest content of a TLV of each type: Main, Fixed addresses, Program, Permissions
 abbrev pub least_length : ℕ → ℕ
@@ -40,15 +42,15 @@ is_bad header at =
 
 -- the first TLV that is bad
 abbrev pub first_bad : List ℕ → Option ℕ
-first_bad header = find (is_bad header) (places header)
+first_bad header = find (is_bad header) (tlv_places header)
 
 -- the TLV at a place is of a type
-abbrev pub is_of : ℕ → List ℕ → ℕ → Bool
-is_of kind header at = type_at header at == kind
+abbrev pub is_of_type : ℕ → List ℕ → ℕ → Bool
+is_of_type kind header at = type_at header at == kind
 
 -- the place of the first TLV of a type
 abbrev pub first_of : ℕ → List ℕ → Option ℕ
-first_of kind header = find (is_of kind header) (places header)
+first_of kind header = find (is_of_type kind header) (tlv_places header)
 
 -- the content of the first TLV of a type, a slice of the header's bytes
 abbrev pub content : ℕ → List ℕ → Option (List ℕ)

@@ -1,7 +1,7 @@
 //! The header of an application.
 ghost use Rattle.std.specs.Prelude.{◌≡◌, ◌+◌, Some};
 ghost use Rattle.tk_base.specs.Numbers.{rounded_up};
-ghost use Rattle.tbf_headers.specs.Addresses.{after_protected, entry_of, accessible_start, accessible_end_of};
+ghost use Rattle.tbf_headers.specs.Addresses.{after_protected, accessible_start, accessible_end_of};
 ghost use Rattle.tbf_headers.specs.Shown.{shown};
 
 use crate::header::Header;
@@ -19,14 +19,6 @@ pub struct AppHeader<'a> {
 }
 
 impl AppHeader<'_> {
-    /// The address of the application's first instruction, for an object at an address: the sum of
-    /// it, the header's size and the init offset, which does not wrap (Tock Binary Format, "Main").
-    pub fn entry(&self, object: Addr) -> u64
-        ensures { result ≡ entry_of object (shown self.now.header) self.now.main }
-    {
-        sum(object, self.header.header_size, self.main.init)
-    }
-
     /// The first address after the header and the protected bytes, for an object at an address: the
     /// sum of it, the header's size and the protected size, which does not wrap (Tock Binary Format,
     /// "Main").
@@ -58,7 +50,7 @@ impl AppHeader<'_> {
 }
 
 /// The sum of three numbers, which does not wrap.
-fn sum(a: u32, b: u32, c: u32) -> u64
+pub(crate) fn sum(a: u32, b: u32, c: u32) -> u64
     ensures { result ≡ a + b + c }
 {
     u64::from(a) + u64::from(b) + u64::from(c)

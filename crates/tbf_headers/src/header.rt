@@ -1,18 +1,20 @@
 //! The header of an object.
-ghost use Rattle.std.specs.Prelude.{◌≡◌, ◌+◌, ◌*◌, ◌%◌, ◌/◌, ◌<◌, ◌≤◌, length, Err, None, IfSome, IfOk, option_map, option_and_then, MatchResult};
+ghost use Rattle.std.specs.Prelude.{◌≡◌, ◌+◌, ◌*◌, ◌%◌, ◌/◌, ◌<◌, ◌≤◌, length, Err, None, IsSome, IfSome, IfOk, option_map, option_and_then, MatchResult};
 ghost use Rattle.std.specs.Option.{option_copied};
-ghost use Rattle.tbf_headers.specs.Numbers.{half, word};
+ghost use Rattle.tbf_headers.specs.Addresses.{entry_of};
+ghost use Rattle.tbf_headers.specs.Numbers.{half, word_at};
 ghost use Rattle.tbf_headers.specs.Tlv.{first_bad, content};
-ghost use Rattle.tbf_headers.specs.Meaning.{reading, meaning_of, unless_bad, header_of, region_in, region_count, program_of, main_of, program_or_main, fixed_of};
+ghost use Rattle.tbf_headers.specs.Meaning.{header_reading, meaning_of, unless_bad, header_of, region_in, region_count, program_of, main_of, program_or_main, fixed_of};
 ghost use Rattle.tbf_headers.specs.Shown.{shown, shown_result, permissions_of, regions_of, IsChecked, IsSized};
 
-use crate::app::AppHeader;
+use crate::app::{AppHeader, sum};
 use crate::fault::HeaderFault;
 use crate::numbers::{checksum_of, half_at, word_at};
 use crate::perms::Perms;
 use crate::program::Main;
 use crate::regions::Regions;
 use crate::tlv::{FIXED, MAIN, NAME, PERMISSIONS, PROGRAM, REGIONS, content_of, first_bad_tlv};
+use tk_base::Addr;
 
 /// The header of an object. It borrows the object's bytes. Of a type that stands there more than
 /// once the first TLV counts.
@@ -45,6 +47,19 @@ impl<'a> Header<'a> {
             header: *self,
             main,
         })
+    }
+
+    /// The address of the application's first instruction, for an object at an address: the sum of
+    /// it, the header's size and the init offset, which does not wrap (Tock Binary Format, "Main").
+    /// It asks that the header is that of an application: it has a Program or a Main TLV.
+    pub fn entry(&self, object: Addr) -> u64
+        requires { IsSome self.now.main }
+        ensures { IfSome self.now.main (λ m. result ≡ entry_of object (shown self.now) m) }
+    {
+        let Some(main) = self.main else {
+            unreachable!()
+        };
+        sum(object, self.header_size, main.init)
     }
 
     /// The bytes of the package's name. None where there is no such TLV.
@@ -154,10 +169,10 @@ fn perms_in(header: &[u8]) -> Option<Perms<'_>>
 }
 
 /// The bytes of a header whose sizes and checksum are right.
-#[tactic(auto, unfolding(crate::specs::Meaning::reading))]
+#[tactic(auto, unfolding(crate::specs::Meaning::header_reading))]
 fn checked_header(object: &[u8]) -> Result<&[u8], HeaderFault>
     ensures { MatchResult result (λ h. IsChecked object.now h.now)
-        (λ fault. reading object.now ≡ Err fault) }
+        (λ fault. header_reading object.now ≡ Err fault) }
 {
     if object.len() < 16 {
         return Err(HeaderFault::Short);
@@ -186,7 +201,7 @@ fn checked_header(object: &[u8]) -> Result<&[u8], HeaderFault>
 /// Reads the header at the start of an object's bytes, or tells its first fault, in the order of
 /// [`HeaderFault`]'s variants.
 pub fn read_header(object: &[u8]) -> Result<Header<'_>, HeaderFault>
-    ensures read { shown_result result ≡ reading object.now }
+    ensures read { shown_result result ≡ header_reading object.now }
     ensures sized { IfOk result (λ h. IsSized object.now h) }
 {
     let header = checked_header(object)?;

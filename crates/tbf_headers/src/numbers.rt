@@ -1,6 +1,6 @@
 //! Little-endian numbers in bytes, and the checksum of a header.
 ghost use Rattle.std.specs.Prelude.{◌≡◌, ◌+◌, ◌≤◌, length};
-ghost use Rattle.tbf_headers.specs.Numbers.{half, word, double, checksum};
+ghost use Rattle.tbf_headers.specs.Numbers.{half, word_at, double, checksum};
 
 use tk_base::{Width, number_in};
 
@@ -15,7 +15,7 @@ pub fn half_at(bytes: &[u8], at: usize) -> u16
 /// The little-endian number of the four bytes at a place.
 pub fn word_at(bytes: &[u8], at: usize) -> u32
     requires { at + 4 ≤ length bytes.now }
-    ensures { result ≡ word bytes.now at }
+    ensures { result ≡ word_at bytes.now at }
 {
     number_in(bytes, at, Width::Word)
 }

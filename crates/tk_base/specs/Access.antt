@@ -5,7 +5,8 @@ use Rattle.tk_base.specs.declared.access.Width.TheVariants.{Byte, Half, Word}
 use Rattle.tk_base.specs.declared.access.Access.{Access}
 use Rattle.tk_base.specs.declared.access.Access.TheVariants.{Fetch, Load, Store}
 use Rattle.tk_base.specs.declared.access.Rule.{Rule}
-use Rattle.tk_base.specs.declared.access.Rule.TheVariants.{NoRegion, NoExecute, NoWrite, NoRead, Misaligned, Illegal, Breakpoint, UnknownClass}
+use Rattle.tk_base.specs.declared.access.Rule.TheVariants.{NoRegion, NoExecute, NoWrite, NoRead, Misaligned, Illegal}
+use Rattle.tk_base.specs.declared.access.Rule.TheVariants.{Breakpoint, UnknownClass}
 use Rattle.tk_base.specs.declared.access.Denial.{Denial}
 
 -- how many bytes an access covers

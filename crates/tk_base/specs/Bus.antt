@@ -1,14 +1,15 @@
 -- Numbers in memory, which are little endian (RISC-V unprivileged manual, "Load and Store Instructions").
-use Rattle.std.specs.Prelude.{ℕ, ◌+◌, ◌-◌, ◌*◌, ◌/◌, ◌%◌, ◌^◌, ◌&&◌, nat_le, nat_lt, if◌then◌else◌, List, slice_set, Option, None, Some, Result, Ok, Err}
+use Rattle.std.specs.Prelude.{ℕ, ◌+◌, ◌-◌, ◌*◌, ◌/◌, ◌%◌, ◌^◌, ◌&&◌, nat_le, nat_lt, if◌then◌else◌, List, slice_set}
+use Rattle.std.specs.Prelude.{Option, None, Some, Result, Ok, Err}
 use Rattle.tk_base.specs.declared.access.Width.{Width}
 use Rattle.tk_base.specs.declared.access.Width.TheVariants.{Byte, Half, Word}
 use Rattle.tk_base.specs.declared.access.Rule.{Rule}
 use Rattle.tk_base.specs.Access.{width_bytes}
 
 -- what an access answers that may be denied
-abbrev pub answered : {X : Type 0} → Option Rule → X → Result X Rule
-answered None x = Ok x
-answered (Some rule) x = Err rule
+abbrev pub unless_denied : {X : Type 0} → Option Rule → X → Result X Rule
+unless_denied None x = Ok x
+unless_denied (Some rule) x = Err rule
 
 -- the little-endian number at an address
 abbrev pub number_at : (ℕ → ℕ) → ℕ → Width → ℕ

@@ -1,5 +1,6 @@
 pub mod Access
 pub mod Bus
+pub mod Bytes
 pub mod Call
 pub mod Laws
 pub mod Limits

@@ -1,6 +1,6 @@
 //! The bus between the processor and what a process may touch.
 ghost use Rattle.std.specs.Prelude.{◌≡◌, OnOk, OnErr};
-ghost use Rattle.tk_base.specs.Bus.{answered, number_at, written};
+ghost use Rattle.tk_base.specs.Bus.{unless_denied, number_at, written};
 
 use crate::access::{Addr, Rule, Width};
 
@@ -25,15 +25,17 @@ pub trait Bus {
 
     /// The instruction parcel at an address.
     fn fetch16(&self, at: Addr) -> Result<u16, Rule>
-        ensures { result ≡ answered (denies self.now Fetch at Half) (number_at (bytes self.now) at Half) };
+        ensures { result
+            ≡ unless_denied (denies self.now Fetch at Half) (number_at (bytes self.now) at Half) };
 
     /// The number at an address, not sign-extended.
     fn load(&self, at: Addr, width: Width) -> Result<u32, Rule>
-        ensures { result ≡ answered (denies self.now Load at width) (number_at (bytes self.now) at width) };
+        ensures { result
+            ≡ unless_denied (denies self.now Load at width) (number_at (bytes self.now) at width) };
 
     /// Writes the lowest bytes of a value, as many as the access covers.
     fn store(&mut self, at: Addr, width: Width, value: u32) -> Result<(), Rule>
-        ensures answer { result ≡ answered (denies self.old Store at width) tt }
+        ensures answer { result ≡ unless_denied (denies self.old Store at width) tt }
         ensures ok { OnOk result (bytes self.new ≡ written (bytes self.old) at width value) }
         ensures err { OnErr result (bytes self.new ≡ bytes self.old) }
         ensures denies { denies self.new ≡ denies self.old }

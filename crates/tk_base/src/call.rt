@@ -2,23 +2,24 @@
 ghost use Rattle.std.specs.Prelude.{◌≡◌};
 ghost use Rattle.tk_base.specs.Call.{code_of, error_of};
 
-/// The error codes of Tock's system call interface (TRD 104, "Error codes").
+/// The error codes of Tock's system call interface, by the names that Tock's own `ErrorCode` has (TRD 104, "Error
+/// codes").
 #[derive(Clone, Copy, Debug, PartialEq, Eq)]
 pub enum ErrorCode {
-    Fail,
-    Busy,
-    Already,
-    Off,
-    Reserve,
-    Invalid,
-    Size,
-    Cancel,
-    NoMemory,
-    NoSupport,
-    NoDevice,
-    Uninstalled,
-    NoAck,
-    BadReturnValue,
+    FAIL,
+    BUSY,
+    ALREADY,
+    OFF,
+    RESERVE,
+    INVAL,
+    SIZE,
+    CANCEL,
+    NOMEM,
+    NOSUPPORT,
+    NODEVICE,
+    UNINSTALLED,
+    NOACK,
+    BADRVAL,
 }
 
 impl ErrorCode {
@@ -27,20 +28,20 @@ impl ErrorCode {
         ensures { result ≡ code_of self }
     {
         match self {
-            ErrorCode::Fail => 1,
-            ErrorCode::Busy => 2,
-            ErrorCode::Already => 3,
-            ErrorCode::Off => 4,
-            ErrorCode::Reserve => 5,
-            ErrorCode::Invalid => 6,
-            ErrorCode::Size => 7,
-            ErrorCode::Cancel => 8,
-            ErrorCode::NoMemory => 9,
-            ErrorCode::NoSupport => 10,
-            ErrorCode::NoDevice => 11,
-            ErrorCode::Uninstalled => 12,
-            ErrorCode::NoAck => 13,
-            ErrorCode::BadReturnValue => 1024,
+            ErrorCode::FAIL => 1,
+            ErrorCode::BUSY => 2,
+            ErrorCode::ALREADY => 3,
+            ErrorCode::OFF => 4,
+            ErrorCode::RESERVE => 5,
+            ErrorCode::INVAL => 6,
+            ErrorCode::SIZE => 7,
+            ErrorCode::CANCEL => 8,
+            ErrorCode::NOMEM => 9,
+            ErrorCode::NOSUPPORT => 10,
+            ErrorCode::NODEVICE => 11,
+            ErrorCode::UNINSTALLED => 12,
+            ErrorCode::NOACK => 13,
+            ErrorCode::BADRVAL => 1024,
         }
     }
 }
@@ -82,15 +83,15 @@ impl CallRule {
         ensures { result ≡ error_of self }
     {
         match self {
-            CallRule::Permission | CallRule::NoDriver => ErrorCode::NoDevice,
+            CallRule::Permission | CallRule::NoDriver => ErrorCode::NODEVICE,
             CallRule::NoNumber | CallRule::NoCommand | CallRule::NoOperation =>
-                ErrorCode::NoSupport,
-            CallRule::Outside | CallRule::Range => ErrorCode::Invalid,
-            CallRule::NoRoom | CallRule::Break => ErrorCode::NoMemory,
-            CallRule::Busy => ErrorCode::Busy,
-            CallRule::Empty => ErrorCode::Size,
-            CallRule::Nothing => ErrorCode::Already,
-            CallRule::Index => ErrorCode::Fail,
+                ErrorCode::NOSUPPORT,
+            CallRule::Outside | CallRule::Range => ErrorCode::INVAL,
+            CallRule::NoRoom | CallRule::Break => ErrorCode::NOMEM,
+            CallRule::Busy => ErrorCode::BUSY,
+            CallRule::Empty => ErrorCode::SIZE,
+            CallRule::Nothing => ErrorCode::ALREADY,
+            CallRule::Index => ErrorCode::FAIL,
         }
     }
 }

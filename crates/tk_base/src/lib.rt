@@ -1,6 +1,6 @@
 //! The plain types that every layer of the kernel speaks of: addresses and accesses, denials and
-//! their rules, registers, process names, the board's limits, numbers in bytes, and the bus between
-//! the processor and its memory.
+//! their rules, registers, process names, the board's limits, numbers in bytes, want of memory, and
+//! the bus between the processor and its memory.
 #![tactic(auto)]
 
 mod access;
@@ -8,6 +8,7 @@ mod bus;
 mod call;
 mod laws;
 mod limits;
+mod no_memory;
 mod numbers;
 mod process;
 mod regs;
@@ -18,9 +19,14 @@ pub use access::{Access, Addr, Denial, FLASH_START, RAM_START, Rule, Width};
 pub use bus::Bus;
 pub use call::{CallRule, ErrorCode};
 pub use laws::a_store_is_put;
-pub use limits::{FLASH_LIMIT, RAM_LEAST, RAM_LIMIT, RAM_UNIT, SCRIPT_LIMIT, STEP_LIMIT};
+pub use limits::{
+    BYTE_TICKS_LIMIT, EVENT_LIMIT, FAULT_LIMIT, FLASH_LIMIT, INPUT_LIMIT, LED_LIMIT, OBJECT_LIMIT,
+    PENDING_LIMIT, PRINT_LIMIT, RAM_LEAST, RAM_LIMIT, RAM_UNIT, RING_SIZE, SCRIPT_LIMIT,
+    SENDING_LIMIT, SLICE_LIMIT, SLOT_COUNT, STEP_LIMIT, STORAGE_LIMIT, WORD_LIMIT,
+};
+pub use no_memory::NoMemory;
 pub use numbers::{number_in, put_number};
-pub use process::{Choice, Dev, PlaceFault, ProcessId, Slot};
+pub use process::{Choice, Dev, NotReady, PlaceFault, ProcessId, Slot, Verb};
 pub use regs::Regs;
-pub use upcall::{Counts, Upcall};
+pub use upcall::{Counts, Upcall, Wait};
 pub use words::WordList;

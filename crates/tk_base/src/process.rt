@@ -1,9 +1,11 @@
 //! Names of processes, and what the board may do next.
-ghost use Rattle.std.specs.Prelude.{◌≡◌, ◌<◌, SomeIff};
+ghost use Rattle.std.specs.Prelude.{◌≡◌, ◌<◌};
+ghost use Rattle.tk_base.specs.declared.limits.TheConstants.{SLOT_COUNT};
 
+use crate::limits::SLOT_COUNT;
 use std::marker::Model;
 
-/// One of the eight places in which a process can be, from 0 to 7. Contracts see the number.
+/// One of the places in which a process can be, from 0 on. Contracts see the number.
 #[derive(Clone, Copy, Debug, PartialEq, Eq)]
 pub struct Slot {
     number: u8,
@@ -11,24 +13,21 @@ pub struct Slot {
 
 impl Model for Slot {
     ghost use Rattle.std.specs.Prelude.{ℕ, ◌<◌};
-    ghost use Rattle.tk_base.specs.declared.process.TheConstants.Slot.{COUNT};
+    ghost use Rattle.tk_base.specs.declared.limits.TheConstants.{SLOT_COUNT};
 
     ghost Value = { ℕ };
 
     ghost view = { λ s. s.number };
 
-    ghost invariant = { λ s. s.number < COUNT };
+    ghost invariant = { λ s. s.number < SLOT_COUNT };
 
     ghost inverse = { λ n. record { number = n } };
 }
 
 impl Slot {
-    /// How many slots there are.
-    pub const COUNT: usize = 8;
-
     /// The slot of that number.
     pub fn new(number: usize) -> Slot
-        requires { number < Slot.COUNT }
+        requires { number < SLOT_COUNT }
         ensures { result ≡ number }
     {
         Slot {
@@ -36,10 +35,10 @@ impl Slot {
         }
     }
 
-    /// The slot's place in a table of all slots, below [`Slot::COUNT`].
+    /// The slot's place in a table of all slots, below [`SLOT_COUNT`].
     pub fn index(self) -> usize
         ensures value { result ≡ self }
-        ensures below { result < Slot.COUNT }
+        ensures below { result < SLOT_COUNT }
     {
         self.number as usize
     }
@@ -81,10 +80,30 @@ pub enum Choice {
     Pass(u32),
 }
 
-/// Why an application was not placed.
+/// What an operator may do to a process, in the words of Tock's process console. No script line asks for one yet.
 #[derive(Clone, Copy, Debug, PartialEq, Eq)]
+pub enum Verb {
+    /// Its state is told.
+    List,
+    /// It has no turns until it is started.
+    Stop,
+    /// It has turns again.
+    Start,
+    /// It ends.
+    Terminate,
+    /// It starts again, also where it has ended.
+    Restart,
+}
+
+/// What was to be done was not ready, and nothing changed.
+#[derive(Clone, Copy, Debug, PartialEq, Eq)]
+pub struct NotReady;
+
+/// Why an application was not placed.
+#[derive(Clone, Copy, Debug, Default, PartialEq, Eq)]
 pub enum PlaceFault {
-    /// Eight applications are placed already.
+    /// As many applications as there are slots are placed already.
+    #[default]
     NoSlot,
     /// The RAM start that it asks for is not free, or no multiple of 8.
     FixedTaken,

@@ -14,6 +14,19 @@ pub struct Upcall {
     pub args: [u32; 3],
 }
 
+/// What a process that has yielded waits for (TRD 104, "Yield"). No process waits for one upcall alone yet: a yield
+/// of that kind goes on without a reply.
+#[derive(Clone, Copy, Debug, Default, PartialEq, Eq)]
+pub enum Wait {
+    /// Any upcall.
+    #[default]
+    No,
+    /// The upcall of a driver and a number alone.
+    For(u32, u32),
+    /// Nothing any more: the upcall that it waited for came, with these arguments.
+    Given([u32; 3]),
+}
+
 /// How many upcalls and buffers of each kind a driver has, and how many bytes it keeps of each process
 /// (Levy et al., SOSP 2017).
 #[derive(Clone, Copy, Debug, PartialEq, Eq)]
@@ -24,6 +37,8 @@ pub struct Counts {
     pub ro: u32,
     /// Read-write buffers that can be allowed.
     pub rw: u32,
+    /// Buffers that can be allowed which the process may read while the kernel writes them: no driver has one yet.
+    pub ur: u32,
     /// Bytes of the value that the driver keeps.
     pub value: u32,
 }

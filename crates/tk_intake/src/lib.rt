@@ -52,17 +52,22 @@ pub fn read_whole<H: Shelf>(
 
     // Each refusal has its cause.
     ensures failed { (result ≡ Err IntakeError.Failed) → FaultsRose H.tells shelf.old shelf.new }
-    ensures failed_unsound { (result ≡ Err IntakeError.Failed) → ¬ (H.tells shelf.old).is_sound name.now }
-    ensures too_long { (result ≡ Err IntakeError.TooLong) → IsLonger (H.tells shelf.old) name.now limit }
+    ensures failed_unsound { (result ≡ Err IntakeError.Failed)
+        → ¬ (H.tells shelf.old).is_sound name.now }
+    ensures too_long { (result ≡ Err IntakeError.TooLong)
+        → IsLonger (H.tells shelf.old) name.now limit }
 
     // Want of memory aside, a longer file is refused as too long, and a file within the limit is read.
     ensures longer { IfSoundAndLonger (H.tells shelf.old) name.now limit (IsTooLong result) }
-    ensures longer_unfailed { IfCalmAndLonger H.tells shelf.old shelf.new name.now limit (IsTooLong result) }
-    ensures read { IfSoundAndWithin (H.tells shelf.old) name.now limit (IsOkUnless result IntakeError.Memory) }
+    ensures longer_unfailed { IfCalmAndLonger H.tells shelf.old shelf.new name.now limit
+        (IsTooLong result) }
+    ensures read { IfSoundAndWithin (H.tells shelf.old) name.now limit
+        (IsOkUnless result IntakeError.Memory) }
 
     // What stays.
     ensures bytes { (H.tells shelf.new).bytes ≡ (H.tells shelf.old).bytes }
-    ensures sound_names { (n : List ℕ) → (H.tells shelf.old).is_sound n → (H.tells shelf.new).is_sound n }
+    ensures sound_names { (n : List ℕ) → (H.tells shelf.old).is_sound n
+        → (H.tells shelf.new).is_sound n }
     ensures count { (H.tells shelf.old).faults ≤ (H.tells shelf.new).faults }
 {
     if shelf.begin(name).is_err() {

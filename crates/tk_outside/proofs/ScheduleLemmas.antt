@@ -20,10 +20,13 @@ test_above n m f h e = grind (arith, nat_tests)
 test_next : (n f : ℕ) → nat_lt n f ≡ false → nat_eq f (n + 1) ≡ false
 test_next n f e = grind (arith, nat_tests)
 
-pub none_above : (n m : ℕ) (fs : List ℕ) → n ≤ m → list_any (λ f. nat_lt n f) fs ≡ false → list_any (λ f. nat_lt m f) fs ≡ false
+pub none_above : (n m : ℕ) (fs : List ℕ) → n ≤ m → list_any (λ f. nat_lt n f) fs ≡ false
+    → list_any (λ f. nat_lt m f) fs ≡ false
 none_above n m [] h e = refl
-none_above n m (f ∷ fs) h e = or_none _ _ (test_above n m f h (or_left _ _ e)) (none_above n m fs h (or_right (nat_lt n f) _ e))
+none_above n m (f ∷ fs) h e =
+    or_none _ _ (test_above n m f h (or_left _ _ e)) (none_above n m fs h (or_right (nat_lt n f) _ e))
 
-pub none_next : (n : ℕ) (fs : List ℕ) → list_any (λ f. nat_lt n f) fs ≡ false → list_any (λ f. nat_eq f (n + 1)) fs ≡ false
+pub none_next : (n : ℕ) (fs : List ℕ) → list_any (λ f. nat_lt n f) fs ≡ false
+    → list_any (λ f. nat_eq f (n + 1)) fs ≡ false
 none_next n [] e = refl
 none_next n (f ∷ fs) e = or_none _ _ (test_next n f (or_left _ _ e)) (none_next n fs (or_right (nat_lt n f) _ e))

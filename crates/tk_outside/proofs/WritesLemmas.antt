@@ -56,7 +56,8 @@ pub writes_part : {K A E : Type 0} {tells : K → SinkFacts} {a b : K} {text : L
 writes_part r h p = MatchResult-from_err r _ _ h (λ _. p)
 
 -- a call after all of the front was written
-pub all_then_writes : {K A E : Type 0} {tells : K → SinkFacts} {a b : K} {front : List ℕ} (c : K) (back : List ℕ) (r : Result A E)
+pub all_then_writes : {K A E : Type 0} {tells : K → SinkFacts} {a b : K} {front : List ℕ} (c : K) (back : List ℕ)
+    (r : Result A E)
     → WroteAll tells a b front → Writes tells b c back r → Writes tells a c (front ++ back) r
 all_then_writes c back (Ok x) p q = all_then_all p q
 all_then_writes c back (Err e) p q = all_then_part p q

@@ -1,3 +1,4 @@
+-- Counts of faults outside. That a count stands still at its last value is this tool's own rule.
 use Rattle.std.specs.Prelude.{ℕ, ◌+◌, ◌-◌, ◌^◌, ◌≤◌, min}
 
 -- one more of what is counted; a count stands still at its last value

@@ -1,4 +1,4 @@
--- What a shelf tells of itself, and what a read moves.
+-- What a shelf tells of itself, and what a read moves. It is this tool's own view of files.
 use Rattle.std.specs.Prelude.{◌≡◌, ℕ, ◌<◌, ◌≤◌, List, Option, length, take, drop}
 use Rattle.std.specs.Io.KnownBytes.{Consumes, IsAtEnd}
 use Rattle.tk_outside.specs.Count.{Rose}

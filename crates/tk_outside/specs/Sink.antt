@@ -1,4 +1,4 @@
--- What a sink tells of itself.
+-- What a sink tells of itself. It is this tool's own view of an output.
 use Rattle.std.specs.Prelude.{ℕ, List, Option}
 
 -- what a sink tells

@@ -1,3 +1,4 @@
+-- Text in pieces, and numbers of base 16 in it. The form is this tool's own.
 use Rattle.std.specs.Prelude.{ℕ, ◌+◌, ◌/◌, ◌%◌, ◌^◌, List, [], ◌∷◌, suc, zero, nat_lt, if◌then◌else◌, flat_map}
 use Rattle.std.specs.Borrow.{Bor}
 

@@ -1,3 +1,4 @@
+-- What was written to a sink: all of a text, or a part of it. This is this tool's own.
 use Rattle.std.specs.Prelude.{◌≡◌, ℕ, ◌<◌, ◌≤◌, List, ◌++◌, Result, length, MatchResult}
 use Rattle.std.specs.Io.KnownBytes.{Appends}
 use Rattle.tk_outside.specs.Count.{Rose}

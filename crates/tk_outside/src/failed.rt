@@ -4,7 +4,3 @@
 /// that failed rose.
 #[derive(Clone, Copy, Debug, PartialEq, Eq)]
 pub struct Failed;
-
-/// There was no memory for what was to be made.
-#[derive(Clone, Copy, Debug, PartialEq, Eq)]
-pub struct NoMemory;

@@ -13,7 +13,7 @@ mod shelf;
 mod sink;
 mod system;
 
-pub use failed::{Failed, NoMemory};
+pub use failed::Failed;
 pub use laws::writes_compose;
 pub use mem_shelf::{MemShelf, are_distinct};
 pub use mem_sink::MemSink;
@@ -21,6 +21,7 @@ pub use put::{hex_text, put_all, put_hex, put_number, put_pieces};
 pub use shelf::Shelf;
 pub use sink::Sink;
 pub use system::{FileShelf, OutSink};
+pub use tk_base::NoMemory;
 
 #[cfg(test)]
 mod tests;

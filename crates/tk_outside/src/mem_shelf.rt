@@ -1,11 +1,12 @@
 //! A shelf in memory.
 ghost use Rattle.std.specs.Prelude.{◌≡◌, ◌≤◌, ◌<◌, ◌+◌, ◌^◌, ◌++◌, length, drop, List, ℕ, [], is_some, IsTrue, IfOk, IsOk, vec_len};
-ghost use Rattle.tk_outside.specs.Names.{are_distinct, has_name, rest_at, place_of};
+ghost use Rattle.tk_outside.specs.Names.{are_distinct, has_name, rest_at, index_of_name};
 
-use crate::failed::{Failed, NoMemory};
+use crate::failed::Failed;
 use crate::schedule::Schedule;
 use crate::shelf::Shelf;
 use std::alloc::Global;
+use tk_base::NoMemory;
 
 /// Holds files under names. It can be told to give few bytes at a time, and to fail at certain
 /// calls. A name that it does not hold is a fault.
@@ -40,7 +41,7 @@ fn has_name(names: &[String], name: &str) -> bool
 
 /// The place of a name among names.
 fn place_of(names: &[String], name: &str) -> Option<usize>
-    ensures { result ≡ place_of names.now name.now }
+    ensures { result ≡ index_of_name names.now name.now }
 {
     names.iter().position(|n| n.as_str() == name)
 }
@@ -71,7 +72,7 @@ pub(crate) fn copy_front(into: &mut [u8], bytes: &[u8])
 }
 
 impl MemShelf {
-    ghost use Rattle.tk_outside.specs.MemShelf.{bytes_of, rest_of, most_of, calls_of, failing_of, faults_of, holds, IsSoundIn};
+    ghost use Rattle.tk_outside.specs.MemShelf.{held_by, IsSoundIn};
     ghost use Rattle.tk_outside.specs.Names.{file_of};
 
     /// A shelf that holds each file under the name at the same place. No name stands twice. One
@@ -89,14 +90,16 @@ impl MemShelf {
         requires as_many { vec_len names ≡ vec_len files }
         requires some { 1 ≤ most }
         ensures made { IsOk result }
-        ensures bytes { IfOk result (λ s. bytes_of s ≡ file_of names.items files.items) }
-        ensures names { IfOk result (λ s. (name : List ℕ) → holds s name ≡ is_some (place_of names.items name)) }
-        ensures sound { IfOk result (λ s. (name : List ℕ) → IsSoundIn names.items failing.items s name) }
-        ensures rest { IfOk result (λ s. rest_of s ≡ []) }
-        ensures most { IfOk result (λ s. most_of s ≡ most) }
-        ensures calls { IfOk result (λ s. calls_of s ≡ 0) }
-        ensures failing { IfOk result (λ s. failing_of s ≡ failing.items) }
-        ensures faults { IfOk result (λ s. faults_of s ≡ 0) }
+        ensures bytes { IfOk result (λ s. (held_by s).bytes ≡ file_of names.items files.items) }
+        ensures names { IfOk result (λ s. (name : List ℕ) →
+            (held_by s).holds name ≡ is_some (index_of_name names.items name)) }
+        ensures sound { IfOk result (λ s. (name : List ℕ) →
+            IsSoundIn names.items failing.items (held_by s) name) }
+        ensures rest { IfOk result (λ s. (held_by s).rest ≡ []) }
+        ensures most { IfOk result (λ s. (held_by s).most ≡ most) }
+        ensures calls { IfOk result (λ s. (held_by s).counts.calls ≡ 0) }
+        ensures failing { IfOk result (λ s. (held_by s).counts.failing ≡ failing.items) }
+        ensures faults { IfOk result (λ s. (held_by s).counts.faults ≡ 0) }
     {
         let place = files.len();
         Ok(MemShelf {
@@ -116,30 +119,35 @@ impl Shelf for MemShelf {
     ghost use Rattle.std.specs.Io.KnownBytes.{Keeps, IsAtEnd};
     ghost use Rattle.tk_outside.specs.Count.{Rose, counted};
     ghost use Rattle.tk_outside.specs.Shelf.{Moves};
-    ghost use Rattle.tk_outside.specs.MemShelf.{bytes_of, rest_of, most_of, calls_of, failing_of, faults_of, IsSoundName, HasNoFaultToCome, holds, fails_at_once, given_of};
+    ghost use Rattle.tk_outside.specs.MemShelf.{facts_of, held_by, IsSoundName, HasNoFaultToCome, fails_at_once, given_of};
 
-    ghost tells = { λ s. record { bytes = bytes_of s; is_sound = IsSoundName s; faults = faults_of s } };
+    ghost tells = { λ s. facts_of (held_by s) };
 
-    ghost rest = { λ s. Some (rest_of s) };
+    ghost rest = { λ s. Some (held_by s).rest };
 
-    ghost in_sound = { HasNoFaultToCome };
+    ghost in_sound = { λ s. HasNoFaultToCome (held_by s) };
 
     /// Fails where the call is one of those that are to fail, and at a name that is not held.
     fn begin(&mut self, name: &str) -> Result<(), Failed>
-        ensures ok { OnOk result (Keeps (bytes_of self.old name.now) (Some (rest_of self.new))) }
-        ensures err { OnErr result (IsAtEnd (Some (rest_of self.new))) }
-        ensures failed { OnErr result (Rose (faults_of self.old) (faults_of self.new)) }
-        ensures count { faults_of self.old ≤ faults_of self.new }
-        ensures bytes { bytes_of self.new ≡ bytes_of self.old }
-        ensures succeeds { IsSoundName self.old name.now → IsOk result }
-        ensures sound { IsSoundName self.old name.now → HasNoFaultToCome self.new }
-        ensures sound_names { (n : List ℕ) → IsSoundName self.old n → IsSoundName self.new n }
+        ensures ok { OnOk result (Keeps ((held_by self.old).bytes name.now)
+            (Some (held_by self.new).rest)) }
+        ensures err { OnErr result (IsAtEnd (Some (held_by self.new).rest)) }
+        ensures failed { OnErr result
+            (Rose (held_by self.old).counts.faults (held_by self.new).counts.faults) }
+        ensures count { (held_by self.old).counts.faults ≤ (held_by self.new).counts.faults }
+        ensures bytes { (held_by self.new).bytes ≡ (held_by self.old).bytes }
+        ensures succeeds { IsSoundName (held_by self.old) name.now → IsOk result }
+        ensures sound { IsSoundName (held_by self.old) name.now
+            → HasNoFaultToCome (held_by self.new) }
+        ensures sound_names { (n : List ℕ) →
+            IsSoundName (held_by self.old) n → IsSoundName (held_by self.new) n }
 
         // What no trait says: when it fails, and that calls are counted.
-        ensures answer { is_ok result ≡ (not (fails_at_once self.old) && holds self.old name.now) }
-        ensures most { most_of self.new ≡ most_of self.old }
-        ensures calls { calls_of self.new ≡ counted (calls_of self.old) }
-        ensures failing { failing_of self.new ≡ failing_of self.old }
+        ensures answer { is_ok result
+            ≡ (not (fails_at_once (held_by self.old)) && (held_by self.old).holds name.now) }
+        ensures most { (held_by self.new).most ≡ (held_by self.old).most }
+        ensures calls { (held_by self.new).counts.calls ≡ counted (held_by self.old).counts.calls }
+        ensures failing { (held_by self.new).counts.failing ≡ (held_by self.old).counts.failing }
     {
         self.place = self.files.len();
         self.at = 0;
@@ -158,21 +166,25 @@ impl Shelf for MemShelf {
     /// Gives as many bytes as `most`, the rest and the slice allow. Fails where the call is one of
     /// those that are to fail.
     fn read(&mut self, into: &mut [u8]) -> Result<usize, Failed>
-        ensures ok { IfOk result (λ n. Moves (Some (rest_of self.old)) (Some (rest_of self.new))
-            into.old into.new n) }
-        ensures err { OnErr result (Keeps (Some (rest_of self.old)) (Some (rest_of self.new))) }
-        ensures failed { OnErr result (Rose (faults_of self.old) (faults_of self.new)) }
-        ensures count { faults_of self.old ≤ faults_of self.new }
-        ensures bytes { bytes_of self.new ≡ bytes_of self.old }
-        ensures succeeds { HasNoFaultToCome self.old → IsOk result }
-        ensures sound { HasNoFaultToCome self.old → HasNoFaultToCome self.new }
-        ensures sound_names { (n : List ℕ) → IsSoundName self.old n → IsSoundName self.new n }
+        ensures ok { IfOk result (λ n.
+            Moves (Some (held_by self.old).rest) (Some (held_by self.new).rest) into.old into.new
+            n) }
+        ensures err { OnErr result
+            (Keeps (Some (held_by self.old).rest) (Some (held_by self.new).rest)) }
+        ensures failed { OnErr result
+            (Rose (held_by self.old).counts.faults (held_by self.new).counts.faults) }
+        ensures count { (held_by self.old).counts.faults ≤ (held_by self.new).counts.faults }
+        ensures bytes { (held_by self.new).bytes ≡ (held_by self.old).bytes }
+        ensures succeeds { HasNoFaultToCome (held_by self.old) → IsOk result }
+        ensures sound { HasNoFaultToCome (held_by self.old) → HasNoFaultToCome (held_by self.new) }
+        ensures sound_names { (n : List ℕ) →
+            IsSoundName (held_by self.old) n → IsSoundName (held_by self.new) n }
 
         // What no trait says: how many bytes are given, and that calls are counted.
-        ensures given { result ≡ ok_or (given_of self.old (length into.old)) record {} }
-        ensures most { most_of self.new ≡ most_of self.old }
-        ensures calls { calls_of self.new ≡ counted (calls_of self.old) }
-        ensures failing { failing_of self.new ≡ failing_of self.old }
+        ensures given { result ≡ ok_or (given_of (held_by self.old) (length into.old)) record {} }
+        ensures most { (held_by self.new).most ≡ (held_by self.old).most }
+        ensures calls { (held_by self.new).counts.calls ≡ counted (held_by self.old).counts.calls }
+        ensures failing { (held_by self.new).counts.failing ≡ (held_by self.old).counts.failing }
     {
         if self.schedule.next_fails() {
             return Err(self.schedule.fault());

@@ -31,7 +31,8 @@ pub trait Shelf {
         ensures bytes { (tells self.new).bytes ≡ (tells self.old).bytes }
         ensures succeeds { (tells self.old).is_sound name.now → IsOk result }
         ensures sound { (tells self.old).is_sound name.now → in_sound self.new }
-        ensures sound_names { (n : List ℕ) → (tells self.old).is_sound n → (tells self.new).is_sound n };
+        ensures sound_names { (n : List ℕ) → (tells self.old).is_sound n
+            → (tells self.new).is_sound n };
 
     /// Moves the first bytes of the rest into the front of the slice, and answers how many. It
     /// answers 0 for a slice that is not empty only at the rest's end. [`Failed`] comes only where
@@ -44,5 +45,6 @@ pub trait Shelf {
         ensures bytes { (tells self.new).bytes ≡ (tells self.old).bytes }
         ensures succeeds { in_sound self.old → IsOk result }
         ensures sound { in_sound self.old → in_sound self.new }
-        ensures sound_names { (n : List ℕ) → (tells self.old).is_sound n → (tells self.new).is_sound n };
+        ensures sound_names { (n : List ℕ) → (tells self.old).is_sound n
+            → (tells self.new).is_sound n };
 }

@@ -18,7 +18,8 @@ pub trait Sink {
     fn write(&mut self, piece: &[u8]) -> Result<usize, Failed>
         ensures within { IfOk result (λ n. n ≤ length piece.now) }
         ensures some { IfOk result (λ n. 0 < length piece.now → 0 < n) }
-        ensures bytes { WriteAppends (tells self.old).written (tells self.new).written result piece.now }
+        ensures bytes { WriteAppends (tells self.old).written (tells self.new).written result
+            piece.now }
         ensures failed { OnErr result (Rose (tells self.old).faults (tells self.new).faults) }
         ensures count { (tells self.old).faults ≤ (tells self.new).faults };
 }

@@ -5,12 +5,15 @@ use Rattle.tock_cli.specs.declared.refusal.Refusal.{Refusal}
 use Rattle.tock_cli.specs.Words.{Command}
 use Rattle.tock_cli.specs.Refusals.{status_of}
 use Rattle.tock_cli.specs.Comes.{Named, Passes, ReadsAll, ReadsUpTo, refused_at}
-use Rattle.tock_cli.specs.Causes.{Told, IsRefusedFor, IsUnsound}
+use Rattle.tock_cli.specs.Causes.{ShelfAccount, IsRefusedFor, IsUnsound}
 use Rattle.tock_cli.specs.Served.{IsUnhindered, IsOrMemory, IsRefusedOr, DecidedBy}
 
 -- behind files that were read, more are
 module _ (bytes : List ℕ → Option (List ℕ)) (command : Command) where
-  pub all_on : (P Q : List (List ℕ) → Type 0) (files more : List Named) (before : List (List ℕ)) → ReadsAll bytes command P before files → ((texts : List (List ℕ)) → P texts → ReadsAll bytes command Q texts more) → ReadsAll bytes command Q before (files ++ more)
+  pub all_on : (P Q : List (List ℕ) → Type 0) (files more : List Named) (before : List (List ℕ))
+      → ReadsAll bytes command P before files
+      → ((texts : List (List ℕ)) → P texts → ReadsAll bytes command Q texts more)
+      → ReadsAll bytes command Q before (files ++ more)
   all_on P Q [] more before h on = on before h
   all_on P Q (f ∷ files) more before h on = record {
     text = h.text;
@@ -19,7 +22,10 @@ module _ (bytes : List ℕ → Option (List ℕ)) (command : Command) where
     holds = all_on P Q files more (before ++ (h.text ∷ [])) h.holds on;
   }
 
-  pub up_to_on : (P : List (List ℕ) → Type 0) (Q : List (List ℕ) → Named → Type 0) (files more : List Named) (before : List (List ℕ)) → ReadsAll bytes command P before files → ((texts : List (List ℕ)) → P texts → ReadsUpTo bytes command Q texts more) → ReadsUpTo bytes command Q before (files ++ more)
+  pub up_to_on : (P : List (List ℕ) → Type 0) (Q : List (List ℕ) → Named → Type 0) (files more : List Named)
+      (before : List (List ℕ)) → ReadsAll bytes command P before files
+      → ((texts : List (List ℕ)) → P texts → ReadsUpTo bytes command Q texts more)
+      → ReadsUpTo bytes command Q before (files ++ more)
   up_to_on P Q [] more before h on = on before h
   up_to_on P Q (f ∷ files) more before h on =
       inr (record {
@@ -30,12 +36,13 @@ module _ (bytes : List ℕ → Option (List ℕ)) (command : Command) where
       })
 
   -- the bytes of all files
-  pub all_texts : (P : List (List ℕ) → Type 0) (files : List Named) (before : List (List ℕ)) → ReadsAll bytes command P before files → (texts : List (List ℕ)) × P texts
+  pub all_texts : (P : List (List ℕ) → Type 0) (files : List Named) (before : List (List ℕ))
+      → ReadsAll bytes command P before files → (texts : List (List ℕ)) × P texts
   all_texts P [] before h = (before, h)
   all_texts P (f ∷ files) before h = all_texts P files (before ++ (h.text ∷ [])) h.holds
 
 -- what the files decide
-module _ (told : Told) (command : Command) where
+module _ (told : ShelfAccount) (command : Command) where
   given : {X : Type 0} (o : Option X) (P R : X → Type 0) → IfSome o P → ((x : X) → P x → R x) → IfSome o R
   given None P R p f = tt
   given (Some x) P R p f = f x p
@@ -45,45 +52,63 @@ module _ (told : Told) (command : Command) where
   any (Some x) R f = f x
 
   -- a file that was read is passed
-  passed : (answer : ℕ) (P : List (List ℕ) → Type 0) (f : Named) (files : List Named) (before : List (List ℕ)) (h : Passes told.bytes command before f P) → DecidedBy told command answer (before ++ (h.text ∷ [])) files → DecidedBy told command answer before (f ∷ files)
+  passed : (answer : ℕ) (P : List (List ℕ) → Type 0) (f : Named) (files : List Named) (before : List (List ℕ))
+      (h : Passes told.bytes command before f P) → DecidedBy told command answer (before ++ (h.text ∷ [])) files
+      → DecidedBy told command answer before (f ∷ files)
   passed answer P f files before h on =
       given (told.bytes f.name) _ _ h.read
       (λ b e u. subst
-      (λ (x : List ℕ). IsRefusedOr (refused_at command before f.file x) answer (DecidedBy told command answer (before ++ (x ∷ [])) files))
+      (λ (x : List ℕ). IsRefusedOr (refused_at command before f.file x) answer
+      (DecidedBy told command answer (before ++ (x ∷ [])) files))
       e
-      (subst (λ (o : Option Refusal). IsRefusedOr o answer (DecidedBy told command answer (before ++ (h.text ∷ [])) files)) (sym h.free) on))
+      (subst (λ (o : Option Refusal). IsRefusedOr o answer
+      (DecidedBy told command answer (before ++ (h.text ∷ [])) files)) (sym h.free) on))
 
   -- where all were read the answer is 0
-  pub by_task : (P : List (List ℕ) → Type 0) (files : List Named) (before : List (List ℕ)) → ReadsAll told.bytes command P before files → DecidedBy told command 0 before files
+  pub by_task : (P : List (List ℕ) → Type 0) (files : List Named) (before : List (List ℕ))
+      → ReadsAll told.bytes command P before files → DecidedBy told command 0 before files
   by_task P [] before h = inl refl
   by_task P (f ∷ files) before h = passed 0 _ f files before h (by_task P files (before ++ (h.text ∷ [])) h.holds)
 
   -- where one is a cause, it decides
-  up_to : (answer : ℕ) (P : List (List ℕ) → Named → Type 0) → ((before : List (List ℕ)) (f : Named) (files : List Named) → P before f → DecidedBy told command answer before (f ∷ files)) → (files : List Named) (before : List (List ℕ)) → ReadsUpTo told.bytes command P before files → DecidedBy told command answer before files
+  up_to : (answer : ℕ) (P : List (List ℕ) → Named → Type 0)
+      → ((before : List (List ℕ)) (f : Named) (files : List Named) → P before f
+      → DecidedBy told command answer before (f ∷ files)) → (files : List Named) (before : List (List ℕ))
+      → ReadsUpTo told.bytes command P before files → DecidedBy told command answer before files
   up_to answer P each [] before h = absurd h
   up_to answer P each (f ∷ files) before (inl h) = each before f files h
-  up_to answer P each (f ∷ files) before (inr h) = passed answer _ f files before h (up_to answer P each files (before ++ (h.text ∷ [])) h.holds)
+  up_to answer P each (f ∷ files) before (inr h) =
+      passed answer _ f files before h (up_to answer P each files (before ++ (h.text ∷ [])) h.holds)
 
-  refused_here : (refusal : Refusal) (before : List (List ℕ)) (f : Named) (files : List Named) → IsRefusedFor told command refusal before f → DecidedBy told command (status_of refusal) before (f ∷ files)
+  refused_here : (refusal : Refusal) (before : List (List ℕ)) (f : Named) (files : List Named)
+      → IsRefusedFor told command refusal before f → DecidedBy told command (status_of refusal) before (f ∷ files)
   refused_here refusal before f files h =
       given (told.bytes f.name) _ _ h.read
       (λ b e u. subst
-      (λ (x : List ℕ). IsRefusedOr (refused_at command before f.file x) (status_of refusal) (DecidedBy told command (status_of refusal) (before ++ (x ∷ [])) files))
+      (λ (x : List ℕ). IsRefusedOr (refused_at command before f.file x) (status_of refusal)
+      (DecidedBy told command (status_of refusal) (before ++ (x ∷ [])) files))
       e
-      (subst (λ (o : Option Refusal). IsRefusedOr o (status_of refusal) (DecidedBy told command (status_of refusal) (before ++ (h.text ∷ [])) files)) (sym h.refused) (inl refl)))
+      (subst (λ (o : Option Refusal). IsRefusedOr o (status_of refusal)
+      (DecidedBy told command (status_of refusal) (before ++ (h.text ∷ [])) files)) (sym h.refused) (inl refl)))
 
-  pub by_refusal : (refusal : Refusal) (files : List Named) (before : List (List ℕ)) → ReadsUpTo told.bytes command (IsRefusedFor told command refusal) before files → DecidedBy told command (status_of refusal) before files
-  by_refusal refusal files before h = up_to (status_of refusal) (IsRefusedFor told command refusal) (refused_here refusal) files before h
+  pub by_refusal : (refusal : Refusal) (files : List Named) (before : List (List ℕ))
+      → ReadsUpTo told.bytes command (IsRefusedFor told command refusal) before files
+      → DecidedBy told command (status_of refusal) before files
+  by_refusal refusal files before h =
+      up_to (status_of refusal) (IsRefusedFor told command refusal) (refused_here refusal) files before h
 
-  hindered : (answer : ℕ) (file : File) → told.rose → (before : List (List ℕ)) (f : Named) (files : List Named) → IsUnsound told file before f → DecidedBy told command answer before (f ∷ files)
+  hindered : (answer : ℕ) (file : File) → told.rose → (before : List (List ℕ)) (f : Named) (files : List Named)
+      → IsUnsound told file before f → DecidedBy told command answer before (f ∷ files)
   hindered answer file rose before f files h = any (told.bytes f.name) _ (λ b u. absurd (no u))
     where
       no : IsUnhindered told f.name → ⊥
       no (inl sound) = h.1 sound
       no (inr calm) = calm rose
 
-  pub by_fault : (answer : ℕ) (file : File) → told.rose → (files : List Named) (before : List (List ℕ)) → ReadsUpTo told.bytes command (IsUnsound told file) before files → DecidedBy told command answer before files
-  by_fault answer file rose files before h = up_to answer (IsUnsound told file) (hindered answer file rose) files before h
+  pub by_fault : (answer : ℕ) (file : File) → told.rose → (files : List Named) (before : List (List ℕ))
+      → ReadsUpTo told.bytes command (IsUnsound told file) before files → DecidedBy told command answer before files
+  by_fault answer file rose files before h =
+      up_to answer (IsUnsound told file) (hindered answer file rose) files before h
 
   memory_or : (o : Option Refusal) (Goes : Type 0) → Goes → IsRefusedOr o 7 Goes
   memory_or None Goes g = g
@@ -91,4 +116,6 @@ module _ (told : Told) (command : Command) where
 
   pub by_memory : (files : List Named) (before : List (List ℕ)) → DecidedBy told command 7 before files
   by_memory [] before = inr refl
-  by_memory (f ∷ files) before = any (told.bytes f.name) _ (λ b u. memory_or (refused_at command before f.file b) _ (by_memory files (before ++ (b ∷ []))))
+  by_memory (f ∷ files) before =
+      any (told.bytes f.name) _ (λ b u.
+      memory_or (refused_at command before f.file b) _ (by_memory files (before ++ (b ∷ []))))

@@ -8,4 +8,4 @@ pub mod Serving
 pub mod Soak
 pub mod Tallies
 pub mod Tasks
-pub mod Telling
+pub mod RunWriter

@@ -1,7 +1,9 @@
 -- A run on its way.
-use Rattle.std.proofs.Common.{◌≡◌, ℕ, zero, suc, ◌+◌, ◌-◌, ◌*◌, ◌^◌, ◌<◌, ◌≤◌, Bool, true, false, cond, List, [], ◌∷◌, ◌++◌, slice_get, Option, None, Some, sym, ap, subst, ◌∙◌, arith, append_assoc, append-nil}
+use Rattle.std.proofs.Common.{◌≡◌, ℕ, zero, suc, ◌+◌, ◌-◌, ◌*◌, ◌^◌, ◌<◌, ◌≤◌, Bool, true, false, cond, List, [], ◌∷◌}
+use Rattle.std.proofs.Common.{◌++◌, slice_get, Option, None, Some, sym, ap, subst, ◌∙◌, arith, append_assoc, append-nil}
 use Rattle.std.proofs.lemmas.Grind.{flat_map-append}
 use Rattle.std.specs.List.{flat_map}
+use Rattle.tk_base.specs.declared.limits.TheConstants.{PRINT_LIMIT}
 use Rattle.tk_base.specs.declared.process.Choice.{Choice}
 use Rattle.tk_base.specs.declared.process.Choice.TheVariants.{Run, Device, Pass}
 use Rattle.tk_outside.specs.Sink.{SinkFacts}
@@ -9,25 +11,27 @@ use Rattle.tk_outside.specs.Writes.{WroteAll, WrotePart}
 use Rattle.tk_outside.specs.Laws.{WritesCompose}
 use Rattle.process_record.specs.declared.emit.Emit.{Emit}
 use Rattle.kernel_model.specs.Record.{Record}
-use Rattle.kernel_model.specs.World.{Deed, Stepped, World, after, carried_out, deed_of, done, labels, ran}
+use Rattle.kernel_model.specs.World.{DeviceStep, Stepped, World, after, carried_out, device_step_of, done, labels, ran}
 use Rattle.kernel_model.specs.Shown.{shown_by}
 use Rattle.kernel_model.specs.Stretch.{IsStretch, RoundsJoin}
 use Rattle.kernel_model.specs.Run.{Ran, next, round, printed, stays}
-use Rattle.tock_cli.proofs.Runs.{of_stepped, printed_in, printed-round, round-stop, round-step, round-zero, round-more, shown_by-printed, steps-plus, steps-stop, steps-step, steps-zero}
-use Rattle.tock_cli.proofs.Telling.{nothing_told, passed_on-steps, told_on-step, told_text-step}
+use Rattle.tock_cli.proofs.Runs.{of_stepped, printed_in, printed-round, round-stop, round-step, round-zero, round-more}
+use Rattle.tock_cli.proofs.Runs.{shown_by-printed, steps-plus, steps-stop, steps-step, steps-zero}
+use Rattle.tock_cli.proofs.RunWriter.{nothing_told, passed_on-steps, told_on-step, told_text-step}
 use Rattle.tock_cli.specs.declared.run.Mode.{Mode}
 use Rattle.tock_cli.specs.declared.run.Mode.TheVariants.{Boot, Trace, Soak}
-use Rattle.tock_cli.specs.declared.teller.Telling.{Telling}
+use Rattle.tock_cli.specs.declared.teller.RunWriter.{RunWriter}
 use Rattle.tock_cli.specs.RunText.{Step, step_of, steps, IsWorldOf}
-use Rattle.tock_cli.specs.Telling.{count_of, passed_on, step_text, steps_text, telling_of, told_on, told_text}
+use Rattle.tock_cli.specs.RunWriter.{counted_bytes, passed_on, step_text, steps_text, telling_of, told_on, told_text}
 
 -- After i steps of a run of n steps, from a world to another: what the mode tells of the steps done is written, what it
 -- needs of them is kept, and the run goes on as the rest of it would from there.
-pub record RunsOn {K : Type 0} (tells : K → SinkFacts) (mode : Mode) (n i : ℕ) (from here : World) (old now : K) (telling : Telling) : Type 0 where
+pub record RunsOn {K : Type 0} (tells : K → SinkFacts) (mode : Mode) (n i : ℕ) (from here : World) (old now : K)
+    (telling : RunWriter) : Type 0 where
   pub done : List Step
   pub wrote : WroteAll tells old now (steps_text mode done)
   pub kept : telling ≡ telling_of mode here (printed_in done)
-  pub few : count_of telling ≤ 64 * i
+  pub few : counted_bytes telling ≤ PRINT_LIMIT * i
   pub goes : steps n from ≡ done ++ steps (n - i) here
   pub leads : (round n from).world ≡ (round (n - i) here).world
   pub came : here ≡ (round i from).world
@@ -41,34 +45,42 @@ steps-carried_out w (Run slot) = of_record (slice_get w.records slot)
     of_record : (o : Option Record) → (ran w slot o).after.clock.steps ≤ w.clock.steps + 1
     of_record None = omega arith
     of_record (Some r) = omega arith
-steps-carried_out w (Device device) = of_deed (deed_of w device)
+steps-carried_out w (Device device) = of_deed (device_step_of w device)
   where
-    of_deed : (o : Option Deed) → (done w o).after.clock.steps ≤ w.clock.steps + 1
+    of_deed : (o : Option DeviceStep) → (done w o).after.clock.steps ≤ w.clock.steps + 1
     of_deed None = omega arith
     of_deed (Some deed) = omega arith
 steps-carried_out w (Pass ticks) = omega arith
 
 steps-after : (w : World) (c : Choice) → (after w c).clock.steps ≤ w.clock.steps + 1
-steps-after w c = of_stepped (λ (s : Stepped). s.after.clock.steps ≤ w.clock.steps + 1) w c (omega arith) (steps-carried_out w c)
+steps-after w c =
+    of_stepped (λ (s : Stepped). s.after.clock.steps ≤ w.clock.steps + 1) w c (omega arith) (steps-carried_out w c)
 
 -- one step more
-flat_map-more : (f : Step → List ℕ) (done : List Step) (step : Step) → flat_map f (done ++ step ∷ []) ≡ flat_map f done ++ f step
-flat_map-more f done step = flat_map-append f done (step ∷ []) ∙ ap (λ (t : List ℕ). flat_map f done ++ t) (append-nil (f step))
+flat_map-more : (f : Step → List ℕ) (done : List Step) (step : Step)
+    → flat_map f (done ++ step ∷ []) ≡ flat_map f done ++ f step
+flat_map-more f done step =
+    flat_map-append f done (step ∷ []) ∙ ap (λ (t : List ℕ). flat_map f done ++ t) (append-nil (f step))
 
-module _ {K : Type 0} {tells : K → SinkFacts} {mode : Mode} {n i : ℕ} {from here : World} {old now : K} {telling : Telling} (r : RunsOn tells mode n i from here old now telling) where
+module _ {K : Type 0} {tells : K → SinkFacts} {mode : Mode} {n i : ℕ} {from here : World} {old now : K}
+    {telling : RunWriter} (r : RunsOn tells mode n i from here old now telling) where
   -- one choice fewer is left
   fewer : i < n → n - i ≡ suc (n - (i + 1))
   fewer h = omega arith
 
   -- the steps of the run, around the next one
-  around : (c : Choice) → i < n → next here ≡ Some c → steps n from ≡ r.done ++ step_of here c ∷ steps (n - (i + 1)) (after here c)
+  around : (c : Choice) → i < n → next here ≡ Some c
+      → steps n from ≡ r.done ++ step_of here c ∷ steps (n - (i + 1)) (after here c)
   around c h e =
-      r.goes ∙ ap (λ (ss : List Step). r.done ++ ss) (ap (λ (k : ℕ). steps k here) (fewer h) ∙ steps-step (n - (i + 1)) here c e)
+      r.goes ∙ ap (λ (ss : List Step). r.done ++ ss)
+      (ap (λ (k : ℕ). steps k here) (fewer h) ∙ steps-step (n - (i + 1)) here c e)
 
   -- where the rest of the run leads
-  leads_on : (c : Choice) → i < n → next here ≡ Some c → (round n from).world ≡ (round (n - (i + 1)) (after here c)).world
+  leads_on : (c : Choice) → i < n → next here ≡ Some c
+      → (round n from).world ≡ (round (n - (i + 1)) (after here c)).world
   leads_on c h e =
-      r.leads ∙ ap (λ (k : ℕ). (round k here).world) (fewer h) ∙ ap (λ (q : Ran). q.world) (round-step (n - (i + 1)) here c e)
+      r.leads ∙ ap (λ (k : ℕ). (round k here).world) (fewer h)
+      ∙ ap (λ (q : Ran). q.world) (round-step (n - (i + 1)) here c e)
 
   -- the world after a step is one of the run
   came_on : (c : Choice) → next here ≡ Some c → after here c ≡ (round (suc i) from).world
@@ -77,17 +89,23 @@ module _ {K : Type 0} {tells : K → SinkFacts} {mode : Mode} {n i : ℕ} {from 
       ap (λ (w : World). after w c) r.came ∙ sym (round-more i from c there)
 
   -- what is counted has room for another step
-  pub room : i < n → n < 2 ^ 32 → count_of telling + 64 < 2 ^ 64
+  pub room : i < n → n < 2 ^ 32 → counted_bytes telling + PRINT_LIMIT < 2 ^ 64
   room h k = omega (arith, r.few)
 
   -- one step more
-  pub one_more : WritesCompose tells → (c : Choice) (then : World) (later : K) (step : Emit) (kept : Telling) → i < n → next here ≡ Some c → then ≡ after here c → step ≡ shown_by (labels here c) → WroteAll tells now later (told_text telling step) → kept ≡ told_on telling then step → count_of kept ≤ count_of telling + 64 → RunsOn tells mode n (i + 1) from then old later kept
+  pub one_more : WritesCompose tells → (c : Choice) (then : World) (later : K) (step : Emit) (kept : RunWriter) → i < n
+      → next here ≡ Some c → then ≡ after here c → step ≡ shown_by (labels here c)
+      → WroteAll tells now later (told_text telling step) → kept ≡ told_on telling then step
+      → counted_bytes kept ≤ counted_bytes telling + PRINT_LIMIT → RunsOn tells mode n (i + 1) from then old later kept
   one_more law c then later step kept h e f s w k l = record {
     done = r.done ++ step_of here c ∷ [];
-    wrote = subst (λ (text : List ℕ). WroteAll tells old later text) (sym (flat_map-more (step_text mode) r.done (step_of here c))) (law.all_then_all r.wrote told);
-    kept = k ∙ told_on-step mode here then (printed_in r.done) (printed (labels here c)) telling step r.kept bytes ∙ ap (telling_of mode then) (sym more);
+    wrote = subst (λ (text : List ℕ). WroteAll tells old later text)
+        (sym (flat_map-more (step_text mode) r.done (step_of here c))) (law.all_then_all r.wrote told);
+    kept = k ∙ told_on-step mode here then (printed_in r.done) (printed (labels here c)) telling step r.kept bytes
+        ∙ ap (telling_of mode then) (sym more);
     few = omega (arith, r.few, l);
-    goes = around c h e ∙ sym (append_assoc r.done (step_of here c ∷ []) (steps (n - (i + 1)) (after here c))) ∙ ap (λ (v : World). (r.done ++ step_of here c ∷ []) ++ steps (n - (i + 1)) v) (sym f);
+    goes = around c h e ∙ sym (append_assoc r.done (step_of here c ∷ []) (steps (n - (i + 1)) (after here c)))
+        ∙ ap (λ (v : World). (r.done ++ step_of here c ∷ []) ++ steps (n - (i + 1)) v) (sym f);
     leads = leads_on c h e ∙ ap (λ (v : World). (round (n - (i + 1)) v).world) (sym f);
     came = f ∙ came_on c e ∙ ap (λ (j : ℕ). (round j from).world) (number i);
     steps_made = omega (arith, r.steps_made, ap (λ (v : World). v.clock.steps) f, steps-after here c);
@@ -100,45 +118,61 @@ module _ {K : Type 0} {tells : K → SinkFacts} {mode : Mode} {n i : ℕ} {from 
       bytes = ap (λ (x : Emit). x.printed.items) s ∙ shown_by-printed (labels here c)
 
       told : WroteAll tells now later (step_text mode (step_of here c))
-      told = subst (λ (text : List ℕ). WroteAll tells now later text) (told_text-step mode here c (printed_in r.done) telling step r.kept s) w
+      told = subst (λ (text : List ℕ). WroteAll tells now later text)
+          (told_text-step mode here c (printed_in r.done) telling step r.kept s) w
 
       more : printed_in (r.done ++ step_of here c ∷ []) ≡ printed_in r.done ++ printed (labels here c)
       more = flat_map-more (λ (x : Step). printed x.labels) r.done (step_of here c)
 
   -- a quiet stretch more
-  pub ran_on : RoundsJoin → (k j : ℕ) (then : World) (kept : Telling) → k ≤ n - i → j ≡ i + k → IsStretch k here then → kept ≡ passed_on telling then → RunsOn tells mode n j from then old now kept
+  pub ran_on : RoundsJoin → (k j : ℕ) (then : World) (kept : RunWriter) → k ≤ n - i → j ≡ i + k → IsStretch k here then
+      → kept ≡ passed_on telling then → RunsOn tells mode n j from then old now kept
   ran_on law k j then kept h e s p = record {
     done = r.done ++ steps k here;
     wrote = subst (λ (text : List ℕ). WroteAll tells old now text) (sym same_text) r.wrote;
     kept = passed.0 ∙ ap (telling_of mode then) (sym same_printed);
     few = omega (arith, passed.1, r.few, e);
-    goes = r.goes ∙ ap (λ (ss : List Step). r.done ++ ss) (steps-plus k (n - j) (n - i) here left ∙ ap (λ (v : World). steps k here ++ steps (n - j) v) (sym s.reached)) ∙ sym (append_assoc r.done (steps k here) (steps (n - j) then));
-    leads = r.leads ∙ ap (λ (q : Ran). q.world) (law k (n - j) (n - i) here left) ∙ ap (λ (v : World). (round (n - j) v).world) (sym s.reached);
-    came = s.reached ∙ ap (λ (v : World). (round k v).world) r.came ∙ sym (ap (λ (q : Ran). q.world) (law i k j from e));
+    goes = r.goes ∙ ap (λ (ss : List Step). r.done ++ ss)
+        (steps-plus k (n - j) (n - i) here left ∙ ap (λ (v : World). steps k here ++ steps (n - j) v) (sym s.reached))
+        ∙ sym (append_assoc r.done (steps k here) (steps (n - j) then));
+    leads = r.leads ∙ ap (λ (q : Ran). q.world) (law k (n - j) (n - i) here left)
+        ∙ ap (λ (v : World). (round (n - j) v).world) (sym s.reached);
+    came = s.reached ∙ ap (λ (v : World). (round k v).world) r.came
+        ∙ sym (ap (λ (q : Ran). q.world) (law i k j from e));
     steps_made = omega (arith, r.steps_made, s.steps, e);
   }
     where
       left : n - i ≡ k + (n - j)
       left = omega (arith, h, e)
 
-      passed : (kept ≡ telling_of mode then (printed_in r.done)) × (count_of kept ≡ count_of telling)
+      passed : (kept ≡ telling_of mode then (printed_in r.done)) × (counted_bytes kept ≡ counted_bytes telling)
       passed = passed_on-steps mode here then (printed_in r.done) telling kept r.kept p
 
       same_text : steps_text mode (r.done ++ steps k here) ≡ steps_text mode r.done
-      same_text = flat_map-append (step_text mode) r.done (steps k here) ∙ ap (λ (t : List ℕ). steps_text mode r.done ++ t) (nothing_told mode k here then s) ∙ append-nil (steps_text mode r.done)
+      same_text = flat_map-append (step_text mode) r.done (steps k here)
+          ∙ ap (λ (t : List ℕ). steps_text mode r.done ++ t) (nothing_told mode k here then s)
+          ∙ append-nil (steps_text mode r.done)
 
       same_printed : printed_in (r.done ++ steps k here) ≡ printed_in r.done
-      same_printed = flat_map-append (λ (x : Step). printed x.labels) r.done (steps k here) ∙ ap (λ (t : List ℕ). printed_in r.done ++ t) (sym (printed-round k here) ∙ s.prints) ∙ append-nil (printed_in r.done)
+      same_printed = flat_map-append (λ (x : Step). printed x.labels) r.done (steps k here)
+          ∙ ap (λ (t : List ℕ). printed_in r.done ++ t) (sym (printed-round k here) ∙ s.prints)
+          ∙ append-nil (printed_in r.done)
 
   -- a write that failed in a step
-  pub part : WritesCompose tells → (c : Choice) (later : K) (step : Emit) → i < n → next here ≡ Some c → step ≡ shown_by (labels here c) → WrotePart tells now later (told_text telling step) → WrotePart tells old later (steps_text mode (steps n from))
+  pub part : WritesCompose tells → (c : Choice) (later : K) (step : Emit) → i < n → next here ≡ Some c
+      → step ≡ shown_by (labels here c) → WrotePart tells now later (told_text telling step)
+      → WrotePart tells old later (steps_text mode (steps n from))
   part law c later step h e s w =
       let rest : List Step = steps (n - (i + 1)) (after here c) in
-      let whole : steps_text mode (steps n from) ≡ steps_text mode r.done ++ (step_text mode (step_of here c) ++ steps_text mode rest) = ap (steps_text mode) (around c h e) ∙ flat_map-append (step_text mode) r.done (step_of here c ∷ rest) in
-      subst (λ (t : List ℕ). WrotePart tells old later t) (sym whole) (law.all_then_part r.wrote (law.part_of_more (steps_text mode rest) told))
+      let whole : steps_text mode (steps n from)
+      ≡ steps_text mode r.done ++ (step_text mode (step_of here c) ++ steps_text mode rest) =
+      ap (steps_text mode) (around c h e) ∙ flat_map-append (step_text mode) r.done (step_of here c ∷ rest) in
+      subst (λ (t : List ℕ). WrotePart tells old later t) (sym whole)
+      (law.all_then_part r.wrote (law.part_of_more (steps_text mode rest) told))
     where
       told : WrotePart tells now later (step_text mode (step_of here c))
-      told = subst (λ (text : List ℕ). WrotePart tells now later text) (told_text-step mode here c (printed_in r.done) telling step r.kept s) w
+      told = subst (λ (text : List ℕ). WrotePart tells now later text)
+          (told_text-step mode here c (printed_in r.done) telling step r.kept s) w
 
   -- a world of the run
   pub world_on : (c : Choice) (then : World) → i < n → next here ≡ Some c → then ≡ after here c → IsWorldOf n from then
@@ -156,7 +190,8 @@ module _ {K : Type 0} {tells : K → SinkFacts} {mode : Mode} {n i : ℕ} {from 
       let all : steps n from ≡ r.done = r.goes ∙ ap (λ (ss : List Step). r.done ++ ss) none ∙ append-nil r.done in
       record {
         text = subst (λ (ss : List Step). WroteAll tells old now (steps_text mode ss)) (sym all) r.wrote;
-        kept_is = r.kept ∙ ap (λ (w : World). telling_of mode w (printed_in r.done)) last ∙ ap (telling_of mode (round n from).world) (ap printed_in (sym all) ∙ sym (printed-round n from));
+        kept_is = r.kept ∙ ap (λ (w : World). telling_of mode w (printed_in r.done)) last
+            ∙ ap (telling_of mode (round n from).world) (ap printed_in (sym all) ∙ sym (printed-round n from));
         last = last;
       }
 
@@ -168,15 +203,17 @@ module _ {K : Type 0} {tells : K → SinkFacts} {mode : Mode} {n i : ℕ} {from 
   pub made : n ≤ i → IsWhole
   made h =
       let none : n - i ≡ zero = omega arith in
-      stopped (ap (λ (k : ℕ). steps k here) none ∙ steps-zero here) (ap (λ (k : ℕ). round k here) none ∙ round-zero here)
+      stopped (ap (λ (k : ℕ). steps k here) none ∙ steps-zero here)
+      (ap (λ (k : ℕ). round k here) none ∙ round-zero here)
 
 -- a run that begins
-pub begins : {K : Type 0} (tells : K → SinkFacts) (mode : Mode) (n : ℕ) (from : World) (old : K) (telling : Telling) → WritesCompose tells → telling ≡ telling_of mode from [] → RunsOn tells mode n 0 from from old old telling
+pub begins : {K : Type 0} (tells : K → SinkFacts) (mode : Mode) (n : ℕ) (from : World) (old : K) (telling : RunWriter)
+    → WritesCompose tells → telling ≡ telling_of mode from [] → RunsOn tells mode n 0 from from old old telling
 begins tells mode n from old telling law t = record {
   done = [];
   wrote = law.wrote_nothing old;
   kept = t;
-  few = subst (λ (x : Telling). count_of x ≤ 0) (sym t) (nothing mode);
+  few = subst (λ (x : RunWriter). counted_bytes x ≤ 0) (sym t) (nothing mode);
   goes = ap (λ (k : ℕ). steps k from) (whole n);
   leads = ap (λ (k : ℕ). (round k from).world) (whole n);
   came = sym (ap (λ (q : Ran). q.world) (round-zero from));
@@ -189,7 +226,7 @@ begins tells mode n from old telling law t = record {
     zero_more : (n : ℕ) → n ≤ n + 0
     zero_more n = omega arith
 
-    nothing : (m : Mode) → count_of (telling_of m from []) ≤ 0
+    nothing : (m : Mode) → counted_bytes (telling_of m from []) ≤ 0
     nothing Boot = omega arith
     nothing Trace = omega arith
     nothing Soak = omega arith

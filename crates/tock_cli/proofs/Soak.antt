@@ -1,15 +1,16 @@
 -- The script of a soak run has a reading.
-use Rattle.std.proofs.Common.{◌≡◌, ℕ, zero, suc, ◌+◌, ◌/◌, ◌^◌, ◌*◌, ◌%◌, ◌<◌, inl, inr, Bool, true, false, ◌&&◌, ◌++◌, codes, decimal, Result, Ok, Err, refl, ap, ◌∙◌, arith}
+use Rattle.std.proofs.Common.{◌≡◌, ℕ, zero, suc, ◌+◌, ◌/◌, ◌^◌, ◌*◌, ◌%◌, ◌<◌, inl, inr, Bool, true, false, ◌&&◌, ◌++◌}
+use Rattle.std.proofs.Common.{codes, decimal, Result, Ok, Err, refl, ap, ◌∙◌, arith}
 use Rattle.std.proofs.lemmas.Bool.{cases_lt}
 use Rattle.std.specs.Fmt.{digits}
 use Rattle.std.specs.Result.{is_ok}
-use Rattle.script_text.specs.Settings.{Settings}
+use Rattle.script_text.specs.Settings.{ScriptSettings}
 use Rattle.script_text.specs.Reading.{Fault as BadLine, reading, faults}
 use Rattle.script_text.specs.Text.{lines, words}
 use Rattle.script_text.specs.Rules.{broken}
 use Rattle.script_text.specs.Said.{lines_of}
 use Rattle.script_text.specs.Table.{line_of}
-use Rattle.image_make.specs.Generator.{drawn, soak_script}
+use Rattle.image_make.specs.Generator.{next_draw, soak_script}
 use Rattle.tock_cli.specs.declared.refusal.Refusal.{Refusal}
 use Rattle.tock_cli.specs.declared.refusal.Refusal.TheVariants.{Usage, Fault, TooLong, Script, Image, Memory}
 use Rattle.tock_cli.specs.Ready.{HasNoBoard}
@@ -24,7 +25,8 @@ unfolding passes_below
 passes_at zero k p e h = absurd (omega arith)
 passes_at (suc n) k p e h = by_test (p n) refl e (passes_at n k p)
   where
-    by_test : (b : Bool) → p n ≡ b → b && passes_below n p ≡ true → (passes_below n p ≡ true → k < n → p k ≡ true) → p k ≡ true
+    by_test : (b : Bool) → p n ≡ b → b && passes_below n p ≡ true → (passes_below n p ≡ true → k < n → p k ≡ true)
+        → p k ≡ true
     by_test true here others below =
         elim (cases_lt k n) [
           | inl less ↦ below others less
@@ -47,9 +49,10 @@ draw_below x = omega arith
 -- so that of every number has a reading
 soak_reads : (number : ℕ) → is_ok (reading (soak_script number)) ≡ true
 unfolding is_read
-soak_reads number = passes_at 64 (drawn number / 2 ^ 26) is_read each_is_read (draw_below (number * 1664525 + 1013904223))
+soak_reads number =
+    passes_at 64 (next_draw number / 2 ^ 26) is_read each_is_read (draw_below (number * 1664525 + 1013904223))
 
-ok_is_no_error : (r : Result Settings BadLine) (fault : BadLine) → is_ok r ≡ true → r ≡ Err fault → ⊥
+ok_is_no_error : (r : Result ScriptSettings BadLine) (fault : BadLine) → is_ok r ≡ true → r ≡ Err fault → ⊥
 ok_is_no_error (Ok said) fault o e = cc
 ok_is_no_error (Err bad) fault o e = cc
 

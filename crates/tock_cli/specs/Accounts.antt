@@ -1,9 +1,9 @@
--- What holds of the run that the program tells.
+-- What holds of the run that the program tells. It is this tool's own promise, of Levy et al., SOSP 2017.
 use Rattle.std.specs.Prelude.{ℕ, List, Option}
 use Rattle.board_core.specs.Certified.{IsAccountedRun}
 use Rattle.tock_cli.specs.Words.{Command}
 use Rattle.tock_cli.specs.Comes.{Task, Running, Listing, Making, IsTask}
-use Rattle.tock_cli.specs.Causes.{Told}
+use Rattle.tock_cli.specs.Causes.{ShelfAccount}
 
 -- Of a run: each of its steps is accounted for, each byte of a process that changes, each access, each denial; and the
 -- record of each process is what becomes of it alone, by its own turns and answers, whatever others do.
@@ -13,5 +13,5 @@ IsAccountedTask (Listing flash) = Unit {0}
 IsAccountedTask (Making flash) = Unit {0}
 
 -- so it is with the task of the words, by what the shelf tells of the files
-abbrev pub RunIsAccountedFor : Told → Option Command → Type 0
+abbrev pub RunIsAccountedFor : ShelfAccount → Option Command → Type 0
 RunIsAccountedFor told words = (task : Task) → IsTask told.bytes words task → IsAccountedTask task

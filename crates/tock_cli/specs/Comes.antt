@@ -1,7 +1,8 @@
--- What a command comes to, by the bytes of the files that it names.
-use Rattle.std.specs.Prelude.{◌≡◌, ℕ, nat_lt, if◌then◌else◌, List, [], ◌∷◌, ◌++◌, length, map, Option, None, Some, IfSome, Result, Ok, Err, ◌⊎◌}
+-- What a command comes to, by the bytes of the files that it names. The commands are this tool's own.
+use Rattle.std.specs.Prelude.{◌≡◌, ℕ, nat_lt, if◌then◌else◌, List, [], ◌∷◌, ◌++◌, length, map, Option, None, Some}
+use Rattle.std.specs.Prelude.{IfSome, Result, Ok, Err, ◌⊎◌}
 use Rattle.tk_base.specs.declared.limits.TheConstants.{FLASH_LIMIT, SCRIPT_LIMIT}
-use Rattle.script_text.specs.Settings.{Settings}
+use Rattle.script_text.specs.Settings.{ScriptSettings}
 use Rattle.script_text.specs.Reading.{Fault as BadLine, reading}
 use Rattle.image_make.specs.declared.edits.EditFault.{EditFault}
 use Rattle.image_make.specs.declared.packs.PackFault.{PackFault}
@@ -22,7 +23,8 @@ use Rattle.tock_cli.specs.RunText.{run_text}
 use Rattle.tock_cli.specs.Refusals.{edit_refused, pack_refused, limit_of}
 use Rattle.tock_cli.specs.Words.{Command, Runs, Lists, Soaks, Packs, Edits, Edit, Enables, Renames}
 
--- what is left to do: a run of at most so many steps from a world, told in a mode; the list of a flash image; or a flash
+-- what is left to do: a run of at most so many steps from a world, told in a mode; the list of a flash image; or a
+-- flash
 -- image to write
 pub data Task : Type 0 where
   Running : Mode → ℕ → World → Task
@@ -30,10 +32,10 @@ pub data Task : Type 0 where
   Making : List ℕ → Task
 
 -- its text
-abbrev pub text_of : Task → List ℕ
-text_of (Running mode n world) = run_text mode n world
-text_of (Listing flash) = list_text flash
-text_of (Making flash) = flash
+abbrev pub task_text : Task → List ℕ
+task_text (Running mode n world) = run_text mode n world
+task_text (Listing flash) = list_text flash
+task_text (Making flash) = flash
 
 -- the world that the board shows that it leaves: the last one of a run
 abbrev pub left_by : Task → Option World
@@ -46,9 +48,11 @@ pub record Named : Type 0 where
   pub file : File
   pub name : List ℕ
 
+-- a flash file of that name
 abbrev pub flash_named : List ℕ → Named
 flash_named name = record { file = Flash; name = name }
 
+-- a script of that name
 abbrev pub script_named : List ℕ → Named
 script_named name = record { file = ScriptFile; name = name }
 
@@ -61,7 +65,7 @@ files_of (Packs names) = map flash_named names
 files_of (Edits words) = flash_named words.flash ∷ []
 
 -- a run of a flash image under a script, if the script has a reading
-abbrev pub run_under : Mode → ℕ → List ℕ → Result Settings BadLine → Result Task Refusal
+abbrev pub run_under : Mode → ℕ → List ℕ → Result ScriptSettings BadLine → Result Task Refusal
 run_under mode turns flash (Ok settings) = Ok (Running mode turns (opening settings flash))
 run_under mode turns flash (Err bad) = Err (Script bad.line bad.rule)
 
@@ -70,6 +74,7 @@ abbrev pub edited_by : Edit → ℕ → List ℕ → Result (List ℕ) EditFault
 edited_by (Enables on) offset flash = enabling on offset flash
 edited_by (Renames name) offset flash = renaming name offset flash
 
+-- the image of an edit is to be written, or the command is refused for the fault
 abbrev pub edit_made : Result (List ℕ) EditFault → Result Task Refusal
 edit_made (Ok flash) = Ok (Making flash)
 edit_made (Err fault) = Err (Image (edit_refused fault))
@@ -89,17 +94,19 @@ comes_to (Packs names) files = Some (pack_made (pack files))
 comes_to (Edits words) (flash ∷ []) = Some (edit_made (edited_by words.edit words.offset flash))
 comes_to command files = None
 
-abbrev pub refusal_in : Option (Result Task Refusal) → Option Refusal
-refusal_in None = None
-refusal_in (Some (Ok task)) = None
-refusal_in (Some (Err refusal)) = Some refusal
+-- the refusal, where it came to one
+abbrev pub refusal_of_task : Option (Result Task Refusal) → Option Refusal
+refusal_of_task None = None
+refusal_of_task (Some (Ok task)) = None
+refusal_of_task (Some (Err refusal)) = Some refusal
 
--- why a command is refused where a file of it has these bytes, behind those that were read before: the file is too long,
+-- why a command is refused where a file of it has these bytes, behind those that were read before: the file is too
+-- long,
 -- or what the command comes to
 unfoldable pub refused_at : Command → List (List ℕ) → File → List ℕ → Option Refusal
 refused_at command before file text =
     if nat_lt (limit_of file) (length text) then Some (TooLong file)
-    else refusal_in (comes_to command (before ++ (text ∷ [])))
+    else refusal_of_task (comes_to command (before ++ (text ∷ [])))
 
 -- the bytes under each name, where they are told
 abbrev pub ByName : Type 0

@@ -5,5 +5,5 @@ pub mod Ready
 pub mod Refusals
 pub mod RunText
 pub mod Served
-pub mod Telling
+pub mod RunWriter
 pub mod Words

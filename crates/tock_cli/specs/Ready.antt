@@ -1,7 +1,8 @@
 -- What is left to do once the files are read.
-use Rattle.std.specs.Prelude.{◌≡◌, ℕ, ◌<◌, ◌≤◌, List, [], ◌∷◌, ◌++◌, length, take, map, Option, None, Some, unwrap_or, IfSome, Ok, Err, ◌⊎◌}
-use Rattle.tk_base.specs.declared.limits.TheConstants.{FLASH_LIMIT}
-use Rattle.script_text.specs.Settings.{Settings}
+use Rattle.std.specs.Prelude.{◌≡◌, ℕ, ◌<◌, ◌≤◌, List, [], ◌∷◌, ◌++◌, length, take, map, Option, None, Some, unwrap_or}
+use Rattle.std.specs.Prelude.{IfSome, Ok, Err, ◌⊎◌}
+use Rattle.tk_base.specs.declared.limits.TheConstants.{FLASH_LIMIT, OBJECT_LIMIT}
+use Rattle.script_text.specs.Settings.{ScriptSettings}
 use Rattle.script_text.specs.Reading.{reading}
 use Rattle.tk_outside.specs.Shelf.{ShelfFacts}
 use Rattle.tk_intake.specs.declared.IntakeError.{IntakeError}
@@ -13,13 +14,15 @@ use Rattle.board_core.specs.Opening.{opening}
 use Rattle.tock_cli.specs.declared.refusal.File.{File}
 use Rattle.tock_cli.specs.declared.refusal.File.TheVariants.{Flash}
 use Rattle.tock_cli.specs.declared.refusal.Refusal.{Refusal}
-use Rattle.tock_cli.specs.declared.refusal.Refusal.TheVariants.{Usage, Fault, TooLong, Script as BadScript, Image, Memory}
+use Rattle.tock_cli.specs.declared.refusal.Refusal.TheVariants.{Usage, Fault, TooLong, Script as BadScript, Image}
+use Rattle.tock_cli.specs.declared.refusal.Refusal.TheVariants.{Memory}
 use Rattle.tock_cli.specs.declared.prepare.Ready.{Ready}
 use Rattle.tock_cli.specs.declared.prepare.Ready.TheVariants as ready
 use Rattle.tock_cli.specs.Refusals.{limit_of, pack_refused}
-use Rattle.tock_cli.specs.Words.{Command, Soaks, most_turns}
+use Rattle.tock_cli.specs.declared.words.TheConstants.{MOST_TURNS}
+use Rattle.tock_cli.specs.Words.{Command, Soaks}
 use Rattle.tock_cli.specs.Comes.{ByName, Task, Running, Listing, Making, IsTask, IsTaskOf, IsText}
-use Rattle.tock_cli.specs.Causes.{Told}
+use Rattle.tock_cli.specs.Causes.{ShelfAccount}
 
 abbrev pub refusal_of : IntakeError → File → Refusal
 refusal_of intake.Failed file = Fault file
@@ -28,7 +31,7 @@ refusal_of intake.Memory file = Memory
 
 -- The opening world of a flash image under a script, which has a reading.
 pub record Opens (flash script : List ℕ) (world : World) : Type 0 where
-  pub settings : Settings
+  pub settings : ScriptSettings
   pub said : reading script ≡ Ok settings
   pub opens : world ≡ opening settings flash
 
@@ -52,7 +55,7 @@ IsSoak number turns ready = IsTaskOf (λ name. None) (Soaks number turns) (task_
 
 -- No step was made, and the steps to make are within the limit of a board; the image of a list is within its limit.
 abbrev pub IsFresh : Ready → Type 0
-IsFresh (ready.Run board mode turns) = (board.clock.steps ≡ 0) × (turns ≤ most_turns)
+IsFresh (ready.Run board mode turns) = (board.clock.steps ≡ 0) × (turns ≤ MOST_TURNS)
 IsFresh (ready.List flash) = length flash.items ≤ FLASH_LIMIT
 IsFresh (ready.Image flash) = Unit {0}
 
@@ -66,7 +69,7 @@ HasNoBoard script (Image fault) = ⊥
 HasNoBoard script Memory = Unit {0}
 
 -- why a file was not read
-abbrev pub IsUnread : Told → File → List ℕ → Refusal → Type 0
+abbrev pub IsUnread : ShelfAccount → File → List ℕ → Refusal → Type 0
 IsUnread told file name Usage = ⊥
 IsUnread told file name (Fault other) = (other ≡ file) × told.rose × ¬ told.is_sound name
 IsUnread told file name (TooLong other) = (other ≡ file) × IfSome (told.bytes name) (λ b. limit_of file < length b)
@@ -80,7 +83,7 @@ pub record IsPackedFile (shelf : ShelfFacts) (name : List ℕ) (n : ℕ) (xs : L
   pub read : IsText shelf.bytes name text
   pub within : length text ≤ FLASH_LIMIT
   pub packed : IsPacked n xs text m ys
-  pub few : m ≤ 64
+  pub few : m ≤ OBJECT_LIMIT
   pub short : length ys ≤ FLASH_LIMIT
 
 -- a file was read, and is refused behind so many objects and these bytes
@@ -91,11 +94,11 @@ pub record IsUnpacked (bytes : ByName) (name : List ℕ) (n : ℕ) (xs : List �
   pub cause : refusal ≡ pack_refused (unwrap_or (pack_refusal n xs text) packs.Memory)
 
 -- why a file was not packed: it was not read, or is refused
-abbrev pub IsNotPacked : Told → List ℕ → ℕ → List ℕ → Refusal → Type 0
+abbrev pub IsNotPacked : ShelfAccount → List ℕ → ℕ → List ℕ → Refusal → Type 0
 IsNotPacked told name n xs refusal = IsUnread told Flash name refusal ⊎ IsUnpacked told.bytes name n xs refusal
 
 -- what a shelf keeps over a call
-pub record Keeps {H : Type 0} (tells : H → ShelfFacts) (old new : H) : Type 0 where
+pub record KeepsShelf {H : Type 0} (tells : H → ShelfFacts) (old new : H) : Type 0 where
   pub bytes : (tells new).bytes ≡ (tells old).bytes
   pub sound : (name : List ℕ) → (tells old).is_sound name → (tells new).is_sound name
   pub count : (tells old).faults ≤ (tells new).faults

@@ -1,7 +1,7 @@
--- The refusals of a command: the answer and the line of each.
+-- The refusals of a command: the answer and the line of each. They are this tool's own.
 use Rattle.std.specs.Prelude.{ℕ, List, ◌++◌, codes, decimal}
 use Rattle.tk_base.specs.declared.limits.TheConstants.{FLASH_LIMIT, SCRIPT_LIMIT}
-use Rattle.script_text.specs.Rules.{word_of}
+use Rattle.script_text.specs.Rules.{name_of_rule}
 use Rattle.image_make.specs.declared.edits.EditFault.{EditFault}
 use Rattle.image_make.specs.declared.edits.EditFault.TheVariants as edits
 use Rattle.image_make.specs.declared.packs.PackFault.{PackFault}
@@ -13,6 +13,7 @@ use Rattle.tock_cli.specs.declared.refusal.ImageFault.TheVariants.{NoObject, Bad
 use Rattle.tock_cli.specs.declared.refusal.Refusal.{Refusal}
 use Rattle.tock_cli.specs.declared.refusal.Refusal.TheVariants.{Usage, Fault, TooLong, Script, Image, Memory}
 
+-- the program's answer to a refusal
 abbrev pub status_of : Refusal → ℕ
 status_of Usage = 2
 status_of (Fault file) = 3
@@ -46,18 +47,19 @@ pack_refused packs.Objects = Image TooMany
 pack_refused packs.Size = Image Size
 pack_refused packs.Memory = Memory
 
+-- the line of words that are no command
 abbrev pub usage_line : List ℕ
 usage_line =
     codes "usage: tock boot FLASH SCRIPT --turns N | trace FLASH SCRIPT --turns N | list FLASH | soak NUMBER --turns N | pack FILE .. | enable FLASH OFFSET | disable FLASH OFFSET | rename FLASH OFFSET NAME\n"
 
 -- the line of a refusal; that of a script's names its bad line, and the rule that it breaks
-abbrev pub line_of : Refusal → List ℕ
-line_of Usage = usage_line
-line_of (Fault file) = codes "file " ++ (file_text file ++ codes " fault\n")
-line_of (TooLong file) = codes "file " ++ (file_text file ++ codes " too long\n")
-line_of (Script line rule) = codes "script " ++ (decimal line ++ (codes " " ++ (word_of rule ++ codes "\n")))
-line_of (Image fault) = codes "image " ++ (image_fault_text fault ++ codes "\n")
-line_of Memory = codes "memory\n"
+abbrev pub refusal_line : Refusal → List ℕ
+refusal_line Usage = usage_line
+refusal_line (Fault file) = codes "file " ++ (file_text file ++ codes " fault\n")
+refusal_line (TooLong file) = codes "file " ++ (file_text file ++ codes " too long\n")
+refusal_line (Script line rule) = codes "script " ++ (decimal line ++ (codes " " ++ (name_of_rule rule ++ codes "\n")))
+refusal_line (Image fault) = codes "image " ++ (image_fault_text fault ++ codes "\n")
+refusal_line Memory = codes "memory\n"
 
 -- the greatest number of bytes of a file
 abbrev pub limit_of : File → ℕ

@@ -1,5 +1,6 @@
--- The text of a run, by what is written of it.
-use Rattle.std.specs.Prelude.{◌≡◌, ℕ, zero, suc, ◌%◌, ◌^◌, ◌≤◌, List, [], ◌∷◌, ◌++◌, length, sum, codes, decimal, Option, None, Some}
+-- The text of a run, by what is written of it. Its form is this tool's own.
+use Rattle.std.specs.Prelude.{◌≡◌, ℕ, zero, suc, ◌%◌, ◌^◌, ◌≤◌, List, [], ◌∷◌, ◌++◌, length, sum, codes, decimal}
+use Rattle.std.specs.Prelude.{Option, None, Some}
 use Rattle.std.specs.List.{flat_map}
 use Rattle.tk_base.specs.declared.process.Choice.{Choice}
 use Rattle.kernel_model.specs.World.{World, Label, TurnOf, Answered, Printed, after, labels}
@@ -13,23 +14,25 @@ use Rattle.tock_cli.specs.declared.run.Mode.{Mode}
 use Rattle.tock_cli.specs.declared.run.Mode.TheVariants.{Boot, Trace, Soak}
 use Rattle.tock_cli.specs.declared.tally.Tally.{Tally}
 
+-- how a run ended, by whether a choice is left
 abbrev pub end_by : Option Choice → End
 end_by None = Done
 end_by (Some choice) = Turns
 
 -- A run is done where no choice is left; else the given number of steps ended it.
-unfoldable pub end_of : World → End
-end_of w = end_by (next w)
+unfoldable pub run_end_of : World → End
+run_end_of w = end_by (next w)
 
 -- what is written of the last world
-unfoldable pub end_text : World → List ℕ
-end_text w = codes "==\n" ++ report_text (summary_of w) (end_of w)
+unfoldable pub ending_text : World → List ℕ
+ending_text w = codes "==\n" ++ report_text (summary_of w) (run_end_of w)
 
 -- a step of a run: the time at which it began, and what it told
 pub record Step : Type 0 where
   pub time : ℕ
   pub labels : List Label
 
+-- what a step tells, with its time
 abbrev pub step_of : World → Choice → Step
 step_of w choice = record { time = w.clock.time; labels = labels w choice }
 
@@ -66,7 +69,7 @@ shown_in Soak n w = tally_line (tally_of (printed (round n w).labels))
 
 -- the text of the run of n steps from a world
 unfoldable pub run_text : Mode → ℕ → World → List ℕ
-run_text mode n w = shown_in mode n w ++ end_text (round n w).world
+run_text mode n w = shown_in mode n w ++ ending_text (round n w).world
 
 -- a world that a run of at most n steps comes to
 pub record IsWorldOf (n : ℕ) (from world : World) : Type 0 where

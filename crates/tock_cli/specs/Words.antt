@@ -1,5 +1,6 @@
--- The words of the command line.
-use Rattle.std.specs.Prelude.{ℕ, ◌≤◌, nat_le, Bool, true, false, ◌&&◌, if◌then◌else◌, List, [], ◌∷◌, length, map, codes, String, string_bytes, Option, None, Some}
+-- The words of the command line. They are this tool's own.
+use Rattle.std.specs.Prelude.{ℕ, ◌≤◌, nat_le, Bool, true, false, ◌&&◌, if◌then◌else◌, List, [], ◌∷◌, length, map, codes}
+use Rattle.std.specs.Prelude.{String, string_bytes, Option, None, Some}
 use Rattle.std.specs.Option.{option_map, option_and_then}
 use Rattle.std.specs.Str.{bytes_eq}
 use Rattle.decimal_number.specs.Number.{number_up_to}
@@ -11,6 +12,7 @@ use Rattle.tock_cli.specs.declared.words.Edit.TheVariants as edit
 use Rattle.tock_cli.specs.declared.words.EditCommand.{EditCommand}
 use Rattle.tock_cli.specs.declared.words.Command.{Command as Given}
 use Rattle.tock_cli.specs.declared.words.Command.TheVariants as given
+use Rattle.tock_cli.specs.declared.words.TheConstants.{MOST_FILES, MOST_NUMBER, MOST_TURNS}
 
 -- `boot FLASH SCRIPT --turns N` or `trace FLASH SCRIPT --turns N`, by what it writes of the run
 pub record RunWords : Type 0 where
@@ -39,23 +41,13 @@ pub data Command : Type 0 where
   Packs : List (List ℕ) → Command
   Edits : EditWords → Command
 
--- the greatest number of turns; of a soak run, or offset of an object; and of files that are packed
-abbrev pub most_turns : ℕ
-most_turns = 1000000000
-
-abbrev pub most_number : ℕ
-most_number = 4294967295
-
-abbrev pub most_files : ℕ
-most_files = 64
-
 -- the number of turns that a word gives
-abbrev pub turns_in : List ℕ → Option ℕ
-turns_in word = number_up_to most_turns word
+abbrev pub turns_given : List ℕ → Option ℕ
+turns_given word = number_up_to MOST_TURNS word
 
 -- the number of a soak run, or the offset of an object, that a word gives
 abbrev pub number_in : List ℕ → Option ℕ
-number_in word = number_up_to most_number word
+number_in word = number_up_to MOST_NUMBER word
 
 -- what is written of the run of two files, by the name of the command
 abbrev pub mode_named : List ℕ → Option Mode
@@ -63,26 +55,30 @@ mode_named name =
     if bytes_eq name (codes "boot") then Some Boot
     else (if bytes_eq name (codes "trace") then Some Trace else None)
 
-unfoldable pub list_of : List ℕ → List ℕ → Option Command
-list_of name flash = if bytes_eq name (codes "list") then Some (Lists flash) else None
+-- `list FLASH`
+unfoldable pub list_command_of : List ℕ → List ℕ → Option Command
+list_command_of name flash = if bytes_eq name (codes "list") then Some (Lists flash) else None
 
+-- `soak NUMBER --turns N`
 unfoldable pub soak_of : List ℕ → List ℕ → List ℕ → List ℕ → Option Command
 soak_of name number flag turns =
     if bytes_eq name (codes "soak") && bytes_eq flag (codes "--turns")
-    then option_and_then (λ n. option_map (Soaks n) (turns_in turns)) (number_in number)
+    then option_and_then (λ n. option_map (Soaks n) (turns_given turns)) (number_in number)
     else None
 
+-- `boot FLASH SCRIPT --turns N` or `trace FLASH SCRIPT --turns N`
 unfoldable pub run_of : List ℕ → List ℕ → List ℕ → List ℕ → List ℕ → Option Command
 run_of name flash script flag turns =
     if bytes_eq flag (codes "--turns")
     then option_and_then (λ mode.
-    option_map (λ n. Runs (record { mode = mode; flash = flash; script = script; turns = n })) (turns_in turns))
+    option_map (λ n. Runs (record { mode = mode; flash = flash; script = script; turns = n })) (turns_given turns))
     (mode_named name)
     else None
 
+-- `pack FILE ..`, with 1 to 64 files
 unfoldable pub pack_of : List (List ℕ) → Option Command
 pack_of files =
-    if nat_le 1 (length files) && nat_le (length files) most_files then Some (Packs files) else None
+    if nat_le 1 (length files) && nat_le (length files) MOST_FILES then Some (Packs files) else None
 
 -- whether an object is to be enabled or disabled, by the name of the command
 abbrev pub switch_named : List ℕ → Option Bool
@@ -90,16 +86,19 @@ switch_named name =
     if bytes_eq name (codes "enable") then Some true
     else (if bytes_eq name (codes "disable") then Some false else None)
 
+-- `enable FLASH OFFSET` or `disable FLASH OFFSET`
 unfoldable pub enable_of : List ℕ → List ℕ → List ℕ → Option Command
 enable_of name flash offset =
     option_and_then (λ on.
     option_map (λ n. Edits (record { flash = flash; offset = n; edit = Enables on })) (number_in offset))
     (switch_named name)
 
+-- `rename FLASH OFFSET NAME`
 unfoldable pub rename_of : List ℕ → List ℕ → List ℕ → Option Command
 rename_of flash offset name =
     option_map (λ n. Edits (record { flash = flash; offset = n; edit = Renames name })) (number_in offset)
 
+-- the command of a name and three words
 unfoldable pub of_three : List ℕ → List ℕ → List ℕ → List ℕ → Option Command
 of_three name first second third =
     if bytes_eq name (codes "rename") then rename_of first second third else soak_of name first second third
@@ -108,7 +107,7 @@ of_three name first second third =
 -- offset and a name for `rename`, or a number, `--turns` and a number for `soak`; two files, `--turns` and a number for
 -- `boot` and `trace`; in this order. Nothing else is accepted.
 abbrev pub of_few : List ℕ → List (List ℕ) → Option Command
-of_few name (flash ∷ []) = list_of name flash
+of_few name (flash ∷ []) = list_command_of name flash
 of_few name (flash ∷ offset ∷ []) = enable_of name flash offset
 of_few name (first ∷ second ∷ third ∷ []) = of_three name first second third
 of_few name (flash ∷ script ∷ flag ∷ turns ∷ []) = run_of name flash script flag turns
@@ -120,12 +119,12 @@ accepted (program ∷ name ∷ words) = if bytes_eq name (codes "pack") then pac
 accepted words = None
 
 -- words as lists of bytes
-abbrev pub words_of : {Z : Type 0} → List (String Z) → List (List ℕ)
-words_of words = map string_bytes words
+abbrev pub argument_bytes : {Z : Type 0} → List (String Z) → List (List ℕ)
+argument_bytes words = map string_bytes words
 
 -- the command that the words of the command line are
 abbrev pub command_of : {Z : Type 0} → List (String Z) → Option Command
-command_of words = accepted (words_of words)
+command_of words = accepted (argument_bytes words)
 
 -- the command that the words of a run are
 abbrev pub run_words : RunCommand → RunWords
@@ -136,15 +135,15 @@ runs_of c = Runs (run_words c)
 
 -- the command that packs files, and what is done to an object
 abbrev pub packs_of : {Z : Type 0} → List (String Z) → Command
-packs_of files = Packs (words_of files)
+packs_of files = Packs (argument_bytes files)
 
-abbrev pub edit_of : GivenEdit → Edit
-edit_of (edit.Enable on) = Enables on
-edit_of (edit.Rename name) = Renames name.now
+abbrev pub edit_given : GivenEdit → Edit
+edit_given (edit.Enable on) = Enables on
+edit_given (edit.Rename name) = Renames name.now
 
 -- the command that the words of an edit are
 abbrev pub edit_words : EditCommand → EditWords
-edit_words c = record { flash = c.flash.now; offset = c.offset; edit = edit_of c.edit }
+edit_words c = record { flash = c.flash.now; offset = c.offset; edit = edit_given c.edit }
 
 abbrev pub edits_of : EditCommand → Command
 edits_of c = Edits (edit_words c)
@@ -156,13 +155,13 @@ shown_command (given.Soak number turns) = Soaks number turns
 shown_command (given.Pack files) = packs_of files.now
 shown_command (given.Edit words) = edits_of words
 
-abbrev pub shown : Option Given → Option Command
-shown c = option_map shown_command c
+abbrev pub command_shown : Option Given → Option Command
+command_shown c = option_map shown_command c
 
 -- the number of turns is within its limit
 abbrev pub HasTurnsWithin : Given → Type 0
-HasTurnsWithin (given.Run words) = words.turns ≤ most_turns
+HasTurnsWithin (given.Run words) = words.turns ≤ MOST_TURNS
 HasTurnsWithin (given.List flash) = Unit {0}
-HasTurnsWithin (given.Soak number turns) = turns ≤ most_turns
+HasTurnsWithin (given.Soak number turns) = turns ≤ MOST_TURNS
 HasTurnsWithin (given.Pack files) = Unit {0}
 HasTurnsWithin (given.Edit words) = Unit {0}

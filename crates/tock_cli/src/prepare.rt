@@ -1,13 +1,14 @@
 //! What is done before any text is written: the words, the files, the script's reading, the board.
 ghost use Rattle.std.specs.Prelude.{◌≡◌, ◌≤◌, length, IfOk, IfErr, OnOk};
-ghost use Rattle.tk_base.specs.declared.limits.TheConstants.{FLASH_LIMIT, SCRIPT_LIMIT};
+ghost use Rattle.tk_base.specs.declared.limits.TheConstants.{FLASH_LIMIT, OBJECT_LIMIT, SCRIPT_LIMIT};
 ghost use Rattle.image_make.specs.Outcomes.{Edits};
 ghost use Rattle.tock_cli.specs.declared.refusal.Refusal.TheVariants.{Memory};
 ghost use Rattle.tock_cli.specs.Refusals.{limit_of, pack_refused};
-ghost use Rattle.tock_cli.specs.Words.{command_of, edit_of, edits_of, packs_of, runs_of, most_turns, Lists};
+ghost use Rattle.tock_cli.specs.declared.words.TheConstants.{MOST_TURNS};
+ghost use Rattle.tock_cli.specs.Words.{command_of, edit_given, edits_of, packs_of, runs_of, Lists};
 ghost use Rattle.tock_cli.specs.Comes.{edited_by, IsText};
 ghost use Rattle.tock_cli.specs.Causes.{Cause, CauseOf, told_by};
-ghost use Rattle.tock_cli.specs.Ready.{HasNoBoard, IsFresh, IsReady, IsReadyFor, IsSoak, IsNotPacked, IsPackedFile, IsUnread, Keeps, Opens, refusal_of};
+ghost use Rattle.tock_cli.specs.Ready.{HasNoBoard, IsFresh, IsReady, IsReadyFor, IsSoak, IsNotPacked, IsPackedFile, IsUnread, KeepsShelf, Opens, refusal_of};
 
 use crate::refusal::{File, ImageFault, Refusal};
 use crate::run::Mode;
@@ -60,7 +61,7 @@ fn read_file<H: Shelf>(
     ensures text { IfOk result (λ v. IsText (H.tells shelf.old).bytes name.now v.items) }
     ensures within { IfOk result (λ v. length v.items ≤ limit_of file) }
     ensures unread { IfErr result (IsUnread (told_by H.tells shelf.old shelf.new) file name.now) }
-    ensures keeps { Keeps H.tells shelf.old shelf.new }
+    ensures keeps { KeepsShelf H.tells shelf.old shelf.new }
 {
     match read_whole(alloc, shelf, name, file.limit()) {
         Ok(bytes) => Ok(bytes),
@@ -90,10 +91,11 @@ fn opened(alloc: Global, flash: Vec<u8>, script: &[u8]) -> Result<Board, Refusal
 
 /// Reads the two files and the script, and makes the board.
 fn load_run<H: Shelf>(alloc: Global, words: RunCommand<'_>, shelf: &mut H) -> Result<Ready, Refusal>
-    requires { words.turns ≤ most_turns }
+    requires { words.turns ≤ MOST_TURNS }
     ensures task { IfOk result (IsReadyFor (H.tells shelf.old) (runs_of words.entry)) }
     ensures fresh { IfOk result IsFresh }
-    ensures refused { IfErr result (CauseOf (told_by H.tells shelf.old shelf.new) (runs_of words.entry)) }
+    ensures refused { IfErr result
+        (CauseOf (told_by H.tells shelf.old shelf.new) (runs_of words.entry)) }
 {
     let flash = read_file(alloc, shelf, File::Flash, words.flash)?;
     let script = read_file(alloc, shelf, File::Script, words.script)?;
@@ -106,7 +108,7 @@ fn load_run<H: Shelf>(alloc: Global, words: RunCommand<'_>, shelf: &mut H) -> Re
 
 /// Generates the two files of a soak run, and makes the board.
 fn load_soak(alloc: Global, number: u32, turns: u32) -> Result<Ready, Refusal>
-    requires { turns ≤ most_turns }
+    requires { turns ≤ MOST_TURNS }
     ensures task { IfOk result (IsSoak number turns) }
     ensures fresh { IfOk result IsFresh }
     ensures refused { IfErr result (λ refusal. refusal ≡ Memory) }
@@ -125,7 +127,8 @@ fn load_soak(alloc: Global, number: u32, turns: u32) -> Result<Ready, Refusal>
 fn load_list<H: Shelf>(alloc: Global, name: &str, shelf: &mut H) -> Result<Ready, Refusal>
     ensures task { IfOk result (IsReadyFor (H.tells shelf.old) (Lists name.now)) }
     ensures fresh { IfOk result IsFresh }
-    ensures refused { IfErr result (CauseOf (told_by H.tells shelf.old shelf.new) (Lists name.now)) }
+    ensures refused { IfErr result
+        (CauseOf (told_by H.tells shelf.old shelf.new) (Lists name.now)) }
 {
     let flash = read_file(alloc, shelf, File::Flash, name)?;
     Ok(Ready::List { flash })
@@ -134,7 +137,8 @@ fn load_list<H: Shelf>(alloc: Global, name: &str, shelf: &mut H) -> Result<Ready
 /// Edits the object of a flash image at an offset.
 fn make_edit(flash: &mut [u8], offset: u32, edit: Edit<'_>) -> Result<(), EditFault>
     requires { length flash.old ≤ FLASH_LIMIT }
-    ensures { Edits (edited_by (edit_of edit.entry) offset flash.old) flash.old flash.new result }
+    ensures { Edits (edited_by (edit_given edit.entry) offset flash.old) flash.old flash.new
+        result }
 {
     match edit {
         Edit::Enable { on } => set_enabled(flash, offset, on),
@@ -150,7 +154,8 @@ fn load_edit<H: Shelf>(
 ) -> Result<Ready, Refusal>
     ensures task { IfOk result (IsReadyFor (H.tells shelf.old) (edits_of words.entry)) }
     ensures fresh { IfOk result IsFresh }
-    ensures refused { IfErr result (CauseOf (told_by H.tells shelf.old shelf.new) (edits_of words.entry)) }
+    ensures refused { IfErr result
+        (CauseOf (told_by H.tells shelf.old shelf.new) (edits_of words.entry)) }
 {
     let mut flash = read_file(alloc, shelf, File::Flash, words.flash)?;
     match make_edit(&mut flash, words.offset, words.edit) {
@@ -178,13 +183,13 @@ fn pack_file<H: Shelf>(
     image: &mut Vec<u8>,
     objects: &mut u32,
 ) -> Result<(), Refusal>
-    requires few { objects.old ≤ 64 }
+    requires few { objects.old ≤ OBJECT_LIMIT }
     requires short { length image.old.items ≤ FLASH_LIMIT }
     ensures packed { OnOk result (IsPackedFile (H.tells shelf.old) name.now
         objects.old image.old.items objects.new image.new.items) }
     ensures refused { IfErr result (IsNotPacked (told_by H.tells shelf.old shelf.new) name.now
         objects.old image.old.items) }
-    ensures keeps { Keeps H.tells shelf.old shelf.new }
+    ensures keeps { KeepsShelf H.tells shelf.old shelf.new }
 {
     let file = read_file(alloc, shelf, File::Flash, name)?;
     match pack_one(image, &file, objects) {
@@ -197,7 +202,8 @@ fn pack_file<H: Shelf>(
 fn load_pack<H: Shelf>(alloc: Global, files: &[String], shelf: &mut H) -> Result<Ready, Refusal>
     ensures task { IfOk result (IsReadyFor (H.tells shelf.old) (packs_of files.now)) }
     ensures fresh { IfOk result IsFresh }
-    ensures refused { IfErr result (CauseOf (told_by H.tells shelf.old shelf.new) (packs_of files.now)) }
+    ensures refused { IfErr result
+        (CauseOf (told_by H.tells shelf.old shelf.new) (packs_of files.now)) }
 {
     let mut flash = Vec::new(alloc);
     let mut objects = 0;
@@ -213,7 +219,8 @@ fn load_pack<H: Shelf>(alloc: Global, files: &[String], shelf: &mut H) -> Result
 pub fn prepare<H: Shelf>(alloc: Global, words: &[String], shelf: &mut H) -> Result<Ready, Refusal>
     ensures task { IfOk result (IsReady (H.tells shelf.old) (command_of words.now)) }
     ensures fresh { IfOk result IsFresh }
-    ensures refused { IfErr result (Cause (told_by H.tells shelf.old shelf.new) (command_of words.now)) }
+    ensures refused { IfErr result
+        (Cause (told_by H.tells shelf.old shelf.new) (command_of words.now)) }
 {
     match Command::of(words) {
         Some(Command::Run(words)) => load_run(alloc, words, shelf),

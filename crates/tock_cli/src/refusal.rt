@@ -1,7 +1,7 @@
 //! Why a command is refused: the answer and the line of each cause.
 ghost use Rattle.std.specs.Prelude.{◌≡◌};
 ghost use Rattle.tk_outside.specs.Writes.{Writes};
-ghost use Rattle.tock_cli.specs.Refusals.{edit_refused, file_text, image_fault_text, limit_of, status_of, line_of};
+ghost use Rattle.tock_cli.specs.Refusals.{edit_refused, file_text, image_fault_text, limit_of, status_of, refusal_line};
 
 use image_make::EditFault;
 use itoa::Buffer;
@@ -47,7 +47,7 @@ pub enum ImageFault {
     BadName,
     /// The object has no name of the new one's length rounded up to 4.
     NameLength,
-    /// The files have more than 64 objects.
+    /// The files have more objects than an image may have.
     TooMany,
     /// The files' objects have more than 1,048,576 bytes.
     Size,
@@ -113,7 +113,7 @@ impl Refusal {
 
     /// Writes the line of the refusal.
     pub fn write_line<K: Sink>(self, out: &mut K) -> Result<(), Failed>
-        ensures { Writes K.tells out.old out.new (line_of self) result }
+        ensures { Writes K.tells out.old out.new (refusal_line self) result }
     {
         match self {
             Refusal::Usage => put_all(

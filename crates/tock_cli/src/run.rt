@@ -3,10 +3,10 @@ ghost use Rattle.std.specs.Prelude.{◌≡◌, ◌+◌, ◌≤◌, IfOk, OnOk, O
 ghost use Rattle.tk_base.specs.declared.limits.TheConstants.{STEP_LIMIT};
 ghost use Rattle.tk_outside.specs.Writes.{Writes};
 ghost use Rattle.kernel_model.specs.Run.{round, printed};
-ghost use Rattle.tock_cli.specs.RunText.{run_text, end_of, end_text, steps, IsWorldOf};
-ghost use Rattle.tock_cli.specs.Telling.{steps_text, telling_of};
+ghost use Rattle.tock_cli.specs.RunText.{run_text, run_end_of, ending_text, steps, IsWorldOf};
+ghost use Rattle.tock_cli.specs.RunWriter.{steps_text, telling_of};
 
-use crate::teller::Telling;
+use crate::teller::RunWriter;
 use board_core::Board;
 use board_report::{End, write_report};
 use kernel_model::rounds_join;
@@ -31,7 +31,7 @@ fn run_steps<K: Sink>(
     mode: Mode,
     turns: u32,
     out: &mut K,
-) -> Result<Telling, Failed>
+) -> Result<RunWriter, Failed>
     requires { board.old.clock.steps + turns ≤ STEP_LIMIT }
     ensures text { Writes K.tells out.old out.new (steps_text mode (steps turns board.old)) result }
     ensures kept { let r = round turns board.old in
@@ -42,7 +42,7 @@ fn run_steps<K: Sink>(
     writes_compose::<K>();
     rounds_join();
     let mut emit = Emit::new();
-    let mut telling = Telling::of(mode, board);
+    let mut telling = RunWriter::of(mode, board);
     let mut made = 0;
     while made < turns {
         made += board.run_quietly(turns - made);
@@ -63,9 +63,9 @@ fn run_steps<K: Sink>(
 }
 
 /// How a run that led to this board ended.
-#[tactic(auto, unfolding(crate::specs::RunText::end_of))]
+#[tactic(auto, unfolding(crate::specs::RunText::run_end_of))]
 fn end_of_run(board: &Board) -> End
-    ensures { result ≡ end_of board.now }
+    ensures { result ≡ run_end_of board.now }
 {
     match board.next_choice() {
         None => End::Done,
@@ -75,7 +75,7 @@ fn end_of_run(board: &Board) -> End
 
 /// Writes the line between what a run printed and its report, and the report.
 fn write_end_of_run<K: Sink>(board: &Board, out: &mut K) -> Result<(), Failed>
-    ensures { Writes K.tells out.old out.new (end_text board.now) result }
+    ensures { Writes K.tells out.old out.new (ending_text board.now) result }
 {
     writes_compose::<K>();
     put_all(out, b"==\n")?;

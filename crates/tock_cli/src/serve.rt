@@ -4,7 +4,7 @@ ghost use Rattle.tock_cli.specs.Accounts.{RunIsAccountedFor};
 ghost use Rattle.tock_cli.specs.Words.{command_of};
 ghost use Rattle.tock_cli.specs.Causes.{told_by};
 ghost use Rattle.tock_cli.specs.Ready.{IsFresh, task_of};
-ghost use Rattle.tock_cli.specs.Served.{Happens, RefusalIs, TaskIs, Serves, answer_of, sent_by};
+ghost use Rattle.tock_cli.specs.Served.{Happens, RefusalIs, TaskIs, Serves, exit_status_of, sink_account};
 
 use crate::list::list_out;
 use crate::prepare::{Ready, prepare};
@@ -16,7 +16,7 @@ use tk_outside::{Shelf, Sink, put_all};
 
 /// How the program ended.
 #[derive(Clone, Copy, Debug, PartialEq, Eq)]
-enum Outcome {
+enum ServeOutcome {
     /// The command's run was made, or its list or image was, and the whole of it written.
     Done,
     /// The command was refused.
@@ -25,34 +25,34 @@ enum Outcome {
     SinkFailed,
 }
 
-impl Outcome {
+impl ServeOutcome {
     /// The answer of the program.
     fn answer(self) -> u8
-        ensures { result ≡ answer_of self }
+        ensures { result ≡ exit_status_of self }
     {
         match self {
-            Outcome::Done => 0,
-            Outcome::Refused(refusal) => refusal.status(),
-            Outcome::SinkFailed => 6,
+            ServeOutcome::Done => 0,
+            ServeOutcome::Refused(refusal) => refusal.status(),
+            ServeOutcome::SinkFailed => 6,
         }
     }
 }
 
 /// Writes the line of a refusal.
-fn refuse<K: Sink>(refusal: Refusal, out: &mut K) -> Outcome
-    ensures { RefusalIs (sent_by K.tells out.old out.new) refusal result }
+fn refuse<K: Sink>(refusal: Refusal, out: &mut K) -> ServeOutcome
+    ensures { RefusalIs (sink_account K.tells out.old out.new) refusal result }
 {
     match refusal.write_line(out) {
-        Ok(()) => Outcome::Refused(refusal),
-        Err(_) => Outcome::SinkFailed,
+        Ok(()) => ServeOutcome::Refused(refusal),
+        Err(_) => ServeOutcome::SinkFailed,
     }
 }
 
 /// Does what is left to do, and leaves the board of a run.
-fn finish<K: Sink>(ready: Ready, out: &mut K, last: &mut Option<Board>) -> Outcome
+fn finish<K: Sink>(ready: Ready, out: &mut K, last: &mut Option<Board>) -> ServeOutcome
     requires fresh { IsFresh ready }
     requires none { last.old ≡ None }
-    ensures { TaskIs (sent_by K.tells out.old out.new) (task_of ready) last.new result }
+    ensures { TaskIs (sink_account K.tells out.old out.new) (task_of ready) last.new result }
 {
     let written = match ready {
         Ready::Run {
@@ -70,8 +70,8 @@ fn finish<K: Sink>(ready: Ready, out: &mut K, last: &mut Option<Board>) -> Outco
         Ready::Image { flash } => put_all(out, &flash),
     };
     match written {
-        Ok(()) => Outcome::Done,
-        Err(_) => Outcome::SinkFailed,
+        Ok(()) => ServeOutcome::Done,
+        Err(_) => ServeOutcome::SinkFailed,
     }
 }
 
@@ -82,8 +82,8 @@ fn act<H: Shelf, K: Sink>(
     shelf: &mut H,
     out: &mut K,
     last: &mut Option<Board>,
-) -> Outcome
-    ensures { Happens (told_by H.tells shelf.old shelf.new) (sent_by K.tells out.old out.new)
+) -> ServeOutcome
+    ensures { Happens (told_by H.tells shelf.old shelf.new) (sink_account K.tells out.old out.new)
         (command_of words.now) last.new result }
 {
     *last = None;
@@ -103,9 +103,11 @@ fn act<H: Shelf, K: Sink>(
 /// is written. What `last` held is dropped; afterwards it holds a board exactly at answer 0 of `boot`, `trace`
 /// and `soak`, and that board shows the last world of the run.
 ///
-/// In the run that is told each byte of a process that changes has its cause, its own permitted act or a buffer that
-/// it then allowed; each access was permitted, and each denial was due and names its address and rule; and the record
-/// of a process is what becomes of it alone, by its own turns and by what devices answer it, whatever others do.
+/// In the run that is told each byte of a process that changes has its cause. One below its kernel break is changed by
+/// an own permitted act, or lies in a buffer that the process then allowed to the driver which answers it; one of its
+/// grants, above, is changed in its own turn or by an answer to it; one of its storage by a served request of its own.
+/// Each access was permitted, and each denial was due and names its address and rule; and the record of a process is
+/// what becomes of it alone, by its own turns and by what devices answer it, whatever others do.
 ///
 /// | Answer | Comes |
 /// |---|---|
@@ -124,7 +126,8 @@ pub fn serve<H: Shelf, K: Sink>(
     out: &mut K,
     last: &mut Option<Board>,
 ) -> u8
-    ensures serves { Serves H.tells shelf.old shelf.new K.tells out.old out.new words.now last.new result }
+    ensures serves { Serves H.tells shelf.old shelf.new K.tells out.old out.new words.now last.new
+        result }
     ensures run { RunIsAccountedFor (told_by H.tells shelf.old shelf.new) (command_of words.now) }
 {
     runs_from_boot_are_accounted_for();

@@ -2,7 +2,7 @@
 ghost use Rattle.std.specs.Prelude.{◌≡◌, ◌+◌, ◌<◌, ◌^◌, [], length};
 ghost use Rattle.tk_outside.specs.Writes.{Writes};
 ghost use Rattle.tock_cli.specs.RunText.{tally_of, tally_line};
-ghost use Rattle.tock_cli.specs.Telling.{counting};
+ghost use Rattle.tock_cli.specs.RunWriter.{tallying};
 
 use itoa::Buffer;
 use tk_outside::{Failed, Sink, put_pieces};
@@ -25,7 +25,7 @@ impl Tally {
     /// Adds bytes that were printed.
     pub fn add(&mut self, bytes: &[u8])
         requires { self.old.count + length bytes.now < 2 ^ 64 }
-        ensures { self.new ≡ counting bytes.now self.old }
+        ensures { self.new ≡ tallying bytes.now self.old }
     {
         for byte in bytes {
             self.sum = self.sum.wrapping_add(u32::from(*byte));

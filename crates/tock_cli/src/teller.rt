@@ -1,7 +1,8 @@
 //! What is told of a run while it goes on.
 ghost use Rattle.std.specs.Prelude.{◌≡◌, ◌+◌, ◌<◌, ◌≤◌, ◌^◌, [], OnOk};
+ghost use Rattle.tk_base.specs.declared.limits.TheConstants.{PRINT_LIMIT};
 ghost use Rattle.tk_outside.specs.Writes.{Writes};
-ghost use Rattle.tock_cli.specs.Telling.{count_of, passed_on, telling_of, told_text, told_on, total_text};
+ghost use Rattle.tock_cli.specs.RunWriter.{counted_bytes, passed_on, telling_of, told_text, told_on, total_text};
 
 use crate::run::Mode;
 use crate::tally::Tally;
@@ -12,7 +13,7 @@ use tk_outside::{Failed, Sink, put_all};
 
 /// What is told of a run, with what has to be kept for it from step to step.
 #[derive(Clone, Copy, Debug, PartialEq, Eq)]
-pub enum Telling {
+pub enum RunWriter {
     /// What it prints.
     Boot,
     /// The lines of its steps, and the time at which the next one begins.
@@ -21,32 +22,33 @@ pub enum Telling {
     Soak { tally: Tally },
 }
 
-impl Telling {
+impl RunWriter {
     /// What is kept before the first step.
-    pub fn of(mode: Mode, board: &Board) -> Telling
+    pub fn of(mode: Mode, board: &Board) -> RunWriter
         ensures { result ≡ telling_of mode board.now [] }
     {
         match mode {
-            Mode::Boot => Telling::Boot,
-            Mode::Trace => Telling::Trace {
+            Mode::Boot => RunWriter::Boot,
+            Mode::Trace => RunWriter::Trace {
                 time: board.status().time,
             },
-            Mode::Soak => Telling::Soak {
+            Mode::Soak => RunWriter::Soak {
                 tally: Tally::new(),
             },
         }
     }
 
     /// Tells a step that led to this board: writes its text, and keeps what is asked of it later. A step
-    /// prints at most 64 bytes, and the count has room for them.
+    /// prints at most [`PRINT_LIMIT`] bytes, and the count has room for them.
     pub fn tell<K: Sink>(&mut self, board: &Board, step: &Emit, out: &mut K) -> Result<(), Failed>
-        requires { count_of self.old + 64 < 2 ^ 64 }
+        requires { counted_bytes self.old + PRINT_LIMIT < 2 ^ 64 }
         ensures text { Writes K.tells out.old out.new (told_text self.old step.now) result }
         ensures kept { OnOk result (self.new ≡ told_on self.old board.now step.now) }
-        ensures count { OnOk result (count_of self.new ≤ count_of self.old + 64) }
+        ensures count { OnOk result (counted_bytes self.new
+            ≤ counted_bytes self.old + PRINT_LIMIT) }
     {
         // A run with nothing but its prints pays for nothing else.
-        if let Telling::Boot = self {
+        if let RunWriter::Boot = self {
             return put_all(out, &step.printed);
         }
         self.tell_any(board, step, out)
@@ -55,19 +57,20 @@ impl Telling {
     /// The same, out of the loop's way.
     #[inline(never)]
     fn tell_any<K: Sink>(&mut self, board: &Board, step: &Emit, out: &mut K) -> Result<(), Failed>
-        requires { count_of self.old + 64 < 2 ^ 64 }
+        requires { counted_bytes self.old + PRINT_LIMIT < 2 ^ 64 }
         ensures text { Writes K.tells out.old out.new (told_text self.old step.now) result }
         ensures kept { OnOk result (self.new ≡ told_on self.old board.now step.now) }
-        ensures count { OnOk result (count_of self.new ≤ count_of self.old + 64) }
+        ensures count { OnOk result (counted_bytes self.new
+            ≤ counted_bytes self.old + PRINT_LIMIT) }
     {
         match self {
-            Telling::Boot => put_all(out, &step.printed),
-            Telling::Trace { time } => {
+            RunWriter::Boot => put_all(out, &step.printed),
+            RunWriter::Trace { time } => {
                 write_trace(*time, step, out)?;
                 *time = board.status().time;
                 Ok(())
             }
-            Telling::Soak { tally } => {
+            RunWriter::Soak { tally } => {
                 tally.add(&step.printed);
                 Ok(())
             }
@@ -78,7 +81,7 @@ impl Telling {
     pub fn pass(&mut self, board: &Board)
         ensures { self.new ≡ passed_on self.old board.now }
     {
-        if let Telling::Trace { time } = self {
+        if let RunWriter::Trace { time } = self {
             *time = board.status().time;
         }
     }
@@ -88,8 +91,8 @@ impl Telling {
         ensures { Writes K.tells out.old out.new (total_text self) result }
     {
         match self {
-            Telling::Boot | Telling::Trace { .. } => Ok(()),
-            Telling::Soak { tally } => tally.write_line(out),
+            RunWriter::Boot | RunWriter::Trace { .. } => Ok(()),
+            RunWriter::Soak { tally } => tally.write_line(out),
         }
     }
 }

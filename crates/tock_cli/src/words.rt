@@ -1,6 +1,7 @@
 //! The words of the command line.
 ghost use Rattle.std.specs.Prelude.{◌≡◌, ◌≤◌, IfSome};
-ghost use Rattle.tock_cli.specs.Words.{command_of, enable_of, list_of, mode_named, most_turns, number_in, of_few, of_three, pack_of, rename_of, run_of, shown, soak_of, switch_named, turns_in, words_of, HasTurnsWithin};
+ghost use Rattle.tock_cli.specs.declared.words.TheConstants.{MOST_TURNS};
+ghost use Rattle.tock_cli.specs.Words.{command_of, enable_of, list_command_of, mode_named, number_in, of_few, of_three, pack_of, rename_of, run_of, command_shown, soak_of, switch_named, turns_given, argument_bytes, HasTurnsWithin};
 
 use crate::run::Mode;
 use decimal_number::number_up_to;
@@ -61,8 +62,8 @@ const MOST_FILES: usize = 64;
 
 /// The number of turns that a word gives.
 fn turns_in(word: &str) -> Option<u32>
-    ensures value { result ≡ turns_in word.now }
-    ensures within { IfSome result (λ turns. turns ≤ most_turns) }
+    ensures value { result ≡ turns_given word.now }
+    ensures within { IfSome result (λ turns. turns ≤ MOST_TURNS) }
 {
     Some(number_up_to(word.as_bytes(), MOST_TURNS)? as u32)
 }
@@ -86,9 +87,9 @@ fn mode_named(name: &str) -> Option<Mode>
 }
 
 /// The command `list` of a file.
-#[tactic(auto, unfolding(crate::specs::Words::list_of))]
+#[tactic(auto, unfolding(crate::specs::Words::list_command_of))]
 fn list_of<'a>(name: &str, flash: &'a str) -> Option<Command<'a>>
-    ensures words { shown result ≡ list_of name.now flash.entry.now }
+    ensures words { command_shown result ≡ list_command_of name.now flash.entry.now }
     ensures turns { IfSome result HasTurnsWithin }
 {
     if name != "list" {
@@ -100,7 +101,7 @@ fn list_of<'a>(name: &str, flash: &'a str) -> Option<Command<'a>>
 /// The command `soak` of a number.
 #[tactic(auto, unfolding(crate::specs::Words::soak_of))]
 fn soak_of<'a>(name: &str, number: &str, flag: &str, turns: &str) -> Option<Command<'a>>
-    ensures words { shown result ≡ soak_of name.now number.now flag.now turns.now }
+    ensures words { command_shown result ≡ soak_of name.now number.now flag.now turns.now }
     ensures turns { IfSome result HasTurnsWithin }
 {
     if name != "soak" || flag != "--turns" {
@@ -120,7 +121,8 @@ fn run_of<'a>(
     flag: &str,
     turns: &str,
 ) -> Option<Command<'a>>
-    ensures words { shown result ≡ run_of name.now flash.entry.now script.entry.now flag.now turns.now }
+    ensures words { command_shown result
+        ≡ run_of name.now flash.entry.now script.entry.now flag.now turns.now }
     ensures turns { IfSome result HasTurnsWithin }
 {
     if flag != "--turns" {
@@ -139,7 +141,7 @@ fn run_of<'a>(
 /// The command `pack` of files.
 #[tactic(auto, unfolding(crate::specs::Words::pack_of))]
 fn pack_of<'a>(files: &'a [String]) -> Option<Command<'a>>
-    ensures words { shown result ≡ pack_of (words_of files.entry.now) }
+    ensures words { command_shown result ≡ pack_of (argument_bytes files.entry.now) }
     ensures turns { IfSome result HasTurnsWithin }
 {
     if files.is_empty() || files.len() > MOST_FILES {
@@ -162,7 +164,7 @@ fn switch_named(name: &str) -> Option<bool>
 /// The command `enable` or `disable` of an object.
 #[tactic(auto, unfolding(crate::specs::Words::enable_of))]
 fn enable_of<'a>(name: &str, flash: &'a str, offset: &str) -> Option<Command<'a>>
-    ensures words { shown result ≡ enable_of name.now flash.entry.now offset.now }
+    ensures words { command_shown result ≡ enable_of name.now flash.entry.now offset.now }
     ensures turns { IfSome result HasTurnsWithin }
 {
     let on = switch_named(name)?;
@@ -177,7 +179,7 @@ fn enable_of<'a>(name: &str, flash: &'a str, offset: &str) -> Option<Command<'a>
 /// The command `rename` of an object.
 #[tactic(auto, unfolding(crate::specs::Words::rename_of))]
 fn rename_of<'a>(flash: &'a str, offset: &str, name: &'a str) -> Option<Command<'a>>
-    ensures words { shown result ≡ rename_of flash.entry.now offset.now name.entry.now }
+    ensures words { command_shown result ≡ rename_of flash.entry.now offset.now name.entry.now }
     ensures turns { IfSome result HasTurnsWithin }
 {
     let offset = number_in(offset)?;
@@ -191,7 +193,8 @@ fn rename_of<'a>(flash: &'a str, offset: &str, name: &'a str) -> Option<Command<
 /// The command `rename` or `soak`, each of which has three words after its name.
 #[tactic(auto, unfolding(crate::specs::Words::of_three))]
 fn of_three<'a>(name: &str, first: &'a str, second: &str, third: &'a str) -> Option<Command<'a>>
-    ensures words { shown result ≡ of_three name.now first.entry.now second.now third.entry.now }
+    ensures words { command_shown result
+        ≡ of_three name.now first.entry.now second.now third.entry.now }
     ensures turns { IfSome result HasTurnsWithin }
 {
     if name == "rename" {
@@ -202,7 +205,7 @@ fn of_three<'a>(name: &str, first: &'a str, second: &str, third: &'a str) -> Opt
 
 /// The command that has so many words after its name.
 fn of_few<'a>(name: &str, words: &'a [String]) -> Option<Command<'a>>
-    ensures words { shown result ≡ of_few name.now (words_of words.entry.now) }
+    ensures words { command_shown result ≡ of_few name.now (argument_bytes words.entry.now) }
     ensures turns { IfSome result HasTurnsWithin }
 {
     match words {
@@ -223,7 +226,7 @@ fn of_few<'a>(name: &str, words: &'a [String]) -> Option<Command<'a>>
 impl<'a> Command<'a> {
     /// The command that the words are; None where they are none. The first word is the program's name.
     pub fn of(words: &'a [String]) -> Option<Command<'a>>
-        ensures words { shown result ≡ command_of words.now }
+        ensures words { command_shown result ≡ command_of words.now }
         ensures turns { IfSome result HasTurnsWithin }
     {
         let [_, name, rest @ ..] = words else {

@@ -1,36 +1,53 @@
 -- The first ready slot, in parts.
-use Rattle.std.proofs.Common.{◌≡◌, ℕ, suc, ◌+◌, ◌-◌, ◌<◌, Bool, false, find, Option, None, Some, sym, ap, ◌∙◌, refl, arith, ◌^◌}
+use Rattle.std.proofs.Common.{◌≡◌, ℕ, suc, ◌+◌, ◌-◌, ◌<◌, Bool, false, find, Option, None, Some, sym, ap, ◌∙◌, refl}
+use Rattle.std.proofs.Common.{arith, ◌^◌}
 use Rattle.std.specs.List.{range_with_len}
 use Rattle.std.specs.Option.{option_or}
 use Rattle.std.proofs.lemmas.List.Folds.{find-append}
+use Rattle.tk_base.specs.declared.limits.TheConstants.{SLOT_COUNT}
 use Rattle.turn_scheduler.specs.RoundRobin.{slots_after, ready_device, IsNextAhead}
 use Rattle.turn_scheduler.specs.Situation.{Situation}
 
-passes_first : (p : ℕ → Bool) (from n m : ℕ) → n ≡ suc m → p from ≡ false → find p (range_with_len from n) ≡ find p (range_with_len (from + 1) m)
+passes_first : (p : ℕ → Bool) (from n m : ℕ) → n ≡ suc m → p from ≡ false
+    → find p (range_with_len from n) ≡ find p (range_with_len (from + 1) m)
 passes_first p from n m e f = rw (e, f) refl
 
 -- a slot that is not ready is passed
-pub find-pass : (p : ℕ → Bool) (slot to : ℕ) → slot < to → p slot ≡ false → find p (range_with_len (slot + 1) (to - (slot + 1))) ≡ find p (range_with_len slot (to - slot))
+pub find-pass : (p : ℕ → Bool) (slot to : ℕ) → slot < to → p slot ≡ false
+    → find p (range_with_len (slot + 1) (to - (slot + 1))) ≡ find p (range_with_len slot (to - slot))
 find-pass p slot to h f = sym (passes_first p slot (to - slot) (to - (slot + 1)) (omega arith) f)
 
 -- one that is ready after the present slot comes first
-pub slots_after-some : (p : ℕ → Bool) (o : Option ℕ) (present i slot : ℕ) → o ≡ Some present → i ≡ present → Some slot ≡ find p (range_with_len (i + 1) (8 - (i + 1))) → Some slot ≡ find p (slots_after o)
+pub slots_after-some : (p : ℕ → Bool) (o : Option ℕ) (present i slot : ℕ) → o ≡ Some present → i ≡ present
+    → Some slot ≡ find p (range_with_len (i + 1) (SLOT_COUNT - (i + 1))) → Some slot ≡ find p (slots_after o)
 slots_after-some p o present i slot e f h =
-    let after = range_with_len (present + 1) (8 - (present + 1)) in
+    let after = range_with_len (present + 1) (SLOT_COUNT - (present + 1)) in
     let up_to = range_with_len 0 (present + 1) in
-    let found : find p after ≡ Some slot = ap (λ (k : ℕ). find p (range_with_len (k + 1) (8 - (k + 1)))) (sym f) ∙ sym h in
-    sym (ap (λ (q : Option ℕ). find p (slots_after q)) e ∙ find-append p after up_to ∙ ap (λ (q : Option ℕ). option_or q (find p up_to)) found)
+    let found : find p after ≡ Some slot =
+    ap (λ (k : ℕ). find p (range_with_len (k + 1) (SLOT_COUNT - (k + 1)))) (sym f) ∙ sym h in
+    sym (ap (λ (q : Option ℕ). find p (slots_after q)) e ∙ find-append p after up_to
+    ∙ ap (λ (q : Option ℕ). option_or q (find p up_to)) found)
 
 -- else the first from slot 0 on, up to the present one
-pub slots_after-none : (p : ℕ → Bool) (o : Option ℕ) (present i : ℕ) (r : Option ℕ) → o ≡ Some present → i ≡ present → None ≡ find p (range_with_len (i + 1) (8 - (i + 1))) → r ≡ find p (range_with_len 0 (i + 1 - 0)) → r ≡ find p (slots_after o)
+pub slots_after-none : (p : ℕ → Bool) (o : Option ℕ) (present i : ℕ) (r : Option ℕ) → o ≡ Some present → i ≡ present
+    → None ≡ find p (range_with_len (i + 1) (SLOT_COUNT - (i + 1))) → r ≡ find p (range_with_len 0 (i + 1 - 0))
+    → r ≡ find p (slots_after o)
 slots_after-none p o present i r e f h k =
-    let after = range_with_len (present + 1) (8 - (present + 1)) in
+    let after = range_with_len (present + 1) (SLOT_COUNT - (present + 1)) in
     let up_to = range_with_len 0 (present + 1) in
-    let none : find p after ≡ None = ap (λ (j : ℕ). find p (range_with_len (j + 1) (8 - (j + 1)))) (sym f) ∙ sym h in
+    let none : find p after ≡ None =
+    ap (λ (j : ℕ). find p (range_with_len (j + 1) (SLOT_COUNT - (j + 1)))) (sym f) ∙ sym h in
     let length_is : i + 1 - 0 ≡ present + 1 = omega arith in
     k ∙ ap (λ (n : ℕ). find p (range_with_len 0 n)) length_is
-    ∙ sym (ap (λ (q : Option ℕ). find p (slots_after q)) e ∙ find-append p after up_to ∙ ap (λ (q : Option ℕ). option_or q (find p up_to)) none)
+    ∙ sym (ap (λ (q : Option ℕ). find p (slots_after q)) e ∙ find-append p after up_to
+    ∙ ap (λ (q : Option ℕ). option_or q (find p up_to)) none)
+
+-- with no present slot, the first from slot 0 on
+pub slots_after-start : (p : ℕ → Bool) (o : Option ℕ) (r : Option ℕ) → o ≡ None
+    → r ≡ find p (range_with_len 0 (SLOT_COUNT - 0)) → r ≡ find p (slots_after o)
+slots_after-start p o r e h = h ∙ sym (ap (λ (q : Option ℕ). find p (slots_after q)) e)
 
 -- where no device step is ready, the next time lies ahead
-pub time_ahead : (s : Situation) (at : ℕ) → ready_device s.devices ≡ None → s.next ≡ Some at → IsNextAhead s → (s.time < at) × (at - s.time < 2 ^ 32)
+pub time_ahead : (s : Situation) (at : ℕ) → ready_device s.devices ≡ None → s.next ≡ Some at → IsNextAhead s
+    → (s.time < at) × (at - s.time < 2 ^ 32)
 time_ahead s at f e h = h f at e

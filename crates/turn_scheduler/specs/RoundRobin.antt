@@ -1,8 +1,12 @@
--- Round robin: first a device that is ready; else the present process while its slice lasts; else the processes in turn,
--- the present one last; else time passes until a device becomes ready.
-use Rattle.std.specs.Prelude.{◌≡◌, ◌<◌, ◌^◌, ℕ, ◌+◌, ◌-◌, ◌==◌, Bool, false, ◌&&◌, nat_lt, if◌then◌else◌, List, [], ◌∷◌, ◌++◌, find, slice_index_or, Option, None, Some}
+-- Round robin: first a device that is ready; else the present process while its slice lasts; else the processes in
+-- turn,
+-- the present one last; else time passes until a device becomes ready. The turns are those of Tock's round robin; the
+-- devices' order and the passes are this board's own rule.
+use Rattle.std.specs.Prelude.{◌≡◌, ◌<◌, ◌^◌, ℕ, ◌+◌, ◌-◌, ◌==◌, Bool, false, ◌&&◌, nat_lt, if◌then◌else◌, List, [], ◌∷◌}
+use Rattle.std.specs.Prelude.{◌++◌, find, slice_index_or, Option, None, Some}
 use Rattle.std.specs.List.{range_with_len}
 use Rattle.std.specs.Option.{option_map, option_or, ForSome}
+use Rattle.tk_base.specs.declared.limits.TheConstants.{SLOT_COUNT}
 use Rattle.tk_base.specs.declared.process.Choice.{Choice}
 use Rattle.tk_base.specs.declared.process.Choice.TheVariants.{Run, Device, Pass}
 use Rattle.tk_base.specs.declared.process.Dev.{Dev}
@@ -10,40 +14,41 @@ use Rattle.tk_base.specs.declared.process.Dev.TheVariants.{Event, Alarm, Uart, R
 use Rattle.turn_scheduler.specs.Situation.{Situation}
 
 -- what a table says of a place; what it lacks is not ready
-abbrev pub is_ready : List Bool → ℕ → Bool
-is_ready table place = slice_index_or table place false
+abbrev pub place_is_ready : List Bool → ℕ → Bool
+place_is_ready table place = slice_index_or table place false
 
 -- the device steps in the order in which they are asked
 abbrev pub device_order : List Dev
 device_order = Event ∷ Alarm ∷ Uart ∷ Receive ∷ Random ∷ Store ∷ []
 
-abbrev pub place_of : Dev → ℕ
-place_of Event = 0
-place_of Alarm = 1
-place_of Uart = 2
-place_of Receive = 3
-place_of Random = 4
-place_of Store = 5
+-- the place of a device in the order in which they are served
+abbrev pub device_place : Dev → ℕ
+device_place Event = 0
+device_place Alarm = 1
+device_place Uart = 2
+device_place Receive = 3
+device_place Random = 4
+device_place Store = 5
 
 -- the first device step that is ready
 unfoldable pub ready_device : List Bool → Option Dev
-ready_device devices = find (λ device. is_ready devices (place_of device)) device_order
+ready_device devices = find (λ device. place_is_ready devices (device_place device)) device_order
 
--- the eight slots in cyclic order after the present one, which is the last
+-- all slots in cyclic order after the present one, which is the last
 abbrev pub slots_after : Option ℕ → List ℕ
-slots_after None = range_with_len 0 8
-slots_after (Some present) = range_with_len (present + 1) (8 - (present + 1)) ++ range_with_len 0 (present + 1)
+slots_after None = range_with_len 0 SLOT_COUNT
+slots_after (Some present) = range_with_len (present + 1) (SLOT_COUNT - (present + 1)) ++ range_with_len 0 (present + 1)
 
 -- the present slot is ready, and its slice lasts
 abbrev pub goes_on : List Bool → Option ℕ → ℕ → ℕ → Bool
 goes_on ready None used slice = false
-goes_on ready (Some present) used slice = is_ready ready present && nat_lt used slice
+goes_on ready (Some present) used slice = place_is_ready ready present && nat_lt used slice
 
 -- the slot that has the next turn of a process
 unfoldable pub next_slot : List Bool → Option ℕ → ℕ → ℕ → Option ℕ
 next_slot ready present used slice =
     if goes_on ready present used slice then present
-    else find (is_ready ready) (slots_after present)
+    else find (place_is_ready ready) (slots_after present)
 
 -- the next step, or none
 unfoldable pub choice : Situation → Option Choice

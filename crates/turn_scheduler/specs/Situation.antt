@@ -1,4 +1,4 @@
--- What the choice of the next step rests on.
+-- What the choice of the next step rests on. It is this board's own.
 use Rattle.std.specs.Prelude.{ℕ, Bool, List, Option}
 
 -- which slots can have a turn, and which device steps are ready; the nearest time at which a device step becomes ready,

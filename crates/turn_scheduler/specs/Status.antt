@@ -2,8 +2,8 @@
 use Rattle.turn_scheduler.specs.declared.status.Status.{Status}
 use Rattle.turn_scheduler.specs.Situation.{Situation}
 
-abbrev pub situation_of : Status → Situation
-situation_of s = record {
+abbrev pub situation_shown : Status → Situation
+situation_shown s = record {
   ready = s.ready.items;
   devices = s.devices.items;
   next = s.next;

@@ -1,8 +1,9 @@
 -- Turns of processes, one after another, as round robin gives them.
 use Rattle.std.specs.Prelude.{◌≡◌, ◌≤◌, ℕ, ◌*◌, true, List, [], ◌∷◌, Some, All, Any, length}
+use Rattle.tk_base.specs.declared.limits.TheConstants.{SLOT_COUNT}
 use Rattle.tk_base.specs.declared.process.Choice.TheVariants.{Run}
 use Rattle.turn_scheduler.specs.Situation.{Situation}
-use Rattle.turn_scheduler.specs.RoundRobin.{is_ready, choice, used_after}
+use Rattle.turn_scheduler.specs.RoundRobin.{place_is_ready, choice, used_after}
 
 -- round robin gives the slot the turn
 abbrev pub GivesTurn : Situation → ℕ → Type 0
@@ -21,16 +22,18 @@ AreTurns [] = Unit {0}
 AreTurns (s ∷ []) = (slot : ℕ) × GivesTurn s slot
 AreTurns (s ∷ t ∷ rest) = IsNextTurn s t × AreTurns (t ∷ rest)
 
--- turns in which a slot is ready throughout, as many as eight slots have in a slice each
+-- turns in which a slot is ready throughout, as many as all slots have in a slice each
 pub record IsWindow (turns : List Situation) (slot each : ℕ) : Type 0 where
   pub in_turn : AreTurns turns
-  pub ready : All (λ s. is_ready s.ready slot ≡ true) turns
-  pub slots : All (λ s. length s.ready ≤ 8) turns
+  pub ready : All (λ s. place_is_ready s.ready slot ≡ true) turns
+  pub slots : All (λ s. length s.ready ≤ SLOT_COUNT) turns
   pub slice : All (λ s. s.slice ≡ each) turns
   pub one : 1 ≤ each
-  pub long : 8 * each ≤ length turns
+  pub long : SLOT_COUNT * each ≤ length turns
 
--- In every window of 8 * slice turns in which a slot is ready throughout, that slot has a turn.
+-- In every window of as many turns as all slots have in a slice each, in which a slot is ready throughout, that slot
+-- has
+-- a turn.
 abbrev pub ReadyHasTurn : Type 0
 ReadyHasTurn =
     (turns : List Situation) (slot each : ℕ) → IsWindow turns slot each → Any (λ s. GivesTurn s slot) turns

@@ -2,7 +2,7 @@
 ghost use Rattle.std.specs.Prelude.{◌≡◌, ◌-◌, ◌^◌, ◌<◌, ◌≤◌};
 ghost use Rattle.tk_base.specs.declared.process.Choice.TheVariants.{Pass};
 ghost use Rattle.turn_scheduler.specs.RoundRobin.{ready_device, choice, IsNextAhead};
-ghost use Rattle.turn_scheduler.specs.Status.{situation_of};
+ghost use Rattle.turn_scheduler.specs.Status.{situation_shown};
 
 use crate::slots::{is_ready, next_slot};
 use crate::status::Status;
@@ -45,8 +45,8 @@ fn pass_to(at: u64, time: u64) -> Choice
 /// ahead, by at most `2^32 - 1` ticks, where no device step is ready.
 #[tactic(auto, unfolding(crate::specs::RoundRobin::choice))]
 pub fn next_choice(status: &Status) -> Option<Choice>
-    requires { IsNextAhead (situation_of status.now) }
-    ensures { result ≡ choice (situation_of status.now) }
+    requires { IsNextAhead (situation_shown status.now) }
+    ensures { result ≡ choice (situation_shown status.now) }
 {
     if let Some(device) = ready_device(&status.devices) {
         return Some(Choice::Device(device));

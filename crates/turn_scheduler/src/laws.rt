@@ -14,9 +14,9 @@ pub fn present_goes_on()
     ensures { PresentGoesOn }
 {}
 
-/// No process that is ready waits for good: in every window of `8 * slice` turns of processes in which a
-/// slot is ready throughout, that slot has a turn. The turns are those that [`crate::next_choice`] gives,
-/// one after another; whether the other slots are ready may change from each to the next.
+/// No process that is ready waits for good: in every window of as many turns as all slots have in a slice
+/// each, in which a slot is ready throughout, that slot has a turn. The turns are those that
+/// [`crate::next_choice`] gives, one after another; whether the other slots are ready may change from each to the next.
 pub fn ready_has_turn()
     ensures { ReadyHasTurn }
 {}

@@ -1,21 +1,22 @@
 //! Which process has the next turn.
 ghost use Rattle.std.specs.Prelude.{◌≡◌, ◌-◌, ◌≤◌, find};
 ghost use Rattle.std.specs.List.{range_with_len};
-ghost use Rattle.turn_scheduler.specs.RoundRobin.{is_ready, slots_after, next_slot, used_after};
+ghost use Rattle.tk_base.specs.declared.limits.TheConstants.{SLOT_COUNT};
+ghost use Rattle.turn_scheduler.specs.RoundRobin.{place_is_ready, slots_after, next_slot, used_after};
 
-use tk_base::Slot;
+use tk_base::{SLOT_COUNT, Slot};
 
 /// What a table of flags says of a place; false past its end.
 pub(crate) fn is_ready(table: &[bool], place: usize) -> bool
-    ensures { result ≡ is_ready table.now place }
+    ensures { result ≡ place_is_ready table.now place }
 {
     place < table.len() && table[place]
 }
 
 /// The first slot that is ready, from one on and below another.
 fn first_ready(ready: &[bool], from: usize, to: usize) -> Option<Slot>
-    requires { to ≤ 8 }
-    ensures { result ≡ find (is_ready ready.now) (range_with_len from (to - from)) }
+    requires { to ≤ SLOT_COUNT }
+    ensures { result ≡ find (place_is_ready ready.now) (range_with_len from (to - from)) }
 {
     for slot in from..to {
         if is_ready(ready, slot) {
@@ -28,13 +29,13 @@ fn first_ready(ready: &[bool], from: usize, to: usize) -> Option<Slot>
 /// The next ready slot after the present one in cyclic order, the present one last; with none present,
 /// the first from slot 0.
 fn next_in_order(ready: &[bool], present: Option<Slot>) -> Option<Slot>
-    ensures { result ≡ find (is_ready ready.now) (slots_after present) }
+    ensures { result ≡ find (place_is_ready ready.now) (slots_after present) }
 {
     let Some(present) = present else {
-        return first_ready(ready, 0, Slot::COUNT);
+        return first_ready(ready, 0, SLOT_COUNT);
     };
     let after = present.index() + 1;
-    match first_ready(ready, after, Slot::COUNT) {
+    match first_ready(ready, after, SLOT_COUNT) {
         Some(slot) => Some(slot),
         None => first_ready(ready, 0, after),
     }
@@ -58,9 +59,11 @@ pub fn next_slot(ready: &[bool], present: Option<Slot>, used: u32, slice: u32) -
 }
 
 /// How many turns of its slice a slot has used after one more turn, after which it is the present one:
-/// one more, if it was the present one and its slice was not used up; else 1.
+/// one more, if it was the present one and its slice was not used up; else 1. So it has used no more than its slice,
+/// where that has a turn and no more were used before.
 pub fn used_after(present: Option<Slot>, used: u32, slice: u32, slot: Slot) -> u32
-    ensures { result ≡ used_after present used slice slot }
+    ensures value { result ≡ used_after present used slice slot }
+    ensures within { 1 ≤ slice → used ≤ slice → result ≤ slice }
 {
     match present {
         Some(present) if present == slot && used < slice => used + 1,

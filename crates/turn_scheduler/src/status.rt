@@ -1,13 +1,13 @@
 //! What the choice of the next step rests on.
 use arrayvec::ArrayVec;
-use tk_base::Slot;
+use tk_base::{SLOT_COUNT, Slot};
 
 /// What the round robin reads of a board. Contracts speak of it as a situation, with lists for the tables
 /// and a number for the slot.
 #[derive(Drop)]
 pub struct Status {
     /// Whether the process in each slot can have a turn, slot 0 first. A slot past its end cannot.
-    pub ready: ArrayVec<bool, 8>,
+    pub ready: ArrayVec<bool, SLOT_COUNT>,
     /// Whether each device step is ready, in the order of `Dev`'s variants. One past its end is not.
     pub devices: ArrayVec<bool, 6>,
     /// The nearest time, in ticks, at which a device step becomes ready that is not ready now.

@@ -2,13 +2,11 @@
 #![tactic(auto)]
 
 ghost use Rattle.std.specs.Prelude.{◌≡◌, ◌≤◌, ◌==◌, [], length, drop, slice_get};
+ghost use Rattle.tk_base.specs.declared.limits.TheConstants.{PENDING_LIMIT};
 
 use arrayvec::ArrayVec;
 use std::marker::Model;
-use tk_base::Upcall;
-
-/// How many upcalls of a process may be pending.
-pub const PENDING_LIMIT: usize = 10;
+use tk_base::{PENDING_LIMIT, Upcall};
 
 /// The pending upcalls of one process, the first one first (TRD 104, "Yield"): never more than
 /// [`PENDING_LIMIT`]. Contracts see the list.
@@ -27,7 +25,7 @@ impl Model for Queue {
 }
 
 impl Queue {
-    ghost use Rattle.upcall_queue.specs.Pending.{has_room, scheduled, without};
+    ghost use Rattle.upcall_queue.specs.Pending.{has_room, scheduled, without_key};
 
     /// The queue of a process for which no upcall is pending.
     pub fn new() -> Queue
@@ -62,7 +60,7 @@ impl Queue {
     /// Drops the upcalls of a driver and number, as a successful subscribe does (TRD 104,
     /// "Subscribe"). The others stay in their order.
     pub fn drop_of(&mut self, driver: u32, number: u32)
-        ensures { self.new ≡ without driver number self.old }
+        ensures { self.new ≡ without_key driver number self.old }
     {
         self.pending.retain(|upcall| !(upcall.driver == driver && upcall.number == number));
     }

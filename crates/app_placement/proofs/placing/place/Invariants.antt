@@ -13,5 +13,6 @@ invariant-loop-object l = record {
   few : array_vec_len l.placed ≤ l.object-index;
   each : All (LiesInFlash l.flash) l.placed.items;
   laid_out : All (IsLaidOut l.flash) l.placed.items;
-  left : l.placed.items ++ places_from l.ram l.filled (filter_map (application_of l.flash) (drop l.object-index l.found)) ≡ placements l.ram (applications l.flash);
+  left : l.placed.items ++ places_from l.ram l.filled
+      (filter_map (application_of l.flash) (drop l.object-index l.found)) ≡ placements l.ram (applications l.flash);
 }

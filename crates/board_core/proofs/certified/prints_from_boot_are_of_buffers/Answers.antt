@@ -5,4 +5,7 @@ pub returns-clause-prints : goal.returns-clause-prints
 returns-clause-prints c = λ script flash choices choice. c.prints_are_of_buffers.ensures.prints _ choices choice
 
 pub returns-clause-loads : goal.returns-clause-loads
-returns-clause-loads c = λ script flash choices choice. c.prints_are_of_buffers.ensures.loads _ choices choice (opens_whole c.only_handing_changes_pairs.ensures script flash)
+returns-clause-loads c =
+    λ script flash choices choice.
+    c.prints_are_of_buffers.ensures.loads _ choices choice
+    (opens_whole c.only_handing_changes_pairs.ensures script flash)

@@ -6,4 +6,5 @@ use Rattle.board_core.proofs.certified.restarts_from_boot_are_as_opened.Goals as
 
 pub returns : goal.returns
 returns c = λ script flash choices choice slot first before now is there later more.
-    c.restarts_are_as_opened.ensures _ choices choice slot first before now is (subst (λ (o : Option Record). IfSome o IsAtFirst) is (opens_at_first script flash slot)) there later more
+    c.restarts_are_as_opened.ensures _ choices choice slot first before now is
+    (subst (λ (o : Option Record). IfSome o IsAtFirst) is (opens_at_first script flash slot)) there later more

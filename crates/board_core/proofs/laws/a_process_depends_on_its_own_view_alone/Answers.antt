@@ -8,4 +8,6 @@ pub returns-clause-same : goal.returns-clause-same
 returns-clause-same c = same_view_same_record c.a_record_is_the_replay_of_its_events.ensures.same
 
 pub returns-clause-runs : goal.returns-clause-runs
-returns-clause-runs c = runs_are_alone c.a_record_is_the_replay_of_its_events.ensures.replay c.a_record_is_the_replay_of_its_events.ensures.round
+returns-clause-runs c =
+    runs_are_alone c.a_record_is_the_replay_of_its_events.ensures.replay
+    c.a_record_is_the_replay_of_its_events.ensures.round

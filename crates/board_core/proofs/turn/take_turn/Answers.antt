@@ -7,10 +7,13 @@ use Rattle.board_core.proofs.turn.take_turn.Goals as goal
 pub returns-in-Yielded-clause-turns : goal.returns-in-Yielded-clause-turns
 returns-in-Yielded-clause-turns c =
     let d = c.args.drivers.now in
-    subst (λ (s : Shown). Turns c.args.moment.now c.args.slot c.args.home.now.flash (resident c.args.home.now c.args.slot c.args.process.now) (resident c.wake.new.home c.args.slot c.wake.new.process) s d d) (sym c.requires.quiet) (c.wake.ensures.turns d)
+    subst (λ (s : Shown). Turns c.args.moment.now c.args.slot c.args.home.now.flash
+    (resident c.args.home.now c.args.slot c.args.process.now)
+    (resident c.wake.new.home c.args.slot c.wake.new.process) s d d) (sym c.requires.quiet) (c.wake.ensures.turns d)
 
 pub returns-in-Faulted-clause-turns : goal.returns-in-Faulted-clause-turns
 returns-in-Faulted-clause-turns c =
     let r = resident c.args.home.now c.args.slot c.args.process.now in
     let d = c.args.drivers.now in
-    subst (λ (s : Shown). Turns c.args.moment.now c.args.slot c.args.home.now.flash r r s d d) (sym c.requires.quiet) (rests c.args.moment.now c.args.slot c.args.home.now.flash r d c.in-Faulted.is)
+    subst (λ (s : Shown). Turns c.args.moment.now c.args.slot c.args.home.now.flash r r s d d) (sym c.requires.quiet)
+    (rests c.args.moment.now c.args.slot c.args.home.now.flash r d c.in-Faulted.is)

@@ -12,7 +12,9 @@ returns-then-has_pending-clause-turns c = λ drivers.
     let home = c.args.home.now in
     let own = own_of home c.args.slot in
     let flash = only_flash c.args.slot home c.deliver.new.home c.deliver.ensures.rest in
-    woken c.args.moment.now c.args.slot home.flash (resident home c.args.slot c.args.process.now) (resident c.deliver.new.home c.args.slot c.deliver.new.process) drivers c.requires.waits (sym c.has_pending.ensures ∙ c.if-has_pending.true)
+    woken c.args.moment.now c.args.slot home.flash (resident home c.args.slot c.args.process.now)
+    (resident c.deliver.new.home c.args.slot c.deliver.new.process) drivers c.requires.waits
+    (sym c.has_pending.ensures ∙ c.if-has_pending.true)
     (λ storage.
     ap (λ (f : List ℕ). record_in f c.deliver.new.process (own_of c.deliver.new.home c.args.slot) storage) (sym flash)
     ∙ c.deliver.ensures.delivers storage
@@ -21,4 +23,5 @@ returns-then-has_pending-clause-turns c = λ drivers.
 pub returns-else-has_pending-clause-turns : goal.returns-else-has_pending-clause-turns
 returns-else-has_pending-clause-turns c = λ drivers.
     let home = c.args.home.now in
-    waits_on c.args.moment.now c.args.slot home.flash (resident home c.args.slot c.args.process.now) drivers c.requires.waits (sym c.has_pending.ensures ∙ c.if-has_pending.false)
+    waits_on c.args.moment.now c.args.slot home.flash (resident home c.args.slot c.args.process.now) drivers
+    c.requires.waits (sym c.has_pending.ensures ∙ c.if-has_pending.false)

@@ -8,11 +8,13 @@ unfolding list_text
 returns-in_err-write_objects g c =
     let law = c.writes_compose.ensures in
     let e = c.in_err-write_objects.ensures in
-    law.writes_part _ c.from_residual.ensures.0 (law.part_of_more (count_text (length (objects c.args.flash.now))) (rw c.requires.found at e))
+    law.writes_part _ c.from_residual.ensures.0 (law.part_of_more (count_text (length (objects c.args.flash.now)))
+    (rw c.requires.found at e))
 
 pub returns : goal.returns
 unfolding list_text
 returns g c =
     let law = c.writes_compose.ensures in
     let lines = c.in_ok-write_objects.ensures in
-    law.all_then_writes _ (count_text (length (objects c.args.flash.now))) _ (rw c.requires.found at lines) (rw c.requires.found at c.write_count.ensures)
+    law.all_then_writes _ (count_text (length (objects c.args.flash.now))) _ (rw c.requires.found at lines)
+    (rw c.requires.found at c.write_count.ensures)

@@ -7,7 +7,8 @@ pub returns-in_err-put_all : goal.returns-in_err-put_all
 unfolding leds_text
 returns-in_err-put_all g c =
     let law = c.writes_compose.ensures in
-    law.writes_part _ c.from_residual.ensures.0 (law.part_of_more (led_list c.args.leds c.args.count ++ newline) c.in_err-put_all.ensures)
+    law.writes_part _ c.from_residual.ensures.0 (law.part_of_more (led_list c.args.leds c.args.count ++ newline)
+    c.in_err-put_all.ensures)
 
 pub returns-in_err-write_led_list : goal.returns-in_err-write_led_list
 unfolding leds_text

@@ -8,7 +8,9 @@ unfolding call_line
 returns-in_err-write_head g c =
     let law = c.writes_compose.ensures in
     let call = c.args.call.now in
-    law.writes_part _ c.from_residual.ensures.0 (law.part_of_more (decimal call.class ++ (registers_text call.args ++ (reply_text call.reply ++ (refusal_text call.rule ++ newline)))) c.in_err-write_head.ensures)
+    law.writes_part _ c.from_residual.ensures.0 (law.part_of_more
+    (decimal call.class ++ (registers_text call.args ++ (reply_text call.reply
+    ++ (refusal_text call.rule ++ newline)))) c.in_err-write_head.ensures)
 
 pub returns-in_err-put_number : goal.returns-in_err-put_number
 unfolding call_line
@@ -18,7 +20,8 @@ returns-in_err-put_number g c =
     let head = c.in_ok-write_head.ensures in
     let e = c.in_err-put_number.ensures in
     law.writes_part _ c.from_residual-in_err-put_number.ensures.0
-    (law.all_then_part head (law.part_of_more (registers_text call.args ++ (reply_text call.reply ++ (refusal_text call.rule ++ newline))) (rw c.from.ensures at e)))
+    (law.all_then_part head (law.part_of_more (registers_text call.args
+    ++ (reply_text call.reply ++ (refusal_text call.rule ++ newline))) (rw c.from.ensures at e)))
 
 pub returns-in_err-write_registers : goal.returns-in_err-write_registers
 unfolding call_line
@@ -28,7 +31,9 @@ returns-in_err-write_registers g c =
     let head = c.in_ok-write_head.ensures in
     let class = c.in_ok-put_number.ensures in
     law.writes_part _ c.from_residual-in_err-write_registers.ensures.0
-    (law.all_then_part head (law.all_then_part (rw c.from.ensures at class) (law.part_of_more (reply_text call.reply ++ (refusal_text call.rule ++ newline)) c.in_err-write_registers.ensures)))
+    (law.all_then_part head (law.all_then_part (rw c.from.ensures at class)
+    (law.part_of_more (reply_text call.reply ++ (refusal_text call.rule ++ newline))
+    c.in_err-write_registers.ensures)))
 
 pub returns-in_err-write_reply : goal.returns-in_err-write_reply
 unfolding call_line
@@ -39,7 +44,9 @@ returns-in_err-write_reply g c =
     let class = c.in_ok-put_number.ensures in
     let arguments = c.in_ok-write_registers.ensures in
     law.writes_part _ c.from_residual-in_err-write_reply.ensures.0
-    (law.all_then_part head (law.all_then_part (rw c.from.ensures at class) (law.all_then_part arguments (law.part_of_more (refusal_text call.rule ++ newline) c.in_err-write_reply.ensures))))
+    (law.all_then_part head (law.all_then_part (rw c.from.ensures at class)
+    (law.all_then_part arguments (law.part_of_more (refusal_text call.rule ++ newline)
+    c.in_err-write_reply.ensures))))
 
 pub returns : goal.returns
 unfolding call_line
@@ -50,7 +57,9 @@ returns g c =
     let class = c.in_ok-put_number.ensures in
     let arguments = c.in_ok-write_registers.ensures in
     let reply = c.in_ok-write_reply.ensures in
-    law.all_then_writes _ (decimal call.class ++ (registers_text call.args ++ (reply_text call.reply ++ (refusal_text call.rule ++ newline)))) _ head
-    (law.all_then_writes _ (registers_text call.args ++ (reply_text call.reply ++ (refusal_text call.rule ++ newline))) _ (rw c.from.ensures at class)
+    law.all_then_writes _ (decimal call.class ++ (registers_text call.args
+    ++ (reply_text call.reply ++ (refusal_text call.rule ++ newline)))) _ head
+    (law.all_then_writes _ (registers_text call.args ++ (reply_text call.reply ++ (refusal_text call.rule ++ newline)))
+    _ (rw c.from.ensures at class)
     (law.all_then_writes _ (reply_text call.reply ++ (refusal_text call.rule ++ newline)) _ arguments
     (law.all_then_writes _ (refusal_text call.rule ++ newline) _ reply c.write_refusal.ensures)))

@@ -8,13 +8,15 @@ pub returns-in_err-write_head : goal.returns-in_err-write_head
 unfolding denial_line
 returns-in_err-write_head g c =
     let law = c.writes_compose.ensures in
-    law.writes_part _ c.from_residual.ensures.0 (law.part_of_more (denial_text (Some c.args.denial) ++ newline) c.in_err-write_head.ensures)
+    law.writes_part _ c.from_residual.ensures.0 (law.part_of_more (denial_text (Some c.args.denial) ++ newline)
+    c.in_err-write_head.ensures)
 
 pub returns-in_err-write_denial : goal.returns-in_err-write_denial
 unfolding denial_line
 returns-in_err-write_denial g c =
     let law = c.writes_compose.ensures in
-    law.writes_part _ c.from_residual-in_err-write_denial.ensures.0 (law.all_then_part c.in_ok-write_head.ensures (law.part_of_more newline c.in_err-write_denial.ensures))
+    law.writes_part _ c.from_residual-in_err-write_denial.ensures.0
+    (law.all_then_part c.in_ok-write_head.ensures (law.part_of_more newline c.in_err-write_denial.ensures))
 
 pub returns : goal.returns
 unfolding denial_line

@@ -7,13 +7,15 @@ pub returns-in_err-write_head : goal.returns-in_err-write_head
 unfolding out_line
 returns-in_err-write_head g c =
     let law = c.writes_compose.ensures in
-    law.writes_part _ c.from_residual.ensures.0 (law.part_of_more (bytes_text c.args.bytes.now ++ newline) c.in_err-write_head.ensures)
+    law.writes_part _ c.from_residual.ensures.0 (law.part_of_more (bytes_text c.args.bytes.now ++ newline)
+    c.in_err-write_head.ensures)
 
 pub returns-in_err-write_bytes : goal.returns-in_err-write_bytes
 unfolding out_line
 returns-in_err-write_bytes g c =
     let law = c.writes_compose.ensures in
-    law.writes_part _ c.from_residual-in_err-write_bytes.ensures.0 (law.all_then_part c.in_ok-write_head.ensures (law.part_of_more newline c.in_err-write_bytes.ensures))
+    law.writes_part _ c.from_residual-in_err-write_bytes.ensures.0
+    (law.all_then_part c.in_ok-write_head.ensures (law.part_of_more newline c.in_err-write_bytes.ensures))
 
 pub returns : goal.returns
 unfolding out_line

@@ -5,4 +5,5 @@ use Rattle.board_report.proofs.trace.write_registers.Given as goal
 
 -- the registers so far were written
 abbrev pub invariant-loop-register : goal.invariant-loop-register
-invariant-loop-register g l = WroteAll g.K.Sink.tells l.initial.out l.out (registers_text (take l.register-index l.registers))
+invariant-loop-register g l = WroteAll g.K.Sink.tells l.initial.out l.out
+    (registers_text (take l.register-index l.registers))

@@ -1,8 +1,9 @@
 use Rattle.std.proofs.Common.{ℕ, ◌≤◌, min, List, length, take, ap, arith, ◌∙◌}
 use Rattle.std.proofs.lemmas.List.{length-take}
-use Rattle.grant_areas.specs.declared.kinds.PairKind.TheVariants.{ReadWrite}
-use Rattle.process_own.specs.Handed.{held}
-use Rattle.process_own.specs.Served.{over, ram_at, with_written}
+use Rattle.grant_model.specs.declared.kinds.PairKind.TheVariants.{ReadWrite}
+use Rattle.process_model.specs.Handed.{held}
+use Rattle.process_model.specs.Served.{ram_at, with_written}
+use Rattle.tk_base.specs.Bytes.{over}
 use Rattle.grant_enter.specs.Seen.{own_entered}
 use Rattle.console_capsule.proofs.reads.fill_buffer.Goals as goal
 
@@ -19,7 +20,9 @@ returns-clause-own c =
     let room = ram_at own buffer in
     let bytes = c.read_write.ensures.bytes in
     (c.a_buffer_is_written.ensures e 1 c.fill.new.buffer c.requires.lent (c.fill.ensures.long ∙ ap length bytes)).own
-    ∙ (ap (λ xs. with_written e.driver 1 0 xs own) (c.fill.ensures.buffer ∙ ap (λ xs. over xs 0 (take (min most (length xs)) ring)) bytes)
+    ∙ (ap (λ xs. with_written e.driver 1 0 xs own)
+    (c.fill.ensures.buffer ∙ ap (λ xs. over xs 0 (take (min most (length xs)) ring)) bytes)
     ∙ (c.buffers_are_whole.ensures.front own buffer (take (min most (length room)) ring) (fits most room ring)
-    ∙ (ap (λ n. with_written e.driver 1 0 (take (min most n) ring) own) (c.buffers_are_whole.ensures.read_write e 1 c.requires.lent)
+    ∙ (ap (λ n. with_written e.driver 1 0 (take (min most n) ring) own)
+    (c.buffers_are_whole.ensures.read_write e 1 c.requires.lent)
     ∙ ap (λ d. with_written d 1 0 (take (min most (held ReadWrite d 1 own).1) ring) own) c.requires.driver)))

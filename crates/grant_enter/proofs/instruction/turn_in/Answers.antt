@@ -1,6 +1,6 @@
 use Rattle.std.proofs.Common.{List, ℕ, ap, ◌∙◌}
-use Rattle.pmp_regions.specs.Check.{denied_by}
-use Rattle.board_memory.specs.Bytes.{byte_at}
+use Rattle.pmp_regions.specs.Check.{denied_by_registers}
+use Rattle.board_memory.specs.Bytes.{memory_byte_at}
 use Rattle.grant_enter.specs.Reach.{turn_under}
 use Rattle.grant_enter.proofs.Left.{follows}
 use Rattle.grant_enter.proofs.instruction.turn_in.Goals as goal
@@ -12,8 +12,10 @@ returns-clause-memory c =
     let regs = c.args.regs.now in
     let left = c.turns_in.new.memory.ram in
     let e = c.turns_in.ensures in
-    let one = c.one_is_the_turn.ensures (denied_by pmp) c.turns_in.result.went c.turns_in.result.end regs c.turns_in.new.regs (byte_at m.flash m.ram) (byte_at m.flash left) e.most e.goes e.stops in
+    let one = c.one_is_the_turn.ensures (denied_by_registers pmp) c.turns_in.result.went c.turns_in.result.end regs
+    c.turns_in.new.regs (memory_byte_at m.flash m.ram) (memory_byte_at m.flash left) e.most e.goes e.stops in
     e.rest
     ∙ ap (λ (ram : List ℕ). record m { ram = ram })
-    (follows m.flash m.flash m.ram left pmp (turn_under pmp m.flash m.ram regs).write c.a_store_in_ram_is_put.ensures c.bytes_tell_the_ram.ensures c.requires e.long
-    (c.writes_are_permitted.ensures (denied_by pmp) (byte_at m.flash m.ram) regs) one.1)
+    (follows m.flash m.flash m.ram left pmp (turn_under pmp m.flash m.ram regs).write c.a_store_in_ram_is_put.ensures
+    c.bytes_tell_the_ram.ensures c.requires e.long
+    (c.writes_are_permitted.ensures (denied_by_registers pmp) (memory_byte_at m.flash m.ram) regs) one.1)

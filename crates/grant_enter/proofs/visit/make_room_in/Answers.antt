@@ -1,19 +1,26 @@
 use Rattle.std.proofs.Common.{◌≡◌, ℕ, List, ap, ◌∙◌, rules}
-use Rattle.grant_areas.specs.Grants.{grant_of}
-use Rattle.grant_areas.specs.Laid.{read_back}
+use Rattle.grant_model.specs.Grants.{grant_of}
+use Rattle.grant_model.specs.Encoding.{decode_grants}
 use Rattle.grant_region.specs.Region.{fits}
 use Rattle.grant_enter.proofs.Blocks.{lent_kernel, lent_parts}
 use Rattle.grant_enter.proofs.Entering.{makes_room, on_both}
 use Rattle.grant_enter.proofs.visit.make_room_in.Goals as goal
 
 pub make_room-made-requires-clause-parts : goal.make_room-made-requires-clause-parts
-make_room-made-requires-clause-parts c = lent_parts c.args.memory.now c.args.layout.now c.requires.block.settled c.of-app.result.app.now c.of-app.result.kernel.now (search rules) (search rules) c.requires.block.kept
+make_room-made-requires-clause-parts c =
+    lent_parts c.args.memory.now c.args.layout.now c.requires.block.settled c.of-app.result.app.now
+    c.of-app.result.kernel.now (search rules) (search rules) c.requires.block.kept
 
 pub returns-clause-room : goal.returns-clause-room
 returns-clause-room c =
     let kernel : c.of-app.result.kernel.now ≡ _ = search rules in
-    c.make_room-made.ensures.room ∙ ap (λ (xs : List ℕ). fits c.args.layout.now c.args.driver (grant_of c.args.driver (read_back xs))) (kernel ∙ lent_kernel c.args.memory.now c.args.layout.now c.requires.block.settled)
+    c.make_room-made.ensures.room
+    ∙ ap (λ (xs : List ℕ). fits c.args.layout.now c.args.driver (grant_of c.args.driver (decode_grants xs)))
+    (kernel ∙ lent_kernel c.args.memory.now c.args.layout.now c.requires.block.settled)
 
 pub returns-clause-made : goal.returns-clause-made
 returns-clause-made c =
-    on_both c.make_room-made.result (makes_room c.args.memory.now c.args.layout.now c.requires.block.settled c.args.driver c.make_room-made.new.layout c.of-app.result.app.now c.make_room-made.new.app c.of-app.result.kernel.now (search rules) (search rules) c.in_order.ensures) c.make_room-made.ensures.layout c.make_room-made.ensures.made
+    on_both c.make_room-made.result (makes_room c.args.memory.now c.args.layout.now c.requires.block.settled
+    c.args.driver c.make_room-made.new.layout c.of-app.result.app.now c.make_room-made.new.app
+    c.of-app.result.kernel.now (search rules) (search rules) c.in_order.ensures) c.make_room-made.ensures.layout
+    c.make_room-made.ensures.made

@@ -1,7 +1,7 @@
 use Rattle.std.proofs.Common.{◌≡◌, ℕ, ◌/◌, List, length, take, drop, sym, ap, subst, ◌∙◌, arith}
 use Rattle.grant_values.specs.Words.{words_of}
-use Rattle.grant_areas.specs.Grants.{shape_of}
-use Rattle.grant_areas.specs.Laws.{IsValue, value_bytes}
+use Rattle.grant_model.specs.Grants.{shape_of}
+use Rattle.grant_model.specs.Laws.{IsValue, value_bytes}
 use Rattle.board_memory.specs.Memory.{MemoryBytes}
 use Rattle.grant_enter.specs.Seats.{Reseats, kernel_in, own_in}
 use Rattle.grant_enter.specs.Seen.{IsLentTo}
@@ -9,44 +9,72 @@ use Rattle.grant_enter.specs.Visits.{Visited}
 use Rattle.grant_enter.proofs.Keeping.{asks_by, count_of, size_of, value_again, visited_by, visit_reseats}
 use Rattle.grant_enter.proofs.visit.visit_at.Goals as goal
 use Rattle.grant_enter.proofs.visit.visit_at.Given.{Over}
-use Rattle.grant_enter.proofs.visit.visit_at.Goals.{After-kernel_of, After-kernel_of-2, After-value_at-value, After-keep_value}
+use Rattle.grant_enter.proofs.visit.visit_at.Goals.{After-kernel_of, After-kernel_of-2, After-value_at-value}
+use Rattle.grant_enter.proofs.visit.visit_at.Goals.{After-keep_value}
 
 pub value_at-value-requires : goal.value_at-value-requires
 value_at-value-requires g c =
-    let size = size_of c.args.driver g.T.GrantValue.SIZE g.T.GrantValue.count c.args.counts c.requires.counted g.met.T.GrantValue.whole in
-    omega (arith, c.in_ok-at.ensures.found.within, size, ap length (c.kernel_of-2.ensures.bytes ∙ sym c.kernel_of.ensures.bytes))
+    let size = size_of c.args.driver g.T.GrantValue.SIZE g.T.GrantValue.count c.args.counts c.requires.counted
+    g.met.T.GrantValue.whole in
+    omega (
+      arith,
+      c.in_ok-at.ensures.found.within,
+      size,
+      ap length (c.kernel_of-2.ensures.bytes ∙ sym c.kernel_of.ensures.bytes),
+    )
 
 lent : (g : Over) (c : After-kernel_of-2 g) → IsLentTo c.args.driver c.args.counts c.args.memory.now c.args.seat.now
 lent g c = record { sits = c.requires.sits; counts_are = c.requires.counted.counts_are }
 
-stands : (g : Over) (c : After-kernel_of-2 g) → IsValue (kernel_in c.args.memory.now.ram c.args.seat.now.layout) c.in_ok-at.at g.T.GrantValue.SIZE c.args.driver
+stands : (g : Over) (c : After-kernel_of-2 g)
+    → IsValue (kernel_in c.args.memory.now.ram c.args.seat.now.layout) c.in_ok-at.at g.T.GrantValue.SIZE c.args.driver
 stands g c =
-    subst (λ (n : ℕ). IsValue (kernel_in c.args.memory.now.ram c.args.seat.now.layout) c.in_ok-at.at n c.args.driver) (size_of c.args.driver g.T.GrantValue.SIZE g.T.GrantValue.count c.args.counts c.requires.counted g.met.T.GrantValue.whole)
-    (subst (λ (xs : List ℕ). IsValue xs c.in_ok-at.at (value_bytes c.args.driver) c.args.driver) c.kernel_of.ensures.bytes c.in_ok-at.ensures.found)
+    subst (λ (n : ℕ). IsValue (kernel_in c.args.memory.now.ram c.args.seat.now.layout) c.in_ok-at.at n c.args.driver)
+    (size_of c.args.driver g.T.GrantValue.SIZE g.T.GrantValue.count c.args.counts c.requires.counted
+    g.met.T.GrantValue.whole)
+    (subst (λ (xs : List ℕ). IsValue xs c.in_ok-at.at (value_bytes c.args.driver) c.args.driver)
+    c.kernel_of.ensures.bytes c.in_ok-at.ensures.found)
 
-is : (g : Over) (c : After-value_at-value g) → c.value_at-value.result ≡ g.T.GrantValue.value (words_of (take g.T.GrantValue.SIZE (drop c.in_ok-at.at (kernel_in c.args.memory.now.ram c.args.seat.now.layout))))
-is g c = c.value_at-value.ensures ∙ ap (λ (xs : List ℕ). g.T.GrantValue.value (words_of (take g.T.GrantValue.SIZE (drop c.in_ok-at.at xs)))) c.kernel_of-2.ensures.bytes
+is : (g : Over) (c : After-value_at-value g)
+    → c.value_at-value.result
+    ≡ g.T.GrantValue.value (words_of (take g.T.GrantValue.SIZE
+    (drop c.in_ok-at.at (kernel_in c.args.memory.now.ram c.args.seat.now.layout))))
+is g c = c.value_at-value.ensures ∙ ap (λ (xs : List ℕ). g.T.GrantValue.value
+    (words_of (take g.T.GrantValue.SIZE (drop c.in_ok-at.at xs)))) c.kernel_of-2.ensures.bytes
 
 pub run_visit-answer-requires-clause-asks : goal.run_visit-answer-requires-clause-asks
 run_visit-answer-requires-clause-asks g c =
     let at = goal.at.run_visit-answer-requires-clause-asks g c in
-    asks_by (g.V.Visit.leaves c.args.visitor) g.T.GrantValue.value g.T.GrantValue.words c.args.driver c.args.counts c.args.memory.now c.args.seat.now (lent g at.After-kernel_of-2) c.in_ok-at.at g.T.GrantValue.SIZE (stands g at.After-kernel_of-2) c.value_at-value.result (is g at.After-value_at-value) (g.V.Visit.asks c.args.visitor) c.requires.asks
+    asks_by (g.V.Visit.leaves c.args.visitor) g.T.GrantValue.value g.T.GrantValue.words c.args.driver c.args.counts
+    c.args.memory.now c.args.seat.now (lent g at.After-kernel_of-2) c.in_ok-at.at g.T.GrantValue.SIZE
+    (stands g at.After-kernel_of-2) c.value_at-value.result (is g at.After-value_at-value)
+    (g.V.Visit.asks c.args.visitor) c.requires.asks
 
 pub keep_value-requires-clause-within : goal.keep_value-requires-clause-within
 keep_value-requires-clause-within g c =
     let at = goal.at.keep_value-requires-clause-within g c in
-    (value_again c.args.driver c.args.counts c.args.memory.now c.args.seat.now (lent g at.After-kernel_of-2) c.in_ok-at.at g.T.GrantValue.SIZE (stands g at.After-kernel_of-2) c.run_visit-answer.new.memory c.run_visit-answer.new.seat c.run_visit-answer.ensures.serves).within
+    (value_again c.args.driver c.args.counts c.args.memory.now c.args.seat.now (lent g at.After-kernel_of-2)
+    c.in_ok-at.at g.T.GrantValue.SIZE (stands g at.After-kernel_of-2) c.run_visit-answer.new.memory
+    c.run_visit-answer.new.seat c.run_visit-answer.ensures.serves).within
 
-many : (g : Over) (c : After-keep_value g) → length (g.T.GrantValue.words c.run_visit-answer.new.value) ≡ (shape_of c.args.driver).value / 4
-many g c = c.keep_value.ensures.size ∙ count_of c.args.driver g.T.GrantValue.SIZE g.T.GrantValue.count c.args.counts c.requires.counted g.met.T.GrantValue.whole
+many : (g : Over) (c : After-keep_value g)
+    → length (g.T.GrantValue.words c.run_visit-answer.new.value) ≡ (shape_of c.args.driver).value / 4
+many g c = c.keep_value.ensures.size
+    ∙ count_of c.args.driver g.T.GrantValue.SIZE g.T.GrantValue.count c.args.counts c.requires.counted
+    g.met.T.GrantValue.whole
 
 pub returns-clause-visited : goal.returns-clause-visited
 returns-clause-visited g c =
     let at = goal.at.returns-clause-visited g c in
     let r = c.run_visit-answer in
     let k = c.keep_value.ensures in
-    subst (λ (x : MemoryBytes). Visited (g.V.Visit.leaves c.args.visitor) g.T.GrantValue.value g.T.GrantValue.words c.args.driver c.args.counts c.args.memory.now.flash (own_in c.args.memory.now.ram c.args.seat.now) r.result (own_in x.ram r.new.seat)) (sym k.kept)
-    (visited_by (g.V.Visit.leaves c.args.visitor) g.T.GrantValue.value g.T.GrantValue.words c.args.driver c.args.counts c.args.memory.now c.args.seat.now (lent g at.After-kernel_of-2) c.in_ok-at.at g.T.GrantValue.SIZE (stands g at.After-kernel_of-2) c.value_at-value.result (is g at.After-value_at-value) r.new.memory r.new.seat r.ensures.serves r.new.value (many g at.After-keep_value) k.fits k.long r.result r.ensures.left k.back)
+    subst (λ (x : MemoryBytes). Visited (g.V.Visit.leaves c.args.visitor) g.T.GrantValue.value g.T.GrantValue.words
+    c.args.driver c.args.counts c.args.memory.now.flash (own_in c.args.memory.now.ram c.args.seat.now) r.result
+    (own_in x.ram r.new.seat)) (sym k.kept)
+    (visited_by (g.V.Visit.leaves c.args.visitor) g.T.GrantValue.value g.T.GrantValue.words c.args.driver c.args.counts
+    c.args.memory.now c.args.seat.now (lent g at.After-kernel_of-2) c.in_ok-at.at g.T.GrantValue.SIZE
+    (stands g at.After-kernel_of-2) c.value_at-value.result (is g at.After-value_at-value) r.new.memory r.new.seat
+    r.ensures.serves r.new.value (many g at.After-keep_value) k.fits k.long r.result r.ensures.left k.back)
 
 pub returns-clause-reseats : goal.returns-clause-reseats
 returns-clause-reseats g c =
@@ -54,4 +82,7 @@ returns-clause-reseats g c =
     let r = c.run_visit-answer in
     let k = c.keep_value.ensures in
     subst (λ (x : MemoryBytes). Reseats c.args.memory.now c.args.seat.now x r.new.seat) (sym k.kept)
-    (visit_reseats (g.V.Visit.leaves c.args.visitor) g.T.GrantValue.value g.T.GrantValue.words c.args.driver c.args.counts c.args.memory.now c.args.seat.now (lent g at.After-kernel_of-2) c.in_ok-at.at g.T.GrantValue.SIZE (stands g at.After-kernel_of-2) c.value_at-value.result (is g at.After-value_at-value) r.new.memory r.new.seat r.ensures.serves r.new.value (many g at.After-keep_value) k.fits k.long)
+    (visit_reseats (g.V.Visit.leaves c.args.visitor) g.T.GrantValue.value g.T.GrantValue.words c.args.driver
+    c.args.counts c.args.memory.now c.args.seat.now (lent g at.After-kernel_of-2) c.in_ok-at.at g.T.GrantValue.SIZE
+    (stands g at.After-kernel_of-2) c.value_at-value.result (is g at.After-value_at-value) r.new.memory r.new.seat
+    r.ensures.serves r.new.value (many g at.After-keep_value) k.fits k.long)

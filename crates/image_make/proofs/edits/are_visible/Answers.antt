@@ -6,4 +6,5 @@ use Rattle.image_make.proofs.edits.are_visible.Goals as goal
 
 pub returns : goal.returns
 returns c =
-    all_from_yields_List is_visible _ _ _ c.all.ensures.ran (YieldsList-from_slice c.args.bytes.now cc) (λ x b q k. search (rules, tests))
+    all_from_yields_List is_visible _ _ _ c.all.ensures.ran (YieldsList-from_slice c.args.bytes.now cc)
+    (λ x b q k. search (rules, tests))

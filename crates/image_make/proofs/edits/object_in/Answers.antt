@@ -6,5 +6,6 @@ use Rattle.image_make.proofs.edits.object_in.Goals as goal
 
 pub returns : goal.returns
 returns c =
-    let first = find_from_yields_List (λ (f : Found). f.offset == c.args.offset) _ _ c.find.result c.find.ensures.ran (YieldsList-from_slice c.args.found.now cc) (λ x b q k. search (rules, tests)) in
+    let first = find_from_yields_List (λ (f : Found). f.offset == c.args.offset) _ _ c.find.result c.find.ensures.ran
+    (YieldsList-from_slice c.args.found.now cc) (λ x b q k. search (rules, tests)) in
     c.copied.ensures ∙ first

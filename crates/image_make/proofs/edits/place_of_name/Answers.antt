@@ -12,4 +12,5 @@ returns-clause-fits c =
     name_fits c.args.object.now c.args.name.now c.in_ok-at.at (meaning_of c.args.object.now) c.requires.read
     (ap (λ (n : ℕ). first_of 3 (take n c.args.object.now)) (sym size) ∙ sym c.first_tlv.ensures.place ∙ c.in_ok-at.was)
     (sym c.rounded.ensures ∙ c.if-rounded.false ∙ c.rounded-2.ensures
-    ∙ ap rounded_up (c.from-length.ensures ∙ c.half_at-2.ensures ∙ ap (λ (n : ℕ). half (take n c.args.object.now) (c.in_ok-at.at + 2)) size))
+    ∙ ap rounded_up (c.from-length.ensures ∙ c.half_at-2.ensures
+    ∙ ap (λ (n : ℕ). half (take n c.args.object.now) (c.in_ok-at.at + 2)) size))

@@ -9,7 +9,8 @@ pub returns : goal.returns
 unfolding renamed
 returns c =
     let start = c.args.at + 4 in
-    let size : length c.put_padded.new.part ≡ rounded_up (length c.args.name.now) = ap (λ (ys : List ℕ). length ys) c.put_padded.ensures ∙ length_padded c.args.name.now in
+    let size : length c.put_padded.new.part ≡ rounded_up (length c.args.name.now)
+    = ap (λ (ys : List ℕ). length ys) c.put_padded.ensures ∙ length_padded c.args.name.now in
     c.mend.ensures
     ∙ ap mended (
     replaced_mid c.put_number.new.bytes c.put_padded.new.part start _ (omega (arith, size, c.rounded.ensures))

@@ -3,7 +3,8 @@ use Rattle.image_make.proofs.Sizes.{length-soak_flash, length-soak_script}
 use Rattle.image_make.proofs.image.image_of.Goals as goal
 
 pub returns-in-Ok-clause-flash_size : goal.returns-in-Ok-clause-flash_size
-returns-in-Ok-clause-flash_size c = ap (λ (bytes : List ℕ). length bytes) c.in-Ok.ensures.flash ∙ length-soak_flash c.args.number
+returns-in-Ok-clause-flash_size c = ap (λ (bytes : List ℕ). length bytes) c.in-Ok.ensures.flash
+    ∙ length-soak_flash c.args.number
 
 pub returns-in-Ok-clause-script_size : goal.returns-in-Ok-clause-script_size
 returns-in-Ok-clause-script_size c =

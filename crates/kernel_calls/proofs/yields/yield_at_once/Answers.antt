@@ -1,23 +1,29 @@
-use Rattle.std.proofs.Common.{[], sym, ap, ◌∙◌, rules}
+use Rattle.std.proofs.Common.{[], arith, sym, ap, ◌∙◌, rules}
 use Rattle.kernel_model.specs.Record.{Record}
 use Rattle.process_record.specs.declared.outcome.Outcome.TheVariants.{Delivered, GoesOn}
-use Rattle.kernel_calls.specs.Outcomes.{record_at}
+use Rattle.kernel_calls.specs.Outcomes.{record_of_slot}
 use Rattle.kernel_calls.proofs.AtOnce.{changes_twice, now_none, now_some, stays_after}
 use Rattle.kernel_calls.proofs.yields.yield_at_once.Goals as goal
 
 pub returns-then-not-has_pending-clause-serves : goal.returns-then-not-has_pending-clause-serves
 returns-then-not-has_pending-clause-serves c = λ storage.
-    now_none (record_at c.args.home.now c.args.slot c.args.process.now storage) c.args.at _ (search rules)
+    now_none (record_of_slot c.args.home.now c.args.slot c.args.process.now storage) c.args.at _ (search rules)
     ∙ ap (λ (x : Record). record { after = x; outcome = GoesOn; acts = [] }) (sym (c.flag.ensures.flags storage))
 
 pub returns-clause-serves : goal.returns-clause-serves
 returns-clause-serves c = λ storage.
-    now_some (record_at c.args.home.now c.args.slot c.args.process.now storage) (record_at c.flag-2.new.home c.args.slot c.flag-2.new.process storage) c.args.at _ (search rules) (c.flag-2.ensures.flags storage) c.flag-2.ensures.pending
-    ∙ ap (λ (x : Record). record { after = x; outcome = Delivered; acts = [] }) (sym (c.deliver.ensures.delivers storage))
+    now_some (record_of_slot c.args.home.now c.args.slot c.args.process.now storage)
+    (record_of_slot c.flag-2.new.home c.args.slot c.flag-2.new.process storage) c.args.at _ (search rules)
+    (c.flag-2.ensures.flags storage) c.flag-2.ensures.pending
+    ∙ ap (λ (x : Record). record { after = x; outcome = Delivered; acts = [] })
+    (sym (c.deliver.ensures.delivers storage))
 
 pub returns-clause-keeps : goal.returns-clause-keeps
 returns-clause-keeps c = record {
   own = c.deliver.ensures.own;
-  stays = stays_after c.args.process.now c.flag-2.new.process c.deliver.new.process c.flag-2.ensures.process c.deliver.ensures.stays;
-  rest = changes_twice c.args.slot c.args.home.now c.flag-2.new.home c.deliver.new.home c.flag-2.ensures.rest c.deliver.ensures.rest;
+  lives_on = omega (arith, c.flag-2.ensures.life, c.deliver.ensures.lives_on);
+  stays = stays_after c.args.process.now c.flag-2.new.process c.deliver.new.process c.flag-2.ensures.process
+      c.deliver.ensures.stays;
+  rest = changes_twice c.args.slot c.args.home.now c.flag-2.new.home c.deliver.new.home c.flag-2.ensures.rest
+      c.deliver.ensures.rest;
 }

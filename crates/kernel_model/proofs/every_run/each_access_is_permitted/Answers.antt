@@ -9,4 +9,5 @@ returns-clause-denials c = each_denial_is_due c.denials_are_due.ensures.denials 
 
 pub returns-clause-steps : goal.returns-clause-steps
 returns-clause-steps c =
-    steps_are_guarded c.accesses_are_permitted.ensures c.data_is_aligned.ensures c.denials_are_due.ensures.denials c.denials_are_due.ensures.calls
+    steps_are_guarded c.accesses_are_permitted.ensures c.data_is_aligned.ensures c.denials_are_due.ensures.denials
+    c.denials_are_due.ensures.calls

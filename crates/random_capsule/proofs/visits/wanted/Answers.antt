@@ -1,7 +1,7 @@
 use Rattle.std.proofs.Common.{length, ap, ◌∙◌}
-use Rattle.grant_areas.specs.declared.kinds.PairKind.TheVariants.{ReadWrite}
-use Rattle.process_own.specs.Handed.{held}
-use Rattle.process_own.specs.Served.{with_written}
+use Rattle.grant_model.specs.declared.kinds.PairKind.TheVariants.{ReadWrite}
+use Rattle.process_model.specs.Handed.{held}
+use Rattle.process_model.specs.Served.{with_written}
 use Rattle.grant_enter.specs.Seen.{own_entered}
 use Rattle.random_capsule.proofs.visits.wanted.Goals as goal
 
@@ -11,4 +11,5 @@ returns-clause-own c =
     let own = own_entered e in
     let bytes = c.read_write-length.ensures.bytes in
     (c.a_buffer_is_written.ensures e 0 c.read_write-length.result.now c.requires.lent (ap length bytes)).own
-    ∙ (ap (λ bs. with_written e.driver 0 0 bs own) bytes ∙ c.buffers_are_whole.ensures.same own (held ReadWrite e.driver 0 own))
+    ∙ (ap (λ bs. with_written e.driver 0 0 bs own) bytes
+    ∙ c.buffers_are_whole.ensures.same own (held ReadWrite e.driver 0 own))

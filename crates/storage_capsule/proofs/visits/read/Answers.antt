@@ -1,8 +1,9 @@
 use Rattle.std.proofs.Common.{ℕ, ◌≤◌, List, length, ap, subst, ◌∙◌}
-use Rattle.grant_areas.specs.declared.kinds.PairKind.TheVariants.{ReadWrite}
+use Rattle.grant_model.specs.declared.kinds.PairKind.TheVariants.{ReadWrite}
 use Rattle.board_devices.specs.Storage.{bytes_from}
-use Rattle.process_own.specs.Handed.{held}
-use Rattle.process_own.specs.Served.{over, with_written}
+use Rattle.process_model.specs.Handed.{held}
+use Rattle.process_model.specs.Served.{with_written}
+use Rattle.tk_base.specs.Bytes.{over}
 use Rattle.grant_enter.specs.Seen.{own_entered}
 use Rattle.storage_capsule.proofs.visits.read.Goals as goal
 
@@ -15,4 +16,5 @@ returns-clause-own c =
     let fits = subst (λ (xs : List ℕ). length bs ≤ length xs) bytes c.fill.ensures.fits in
     (c.a_buffer_is_written.ensures e 0 c.fill.new.buffer c.requires.lent (c.fill.ensures.long ∙ ap length bytes)).own
     ∙ (ap (λ xs. with_written e.driver 0 0 xs own) (c.fill.ensures.buffer ∙ ap (λ xs. over xs 0 bs) bytes)
-    ∙ (c.buffers_are_whole.ensures.front own (held ReadWrite e.driver 0 own) bs fits ∙ ap (λ d. with_written d 0 0 bs own) c.requires.driver))
+    ∙ (c.buffers_are_whole.ensures.front own (held ReadWrite e.driver 0 own) bs fits
+    ∙ ap (λ d. with_written d 0 0 bs own) c.requires.driver))

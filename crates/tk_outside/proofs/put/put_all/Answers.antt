@@ -14,7 +14,8 @@ returns-in_err-taken g c =
     writes_part _ c.from_residual.ensures.0 (sent_part _ c.loop-rest.invariant some e.bytes e.count e.failed)
 
 pub loop-rest-preserved : goal.loop-rest-preserved
-loop-rest-preserved g c = let e = c.in_ok-taken.ensures in rw c.split_at.ensures.back (sent_more _ _ c.loop-rest.invariant e.bytes e.count)
+loop-rest-preserved g c = let e = c.in_ok-taken.ensures in
+    rw c.split_at.ensures.back (sent_more _ _ c.loop-rest.invariant e.bytes e.count)
 
 pub returns : goal.returns
 returns g c =

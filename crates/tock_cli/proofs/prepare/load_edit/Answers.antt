@@ -1,7 +1,7 @@
 use Rattle.std.proofs.Common.{rules, subst, sym, ap, ◌∙◌, arith, ◌≡◌, List, ℕ, Ok, Err}
 use Rattle.tock_cli.specs.declared.refusal.Refusal.TheVariants.{Image}
 use Rattle.tock_cli.specs.declared.refusal.ImageFault.{ImageFault}
-use Rattle.tock_cli.specs.Words.{edit_of, edit_words, edits_of}
+use Rattle.tock_cli.specs.Words.{edit_given, edit_words, edits_of}
 use Rattle.tock_cli.specs.Comes.{IsTaskOf, Making, edited_by}
 use Rattle.tock_cli.specs.Causes.{CauseOf, told_by}
 use Rattle.tock_cli.proofs.Loading.{edit_no_task, edit_task, edit_unread, whole_back}
@@ -18,15 +18,19 @@ returns-in-Ok-clause-task g c =
     let bytes = (g.H.Shelf.tells c.args.shelf.now).bytes in
     let flash = c.in_ok-flash.ensures in
     let new = c.make_edit.new.flash in
-    let edited = subst (λ (xs : List ℕ). edited_by (edit_of c.args.words.edit) c.args.words.offset xs ≡ Ok new) c.deref_mut.ensures.value c.in-Ok.ensures in
+    let edited = subst (λ (xs : List ℕ). edited_by (edit_given c.args.words.edit) c.args.words.offset xs ≡ Ok new)
+    c.deref_mut.ensures.value c.in-Ok.ensures in
     subst (λ (xs : List ℕ). IsTaskOf bytes (edits_of c.args.words) (Making xs))
-    (sym (whole_back c.in_ok-flash.flash.len new c.in_ok-flash.flash.items (omega (arith, c.make_edit.auto.flash, c.deref_mut.ensures.len))))
+    (sym (whole_back c.in_ok-flash.flash.len new c.in_ok-flash.flash.items
+    (omega (arith, c.make_edit.auto.flash, c.deref_mut.ensures.len))))
     (edit_task (edit_words c.args.words) c.in_ok-flash.flash.items flash.within bytes new flash.text edited)
 
 pub returns-in-Err-clause-refused : goal.returns-in-Err-clause-refused
 returns-in-Err-clause-refused g c =
     let told = told_by g.H.Shelf.tells c.args.shelf.now c.read_file.new.shelf in
     let flash = c.in_ok-flash.ensures in
-    let edited = subst (λ (xs : List ℕ). edited_by (edit_of c.args.words.edit) c.args.words.offset xs ≡ Err c.in-Err.fault) c.deref_mut.ensures.value c.in-Err.ensures.0 in
+    let edited = subst (λ (xs : List ℕ). edited_by (edit_given c.args.words.edit) c.args.words.offset xs
+    ≡ Err c.in-Err.fault) c.deref_mut.ensures.value c.in-Err.ensures.0 in
     subst (λ (fault : ImageFault). CauseOf told (edits_of c.args.words) (Image fault)) (sym c.of_edit.ensures)
-    (edit_no_task (edit_words c.args.words) c.in_ok-flash.flash.items flash.within told c.in-Err.fault flash.text edited)
+    (edit_no_task (edit_words c.args.words) c.in_ok-flash.flash.items flash.within told c.in-Err.fault flash.text
+    edited)

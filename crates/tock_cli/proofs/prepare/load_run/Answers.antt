@@ -16,8 +16,10 @@ pub returns-in_err-script-clause-refused : goal.returns-in_err-script-clause-ref
 returns-in_err-script-clause-refused g c =
     let told = told_by g.H.Shelf.tells c.args.shelf.now c.read_file-2.new.shelf in
     let refusal = c.in_err-script.field-0.0 in
-    let unread = unread_later g.H.Shelf.tells c.args.shelf.now c.read_file.new.shelf c.read_file-2.new.shelf ScriptFile c.args.words.script.now refusal c.in_ok-flash.ensures.keeps c.in_err-script.ensures.unread in
-    let cause = run_unread (run_words c.args.words) c.in_ok-flash.flash.items c.in_ok-flash.ensures.within told refusal c.in_ok-flash.ensures.text unread in
+    let unread = unread_later g.H.Shelf.tells c.args.shelf.now c.read_file.new.shelf c.read_file-2.new.shelf ScriptFile
+    c.args.words.script.now refusal c.in_ok-flash.ensures.keeps c.in_err-script.ensures.unread in
+    let cause = run_unread (run_words c.args.words) c.in_ok-flash.flash.items c.in_ok-flash.ensures.within told refusal
+    c.in_ok-flash.ensures.text unread in
     search rules
 
 pub returns-in_err-opened-clause-refused : goal.returns-in_err-opened-clause-refused
@@ -25,14 +27,19 @@ returns-in_err-opened-clause-refused g c =
     let told = told_by g.H.Shelf.tells c.args.shelf.now c.read_file-2.new.shelf in
     let refusal = c.in_err-opened.field-0.0 in
     let flash = c.in_ok-flash.ensures in
-    let text = text_later g.H.Shelf.tells c.args.shelf.now c.read_file.new.shelf c.args.words.script.now c.in_ok-script.script.items flash.keeps c.in_ok-script.ensures.text in
+    let text = text_later g.H.Shelf.tells c.args.shelf.now c.read_file.new.shelf c.args.words.script.now
+    c.in_ok-script.script.items flash.keeps c.in_ok-script.ensures.text in
     let no_board = subst (λ s. HasNoBoard s refusal) c.deref.ensures.value c.in_err-opened.ensures.refused in
-    let cause = run_refused (run_words c.args.words) c.in_ok-flash.flash.items flash.within c.in_ok-script.script.items c.in_ok-script.ensures.within told refusal flash.text text no_board in
+    let cause = run_refused (run_words c.args.words) c.in_ok-flash.flash.items flash.within c.in_ok-script.script.items
+    c.in_ok-script.ensures.within told refusal flash.text text no_board in
     search rules
 
 pub returns-clause-task : goal.returns-clause-task
 returns-clause-task g c =
     let flash = c.in_ok-flash.ensures in
-    let text = text_later g.H.Shelf.tells c.args.shelf.now c.read_file.new.shelf c.args.words.script.now c.in_ok-script.script.items flash.keeps c.in_ok-script.ensures.text in
-    let opens = subst (λ s. Opens c.in_ok-flash.flash.items s c.in_ok-opened.field-0) c.deref.ensures.value c.in_ok-opened.ensures.opens in
-    run_task (run_words c.args.words) c.in_ok-flash.flash.items flash.within c.in_ok-script.script.items c.in_ok-script.ensures.within _ _ flash.text text opens
+    let text = text_later g.H.Shelf.tells c.args.shelf.now c.read_file.new.shelf c.args.words.script.now
+    c.in_ok-script.script.items flash.keeps c.in_ok-script.ensures.text in
+    let opens = subst (λ s. Opens c.in_ok-flash.flash.items s c.in_ok-opened.field-0) c.deref.ensures.value
+    c.in_ok-opened.ensures.opens in
+    run_task (run_words c.args.words) c.in_ok-flash.flash.items flash.within c.in_ok-script.script.items
+    c.in_ok-script.ensures.within _ _ flash.text text opens

@@ -14,6 +14,7 @@ returns-in_err-opened-clause-refused c =
 pub returns-clause-task : goal.returns-clause-task
 returns-clause-task c =
     let world = c.in_ok-opened.field-0 in
-    let script = subst (λ (s : List ℕ). Opens c.in-Ok.flash.items s world) (c.deref.ensures.value ∙ c.in-Ok.ensures.script) c.in_ok-opened.ensures.opens in
+    let script = subst (λ (s : List ℕ). Opens c.in-Ok.flash.items s world)
+    (c.deref.ensures.value ∙ c.in-Ok.ensures.script) c.in_ok-opened.ensures.opens in
     let opens = subst (λ (f : List ℕ). Opens f (soak_script c.args.number) world) c.in-Ok.ensures.flash script in
     soak_task (λ (name : List ℕ). None) c.args.number c.args.turns world opens

@@ -7,4 +7,6 @@ pub returns-clause-serves : goal.returns-clause-serves
 returns-clause-serves g c = answers _ _ _ c.act.new.last c.act.result c.answer.result c.answer.ensures c.act.ensures
 
 pub returns-clause-run : goal.returns-clause-run
-returns-clause-run g c = run_is_accounted_for c.runs_from_boot_are_accounted_for.ensures (told_by g.H.Shelf.tells c.args.shelf.now c.act.new.shelf) _
+returns-clause-run g c =
+    run_is_accounted_for c.runs_from_boot_are_accounted_for.ensures
+    (told_by g.H.Shelf.tells c.args.shelf.now c.act.new.shelf) _

@@ -1,8 +1,10 @@
 use Rattle.std.proofs.Common.{◌≡◌, ◌-◌, find}
 use Rattle.std.specs.List.{range_with_len}
-use Rattle.turn_scheduler.specs.RoundRobin.{is_ready}
+use Rattle.turn_scheduler.specs.RoundRobin.{place_is_ready}
 use Rattle.turn_scheduler.proofs.slots.first_ready.Given as goal
 
 -- what is first among the slots that are left is first among all
 abbrev pub invariant-loop-slot : goal.invariant-loop-slot
-invariant-loop-slot l = find (is_ready l.ready) (range_with_len l.slot (l.to - l.slot)) ≡ find (is_ready l.ready) (range_with_len l.from (l.to - l.from))
+invariant-loop-slot l =
+    find (place_is_ready l.ready) (range_with_len l.slot (l.to - l.slot))
+    ≡ find (place_is_ready l.ready) (range_with_len l.from (l.to - l.from))

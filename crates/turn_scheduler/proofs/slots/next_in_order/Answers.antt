@@ -1,10 +1,21 @@
-use Rattle.std.proofs.Common.{sym, ◌∙◌}
-use Rattle.turn_scheduler.specs.RoundRobin.{is_ready}
-use Rattle.turn_scheduler.proofs.Order.{slots_after-some, slots_after-none}
+use Rattle.std.proofs.Common.{◌≡◌, None, rules, sym, ◌∙◌}
+use Rattle.turn_scheduler.specs.RoundRobin.{place_is_ready}
+use Rattle.turn_scheduler.proofs.Order.{slots_after-none, slots_after-some, slots_after-start}
 use Rattle.turn_scheduler.proofs.slots.next_in_order.Goals as goal
 
 pub returns-in-Some-first_ready : goal.returns-in-Some-first_ready
-returns-in-Some-first_ready c = slots_after-some (is_ready c.args.ready.now) c.args.present c.in-Some.present c.index-after.result c.in-Some-first_ready.slot c.in-Some.is c.index-after.ensures.value (sym c.in-Some-first_ready.is ∙ c.first_ready-2.ensures)
+returns-in-Some-first_ready c =
+    slots_after-some (place_is_ready c.args.ready.now) c.args.present c.in-Some.present c.index-after.result
+    c.in-Some-first_ready.slot c.in-Some.is c.index-after.ensures.value
+    (sym c.in-Some-first_ready.is ∙ c.first_ready-2.ensures)
 
 pub returns-in-None : goal.returns-in-None
-returns-in-None c = slots_after-none (is_ready c.args.ready.now) c.args.present c.in-Some.present c.index-after.result c.first_ready-in-None.result c.in-Some.is c.index-after.ensures.value (sym c.in-None.is ∙ c.first_ready-2.ensures) c.first_ready-in-None.ensures
+returns-in-None c =
+    slots_after-none (place_is_ready c.args.ready.now) c.args.present c.in-Some.present c.index-after.result
+    c.first_ready-in-None.result c.in-Some.is c.index-after.ensures.value (sym c.in-None.is ∙ c.first_ready-2.ensures)
+    c.first_ready-in-None.ensures
+
+pub returns-in_default : goal.returns-in_default
+returns-in_default c =
+    let none : c.args.present ≡ None = search rules in
+    slots_after-start (place_is_ready c.args.ready.now) c.args.present c.first_ready.result none c.first_ready.ensures

@@ -1,43 +1,53 @@
-use Rattle.std.proofs.Common.{◌≡◌, ◌≤◌, List, [], ◌∷◌, ℕ, zero, suc, None, Some, All, ap, length, map, sym, subst, ◌∙◌, arith}
+use Rattle.std.proofs.Common.{◌≡◌, ◌≤◌, List, [], ◌∷◌, ℕ, zero, suc, None, Some, All, ap, length, map, sym, subst, ◌∙◌}
+use Rattle.std.proofs.Common.{arith}
 use Rattle.std.specs.List.{AllPairs, filter_map, count_by, zip}
 use Rattle.std.specs.Prelude.{vec_len}
 use Rattle.std.proofs.lemmas.List.{length-map}
-use Rattle.process_own.specs.declared.place.Footprint.{Footprint}
+use Rattle.tk_base.specs.declared.limits.TheConstants.{BYTE_TICKS_LIMIT, SLOT_COUNT}
+use Rattle.process_model.specs.declared.place.Footprint.{Footprint}
 use Rattle.process_layout.specs.Ordered.{IsOrdered}
-use Rattle.process_own.specs.Own.{opened}
+use Rattle.process_model.specs.Own.{opened}
 use Rattle.app_placement.specs.declared.placed.Placed.{Placed}
-use Rattle.board_devices.specs.Storage.{Storage}
+use Rattle.board_devices.specs.Storage.{StoredSlots}
 use Rattle.app_placement.specs.Placement.{is_placed, LiesInFlash}
-use Rattle.grant_enter.specs.Homes.{Homes, CanMoveIn, EndsBefore, IsSettled}
-use Rattle.script_text.specs.Settings.{Settings as Script}
+use Rattle.grant_enter.specs.Homes.{Homes, CanMoveIn, EndsBefore, FitsMemory}
+use Rattle.script_text.specs.Settings.{ScriptSettings as Script}
 use Rattle.kernel_model.specs.declared.settings.Settings.{Settings}
 use Rattle.board_core.specs.Driven.{AreDriven, AreFresh}
-use Rattle.board_core.specs.Settings.{settings}
+use Rattle.board_core.specs.Settings.{visible_settings}
 use Rattle.board_core.specs.Boot.{IsFirst, fresh_record, layout_at}
-use Rattle.board_core.specs.Opening.{opening, places, record_at, unplaced_at}
-use Rattle.board_core.specs.Residents.{HasLost, IsSeated}
+use Rattle.board_core.specs.Opening.{opening, placed_applications, record_placed, unplaced_at}
+use Rattle.board_core.specs.Residents.{HasLost, IsResident}
 use Rattle.board_core.specs.Alone.{OpensAlone}
 use Rattle.board_core.proofs.Alone.{openings_are_alone}
-use Rattle.board_core.proofs.Crews.{all_apart, all_move_in, all_ordered, all_settled, all_stand_apart, few_processes, opening_shown}
+use Rattle.board_core.proofs.Crews.{all_apart, all_move_in, all_ordered, all_settled, all_stand_apart, few_processes}
+use Rattle.board_core.proofs.Crews.{opening_shown}
 use Rattle.board_core.proofs.Fresh.{driven_first}
 use Rattle.board_core.proofs.board.Board.boot.Goals as goal
 use Rattle.board_core.proofs.board.Board.boot.Goals.{After-deref-4}
 
 -- the layouts are those of the applications that are placed
-layouts : (c : After-deref-4) → map (λ (f : Footprint). f.layout) c.deref-4.result.now ≡ filter_map layout_at c.placed_in-placed.result.items
-layouts c = ap (map (λ (f : Footprint). f.layout)) c.deref-4.ensures.value ∙ c.in_ok-processes.ensures.layouts ∙ ap (filter_map layout_at) c.deref-3.ensures.0
+layouts : (c : After-deref-4)
+    → map (λ (f : Footprint). f.layout) c.deref-4.result.now ≡ filter_map layout_at c.placed_in-placed.result.items
+layouts c = ap (map (λ (f : Footprint). f.layout)) c.deref-4.ensures.value ∙ c.in_ok-processes.ensures.layouts
+    ∙ ap (filter_map layout_at) c.deref-3.ensures.0
 
 -- each begins its first life
 first : (c : After-deref-4) → All (IsFirst (length c.args.flash.items)) c.deref-4.result.now
-first c = subst (All (IsFirst (length c.args.flash.items))) (sym c.deref-4.ensures.value) (subst (λ (f : List ℕ). All (IsFirst (length f)) c.in_ok-processes.field-0.footprints.items) c.deref-2.ensures.value c.in_ok-processes.ensures.first)
+first c = subst (All (IsFirst (length c.args.flash.items))) (sym c.deref-4.ensures.value)
+    (subst (λ (f : List ℕ). All (IsFirst (length f)) c.in_ok-processes.field-0.footprints.items) c.deref-2.ensures.value
+    c.in_ok-processes.ensures.first)
 
 -- there are no more processes than slots
-at_most_8 : (c : After-deref-4) → length c.in_ok-processes.field-0.processes.items ≤ 8
-at_most_8 c =
+no_more_than_slots : (c : After-deref-4) → length c.in_ok-processes.field-0.processes.items ≤ SLOT_COUNT
+no_more_than_slots c =
     let crew = c.in_ok-processes.ensures in
     let es = c.in_ok-processes.field-0.footprints.items in
-    let few : count_by is_placed c.deref-3.result.now ≤ 8 = subst (λ (xs : List Placed). count_by is_placed xs ≤ 8) (sym c.deref-3.ensures.0) c.placed_in-placed.ensures.few in
-    few_processes 0 c.deref-2.result.now c.deref-3.result.now c.in_ok-processes.field-0.processes.items (map opened es) (length-map es opened ∙ sym crew.count) (crew.shown 0) few
+    let few : count_by is_placed c.deref-3.result.now ≤ SLOT_COUNT =
+    subst (λ (xs : List Placed). count_by is_placed xs ≤ SLOT_COUNT) (sym c.deref-3.ensures.0)
+    c.placed_in-placed.ensures.few in
+    few_processes 0 c.deref-2.result.now c.deref-3.result.now c.in_ok-processes.field-0.processes.items (map opened es)
+    (length-map es opened ∙ sym crew.count) (crew.shown 0) few
 
 pub new-requires-clause-settled : goal.new-requires-clause-settled
 new-requires-clause-settled c =
@@ -46,16 +56,21 @@ new-requires-clause-settled c =
     let ram = c.script.inside.ram in
     let placed = c.placed_in-placed.result.items in
     let n : vec_len c.args.flash ≡ length flash = omega (arith, c.args.flash.ok.0) in
-    let in_flash : All (LiesInFlash flash) placed = subst (λ (f : List ℕ). All (LiesInFlash f) placed) c.deref.ensures.value c.placed_in-placed.ensures.flash in
-    let ordered : All IsOrdered (filter_map layout_at placed) = subst (All IsOrdered) (layouts a) (all_ordered (length flash) c.deref-4.result.now (first a)) in
+    let in_flash : All (LiesInFlash flash) placed =
+    subst (λ (f : List ℕ). All (LiesInFlash f) placed) c.deref.ensures.value c.placed_in-placed.ensures.flash in
+    let ordered : All IsOrdered (filter_map layout_at placed) =
+    subst (All IsOrdered) (layouts a) (all_ordered (length flash) c.deref-4.result.now (first a)) in
     let settled = all_settled flash ram placed (omega arith) in_flash c.placed_in-placed.ensures.ram ordered in
     subst (λ (k : ℕ). All (CanMoveIn k ram) c.deref-4.result.now) (sym n)
-    (all_move_in (length flash) ram c.deref-4.result.now (subst (All (IsSettled (length flash) ram)) (sym (layouts a)) settled) (first a))
+    (all_move_in (length flash) ram c.deref-4.result.now
+    (subst (All (FitsMemory (length flash) ram)) (sym (layouts a)) settled) (first a))
 
 pub new-requires-clause-apart : goal.new-requires-clause-apart
 new-requires-clause-apart c =
     let a = (goal.at.new-requires-clause-apart c).After-deref-4 in
-    all_stand_apart c.deref-4.result.now (subst (AllPairs EndsBefore) (sym (layouts a)) (all_apart c.placed_in-placed.result.items c.placed_in-placed.ensures.apart))
+    all_stand_apart c.deref-4.result.now
+    (subst (AllPairs EndsBefore) (sym (layouts a))
+    (all_apart c.placed_in-placed.result.items c.placed_in-placed.ensures.apart))
 
 pub invariant_of-result : goal.invariant_of-result
 invariant_of-result c =
@@ -63,24 +78,28 @@ invariant_of-result c =
     let processes = c.in_ok-processes.field-0.processes.items in
     let es = c.in_ok-processes.field-0.footprints.items in
     let home_is : c.in-Ok.home ≡ record { flash = c.deref-2.result.now; owns = map opened es }
-    = c.in-Ok.ensures ∙ ap (λ (xs : List Footprint). record { flash = c.args.flash.items; owns = map opened xs }) c.deref-4.ensures.value ∙ ap (λ (f : List ℕ). record { flash = f; owns = map opened es }) (sym c.deref-2.ensures.value) in
+    = c.in-Ok.ensures
+    ∙ ap (λ (xs : List Footprint). record { flash = c.args.flash.items; owns = map opened xs })
+    c.deref-4.ensures.value
+    ∙ ap (λ (f : List ℕ). record { flash = f; owns = map opened es }) (sym c.deref-2.ensures.value) in
     let owns : length (map opened es) ≡ length processes = length-map es opened ∙ sym crew.count in
     let drivers = c.in_ok-drivers.drivers in
-    let slow = subst (λ (s : Script). s.uart ≤ 1000) c.script.view_is c.script.invariant.uart in
+    let slow = subst (λ (s : Script). s.uart ≤ BYTE_TICKS_LIMIT) c.script.view_is c.script.invariant.uart in
     let driven : AreDriven c.settings_of.result 0 c.in-Ok.home.owns drivers =
     subst (λ (h : Homes). AreDriven c.settings_of.result 0 h.owns drivers) (sym home_is)
-    (subst (λ (s : Settings). AreDriven s 0 (map opened es) drivers) (sym c.settings_of.ensures) (driven_first c.args.script drivers es slow c.in_ok-drivers.ensures)) in
+    (subst (λ (s : Settings). AreDriven s 0 (map opened es) drivers) (sym c.settings_of.ensures)
+    (driven_first c.args.script drivers es slow c.in_ok-drivers.ensures)) in
     record {
-      seated = subst (λ (h : Homes). All (IsSeated h.flash 0) (zip processes h.owns)) (sym home_is) crew.seated;
+      seated = subst (λ (h : Homes). All (IsResident h.flash 0) (zip processes h.owns)) (sym home_is) crew.seated;
       lost = subst (λ (h : Homes). All (HasLost 0) h.owns) (sym home_is) (none_lost es);
       owns = ap (λ (h : Homes). length h.owns) home_is ∙ owns;
-      few = at_most_8 (goal.at.invariant_of-result c).After-deref-4;
+      few = no_more_than_slots (goal.at.invariant_of-result c).After-deref-4;
       guard = record { protects = λ slot is. absurd (nobody_set slot (sym c.new-3.ensures ∙ is)) };
       driven = driven;
-      served = omega (arith, ap (λ (s : Storage). s.served) c.in_ok-drivers.ensures.stores);
+      served = omega (arith, ap (λ (s : StoredSlots). s.served) c.in_ok-drivers.ensures.stores);
       steps = omega arith;
       time = omega arith;
-      calm = c.calm-calm.ensures;
+      calm = c.look_ahead-calm.ensures.calm;
       slice = c.script.invariant.slice_least;
       used = omega arith;
     }
@@ -100,18 +119,37 @@ returns-clause-world c =
     let ram = c.script.inside.ram in
     let processes = c.in_ok-processes.field-0.processes.items in
     let es = c.in_ok-processes.field-0.footprints.items in
-    let placed : c.placed_in-placed.result.items ≡ places ram flash = c.placed_in-placed.ensures.places ∙ ap (places ram) c.deref.ensures.value in
+    let placed : c.placed_in-placed.result.items ≡ placed_applications ram flash =
+    c.placed_in-placed.ensures.places ∙ ap (placed_applications ram) c.deref.ensures.value in
     let script = c.script.inside in
-    let said : Script = record { ram = script.ram; leds = script.leds; slice = script.slice; start = script.start; uart = script.uart; storage = script.storage; policy = script.policy; faults = script.faults.items; words = script.words; events = script.events } in
+    let said : Script =
+    record {
+      ram = script.ram;
+      leds = script.leds;
+      slice = script.slice;
+      start = script.start;
+      uart =
+          script.uart;
+      storage = script.storage;
+      policy = script.policy;
+      faults = script.faults.items;
+      words =
+          script.words;
+      events = script.events;
+    } in
     let residents = zip processes (map opened es) in
-    let shown = subst (λ (f : List ℕ). map (fresh_record script.storage f) residents ≡ filter_map (record_at script.storage f) c.deref-3.result.now) c.deref-2.ensures.value (crew.shown script.storage) in
+    let shown = subst (λ (f : List ℕ). map (fresh_record script.storage f) residents
+    ≡ filter_map (record_placed script.storage f) c.deref-3.result.now) c.deref-2.ensures.value
+    (crew.shown script.storage) in
     opening_shown said flash c.in-Ok.home es processes c.unplaced.result c.settings_of.result c.in_ok-drivers.drivers
-    (c.in-Ok.ensures ∙ ap (λ (xs : List Footprint). record { flash = flash; owns = map opened xs }) c.deref-4.ensures.value)
+    (c.in-Ok.ensures
+    ∙ ap (λ (xs : List Footprint). record { flash = flash; owns = map opened xs }) c.deref-4.ensures.value)
     crew.count
-    (at_most_8 (goal.at.returns-clause-world c).After-deref-4)
-    (shown ∙ ap (filter_map (record_at script.storage flash)) (c.deref-3.ensures.0 ∙ placed))
+    (no_more_than_slots (goal.at.returns-clause-world c).After-deref-4)
+    (shown ∙ ap (filter_map (record_placed script.storage flash)) (c.deref-3.ensures.0 ∙ placed))
     (c.unplaced.ensures ∙ ap (filter_map unplaced_at) (c.deref-5.ensures.0 ∙ placed))
-    (c.settings_of.ensures ∙ ap (λ (s : Script). settings s.leds s.start s.storage s.policy) (sym c.script.view_is))
+    (c.settings_of.ensures
+    ∙ ap (λ (s : Script). visible_settings s.leds s.start s.storage s.policy) (sym c.script.view_is))
     (subst (λ (s : Script). AreFresh s c.in_ok-drivers.drivers) (sym c.script.view_is) c.in_ok-drivers.ensures)
     ∙ ap (λ (s : _). opening s flash) c.script.view_is
 

@@ -9,4 +9,5 @@ use Rattle.board_core.proofs.board.Board.id.Goals as goal
 pub returns : goal.returns
 returns c =
     c.id.ensures ∙ ap (living c.args.slot) (own_read c.self.inside c.self.invariant c.args.slot)
-    ∙ ap (λ (w : World). living c.args.slot (option_map (λ (r : Record). r.own) (slice_get w.records c.args.slot))) c.self.view_is
+    ∙ ap (λ (w : World). living c.args.slot (option_map (λ (r : Record). r.own) (slice_get w.records c.args.slot)))
+    c.self.view_is

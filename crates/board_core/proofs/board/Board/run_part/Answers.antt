@@ -6,10 +6,11 @@ use Rattle.kernel_model.specs.Run.{next}
 use Rattle.kernel_model.specs.Stretch.{GoesOn}
 use Rattle.board_core.specs.Calm.{IsCalm}
 use Rattle.board_core.specs.Driven.{AreDriven}
-use Rattle.board_core.specs.Residents.{HasLost, IsSeated}
+use Rattle.board_core.specs.Residents.{HasLost, IsResident}
 use Rattle.board_core.specs.Shows.{world_of}
 use Rattle.board_core.specs.Stretches.{slot_runs}
-use Rattle.board_core.proofs.Stretches.{chosen_in_calm, ends_shown, looked_ahead, nothing_comes, rests_there, runs_within, still, stretch_shown, used_within}
+use Rattle.board_core.proofs.Stretches.{chosen_in_calm, ends_shown, looked_ahead, nothing_comes, rests_there}
+use Rattle.board_core.proofs.Stretches.{runs_within, still, stretch_shown, used_within}
 use Rattle.board_core.proofs.Tables.{may_turn_on}
 use Rattle.board_core.proofs.board.Board.run_part.Goals as goal
 use Rattle.board_core.proofs.board.Board.run_part.Goals.{After-is_over}
@@ -17,18 +18,21 @@ use Rattle.board_core.proofs.board.Board.run_part.Goals.{After-is_over}
 pub returns-then-not-runs-clause-ends : goal.returns-then-not-runs-clause-ends
 returns-then-not-runs-clause-ends c e h g =
     rests_there c.self.inside c.self.invariant c.in-Some.slot (ap next c.self.view_is ∙ c.in-Some.ensures.some)
-    (ap (λ (ps : List Process). slot_runs (slice_get ps c.in-Some.slot)) (sym c.deref.ensures.value) ∙ sym c.runs.ensures ∙ c.if-not-runs.true)
+    (ap (λ (ps : List Process). slot_runs (slice_get ps c.in-Some.slot)) (sym c.deref.ensures.value)
+    ∙ sym c.runs.ensures ∙ c.if-not-runs.true)
     (subst GoesOn (sym c.self.view_is) g)
 
 pub returns-then-self-clause-ends : goal.returns-then-self-clause-ends
 returns-then-self-clause-ends c e h g =
-    nothing_comes c.self.inside c.self.invariant (chosen_in_calm (world_of c.self.inside) g.slot g.chosen) c.next_is_ready.ensures.ahead (c.calm_ahead-self-inside.ensures.come c.if-self.true)
+    nothing_comes c.self.inside c.self.invariant (chosen_in_calm (world_of c.self.inside) g.slot g.chosen)
+    c.next_is_ready.ensures.ahead (c.calm_ahead-self-inside.ensures.come c.if-self.true)
 
 pub turns_at-made-requires : goal.turns_at-made-requires
 turns_at-made-requires c =
     may_turn_on c.turns_left-left.result c.self.inside c.in-Some.slot c.self.invariant
     (runs_within c.self.inside.processes.items c.in-Some.slot
-    (ap (λ (ps : List Process). slot_runs (slice_get ps c.in-Some.slot)) (sym c.deref.ensures.value) ∙ sym c.runs.ensures ∙ c.if-not-runs.false))
+    (ap (λ (ps : List Process). slot_runs (slice_get ps c.in-Some.slot)) (sym c.deref.ensures.value)
+    ∙ sym c.runs.ensures ∙ c.if-not-runs.false))
     c.turns_left-left.ensures.limit
 
 -- the slot has the next turn, and its process runs
@@ -36,54 +40,73 @@ chosen : (c : After-is_over) → next (world_of c.self.inside) ≡ Some (Run c.i
 chosen c = ap next c.self.view_is ∙ c.in-Some.ensures.some
 
 runs_there : (c : After-is_over) → slot_runs (slice_get c.self.inside.processes.items c.in-Some.slot) ≡ true
-runs_there c = ap (λ (ps : List Process). slot_runs (slice_get ps c.in-Some.slot)) (sym c.deref.ensures.value) ∙ sym c.runs.ensures ∙ c.if-not-runs.false
+runs_there c = ap (λ (ps : List Process). slot_runs (slice_get ps c.in-Some.slot)) (sym c.deref.ensures.value)
+    ∙ sym c.runs.ensures ∙ c.if-not-runs.false
 
 pub invariant_of-self-2 : goal.invariant_of-self-2
 invariant_of-self-2 c =
     let b = record c.self.inside { calm = c.calm_ahead-self-inside.result } in
-    let board = looked_ahead c.self.inside c.calm_ahead-self-inside.result c.self.invariant c.calm_ahead-self-inside.ensures.calm in
+    let board = looked_ahead c.self.inside c.calm_ahead-self-inside.result c.self.invariant
+    c.calm_ahead-self-inside.ensures.calm in
     let k = c.turns_at-made.result in
     let home = c.turns_at-made.new.home in
     let processes = c.turns_at-made.new.processes.items in
     let left = c.turns_left-left.ensures in
     let ticks = c.from-ticks.ensures in
     let present = c.present_after-present in
-    let holds = still b board c.in-Some.slot k c.turns_left-left.result present.result.1 present.result.0 home processes c.turns_at-made.ensures.quiet in
+    let holds = still b board c.in-Some.slot k c.turns_left-left.result present.result.1 present.result.0 home processes
+    c.turns_at-made.ensures.quiet in
     record {
-      seated = subst (λ (n : ℕ). All (IsSeated home.flash (b.moment.steps + n)) (zip processes home.owns)) (sym ticks) holds.seated;
+      seated = subst (λ (n : ℕ). All (IsResident home.flash (b.moment.steps + n)) (zip processes home.owns)) (sym ticks)
+          holds.seated;
       lost = subst (λ (n : ℕ). All (HasLost (b.moment.steps + n)) home.owns) (sym ticks) holds.lost;
       owns = holds.owns;
       few = holds.few;
       guard = c.turns_at-made.ensures.guard;
-      driven = subst (λ (n : ℕ). AreDriven b.moment.settings (b.moment.time + n) home.owns b.drivers) (sym ticks) holds.driven;
+      driven = subst (λ (n : ℕ). AreDriven b.moment.settings (b.moment.time + n) home.owns b.drivers) (sym ticks)
+          holds.driven;
       served = omega (arith, board.served);
       steps = omega (arith, ticks, left.limit, c.turns_at-made.ensures.most);
       time = omega (arith, board.time);
-      calm = subst (λ (n : ℕ). IsCalm b.moment.settings.start (b.moment.time + n) b.calm home.owns b.drivers) (sym ticks) holds.calm;
+      calm = subst (λ (n : ℕ). IsCalm b.moment.settings.start (b.moment.time + n) b.calm home.owns b.drivers)
+          (sym ticks) holds.calm;
       slice = board.slice;
-      used = used_within b.used b.slice c.used_before-before.result k present.result.1 board.used (omega (arith, left.slice, c.turns_at-made.ensures.most)) (λ none. (present.ensures.none none).1) (λ some. (present.ensures.some some).1);
+      used = used_within b.used b.slice c.used_before-before.result k present.result.1 board.used
+          (omega (arith, left.slice, c.turns_at-made.ensures.most)) (λ none. (present.ensures.none none).1)
+          (λ some. (present.ensures.some some).1);
     }
 
 pub returns-clause-stretch : goal.returns-clause-stretch
 returns-clause-stretch c =
     let b = record c.self.inside { calm = c.calm_ahead-self-inside.result } in
-    let board = looked_ahead c.self.inside c.calm_ahead-self-inside.result c.self.invariant c.calm_ahead-self-inside.ensures.calm in
+    let board = looked_ahead c.self.inside c.calm_ahead-self-inside.result c.self.invariant
+    c.calm_ahead-self-inside.ensures.calm in
     let left = c.turns_left-left.ensures in
     let most = c.turns_at-made.ensures.most in
     let present = c.present_after-present in
     let q = c.turns_at-made.ensures.quiet in
-    stretch_shown b board c.in-Some.slot c.turns_at-made.result c.turns_left-left.result present.result.1 present.result.0 c.turns_at-made.new.home c.turns_at-made.new.processes.items q
-    (chosen c) (ap slot_runs (sym q.at.was) ∙ runs_there c) c.used_before-before.result c.used_before-before.ensures.value (omega (arith, left.slice, most)) (omega (arith, left.until, most)) (omega (arith, left.limit, most)) present.ensures.none present.ensures.some
-    c.from-ticks.result c.args.self.now c.round_is_stretch.ensures.round c.round_is_stretch.ensures.none c.from-ticks.ensures c.self.view_is
+    stretch_shown b board c.in-Some.slot c.turns_at-made.result c.turns_left-left.result present.result.1
+    present.result.0 c.turns_at-made.new.home c.turns_at-made.new.processes.items q
+    (chosen c) (ap slot_runs (sym q.at.was) ∙ runs_there c) c.used_before-before.result
+    c.used_before-before.ensures.value (omega (arith, left.slice, most)) (omega (arith, left.until, most))
+    (omega (arith, left.limit, most)) present.ensures.none present.ensures.some
+    c.from-ticks.result c.args.self.now c.round_is_stretch.ensures.round c.round_is_stretch.ensures.none
+    c.from-ticks.ensures c.self.view_is
 
 pub returns-clause-ends : goal.returns-clause-ends
 returns-clause-ends c e h g =
     let b = record c.self.inside { calm = c.calm_ahead-self-inside.result } in
-    let board = looked_ahead c.self.inside c.calm_ahead-self-inside.result c.self.invariant c.calm_ahead-self-inside.ensures.calm in
+    let board = looked_ahead c.self.inside c.calm_ahead-self-inside.result c.self.invariant
+    c.calm_ahead-self-inside.ensures.calm in
     let left = c.turns_left-left.ensures in
     let most = c.turns_at-made.ensures.most in
     let present = c.present_after-present in
     let q = c.turns_at-made.ensures.quiet in
-    ends_shown b board c.in-Some.slot c.turns_at-made.result c.turns_left-left.result present.result.1 present.result.0 c.turns_at-made.new.home c.turns_at-made.new.processes.items q
-    (chosen c) (ap slot_runs (sym q.at.was) ∙ runs_there c) c.used_before-before.result c.used_before-before.ensures.value (omega (arith, left.slice, most)) (omega (arith, left.until, most)) (omega (arith, left.limit, most)) present.ensures.none present.ensures.some
-    c.round_is_stretch.ensures.stays c.from-ticks.result c.args.most c.calm_ahead-self-inside.result c.from-ticks.ensures most (c.is_over.ensures.over e) left.slice c.used_before-before.ensures.within (omega (arith, c.if-self.false)) c.requires left.all g
+    ends_shown b board c.in-Some.slot c.turns_at-made.result c.turns_left-left.result present.result.1 present.result.0
+    c.turns_at-made.new.home c.turns_at-made.new.processes.items q
+    (chosen c) (ap slot_runs (sym q.at.was) ∙ runs_there c) c.used_before-before.result
+    c.used_before-before.ensures.value (omega (arith, left.slice, most)) (omega (arith, left.until, most))
+    (omega (arith, left.limit, most)) present.ensures.none present.ensures.some
+    c.round_is_stretch.ensures.stays c.from-ticks.result c.args.most c.calm_ahead-self-inside.result
+    c.from-ticks.ensures most (c.is_over.ensures.over e) left.slice c.used_before-before.ensures.within
+    (omega (arith, c.if-self.false)) c.requires left.all g

@@ -6,11 +6,17 @@ loop-made-init c = (omega arith, c.round_is_stretch.ensures.none c.args.self.now
 
 pub returns-then-part-clause-stretch : goal.returns-then-part-clause-stretch
 returns-then-part-clause-stretch c =
-    c.round_is_stretch.ensures.join c.loop-made.made c.run_part-part.result.made (c.loop-made.made + c.run_part-part.result.made) c.args.self.now c.loop-made.self c.run_part-part.new.self refl c.loop-made.invariant.1 c.run_part-part.ensures.stretch
+    c.round_is_stretch.ensures.join c.loop-made.made c.run_part-part.result.made
+    (c.loop-made.made + c.run_part-part.result.made) c.args.self.now c.loop-made.self c.run_part-part.new.self refl
+    c.loop-made.invariant.1 c.run_part-part.ensures.stretch
 
 pub loop-made-preserved : goal.loop-made-preserved
-loop-made-preserved c =
-    (omega (arith, c.run_part-part.ensures.most, c.loop-made-test.true), c.round_is_stretch.ensures.join c.loop-made.made c.run_part-part.result.made (c.loop-made.made + c.run_part-part.result.made) c.args.self.now c.loop-made.self c.run_part-part.new.self refl c.loop-made.invariant.1 c.run_part-part.ensures.stretch)
+loop-made-preserved c = (
+  omega (arith, c.run_part-part.ensures.most, c.loop-made-test.true),
+  c.round_is_stretch.ensures.join c.loop-made.made c.run_part-part.result.made
+      (c.loop-made.made + c.run_part-part.result.made) c.args.self.now c.loop-made.self c.run_part-part.new.self refl
+      c.loop-made.invariant.1 c.run_part-part.ensures.stretch,
+)
 
 pub returns-clause-most : goal.returns-clause-most
 returns-clause-most c = c.loop-made.invariant.0
@@ -20,8 +26,12 @@ returns-clause-stretch c = c.loop-made.invariant.1
 
 pub returns-then-part-clause-accounted : goal.returns-then-part-clause-accounted
 returns-then-part-clause-accounted c =
-    c.steps_are_accounted_for.ensures.stretch (c.loop-made.made + c.run_part-part.result.made) c.args.self.now c.run_part-part.new.self
-    (c.round_is_stretch.ensures.join c.loop-made.made c.run_part-part.result.made (c.loop-made.made + c.run_part-part.result.made) c.args.self.now c.loop-made.self c.run_part-part.new.self refl c.loop-made.invariant.1 c.run_part-part.ensures.stretch)
+    c.steps_are_accounted_for.ensures.stretch (c.loop-made.made + c.run_part-part.result.made) c.args.self.now
+    c.run_part-part.new.self
+    (c.round_is_stretch.ensures.join c.loop-made.made c.run_part-part.result.made
+    (c.loop-made.made + c.run_part-part.result.made) c.args.self.now c.loop-made.self c.run_part-part.new.self refl
+    c.loop-made.invariant.1 c.run_part-part.ensures.stretch)
 
 pub returns-clause-accounted : goal.returns-clause-accounted
-returns-clause-accounted c = c.steps_are_accounted_for.ensures.stretch c.loop-made.made c.args.self.now c.loop-made.self c.loop-made.invariant.1
+returns-clause-accounted c =
+    c.steps_are_accounted_for.ensures.stretch c.loop-made.made c.args.self.now c.loop-made.self c.loop-made.invariant.1

@@ -1,19 +1,23 @@
-use Rattle.std.proofs.Common.{Option, None, ap₂, sym, subst, ◌∙◌}
+use Rattle.std.proofs.Common.{Result, Err, ap₂, sym, subst, ◌∙◌}
 use Rattle.tk_base.specs.declared.process.Choice.TheVariants.{Device}
-use Rattle.tk_base.specs.declared.process.ProcessId.{ProcessId}
+use Rattle.board_devices.specs.declared.answer.Answer.{Answer}
+use Rattle.tk_base.specs.declared.process.NotReady.{NotReady}
 use Rattle.grant_enter.specs.Homes.{Homes}
 use Rattle.board_core.specs.declared.drivers.Drivers.{Drivers}
 use Rattle.board_core.specs.Shows.{IsBoard, world_of}
-use Rattle.board_core.specs.Tells.{Acted, Told}
-use Rattle.board_core.proofs.Devices.{made_so, may_tell, not_acting, refused_so, told_board, told_shown, world_told}
+use Rattle.board_core.specs.Tells.{Acted, DeviceTold}
+use Rattle.board_core.proofs.Devices.{below_shown, made_so, may_tell, not_acting, refused_so, told_board, told_shown}
+use Rattle.board_core.proofs.Devices.{world_told}
 use Rattle.board_core.proofs.board.Board.tell.Goals as goal
-use Rattle.board_core.proofs.board.Board.tell.Goals.{In-Some, In_default}
+use Rattle.board_core.proofs.board.Board.tell.Goals.{In-Ok, In_default}
 
 -- it may not act
-idle : (c : In_default) → Acted c.self.inside c.args.device None c.act.new.printed.items c.act.new.home c.act.new.self
+idle : (c : In_default)
+    → Acted c.self.inside c.args.device (Err _) c.act.new.printed.items c.act.new.home c.act.new.self
 idle c =
     let b = c.self.inside in
-    subst (λ (o : Option ProcessId). Acted b c.args.device o c.act.new.printed.items c.act.new.home c.act.new.self) c.in_default.is (c.act.ensures b c.self.invariant)
+    subst (λ (o : Result Answer NotReady). Acted b c.args.device o c.act.new.printed.items c.act.new.home
+    c.act.new.self) c.in_default.is (c.act.ensures b c.self.invariant)
 
 pub invariant_of-self : goal.invariant_of-self
 invariant_of-self c =
@@ -31,25 +35,33 @@ returns-in_default c =
     (not_acting (world_of b) c.args.device none.0)
 
 -- it told a process something
-told : (c : In-Some) → Told c.self.inside c.args.device c.in-Some.id.slot c.act.new.printed.items c.act.new.home c.act.new.self
+told : (c : In-Ok)
+    → DeviceTold c.self.inside c.args.device c.in-Ok.answer.to.slot c.act.new.printed.items c.act.new.home
+    c.act.new.self
 told c =
     let b = c.self.inside in
-    subst (λ (o : Option ProcessId). Acted b c.args.device o c.act.new.printed.items c.act.new.home c.act.new.self) c.in-Some.is (c.act.ensures b c.self.invariant)
+    subst (λ (o : Result Answer NotReady). Acted b c.args.device o c.act.new.printed.items c.act.new.home
+    c.act.new.self) c.in-Ok.is (c.act.ensures b c.self.invariant)
 
-pub calm-self-inside-requires-clause-free : goal.calm-self-inside-requires-clause-free
-calm-self-inside-requires-clause-free c = (told (goal.at.calm-self-inside-requires-clause-free c).In-Some).serves.uart.free
+pub look_ahead-self-inside-requires-clause-free : goal.look_ahead-self-inside-requires-clause-free
+look_ahead-self-inside-requires-clause-free c =
+    (told (goal.at.look_ahead-self-inside-requires-clause-free c).In-Ok).serves.uart.free
 
 pub invariant_of-self-2 : goal.invariant_of-self-2
 invariant_of-self-2 c =
-    told_board c.self.inside c.args.device c.in-Some.id.slot c.act.new.printed.items c.act.new.home c.act.new.self (told (goal.at.invariant_of-self-2 c).In-Some) c.self.invariant
-    c.calm-self-inside.result c.if-self-ge-STEP_LIMIT.false c.calm-self-inside.ensures
+    told_board c.self.inside c.args.device c.in-Ok.answer.to.slot c.act.new.printed.items c.act.new.home c.act.new.self
+    (told (goal.at.invariant_of-self-2 c).In-Ok) c.self.invariant
+    c.look_ahead-self-inside.result (below_shown c.self.inside c.args.self.now c.self.view_is c.requires.limit)
+    c.look_ahead-self-inside.ensures.calm
 
 pub returns : goal.returns
 returns c =
     let b = c.self.inside in
-    let t = told (goal.at.returns c).In-Some in
+    let t = told (goal.at.returns c).In-Ok in
     let printed = c.act.new.printed.items in
     made_so (world_of b) c.args.self.now _ (Device c.args.device) c.args.emit.now c.show.new.emit c.self.view_is
-    (may_tell b c.args.device c.in-Some.id.slot printed c.act.new.home c.act.new.self t c.self.invariant c.if-self-ge-STEP_LIMIT.false)
-    (world_told b c.args.device c.in-Some.id.slot printed c.act.new.home c.act.new.self t c.self.invariant)
-    (c.show.ensures ∙ told_shown b c.args.device c.in-Some.id.slot printed c.act.new.home c.act.new.self t c.self.invariant)
+    (may_tell b c.args.device c.in-Ok.answer.to.slot printed c.act.new.home c.act.new.self t c.self.invariant
+    (below_shown b c.args.self.now c.self.view_is c.requires.limit))
+    (world_told b c.args.device c.in-Ok.answer.to.slot printed c.act.new.home c.act.new.self t c.self.invariant)
+    (c.show.ensures
+    ∙ told_shown b c.args.device c.in-Ok.answer.to.slot printed c.act.new.home c.act.new.self t c.self.invariant)

@@ -13,22 +13,26 @@ pub returns-in-Uart-clause-lives : goal.returns-in-Uart-clause-lives
 returns-in-Uart-clause-lives c =
     subst (λ (ids : List ProcessId). All (LivesThere c.args.self.now) ids) (sym c.as_slice.ensures)
     (subst (λ (w : World). All (LivesThere w) c.self.inside.drivers.console.writes) c.self.view_is
-    (line_lives c.self.inside c.self.invariant console_writes c.self.inside.drivers.console.writes c.self.invariant.driven.writes))
+    (line_lives c.self.inside c.self.invariant console_writes c.self.inside.drivers.console.writes
+    c.self.invariant.driven.writes))
 
 pub returns-in-Receive-clause-lives : goal.returns-in-Receive-clause-lives
 returns-in-Receive-clause-lives c =
     subst (λ (ids : List ProcessId). All (LivesThere c.args.self.now) ids) (sym c.as_slice-in-Receive.ensures)
     (subst (λ (w : World). All (LivesThere w) c.self.inside.drivers.console.reads) c.self.view_is
-    (line_lives c.self.inside c.self.invariant console_reads c.self.inside.drivers.console.reads c.self.invariant.driven.reads))
+    (line_lives c.self.inside c.self.invariant console_reads c.self.inside.drivers.console.reads
+    c.self.invariant.driven.reads))
 
 pub returns-in-Random-clause-lives : goal.returns-in-Random-clause-lives
 returns-in-Random-clause-lives c =
     subst (λ (ids : List ProcessId). All (LivesThere c.args.self.now) ids) (sym c.as_slice-in-Random.ensures)
     (subst (λ (w : World). All (LivesThere w) c.self.inside.drivers.random.waiting) c.self.view_is
-    (line_lives c.self.inside c.self.invariant randoms c.self.inside.drivers.random.waiting c.self.invariant.driven.randoms))
+    (line_lives c.self.inside c.self.invariant randoms c.self.inside.drivers.random.waiting
+    c.self.invariant.driven.randoms))
 
 pub returns-in-Store-clause-lives : goal.returns-in-Store-clause-lives
 returns-in-Store-clause-lives c =
     subst (λ (ids : List ProcessId). All (LivesThere c.args.self.now) ids) (sym c.as_slice-in-Store.ensures)
     (subst (λ (w : World). All (LivesThere w) c.self.inside.drivers.storage.waiting) c.self.view_is
-    (line_lives c.self.inside c.self.invariant storages c.self.inside.drivers.storage.waiting c.self.invariant.driven.stores))
+    (line_lives c.self.inside c.self.invariant storages c.self.inside.drivers.storage.waiting
+    c.self.invariant.driven.stores))

@@ -1,28 +1,44 @@
 use Rattle.std.proofs.Common.{◌≡◌}
-use Rattle.process_own.specs.Handed.{handing}
-use Rattle.grant_enter.proofs.Moves.{Reads, on_err, on_ok, reseated, reseated_only, reseated_same, reseated_shows, sits_before}
+use Rattle.process_model.specs.Handed.{handing}
+use Rattle.grant_enter.proofs.Moves.{Reads, on_err, on_ok, reseated, reseated_only, reseated_same, reseated_shows}
+use Rattle.grant_enter.proofs.Moves.{sits_before}
 use Rattle.grant_enter.proofs.home.Home.hand.Goals as goal
 use Rattle.grant_enter.proofs.home.Home.hand.Goals.{After-index_mut-seat}
 
 -- the seat of the slot
-reads : (c : After-index_mut-seat) → Reads c.self.inside c.args.self.now c.args.slot c.index.result c.index_mut-seat.result.now
-reads c = record { home = c.self.invariant; shown = c.self.view_is; there = c.requires.slot; is = c.index.ensures.value; read = c.index_mut-seat.ensures.value }
+reads : (c : After-index_mut-seat)
+    → Reads c.self.inside c.args.self.now c.args.slot c.index.result c.index_mut-seat.result.now
+reads c = record {
+  home = c.self.invariant;
+  shown = c.self.view_is;
+  there = c.requires.slot;
+  is =
+      c.index.ensures.value;
+  read = c.index_mut-seat.ensures.value;
+}
 
 pub hand_at-requires-clause-sits : goal.hand_at-requires-clause-sits
 hand_at-requires-clause-sits c = sits_before (reads (goal.at.hand_at-requires-clause-sits c).After-index_mut-seat)
 
 pub invariant_of-self : goal.invariant_of-self
-invariant_of-self c = reseated (reads (goal.at.invariant_of-self c).After-index_mut-seat) c.hand_at.new.memory c.hand_at.new.seat c.hand_at.ensures.reseats
+invariant_of-self c =
+    reseated (reads (goal.at.invariant_of-self c).After-index_mut-seat) c.hand_at.new.memory c.hand_at.new.seat
+    c.hand_at.ensures.reseats
 
 pub returns-clause-handed : goal.returns-clause-handed
 returns-clause-handed c =
     let a = (goal.at.returns-clause-handed c).After-index_mut-seat in
-    on_ok c.hand_at.result (reseated_shows (reads a) c.hand_at.new.memory c.hand_at.new.seat c.hand_at.ensures.reseats (λ flash own own_after. own_after ≡ handing c.args.kind c.args.driver c.args.number c.args.pair own)) c.hand_at.ensures.handed
+    on_ok c.hand_at.result (reseated_shows (reads a) c.hand_at.new.memory c.hand_at.new.seat c.hand_at.ensures.reseats
+    (λ flash own own_after. own_after ≡ handing c.args.kind c.args.driver c.args.number c.args.pair own))
+    c.hand_at.ensures.handed
 
 pub returns-clause-refused : goal.returns-clause-refused
 returns-clause-refused c =
     let a = (goal.at.returns-clause-refused c).After-index_mut-seat in
-    on_err c.hand_at.result (reseated_same (reads a) c.hand_at.new.memory c.hand_at.new.seat c.hand_at.ensures.reseats) c.hand_at.ensures.refused
+    on_err c.hand_at.result (reseated_same (reads a) c.hand_at.new.memory c.hand_at.new.seat c.hand_at.ensures.reseats)
+    c.hand_at.ensures.refused
 
 pub returns-clause-rest : goal.returns-clause-rest
-returns-clause-rest c = reseated_only (reads (goal.at.returns-clause-rest c).After-index_mut-seat) c.hand_at.new.memory c.hand_at.new.seat c.hand_at.ensures.reseats
+returns-clause-rest c =
+    reseated_only (reads (goal.at.returns-clause-rest c).After-index_mut-seat) c.hand_at.new.memory c.hand_at.new.seat
+    c.hand_at.ensures.reseats

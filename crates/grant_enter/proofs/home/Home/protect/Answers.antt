@@ -1,15 +1,23 @@
 use Rattle.std.proofs.Common.{length, arith}
-use Rattle.grant_enter.specs.Homes.{IsSettled}
+use Rattle.grant_enter.specs.Homes.{FitsMemory}
 use Rattle.grant_enter.proofs.Moves.{Reads, sits_before}
 use Rattle.grant_enter.proofs.home.Home.protect.Goals as goal
 use Rattle.grant_enter.proofs.home.Home.protect.Goals.{After-index-2}
 
 -- the seat of the slot
 reads : (c : After-index-2) → Reads c.self.inside c.args.self.now c.args.slot c.index.result c.index-2.result.now
-reads c = record { home = c.self.invariant; shown = c.self.view_is; there = c.requires; is = c.index.ensures.value; read = c.index-2.ensures }
+reads c = record {
+  home = c.self.invariant;
+  shown = c.self.view_is;
+  there = c.requires;
+  is =
+      c.index.ensures.value;
+  read = c.index-2.ensures;
+}
 
 -- its layout is settled
-settled : (c : After-index-2) → IsSettled (length c.self.inside.memory.flash) (length c.self.inside.memory.ram) c.index-2.result.now.layout
+settled : (c : After-index-2)
+    → FitsMemory (length c.self.inside.memory.flash) (length c.self.inside.memory.ram) c.index-2.result.now.layout
 settled c = (sits_before (reads c)).settled
 
 pub set_process-requires-clause-flash_start : goal.set_process-requires-clause-flash_start

@@ -5,12 +5,15 @@ use Rattle.tbf_headers.proofs.perms.Perms.allows.Goals as goal
 
 pub returns-then-permits_at : goal.returns-then-permits_at
 returns-then-permits_at c =
-    sym (any_here (permits c.args.driver c.args.command) c.from-count.result c.args.self.now.content.now c.loop-k.k c.loop-k-test.true (cc)) ∙ c.loop-k.invariant
+    sym (any_here (permits c.args.driver c.args.command) c.from-count.result c.args.self.now.content.now c.loop-k.k
+    c.loop-k-test.true (cc)) ∙ c.loop-k.invariant
 
 pub loop-k-preserved : goal.loop-k-preserved
 loop-k-preserved c =
-    sym (any_later (permits c.args.driver c.args.command) c.from-count.result c.args.self.now.content.now c.loop-k.k c.loop-k-test.true (cc)) ∙ c.loop-k.invariant
+    sym (any_later (permits c.args.driver c.args.command) c.from-count.result c.args.self.now.content.now c.loop-k.k
+    c.loop-k-test.true (cc)) ∙ c.loop-k.invariant
 
 pub returns : goal.returns
 returns c =
-    sym (any_none (permits c.args.driver c.args.command) c.from-count.result c.args.self.now.content.now c.loop-k.k c.loop-k-test.false) ∙ c.loop-k.invariant
+    sym (any_none (permits c.args.driver c.args.command) c.from-count.result c.args.self.now.content.now c.loop-k.k
+    c.loop-k-test.false) ∙ c.loop-k.invariant

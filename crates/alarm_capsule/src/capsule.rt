@@ -1,0 +1,59 @@
+//! The alarm as a capsule.
+ghost use Rattle.std.specs.Prelude.{◌+◌, ◌<◌, ◌^◌, All};
+ghost use Rattle.grant_enter.specs.Homes.{own_of, ChangesOnly};
+ghost use Rattle.driver_requests.specs.Asking.{IsPresent};
+ghost use Rattle.driver_model.specs.Alarm.{command};
+ghost use Rattle.alarm_capsule.specs.Answers.{AlarmAnswers, AlarmReplies};
+
+use crate::answers::fire_first;
+use crate::commands::obey;
+use board_devices::Answer;
+use driver_model::reply_of;
+use grant_enter::Home;
+use syscall_abi::Reply;
+use tk_base::{CallRule, NotReady, ProcessId};
+
+/// The alarm. All that it keeps lies in the grants of processes.
+#[derive(Clone, Copy, Debug, PartialEq, Eq)]
+pub struct AlarmCapsule;
+
+impl AlarmCapsule {
+    /// Serves a command of the process of an id to the alarm, at a tick of the clock (TRD 104, "Command"): the reply,
+    /// and the rule that refuses it, if one does. 0 asks whether the driver is there; 1 for its ticks a second, 2 for
+    /// the clock; 3 stops the alarm, which is refused with [`CallRule::Nothing`] where none is armed; 5 arms it `a2`
+    /// ticks from now on, and 6 `a3` ticks from the reference `a2` on, with the tick of the expiration in the reply,
+    /// or refused with [`CallRule::NoRoom`]. Any other number is refused with [`CallRule::NoCommand`]. Nothing of
+    /// another process changes, and nothing at all where it is refused.
+    pub fn command(
+        &mut self,
+        home: &mut Home,
+        now: u32,
+        id: ProcessId,
+        number: u32,
+        a2: u32,
+        a3: u32,
+    ) -> (Reply, Option<CallRule>)
+        requires { IsPresent home.old id }
+        ensures answer { AlarmReplies (command now number a2 a3 (own_of home.old id.slot))
+            result (own_of home.new id.slot) }
+        ensures rest { ChangesOnly id.slot home.old home.new }
+    {
+        reply_of(obey(home, now, id, number, a2, a3))
+    }
+
+    /// The alarm of the lowest slot whose alarm is due at a tick of the clock fires: it is disarmed, and upcall 0 is
+    /// scheduled with that tick and its expiration. The answer is whose alarm it was, and the tick. [`NotReady`] comes
+    /// exactly where no alarm of a process that lives is due, and then nothing changes. Nothing of another slot
+    /// changes.
+    // Inlined, an answer that its caller does not read is not made.
+    #[inline(always)]
+    pub fn answer(&mut self, home: &mut Home, now: u32) -> Result<Answer, NotReady>
+        requires dropped { All (λ own. own.dropped + 1 < 2 ^ 32) home.old.owns }
+        ensures { AlarmAnswers now home.old result home.new }
+    {
+        fire_first(home, now)
+    }
+
+    /// The process of an id ended, or starts again. Its alarm went with its grant, and nothing waits here.
+    pub fn gone(&mut self, _id: ProcessId) {}
+}

@@ -1,0 +1,32 @@
+-- What devices tell the processes that they serve, in the words of whoever speaks of it (Tock's drivers).
+use Rattle.std.specs.Prelude.{ℕ, ◌==◌, Bool, not, if◌then◌else◌, List, [], ◌∷◌, length}
+use Rattle.driver_model.specs.Console.{Sent, Received}
+
+-- The words: an alarm fired, when the clock showed a tick; the UART took the next bytes of a write, or has taken all;
+-- bytes came in for a read; a random word was drawn, or none; a storage request was served, or failed.
+pub record Telling (E : Type 0) : Type 0 where
+  pub alarmed : ℕ → E
+  pub taken : E
+  pub write_done : E
+  pub input : List ℕ → E
+  pub word : ℕ → E
+  pub no_word : E
+  pub stored : Bool → E
+
+-- what the UART tells whose write it served
+abbrev pub sent_told : {E : Type 0} → Telling E → Sent → E
+sent_told telling s = if s.completed then telling.write_done else telling.taken
+
+-- and whose read
+abbrev pub received_told : {E : Type 0} → Telling E → Received → E
+received_told telling r = telling.input r.moved
+
+-- what the source of random bytes tells, by the words that were left before and after: the first of them, where fewer
+-- are left
+abbrev pub drawn_told : {E : Type 0} → Telling E → List ℕ → List ℕ → E
+drawn_told telling [] after = telling.no_word
+drawn_told telling (word ∷ words) after = if length after == length words then telling.word word else telling.no_word
+
+-- what the storage tells of a request, which fails or does not
+abbrev pub stored_told : {E : Type 0} → Telling E → Bool → E
+stored_told telling fails = telling.stored (not fails)

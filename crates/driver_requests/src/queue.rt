@@ -1,0 +1,137 @@
+//! The processes that wait for a device.
+ghost use Rattle.std.specs.Prelude.{◌≡◌, ◌==◌, [], length, slice_get, IfSome, OnErr};
+ghost use Rattle.grant_enter.specs.Homes.{own_of};
+ghost use Rattle.driver_requests.specs.Asking.{MayAskAt, MayBeTold, Obeys};
+ghost use Rattle.driver_requests.specs.Answers.{AnswersFirst};
+ghost use Rattle.driver_model.specs.Requests.{asking};
+ghost use Rattle.driver_requests.specs.Waiting.{without};
+
+use crate::begin::Begin;
+use crate::request::{Request, has_request};
+use crate::serve::{Serve, Service};
+use crate::waiting::{Waiting, WaitingList};
+use board_devices::Answer;
+use grant_enter::{Grant, Home};
+use std::marker::{Model, PhantomData};
+use syscall_abi::Reply;
+use tk_base::{CallRule, NotReady, ProcessId, Slot};
+
+/// The processes whose request of one kind waits for its device, the one that waits longest first. Contracts see the
+/// list of their ids.
+#[derive(Drop)]
+pub struct RequestQueue<R> {
+    waiting: WaitingList,
+    requests: PhantomData<R>,
+}
+
+impl<R> Model for RequestQueue<R> {
+    ghost use Rattle.std.specs.Prelude.{List};
+    ghost use Rattle.tk_base.specs.declared.process.ProcessId.{ProcessId};
+
+    ghost Value = { List ProcessId };
+
+    ghost view = { λ l. l.waiting };
+}
+
+impl<R> RequestQueue<R> {
+    /// A line in which none waits.
+    pub fn new() -> RequestQueue<R>
+        ensures { result ≡ [] }
+    {
+        RequestQueue {
+            waiting: WaitingList::new(),
+            requests: PhantomData,
+        }
+    }
+
+    /// Those that wait, the one that waits longest first.
+    pub fn as_slice(&self) -> &[Waiting]
+        ensures { result.now ≡ self.now }
+    {
+        self.waiting.as_slice()
+    }
+
+    /// Whether none waits.
+    pub fn is_empty(&self) -> bool
+        ensures { result ≡ (length self.now == 0) }
+    {
+        self.waiting.is_empty()
+    }
+
+    /// The process of a slot waits no more. The others keep their order.
+    pub fn leave(&mut self, slot: Slot)
+        ensures { self.new ≡ without slot self.old }
+    {
+        self.waiting.remove(slot);
+    }
+}
+
+impl<R: Request + Drop> RequestQueue<R> {
+    /// A process makes a request of a driver, which begins to wait in its grant; the process is then the last in the
+    /// line. It is refused with [`CallRule::Busy`] where one of its requests waits there already, else with
+    /// [`CallRule::NoRoom`] where there is no room for the driver's grant; then nothing changes. Nothing of another
+    /// process changes.
+    ///
+    /// It asks that the process is there, and that it is in the line only where it has a request.
+    pub fn ask<const UP: usize, const RO: usize, const RW: usize>(
+        &mut self,
+        grants: &Grant<R::Value, UP, RO, RW>,
+        home: &mut Home,
+        id: ProcessId,
+        request: R,
+    ) -> Result<Reply, CallRule>
+        requires driver { grants.now.driver ≡ R.request_kind.driver }
+        requires may { MayAskAt R.request_kind self.old home.old id }
+        ensures { Obeys R.request_kind.line id (asking R.request_kind request) self.old home.old
+            result self.new home.new }
+    {
+        if has_request::<R, UP, RO, RW>(grants, home, &id) {
+            return Err(CallRule::Busy);
+        }
+        match grants.enter(home, id, Begin { request }) {
+            Ok(()) => {
+                self.waiting.push(id);
+                Ok(Reply::Success)
+            }
+            Err(_) => Err(CallRule::NoRoom),
+        }
+    }
+
+    /// Has a capsule's device answer the process that waits longest, which waits no more exactly where its request
+    /// completed. Nothing of another slot changes. It tells whom it served, and what it told it; [`NotReady`] comes
+    /// exactly where none waits, and then nothing changes.
+    ///
+    /// It asks that the process may be told something, and what the device asks.
+    pub fn answer<C: Serve<R>>(
+        &mut self,
+        home: &mut Home,
+        device: &mut C::Device,
+    ) -> Result<Answer, NotReady>
+        requires told { IfSome (slice_get self.old 0) (MayBeTold home.old) }
+        requires asks { IfSome (slice_get self.old 0)
+            (λ id. C.asks device.old (own_of home.old id.slot)) }
+        ensures none { OnErr result (self.old ≡ []) }
+        ensures answers { AnswersFirst (C.answer_to device.old home.old) self.old device.old
+            home.old result self.new device.new home.new }
+    {
+        let Some(id) = self.waiting.first() else {
+            return Err(NotReady);
+        };
+        let Service { kind, completed } = C::serve(home, &id, device);
+        if completed {
+            self.leave(id.slot);
+        }
+        Ok(Answer { to: id, kind })
+    }
+}
+
+impl<R> Default for RequestQueue<R> {
+    ghost use Rattle.std.specs.Prelude.{◌≡◌, []};
+
+    ghost is_default = { λ l. l ≡ [] };
+
+    /// A line in which none waits.
+    fn default() -> RequestQueue<R> {
+        RequestQueue::new()
+    }
+}

@@ -1,0 +1,119 @@
+//! The list of processes that wait for one device.
+ghost use Rattle.std.specs.Prelude.{◌≡◌, ◌==◌, length, false, [], ◌∷◌, ◌++◌, slice_get, IfNone};
+
+use arrayvec::ArrayVec;
+use std::marker::Model;
+use tk_base::{ProcessId, SLOT_COUNT, Slot};
+
+/// A process in a list. Contracts see its id.
+#[derive(Drop)]
+pub struct Waiting {
+    /// By its slot, and the life in which it began to wait.
+    pub id: ProcessId,
+}
+
+impl Model for Waiting {
+    ghost use Rattle.tk_base.specs.declared.process.ProcessId.{ProcessId};
+
+    ghost Value = { ProcessId };
+
+    ghost view = { λ w. w.id };
+}
+
+impl Default for Waiting {
+    ghost use Rattle.std.specs.Prelude.{◌≡◌};
+
+    ghost is_default = { λ w. w ≡ record { slot = 0; life = 0 } };
+
+    /// What stands in a place that is not taken.
+    fn default() -> Waiting {
+        Waiting {
+            id: ProcessId {
+                slot: Slot::new(0),
+                life: 0,
+            },
+        }
+    }
+}
+
+/// The processes that wait for one device, the first one first: of each slot at most one, so that there is
+/// room for each that does not wait yet. Contracts see the list of their ids.
+#[derive(Drop)]
+pub(crate) struct WaitingList {
+    ids: ArrayVec<Waiting, SLOT_COUNT>,
+}
+
+impl Model for WaitingList {
+    ghost use Rattle.std.specs.Prelude.{List};
+    ghost use Rattle.tk_base.specs.declared.process.ProcessId.{ProcessId};
+    ghost use Rattle.driver_requests.specs.Waiting.{OnceEach};
+
+    ghost Value = { List ProcessId };
+
+    ghost view = { λ w. w.ids.items };
+
+    ghost invariant = { λ w. OnceEach w.ids.items };
+}
+
+impl WaitingList {
+    ghost use Rattle.driver_requests.specs.Waiting.{waits, without};
+
+    /// A list in which none waits.
+    #[tactic(auto, using(crate::proofs::Room::none_once))]
+    pub fn new() -> WaitingList
+        ensures { result ≡ [] }
+    {
+        WaitingList {
+            ids: ArrayVec::new(),
+        }
+    }
+
+    /// Puts a process last. It asks that none of its slot waits; then there is room.
+    pub fn push(&mut self, id: ProcessId)
+        requires { waits id.slot self.old ≡ false }
+        ensures { self.new ≡ self.old ++ id ∷ [] }
+    {
+        self.ids.push(Waiting { id });
+    }
+
+    /// The process that waits longest. None exactly where none waits.
+    pub fn first(&self) -> Option<ProcessId>
+        ensures first { result ≡ slice_get self.now 0 }
+        ensures none { IfNone result (self.now ≡ []) }
+    {
+        let first = self.ids.as_slice().first()?;
+        Some(first.id)
+    }
+
+    /// Those that wait, the one that waits longest first.
+    pub fn as_slice(&self) -> &[Waiting]
+        ensures { result.now ≡ self.now }
+    {
+        self.ids.as_slice()
+    }
+
+    /// Whether none waits.
+    pub fn is_empty(&self) -> bool
+        ensures { result ≡ (length self.now == 0) }
+    {
+        self.ids.is_empty()
+    }
+
+    /// Takes the process of a slot out, where it waits. The others keep their order.
+    pub fn remove(&mut self, slot: Slot)
+        ensures { self.new ≡ without slot self.old }
+    {
+        self.ids.retain(|waiting| waiting.id.slot != slot);
+    }
+}
+
+impl Default for WaitingList {
+    ghost use Rattle.std.specs.Prelude.{◌≡◌, []};
+
+    ghost is_default = { λ w. w ≡ [] };
+
+    /// A list in which none waits.
+    fn default() -> WaitingList {
+        WaitingList::new()
+    }
+}

@@ -1,5 +1,0 @@
-use Rattle.grant_areas.proofs.Exchange.{pairs-are-found}
-use Rattle.grant_areas.proofs.laws.pairs_are_found.Goals as goal
-
-pub returns : goal.returns
-returns c = pairs-are-found c.words_in_bytes.ensures

@@ -1,5 +1,0 @@
-use Rattle.grant_areas.proofs.Back.{is-read-back}
-use Rattle.grant_areas.proofs.laws.what_is_laid_is_read_back.Goals as goal
-
-pub returns : goal.returns
-returns c = is-read-back c.words_in_bytes.ensures

@@ -1,4 +1,0 @@
-pub mod Kinds
-pub mod Grants
-pub mod Laid
-pub mod Laws

@@ -1,0 +1,103 @@
+-- The grants of a process as bytes of its own block (Levy et al., SOSP 2017, section 4; the form in words is this
+-- kernel's own): one area after another from the kernel break up to the block's end, the last entered lowest.
+use Rattle.std.specs.Prelude.{ℕ, zero, suc, ◌≡◌, ◌+◌, ◌-◌, ◌*◌, ◌/◌, ◌<◌, ◌^◌, ◌==◌, if◌then◌else◌, List, [], ◌∷◌, ◌++◌}
+use Rattle.std.specs.Prelude.{length, take, drop, replicate, Option, None, Some, option_map}
+use Rattle.std.specs.List.{AllByRecursion}
+use Rattle.tk_base.specs.declared.upcall.Counts.{Counts}
+use Rattle.grant_values.specs.Words.{IsWord, bytes_of_words, words_of}
+use Rattle.grant_values.specs.Drivers.{counts_of, cost_of}
+use Rattle.grant_model.specs.declared.kinds.PairKind.{PairKind}
+use Rattle.grant_model.specs.declared.places.Area.{Area}
+use Rattle.grant_model.specs.Kinds.{count_of}
+use Rattle.grant_model.specs.Grants.{Grant, shape_of, pairs_of}
+
+-- how many words of a grant follow its driver and its cost, and how many of them are padding
+abbrev pub body_size : Counts → ℕ
+body_size counts = cost_of counts / 4 - 2
+
+abbrev pub padding_of : Counts → ℕ
+padding_of counts = body_size counts - (2 * (counts.upcalls + counts.ro + counts.rw) + counts.value / 4)
+
+-- pairs as words, and a value with its padding of zeros
+abbrev pub pair_words : List (ℕ × ℕ) → List ℕ
+pair_words [] = []
+pair_words (pair ∷ pairs) = pair.0 ∷ pair.1 ∷ pair_words pairs
+
+abbrev pub value_words : Grant → List ℕ
+value_words g = g.value ++ replicate (padding_of (shape_of g.driver)) 0
+
+-- the words of a grant: upcalls, read-only buffers, read-write buffers, value
+abbrev pub body_words : Grant → List ℕ
+body_words g = pair_words g.upcalls ++ (pair_words g.ro ++ (pair_words g.rw ++ value_words g))
+
+-- an area: driver, cost, and the words of the grant
+abbrev pub area_words : Grant → List ℕ
+area_words g = g.driver ∷ cost_of (shape_of g.driver) ∷ body_words g
+
+abbrev pub areas : List Grant → List ℕ
+areas [] = []
+areas (g ∷ gs) = area_words g ++ areas gs
+
+-- the grants as bytes
+abbrev pub encode_grants : List Grant → List ℕ
+encode_grants gs = bytes_of_words (areas gs)
+
+-- a grant as the table of drivers has it
+pub record IsSound (g : Grant) : Type 0 where
+  pub known : counts_of g.driver ≡ Some (shape_of g.driver)
+  pub driver : g.driver < 2 ^ 32
+  pub pairs : (kind : PairKind) → length (pairs_of kind g) ≡ count_of kind (shape_of g.driver)
+  pub value : length g.value ≡ (shape_of g.driver).value / 4
+  pub cost : cost_of (shape_of g.driver) < 2 ^ 32
+  pub body : AllByRecursion IsWord (body_words g)
+
+-- the pairs at the front of words
+abbrev pub pairs_at_front : ℕ → List ℕ → List (ℕ × ℕ)
+pairs_at_front zero words = []
+pairs_at_front (suc n) (a ∷ b ∷ words) = (a, b) ∷ pairs_at_front n words
+pairs_at_front (suc n) (a ∷ []) = []
+pairs_at_front (suc n) [] = []
+
+-- the grant of a driver that words tell
+abbrev pub grant_in : ℕ → Counts → List ℕ → Grant
+grant_in driver counts words = record {
+  driver = driver;
+  upcalls = pairs_at_front counts.upcalls words;
+  ro = pairs_at_front counts.ro (drop (2 * counts.upcalls) words);
+  rw = pairs_at_front counts.rw (drop (2 * counts.ro) (drop (2 * counts.upcalls) words));
+  value = take (counts.value / 4) (drop (2 * counts.rw) (drop (2 * counts.ro) (drop (2 * counts.upcalls) words)));
+}
+
+-- the grants that words tell, so many at most
+abbrev pub grants_in : ℕ → List ℕ → List Grant
+grants_in zero words = []
+grants_in (suc n) [] = []
+grants_in (suc n) (d ∷ []) = []
+grants_in (suc n) (d ∷ c ∷ words) = grant_in d (shape_of d) words ∷ grants_in n (drop (body_size (shape_of d)) words)
+
+-- the grants that the kernel's bytes of a block tell
+unfoldable pub decode_grants : List ℕ → List Grant
+decode_grants kernel = grants_in (length (words_of kernel)) (words_of kernel)
+
+-- the kernel's bytes of a block are the areas of sound grants
+pub record EncodesGrants (kernel : List ℕ) : Type 0 where
+  pub bytes : kernel ≡ encode_grants (decode_grants kernel)
+  pub sound : AllByRecursion IsSound (decode_grants kernel)
+
+-- and these are the grants
+pub record Tells (kernel : List ℕ) (gs : List Grant) : Type 0 where
+  pub laid : EncodesGrants kernel
+  pub grants : decode_grants kernel ≡ gs
+
+-- in which word from an offset on a driver's area begins
+abbrev pub area_place : ℕ → ℕ → List Grant → Option ℕ
+area_place driver offset [] = None
+area_place driver offset (g ∷ gs) =
+    if g.driver == driver then Some offset else area_place driver (offset + (2 + body_size (shape_of g.driver))) gs
+
+-- where a driver's area lies in the kernel's bytes
+abbrev pub area_at : ℕ → ℕ → Area
+area_at driver place = record { offset = 4 * place; cost = cost_of (shape_of driver) }
+
+abbrev pub area_of : ℕ → List Grant → Option Area
+area_of driver gs = option_map (area_at driver) (area_place driver 0 gs)

@@ -1,0 +1,4 @@
+pub mod Kinds
+pub mod Grants
+pub mod Encoding
+pub mod Laws

@@ -1,0 +1,42 @@
+//! The kinds of pairs.
+ghost use Rattle.std.specs.Prelude.{◌≡◌, ◌<◌, ◌^◌};
+ghost use Rattle.grant_model.specs.Kinds.{count_of, pairs_before};
+
+use tk_base::Counts;
+
+/// The kinds of pairs that a process hands to a driver (TRD 104, "Subscribe", "Read-Only Allow",
+/// "Read-Write Allow"), in the order in which they stand in a grant.
+#[derive(Clone, Copy, Debug, PartialEq, Eq)]
+pub enum PairKind {
+    /// The function of an upcall, and the application data.
+    Upcall,
+    /// The address and the size of a read-only buffer, in bytes.
+    ReadOnly,
+    /// The address and the size of a read-write buffer, in bytes.
+    ReadWrite,
+}
+
+impl PairKind {
+    /// How many pairs of this kind a driver with these counts has.
+    pub fn count(self, counts: &Counts) -> u32
+        ensures { result ≡ count_of self counts.now }
+    {
+        match self {
+            PairKind::Upcall => counts.upcalls,
+            PairKind::ReadOnly => counts.ro,
+            PairKind::ReadWrite => counts.rw,
+        }
+    }
+
+    /// How many pairs stand before those of this kind in the grant of a driver with these counts.
+    pub fn pairs_before(self, counts: &Counts) -> usize
+        ensures pairs { result ≡ pairs_before self counts.now }
+        ensures bound { result < 2 ^ 33 }
+    {
+        match self {
+            PairKind::Upcall => 0,
+            PairKind::ReadOnly => counts.upcalls as usize,
+            PairKind::ReadWrite => counts.upcalls as usize + counts.ro as usize,
+        }
+    }
+}

@@ -1,0 +1,271 @@
+-- Which bytes of a process's own an instruction, a flag and a driver change.
+use Rattle.std.proofs.Common.{◌≡◌, ◌≢◌, ◌⊎◌, inl, inr, ◌<◌, ◌≤◌, ℕ, ◌+◌, ◌-◌, ◌==◌, ◌&&◌, ◌||◌, nat_le, nat_lt, Bool}
+use Rattle.std.proofs.Common.{true, false, cond, List, length, take, Option, None, Some, refl, ap, ap₂, sym, ◌∙◌, arith}
+use Rattle.std.specs.Prelude.{IfSome, IsTrue, max, slice_index, slice_set}
+use Rattle.std.specs.List.{list_any}
+use Rattle.std.proofs.lemmas.Bool.{cases_eq, cases_lt, eqb-true}
+use Rattle.std.proofs.lemmas.Bool.Decides.{nat_tests}
+use Rattle.std.proofs.lemmas.List.{places, get_or-set_other, get_or-take, length-take, take-append-drop}
+use Rattle.tk_base.specs.declared.access.Access.TheVariants.{Store}
+use Rattle.tk_base.specs.declared.access.Rule.TheVariants.{Misaligned, NoRegion, NoWrite}
+use Rattle.tk_base.specs.declared.access.Width.{Width}
+use Rattle.tk_base.specs.declared.access.Width.TheVariants.{Byte, Half, Word}
+use Rattle.tk_base.specs.Access.{is_misaligned, width_bytes}
+use Rattle.tk_base.specs.Bus.{byte_of, put}
+use Rattle.tk_base.specs.Regs.{Registers}
+use Rattle.rv32_model.specs.declared.turn_end.TurnEnd.TheVariants.{Went}
+use Rattle.rv32_model.specs.UserTurn.{UserTurn, Write, touch_of}
+use Rattle.rv32_model.specs.Laws.{WritesAreListed, WritesArePermitted, stores_at}
+use Rattle.process_layout.specs.LayoutView.{LayoutView}
+use Rattle.process_layout.specs.Interval.{lies_within}
+use Rattle.grant_model.specs.declared.kinds.PairKind.{PairKind}
+use Rattle.grant_model.specs.declared.kinds.PairKind.TheVariants.{Upcall, ReadOnly, ReadWrite}
+use Rattle.grant_model.specs.Grants.{Grant, grant_of}
+use Rattle.grant_region.specs.Region.{roomed}
+use Rattle.process_model.specs.Own.{Own}
+use Rattle.process_model.specs.Permission.{denied}
+use Rattle.process_model.specs.Instruction.{instruction_of, ram_after, with_write}
+use Rattle.process_model.specs.Handed.{own_entering, handing, held, lies_in_ram, marked, may_share, raised}
+use Rattle.process_model.specs.Flag.{flag_place, with_flag}
+use Rattle.process_model.specs.Served.{with_written}
+use Rattle.tk_base.specs.Bytes.{over}
+use Rattle.process_model.specs.Changes.{ChangesAt, IsInside, IsWhole, KeepsBytes, OnlyWritesChangeBytes, own_byte}
+
+-- a value that is put changes its own places alone, in a list of any length
+half_other : (xs : List ℕ) (at v k : ℕ) → (k < at) ⊎ (at + 2 ≤ k) → slice_index (put xs at Half v) k ≡ slice_index xs k
+half_other xs at v k side =
+    get_or-set_other (slice_set xs at (byte_of v 0)) (at + 1) k (byte_of v 1) 0 (second side)
+    ∙ get_or-set_other xs at k (byte_of v 0) 0 (first side)
+  where
+    first : (k < at) ⊎ (at + 2 ≤ k) → k ≢ at
+    first (inl below) e = omega arith
+    first (inr above) e = omega arith
+
+    second : (k < at) ⊎ (at + 2 ≤ k) → k ≢ at + 1
+    second (inl below) e = omega arith
+    second (inr above) e = omega arith
+
+put_other : (xs : List ℕ) (at : ℕ) (width : Width) (v k : ℕ) → (k < at) ⊎ (at + width_bytes width ≤ k)
+    → slice_index (put xs at width v) k ≡ slice_index xs k
+put_other xs at Byte v k side = get_or-set_other xs at k (byte_of v 0) 0 (apart side)
+  where
+    apart : (k < at) ⊎ (at + 1 ≤ k) → k ≢ at
+    apart (inl below) e = omega arith
+    apart (inr above) e = omega arith
+put_other xs at Half v k side = half_other xs at v k side
+put_other xs at Word v k side =
+    let half = put xs at Half v in
+    get_or-set_other (slice_set half (at + 2) (byte_of v 2)) (at + 3) k (byte_of v 3) 0 (fourth side)
+    ∙ get_or-set_other half (at + 2) k (byte_of v 2) 0 (third side) ∙ half_other xs at v k (halves side)
+  where
+    third : (k < at) ⊎ (at + 4 ≤ k) → k ≢ at + 2
+    third (inl below) e = omega arith
+    third (inr above) e = omega arith
+
+    fourth : (k < at) ⊎ (at + 4 ≤ k) → k ≢ at + 3
+    fourth (inl below) e = omega arith
+    fourth (inr above) e = omega arith
+
+    halves : (k < at) ⊎ (at + 4 ≤ k) → (k < at) ⊎ (at + 2 ≤ k)
+    halves (inl below) = inl below
+    halves (inr above) = inr (omega arith)
+
+-- a store that is not denied lies in accessible RAM
+not_denied : (misaligned flash ram : Bool)
+    → cond misaligned (Some Misaligned) (cond flash (Some NoWrite) (cond ram None (Some NoRegion))) ≡ None → ram ≡ true
+not_denied true flash ram e = cc
+not_denied false true ram e = cc
+not_denied false false true e = refl
+not_denied false false false e = cc
+
+starts : (from to at size : ℕ) → lies_within from to at size ≡ true → from ≤ at
+starts from to at size e = grind (arith, nat_tests)
+
+store_starts : (e : LayoutView) (at : ℕ) (width : Width) → denied e Store at width ≡ None → e.start ≤ at
+unfolding denied
+store_starts e at width none =
+    starts e.start e.brk at (width_bytes width)
+    (not_denied (is_misaligned Store at width) (lies_within e.flash_start e.flash_end at (width_bytes width))
+    (lies_within e.start e.brk at (width_bytes width)) none)
+
+-- what a store does not cover lies before it or after it, also seen from the start of the block
+beside : (start at size a : ℕ) → start ≤ at → start ≤ a → (nat_le at a && nat_lt a (at + size)) ≡ false
+    → (a - start < at - start) ⊎ (at - start + size ≤ a - start)
+beside start at size a low from uncovered = by_low (cases_lt a at)
+  where
+    by_high : at ≤ a → (a < at + size) ⊎ (at + size ≤ a) → (a - start < at - start) ⊎ (at - start + size ≤ a - start)
+    by_high above (inl under) = absurd (grind (arith, nat_tests))
+    by_high above (inr past) = inr (omega arith)
+
+    by_low : (a < at) ⊎ (at ≤ a) → (a - start < at - start) ⊎ (at - start + size ≤ a - start)
+    by_low (inl below) = inl (omega arith)
+    by_low (inr above) = by_high above (cases_lt a (at + size))
+
+module _ (listed : WritesAreListed) (permitted : WritesArePermitted) (own : Own) (seen : ℕ → ℕ) (regs : Registers) where
+  abbrev turn : UserTurn
+  turn = instruction_of own seen regs
+
+  -- a store of a turn that goes covers an address
+  abbrev Stored : ℕ → Type 0
+  Stored a = (turn.end ≡ Went) × IsTrue (list_any (stores_at a) turn.accesses)
+
+  by_write : (a : ℕ) → own.layout.start ≤ a → (w : Option Write)
+      → IfSome w (λ w. (turn.end ≡ Went)
+      × ((at : ℕ) → IsTrue (stores_at at (touch_of Store w.address w.width))
+      → IsTrue (list_any (stores_at at) turn.accesses)))
+      → IfSome w (λ w. denied own.layout Store w.address w.width ≡ None)
+      → (slice_index (ram_after own.layout.start w own.ram) (a - own.layout.start) ≡ own_byte own a) ⊎ Stored a
+  unfolding ram_after
+  by_write a from None lists may = inl refl
+  by_write a from (Some w) lists may = by_cover (stores_at a (touch_of Store w.address w.width)) refl
+    where
+      by_cover : (b : Bool) → stores_at a (touch_of Store w.address w.width) ≡ b
+          → (slice_index (put own.ram (w.address - own.layout.start) w.width w.value) (a - own.layout.start)
+          ≡ own_byte own a) ⊎ Stored a
+      by_cover true covers = inr (lists.0, lists.1 a covers)
+      by_cover false covers =
+          inl (put_other own.ram (w.address - own.layout.start) w.width w.value (a - own.layout.start)
+          (beside own.layout.start w.address (width_bytes w.width) a (store_starts own.layout w.address w.width may)
+          from covers))
+
+  changes_instruction : ChangesAt Stored own (with_write own turn)
+  changes_instruction a before after =
+      by_write a before.0 turn.write (listed (denied own.layout) seen regs) (permitted (denied own.layout) seen regs)
+
+-- a flag is one byte
+changes_flag : (place byte : ℕ) (own : Own)
+    → ChangesAt (λ at. flag_place place own ≡ Some at) own (with_flag place byte own)
+changes_flag place byte own a before after = by_place (lies_in_ram own.layout place 1) refl
+  where
+    by_address : own.layout.start ≤ place → (a ≡ place) ⊎ (a ≢ place)
+        → (slice_index (slice_set own.ram (place - own.layout.start) byte) (a - own.layout.start) ≡ own_byte own a)
+        ⊎ (◌≡◌ {A = Option ℕ} (Some place) (Some a))
+    by_address low (inl same) = inr (ap Some (sym same))
+    by_address low (inr apart) =
+        inl (get_or-set_other own.ram (place - own.layout.start) (a - own.layout.start) byte 0
+        (λ e. apart (same_place own.layout.start place a low before.0 e)))
+      where
+        same_place : (start place a : ℕ) → start ≤ place → start ≤ a → a - start ≡ place - start → a ≡ place
+        same_place start place a low from e = omega arith
+
+    by_place : (b : Bool) → lies_in_ram own.layout place 1 ≡ b
+        → (own_byte (cond b (record own { ram = slice_set own.ram (place - own.layout.start) byte }) own) a
+        ≡ own_byte own a) ⊎ (cond b (Some place) None ≡ Some a)
+    by_place true lies = by_address (starts own.layout.start own.layout.brk place 1 lies) (cases_eq a place)
+    by_place false lies = inl refl
+
+-- bytes that are written over others change their own places alone, wherever they stand
+over_other : (xs ys : List ℕ) (p k : ℕ) → k < length xs → (k < p) ⊎ (p + length ys ≤ k)
+    → slice_index (over xs p ys) k ≡ slice_index xs k
+over_other xs ys p k within (inl below) = grind (arith, places)
+over_other xs ys p k within (inr above) = grind (arith, places)
+
+over_nothing : (xs : List ℕ) (p n : ℕ) (ys : List ℕ) → n ≡ 0 → over xs p (take n ys) ≡ xs
+over_nothing xs p n ys none = ap (λ (m : ℕ). over xs p (take m ys)) none ∙ take-append-drop p xs
+
+-- those that fit a buffer stand inside of it
+written_at : (ram bytes : List ℕ) (start from size offset a : ℕ) → (0 < size → start ≤ from) → start ≤ a
+    → a < start + length ram
+    → (slice_index (over ram (from - start + offset) (take (size - offset) bytes)) (a - start)
+    ≡ slice_index ram (a - start)) ⊎ ((from ≤ a) × (a < from + size))
+written_at ram bytes start from size offset a lies low high = by_room (cases_lt offset size)
+  where
+    others : List ℕ
+    others = take (size - offset) bytes
+
+    short : length others ≤ size - offset
+    short = omega (arith, length-take (size - offset) bytes)
+
+    by_end : offset < size → from ≤ a → (a < from + size) ⊎ (from + size ≤ a)
+        → (slice_index (over ram (from - start + offset) others) (a - start) ≡ slice_index ram (a - start))
+        ⊎ ((from ≤ a) × (a < from + size))
+    by_end room above (inl under) = inr (above, under)
+    by_end room above (inr past) =
+        let first : start ≤ from = lies (omega arith) in
+        inl (over_other ram others (from - start + offset) (a - start) (omega arith) (inr (omega (arith, short))))
+
+    by_start : offset < size → (a < from) ⊎ (from ≤ a)
+        → (slice_index (over ram (from - start + offset) others) (a - start) ≡ slice_index ram (a - start))
+        ⊎ ((from ≤ a) × (a < from + size))
+    by_start room (inl below) =
+        inl (over_other ram others (from - start + offset) (a - start) (omega arith) (inl (omega arith)))
+    by_start room (inr above) = by_end room above (cases_lt a (from + size))
+
+    by_room : (offset < size) ⊎ (size ≤ offset)
+        → (slice_index (over ram (from - start + offset) others) (a - start) ≡ slice_index ram (a - start))
+        ⊎ ((from ≤ a) × (a < from + size))
+    by_room (inl room) = by_start room (cases_lt a from)
+    by_room (inr full) =
+        inl (ap (λ (xs : List ℕ). slice_index xs (a - start))
+        (over_nothing ram (from - start + offset) (size - offset) bytes (omega arith)))
+
+-- a buffer with bytes that may be allowed begins in the block
+begins : (e : LayoutView) (buffer : ℕ × ℕ) → IsTrue (may_share ReadWrite e buffer) → 0 < buffer.1 → e.start ≤ buffer.0
+begins e buffer may some = by_size (buffer.1 == 0) (lies_in_ram e buffer.0 buffer.1) refl refl may
+  where
+    by_size : (none ram : Bool) → (buffer.1 == 0) ≡ none → lies_in_ram e buffer.0 buffer.1 ≡ ram → (none || ram) ≡ true
+        → e.start ≤ buffer.0
+    by_size true ram is lies may = let zero_is : buffer.1 ≡ 0 = eqb-true buffer.1 0 is in omega arith
+    by_size false true is lies may = starts e.start e.brk buffer.0 buffer.1 lies
+    by_size false false is lies may = absurd (cc)
+
+changes_written : (driver number offset : ℕ) (bytes : List ℕ) (own : Own) → IsWhole own
+    → ChangesAt (IsInside (held ReadWrite driver number own)) own (with_written driver number offset bytes own)
+changes_written driver number offset bytes own whole a before after =
+    let buffer = held ReadWrite driver number own in
+    written_at own.ram bytes own.layout.start buffer.0 buffer.1 offset a
+    (begins own.layout buffer (whole.buffers.read_write driver number)) before.0
+    (omega (arith, before.0, before.1, whole.bytes))
+
+-- bytes that are cut at the kernel break stay up to there
+cut : (own o : Own) (e : LayoutView) → o.layout.start ≡ e.start → o.layout.kernel_break ≡ e.kernel_break
+    → e.start ≡ own.layout.start → o.ram ≡ take (e.kernel_break - e.start) own.ram → KeepsBytes own o
+cut own o e start grants same ram a before after =
+    ap₂ (λ (xs : List ℕ) (s : ℕ). slice_index xs (a - s)) ram (start ∙ same)
+    ∙ get_or-take (e.kernel_break - e.start) own.ram (a - own.layout.start) 0
+    (omega (arith, before.0, after.1, start, grants, same))
+
+room_start : (driver : ℕ) (e : LayoutView) (found : Option Grant) → (roomed driver e found).start ≡ e.start
+room_start driver e None = refl
+room_start driver e (Some g) = refl
+
+-- a mark moves neither the start nor the kernel break
+raised_stays : (pair : ℕ × ℕ) (e : LayoutView)
+    → ((raised pair e).start ≡ e.start) × ((raised pair e).kernel_break ≡ e.kernel_break)
+raised_stays pair e = by_tests (pair.1 == 0) (lies_in_ram e pair.0 pair.1)
+  where
+    Stays : LayoutView → Type 0
+    Stays x = (x.start ≡ e.start) × (x.kernel_break ≡ e.kernel_break)
+
+    by_tests : (none ram : Bool) → Stays (cond none e (cond ram (record e { mark = max e.mark (pair.0 + pair.1) }) e))
+    by_tests true ram = (refl, refl)
+    by_tests false true = (refl, refl)
+    by_tests false false = (refl, refl)
+
+marked_stays : (kind : PairKind) (pair : ℕ × ℕ) (e : LayoutView)
+    → ((marked kind pair e).start ≡ e.start) × ((marked kind pair e).kernel_break ≡ e.kernel_break)
+marked_stays Upcall pair e = (refl, refl)
+marked_stays ReadOnly pair e = raised_stays pair e
+marked_stays ReadWrite pair e = raised_stays pair e
+
+keeps_entering : (driver : ℕ) (own : Own) → KeepsBytes own (own_entering driver own)
+keeps_entering driver own =
+    cut own (own_entering driver own) (own_entering driver own).layout refl refl
+    (room_start driver own.layout (grant_of driver own.grants)) refl
+
+keeps_handing : (kind : PairKind) (driver number : ℕ) (pair : ℕ × ℕ) (own : Own)
+    → KeepsBytes own (handing kind driver number pair own)
+keeps_handing kind driver number pair own =
+    let e = (own_entering driver own).layout in
+    let stays = marked_stays kind pair e in
+    cut own (handing kind driver number pair own) e stays.0 stays.1
+    (room_start driver own.layout (grant_of driver own.grants)) refl
+
+pub only_writes_change_bytes : WritesAreListed → WritesArePermitted → OnlyWritesChangeBytes
+only_writes_change_bytes listed permitted = record {
+  instruction = changes_instruction listed permitted;
+  flag = changes_flag;
+  written = changes_written;
+  entering = keeps_entering;
+  handing = keeps_handing;
+}

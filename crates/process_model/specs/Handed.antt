@@ -1,0 +1,79 @@
+-- What a process hands to a driver: the upcalls that it subscribes and the buffers that it allows (TRD 104,
+-- "Subscribe",
+-- "Read-Only Allow", "Read-Write Allow"; Levy et al., SOSP 2017, section 4).
+use Rattle.std.specs.Prelude.{ℕ, ◌+◌, ◌-◌, ◌*◌, ◌/◌, ◌==◌, Bool, IsTrue, ◌||◌, max, if◌then◌else◌, List, take}
+use Rattle.tk_base.specs.declared.upcall.Upcall.{Upcall as Scheduled}
+use Rattle.process_layout.specs.LayoutView.{LayoutView}
+use Rattle.process_layout.specs.Interval.{lies_within}
+use Rattle.upcall_queue.specs.Pending.{without_key}
+use Rattle.grant_model.specs.declared.kinds.PairKind.{PairKind}
+use Rattle.grant_model.specs.declared.kinds.PairKind.TheVariants.{Upcall, ReadOnly, ReadWrite}
+use Rattle.grant_model.specs.Grants.{grant_of, with_grant, with_pair, pair_of, entered}
+use Rattle.grant_region.specs.Region.{fits, roomed}
+use Rattle.process_model.specs.Own.{Own}
+
+-- bytes from an address on lie in accessible RAM, or in accessible flash
+abbrev pub lies_in_ram : LayoutView → ℕ → ℕ → Bool
+lies_in_ram e at size = lies_within e.start e.brk at size
+
+-- so many bytes from an address on lie in accessible flash
+abbrev pub lies_in_flash : LayoutView → ℕ → ℕ → Bool
+lies_in_flash e at size = lies_within e.flash_start e.flash_end at size
+
+-- an address with bit 0 cleared
+abbrev pub even : ℕ → ℕ
+even at = at / 2 * 2
+
+-- Whether a process may hand a pair: a function is the null upcall, or 4 bytes of it lie in accessible RAM or flash; a
+-- buffer has no bytes, or all lie in accessible RAM, those of a read-only one in accessible RAM or flash.
+abbrev pub may_share : PairKind → LayoutView → ℕ × ℕ → Bool
+may_share Upcall e pair = pair.0 == 0 || lies_in_ram e (even pair.0) 4 || lies_in_flash e (even pair.0) 4
+may_share ReadOnly e pair = pair.1 == 0 || lies_in_ram e pair.0 pair.1 || lies_in_flash e pair.0 pair.1
+may_share ReadWrite e pair = pair.1 == 0 || lies_in_ram e pair.0 pair.1
+
+-- whether a driver is entered, or its grant fits
+abbrev pub has_place : ℕ → Own → Bool
+has_place driver own = fits own.layout driver (grant_of driver own.grants)
+
+-- a process once a driver has been entered: where it was not, its grant is made, fresh, from the bytes below the others
+abbrev pub own_entering : ℕ → Own → Own
+own_entering driver own =
+    let e = roomed driver own.layout (grant_of driver own.grants) in
+    record own { layout = e; ram = take (e.kernel_break - e.start) own.ram; grants = entered driver own.grants }
+
+-- the pair that a process has handed; (0, 0) at first
+abbrev pub held : PairKind → ℕ → ℕ → Own → ℕ × ℕ
+held kind driver number own = pair_of kind number (grant_of driver own.grants)
+
+-- the break may not move below the end of a buffer in RAM that has bytes
+abbrev pub raised : ℕ × ℕ → LayoutView → LayoutView
+raised pair e =
+    if pair.1 == 0 then e
+    else (if lies_in_ram e pair.0 pair.1 then record e { mark = max e.mark (pair.0 + pair.1) } else e)
+
+-- the layout once a pair was handed: a buffer in RAM that has bytes raises the mark to its end, an upcall does not
+abbrev pub marked : PairKind → ℕ × ℕ → LayoutView → LayoutView
+marked Upcall pair e = e
+marked ReadOnly pair e = raised pair e
+marked ReadWrite pair e = raised pair e
+
+-- another upcall of a driver and number takes the pending ones away
+abbrev pub still_pending : PairKind → ℕ → ℕ → List Scheduled → List Scheduled
+still_pending Upcall driver number pending = without_key driver number pending
+still_pending ReadOnly driver number pending = pending
+still_pending ReadWrite driver number pending = pending
+
+-- a process that has handed a pair to a driver: the driver is entered, the pair is the new one, and all else stays
+abbrev pub handing : PairKind → ℕ → ℕ → ℕ × ℕ → Own → Own
+handing kind driver number pair own =
+    let o = own_entering driver own in
+    record o {
+      layout = marked kind pair o.layout;
+      grants = with_grant driver (with_pair kind number pair) o.grants;
+      pending = still_pending kind driver number o.pending;
+    }
+
+-- every buffer that a process has allowed a driver lies where it may still be allowed
+pub record HoldsInPlace (own : Own) : Type 0 where
+  pub read_only : (driver number : ℕ) → IsTrue (may_share ReadOnly own.layout (held ReadOnly driver number own))
+  pub read_write : (driver number : ℕ) → IsTrue (may_share ReadWrite own.layout (held ReadWrite driver number own))

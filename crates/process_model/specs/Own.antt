@@ -1,0 +1,68 @@
+-- What the kernel keeps of one process beside its registers: where it lies, the bytes of its block and the grants in it
+-- (Levy et al., SOSP 2017); the upcalls that wait for it (TRD 104, "Yield"); which of its lives it is in, and whether
+-- it
+-- lives (TRD 104, "Exit"); how many upcalls were dropped.
+use Rattle.std.specs.Prelude.{ℕ, ◌+◌, ◌-◌, Bool, true, false, List, [], ◌++◌, replicate, drop}
+use Rattle.tk_base.specs.Numbers.{rounded_up}
+use Rattle.tk_base.specs.declared.upcall.Upcall.{Upcall}
+use Rattle.process_layout.specs.LayoutView.{LayoutView, with_break}
+use Rattle.grant_model.specs.Grants.{Grant}
+use Rattle.grant_model.specs.Encoding.{encode_grants}
+use Rattle.process_model.specs.declared.place.Object.{Object}
+use Rattle.process_model.specs.declared.place.Footprint.{Footprint}
+
+-- What the kernel keeps of a process: where its object and its memory lie; its memory; what waits for it; which of its
+-- lives it is in, counted from 0, and whether it lives; how many upcalls were dropped.
+pub record Own : Type 0 where
+  pub object : Object
+  pub layout : LayoutView
+  -- the bytes of the block below the kernel break: the process's
+  pub ram : List ℕ
+  -- its grants, the last entered first; their bytes fill the block from the kernel break on
+  pub grants : List Grant
+  -- the upcalls that wait to be delivered, the first one first
+  pub pending : List Upcall
+  pub life : ℕ
+  pub lives : Bool
+  pub dropped : ℕ
+
+-- the bytes of the block: the process's own, and its grants
+abbrev pub block_of : Own → List ℕ
+block_of own = own.ram ++ encode_grants own.grants
+
+-- a process in its place, before its first turn: its block is zero, and it has no grants
+abbrev pub opened : Footprint → Own
+opened f = record {
+  object = f.object;
+  layout = f.layout;
+  ram = replicate (f.layout.kernel_break - f.layout.start) 0;
+  grants = [];
+  pending = [];
+  life = 0;
+  lives = true;
+  dropped = 0;
+}
+
+-- a process whose break was moved to an address, rounded up to a multiple of 4 (TRD 104, "Memop")
+abbrev pub with_moved_break : ℕ → Own → Own
+with_moved_break new own = record own { layout = record own.layout { brk = rounded_up new } }
+
+-- a process that starts again, with its first break: its block is zeroed, it has no grants and no pending upcalls, and
+-- its next life begins; how many upcalls were dropped stays
+abbrev pub own_restarted : ℕ → Own → Own
+own_restarted brk own = record own {
+  layout = with_break brk own.layout;
+  ram = replicate (own.layout.end - own.layout.start) 0;
+  grants = [];
+  pending = [];
+  life = own.life + 1;
+  lives = true;
+}
+
+-- a process that ended: it has no pending upcalls, and its memory stays as it is
+abbrev pub own_ended : Own → Own
+own_ended own = record own { pending = []; lives = false }
+
+-- a process whose first pending upcall was taken out, to be delivered (TRD 104, "Yield")
+abbrev pub without_first : Own → Own
+without_first own = record own { pending = drop 1 own.pending }

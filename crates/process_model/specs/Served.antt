@@ -1,0 +1,67 @@
+-- What a driver does to a process that it serves: it schedules upcalls (TRD 104, "Subscribe", "Yield"), reads and
+-- writes
+-- the buffers that the process has allowed (TRD 104, "Read-Only Allow", "Read-Write Allow"), and keeps a value in the
+-- process's grant (Levy et al., SOSP 2017, section 4).
+use Rattle.std.specs.Prelude.{ℕ, ◌+◌, ◌-◌, ◌==◌, Bool, ◌&&◌, not, if◌then◌else◌, List, [], ◌∷◌, ◌++◌, length, take}
+use Rattle.std.specs.Prelude.{drop, slice_range, Option, option_map}
+use Rattle.tk_base.specs.declared.access.TheConstants.{FLASH_START}
+use Rattle.tk_base.specs.declared.upcall.Upcall.{Upcall as Scheduled}
+use Rattle.upcall_queue.specs.Pending.{has_room}
+use Rattle.grant_model.specs.declared.kinds.PairKind.TheVariants.{Upcall, ReadWrite}
+use Rattle.grant_model.specs.Grants.{grant_of, with_grant, with_value}
+use Rattle.process_model.specs.Own.{Own}
+use Rattle.process_model.specs.Handed.{held, lies_in_ram}
+use Rattle.tk_base.specs.Bytes.{over}
+
+-- the upcall of a driver and number that a process now holds, with arguments
+abbrev pub upcall_of : ℕ → ℕ → List ℕ → Own → Scheduled
+upcall_of driver number args own =
+    let pair = held Upcall driver number own in
+    record { driver = driver; number = number; function = pair.0; app = pair.1; args = args }
+
+-- whether an upcall that is scheduled is put last: it is not the null upcall, and there is room for it
+abbrev pub is_queued : Scheduled → Own → Bool
+is_queued upcall own = not (upcall.function == 0) && has_room own.pending
+
+-- a process for which an upcall was scheduled: it is the last that waits; where there is no room it is dropped, and
+-- counted; the null upcall changes nothing
+abbrev pub queueing : Scheduled → Own → Own
+queueing upcall own =
+    if upcall.function == 0 then own
+    else (if has_room own.pending then record own { pending = own.pending ++ upcall ∷ [] }
+    else record own { dropped = own.dropped + 1 })
+
+-- the same of the upcall that the process now holds
+abbrev pub own_scheduled : ℕ → ℕ → List ℕ → Own → Own
+own_scheduled driver number args own = queueing (upcall_of driver number args own) own
+
+-- the words of the value that a process keeps for a driver; none where the driver is not entered
+abbrev pub kept : ℕ → Own → Option (List ℕ)
+kept driver own = option_map (λ g. g.value) (grant_of driver own.grants)
+
+-- a process that keeps another value for a driver
+abbrev pub with_kept : ℕ → List ℕ → Own → Own
+with_kept driver words own = record own { grants = with_grant driver (with_value words) own.grants }
+
+-- the bytes of a process's own from an address on
+abbrev pub ram_at : Own → ℕ × ℕ → List ℕ
+ram_at own buffer = slice_range own.ram (buffer.0 - own.layout.start) (buffer.0 - own.layout.start + buffer.1)
+
+-- the bytes of a buffer that may be read, which lies in accessible RAM or in flash
+abbrev pub bytes_at : List ℕ → Own → ℕ × ℕ → List ℕ
+bytes_at flash own buffer =
+    if lies_in_ram own.layout buffer.0 buffer.1 then ram_at own buffer
+    else slice_range flash (buffer.0 - FLASH_START) (buffer.0 - FLASH_START + buffer.1)
+
+-- those bytes that fit a buffer from an offset in it on
+abbrev pub fitting : ℕ × ℕ → ℕ → List ℕ → List ℕ
+fitting buffer offset bytes = take (buffer.1 - offset) bytes
+
+-- a process in whose buffer bytes were written from an offset in it on, as many as fit
+abbrev pub own_written : ℕ × ℕ → ℕ → List ℕ → Own → Own
+own_written buffer offset bytes own =
+    record own { ram = over own.ram (buffer.0 - own.layout.start + offset) (fitting buffer offset bytes) }
+
+-- the same of the read-write buffer that the process has allowed a driver
+abbrev pub with_written : ℕ → ℕ → ℕ → List ℕ → Own → Own
+with_written driver number offset bytes own = own_written (held ReadWrite driver number own) offset bytes own

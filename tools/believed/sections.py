@@ -1,0 +1,53 @@
+"""What the page is made of: the one place where the tool names crates, files and functions.
+
+A section is a heading with what stands in it, in reading order: crates, or files of specs/ as crate/File. A file that
+is named by itself stands there, and the rest of its crate where the crate is named.
+"""
+
+# The contract that the page is about, and how many lines a reader has to believe at most: what stands today fits.
+HEADLINE = ("tock_cli/serve.rt", "serve")
+LIMIT = 4050
+
+SECTIONS = [
+    ("What the program promises", [
+        "tock_cli/Served", "tock_cli/Refusals", "tock_cli/Causes", "tock_cli/Comes", "tk_outside"]),
+    ("The command line", ["tock_cli/Words", "decimal_number"]),
+    ("The text of a run", [
+        "tock_cli/RunText", "board_report", "kernel_model/Shown", "process_record/Name", "process_record/Emit",
+        "process_record/Summary"]),
+    ("What holds of the run", [
+        "tock_cli/Accounts", "board_core/Certified", "board_core/Alone", "kernel_model/Accounts",
+        "kernel_model/Causes", "kernel_model/Accesses", "kernel_model/Prints", "kernel_model/Refused",
+        "kernel_model/Replay", "kernel_model/Choices", "kernel_model/Histories", "process_model/Changes",
+        "process_model/Flash", "process_model/Permission", "driver_model/Bytes", "rv32_model/Laws"]),
+    ("Runs by round robin", ["kernel_model/Run", "turn_scheduler"]),
+    ("The opening world, and one step", ["board_core/Opening", "board_core/Settings", "kernel_model/World"]),
+    ("One process, and what happens to it", [
+        "kernel_model/Record", "kernel_model/Turn", "process_record/Process", "process_model/Own",
+        "process_model/Instruction", "fault_policy", "process_layout/LayoutView", "process_layout/Interval"]),
+    ("System calls", [
+        "kernel_model/Calls", "syscall_abi", "syscall_filter", "tk_base/Call", "process_model", "upcall_queue",
+        "grant_model", "grant_region"]),
+    ("Drivers and devices", ["driver_model", "board_devices", "grant_values"]),
+    ("Instructions and permission", ["rv32_model", "process_layout", "tk_base"]),
+    ("Images and placement", ["tbf_headers", "flash_walk", "app_placement"]),
+    ("The script", ["script_text"]),
+    ("The image tool and soak runs", ["image_make"]),
+]
+
+# The type of a board, and the functions whose contracts stand beside the headline.
+BOARD = ("board_core/board.rt", "Board")
+STEPS = [("board_core/board.rt", "step"), ("board_core/play.rt", "play")]
+# Files of functions that do nothing: the contract of each public one is a law.
+LAWS = ["board_core/certified.rt", "board_core/laws.rt"]
+
+# What a reader is told before the contract, as it is no matter of definitions.
+PREMISES = """\
+What a file holds and what was written are known by what the shelf and the sink tell. Shelves and sinks in memory tell
+their bytes. The two adapters of the built program, for the files of the host and its standard output, tell none: of
+them the contract says no bytes. Beside the contract a reader trusts the checker, the compiler, the library of the kit,
+and what the host does under the two adapters."""
+
+# What of its words the head comment of a file says that is the source of its definitions.
+SOURCES = ["TRD 104", "Tock Binary Format", "Levy et al.", "manual", "Tock", "this board's own", "this tool's own"]
+PROOFS_ONLY = "Only proofs use this"
