@@ -1,7 +1,7 @@
 -- What drivers read of flash for a process is its own.
 use Rattle.std.proofs.Common.{◌≡◌, ℕ, ◌==◌, Bool, true, false, min, if◌then◌else◌, List, [], drop, length, take, Option}
 use Rattle.std.proofs.Common.{None, Some, option_map, unwrap_or, refl, ap}
-use Rattle.grant_model.specs.declared.kinds.PairKind.TheVariants.{ReadOnly}
+use Rattle.tk_base.specs.declared.kinds.PairKind.TheVariants.{ReadOnly}
 use Rattle.grant_values.specs.declared.console.WaitingWrite.{WaitingWrite}
 use Rattle.grant_values.specs.declared.storage.StorageKind.{StorageKind}
 use Rattle.grant_values.specs.declared.storage.StorageKind.TheVariants.{Read, Write}

@@ -24,7 +24,7 @@ use Rattle.tk_outside.specs.Count.{counted}
 use Rattle.process_model.specs.Flash.{HasObject, ReadsOwnFlash, only_object}
 use Rattle.process_model.specs.Handed.{HoldsInPlace, held}
 use Rattle.process_model.specs.Served.{bytes_at}
-use Rattle.grant_model.specs.declared.kinds.PairKind.TheVariants.{ReadOnly}
+use Rattle.tk_base.specs.declared.kinds.PairKind.TheVariants.{ReadOnly}
 use Rattle.grant_values.specs.declared.console.WaitingWrite.{WaitingWrite}
 use Rattle.process_model.specs.Own.{Own}
 use Rattle.process_record.specs.declared.process.Process.{Process}

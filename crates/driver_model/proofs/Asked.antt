@@ -3,8 +3,8 @@ use Rattle.std.proofs.Common.{◌≡◌, ℕ, ◌==◌, Bool, true, false, List,
 use Rattle.std.proofs.Common.{unwrap_or, refl, ap, ◌∙◌, eqb-true}
 use Rattle.std.proofs.lemmas.Bool.{false≢true}
 use Rattle.std.specs.Option.{option_map}
-use Rattle.grant_model.specs.declared.kinds.PairKind.{PairKind}
-use Rattle.grant_model.specs.declared.kinds.PairKind.TheVariants.{Upcall, ReadOnly, ReadWrite}
+use Rattle.tk_base.specs.declared.kinds.PairKind.{PairKind}
+use Rattle.tk_base.specs.declared.kinds.PairKind.TheVariants.{Upcall, ReadOnly, ReadWrite}
 use Rattle.grant_model.specs.Grants.{with_pair, Grant, entered, grant_of, with_grant, with_value, shape_of}
 use Rattle.grant_values.specs.declared.console.WaitingRead.{WaitingRead}
 use Rattle.grant_values.specs.declared.console.WaitingWrite.{WaitingWrite}

@@ -4,8 +4,8 @@ use Rattle.std.proofs.Common.{None, Some, refl, sym, ap, subst, ◌∙◌, arith
 use Rattle.std.proofs.lemmas.Bool.{false≢true, leb-true}
 use Rattle.grant_values.specs.Drivers.{cost_of}
 use Rattle.grant_model.specs.Grants.{Grant, entering as entering_grants, grant_of, shape_of, with_grant, with_pair}
-use Rattle.grant_model.specs.declared.kinds.PairKind.{PairKind}
-use Rattle.grant_model.specs.declared.kinds.PairKind.TheVariants.{Upcall, ReadOnly, ReadWrite}
+use Rattle.tk_base.specs.declared.kinds.PairKind.{PairKind}
+use Rattle.tk_base.specs.declared.kinds.PairKind.TheVariants.{Upcall, ReadOnly, ReadWrite}
 use Rattle.process_layout.specs.LayoutView.{LayoutView}
 use Rattle.grant_region.specs.Region.{fits, roomed}
 use Rattle.process_model.specs.Own.{Own}

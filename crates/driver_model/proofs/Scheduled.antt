@@ -12,7 +12,7 @@ use Rattle.process_model.specs.Own.{Own}
 use Rattle.process_model.specs.Handed.{held}
 use Rattle.process_model.specs.Served.{queueing, own_scheduled, upcall_of}
 use Rattle.process_model.specs.Changes.{IsWhole}
-use Rattle.grant_model.specs.declared.kinds.PairKind.TheVariants.{Upcall as Upcalls}
+use Rattle.tk_base.specs.declared.kinds.PairKind.TheVariants.{Upcall as Upcalls}
 use Rattle.driver_model.specs.Laws.{IsAtMostOneMore}
 use Rattle.driver_model.specs.Keeping.{KeepsLimit}
 use Rattle.driver_model.specs.Upcalls.{IsHeld, SchedulesHeld}

@@ -5,7 +5,7 @@ use Rattle.std.specs.Prelude.{IsTrue}
 use Rattle.std.proofs.lemmas.Bool.{cases_lt}
 use Rattle.std.proofs.lemmas.Bool.Decides.{nat_tests}
 use Rattle.std.proofs.lemmas.List.{length-append, length-drop, length-take}
-use Rattle.grant_model.specs.declared.kinds.PairKind.TheVariants.{ReadWrite}
+use Rattle.tk_base.specs.declared.kinds.PairKind.TheVariants.{ReadWrite}
 use Rattle.process_layout.specs.LayoutView.{LayoutView}
 use Rattle.process_layout.specs.Interval.{lies_within}
 use Rattle.process_model.specs.Own.{Own}

@@ -1,7 +1,7 @@
 -- What drivers write of the bytes that are a process's own: only what it has allowed them (TRD 104, "Read-Write
 -- Allow").
 use Rattle.std.specs.Prelude.{◌≡◌, ℕ, Bool, true, List, [], None, Some}
-use Rattle.grant_model.specs.declared.kinds.PairKind.TheVariants.{ReadWrite}
+use Rattle.tk_base.specs.declared.kinds.PairKind.TheVariants.{ReadWrite}
 use Rattle.process_model.specs.Own.{Own}
 use Rattle.process_model.specs.Handed.{held}
 use Rattle.process_model.specs.Changes.{ChangesAt, IsInside, IsWhole, KeepsBytes}

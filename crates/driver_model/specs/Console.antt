@@ -6,7 +6,7 @@ use Rattle.tk_base.specs.Call.{code_of}
 use Rattle.tk_base.specs.declared.call.ErrorCode.TheVariants.{CANCEL, SIZE}
 use Rattle.tk_base.specs.declared.call.CallRule.TheVariants.{Empty, Nothing}
 use Rattle.tk_base.specs.declared.limits.TheConstants.{PRINT_LIMIT}
-use Rattle.grant_model.specs.declared.kinds.PairKind.TheVariants.{ReadOnly, ReadWrite}
+use Rattle.tk_base.specs.declared.kinds.PairKind.TheVariants.{ReadOnly, ReadWrite}
 use Rattle.grant_values.specs.declared.console.WaitingRead.{WaitingRead}
 use Rattle.grant_values.specs.declared.console.WaitingWrite.{WaitingWrite}
 use Rattle.grant_values.specs.declared.drivers.Driver.TheVariants.{Console}

@@ -4,9 +4,9 @@ use Rattle.std.specs.Prelude.{◌≡◌, ◌≤◌, ◌<◌, ℕ, ◌+◌, ◌-�
 use Rattle.tk_base.specs.declared.limits.TheConstants.{PENDING_LIMIT}
 use Rattle.grant_values.specs.Drivers.{cost_of}
 use Rattle.grant_model.specs.Grants.{Grant, shape_of}
-use Rattle.grant_model.specs.declared.kinds.PairKind.{PairKind}
+use Rattle.tk_base.specs.declared.kinds.PairKind.{PairKind}
 use Rattle.process_model.specs.Own.{Own}
-use Rattle.grant_model.specs.Kinds.{count_of}
+use Rattle.tk_base.specs.Kinds.{count_of}
 use Rattle.process_model.specs.Handed.{HoldsInPlace, handing, has_place, may_share}
 use Rattle.process_model.specs.Changes.{IsWhole}
 use Rattle.process_model.specs.Pairs.{HasShape}

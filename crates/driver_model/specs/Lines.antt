@@ -2,7 +2,7 @@
 -- board's own rule.
 use Rattle.std.specs.Prelude.{◌≡◌, ◌≤◌, ℕ, ◌+◌, Bool, true, false, not, ◌&&◌, if◌then◌else◌, List, [], ◌∷◌, Some}
 use Rattle.std.specs.Prelude.{is_some, IfSome}
-use Rattle.grant_model.specs.declared.kinds.PairKind.{PairKind}
+use Rattle.tk_base.specs.declared.kinds.PairKind.{PairKind}
 use Rattle.process_model.specs.Own.{Own, own_restarted, own_ended}
 use Rattle.process_model.specs.Handed.{own_entering, handing}
 use Rattle.driver_model.specs.Commands.{BoardRequest, Waits, Leaves, Lights, QueueName, Commanded, is_same}

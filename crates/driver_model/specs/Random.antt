@@ -8,7 +8,7 @@ use Rattle.grant_values.specs.declared.drivers.Driver.TheVariants.{Random}
 use Rattle.grant_values.specs.Random.{random_of, random_words}
 use Rattle.grant_values.specs.Drivers.{number_of_driver}
 use Rattle.syscall_abi.specs.declared.reply.Reply.TheVariants.{Success}
-use Rattle.grant_model.specs.declared.kinds.PairKind.TheVariants.{ReadWrite}
+use Rattle.tk_base.specs.declared.kinds.PairKind.TheVariants.{ReadWrite}
 use Rattle.process_model.specs.Own.{Own}
 use Rattle.process_model.specs.Handed.{held}
 use Rattle.process_model.specs.Served.{ram_at, own_scheduled, with_written}

@@ -1,7 +1,7 @@
 -- The upcalls that drivers schedule: each is the one that its process then holds (TRD 104, "Subscribe", "Yield").
 use Rattle.std.specs.Prelude.{◌≡◌, ◌≢◌, ◌≤◌, List, ◌++◌, All, length}
 use Rattle.tk_base.specs.declared.upcall.Upcall.{Upcall as Scheduled}
-use Rattle.grant_model.specs.declared.kinds.PairKind.TheVariants.{Upcall}
+use Rattle.tk_base.specs.declared.kinds.PairKind.TheVariants.{Upcall}
 use Rattle.process_model.specs.Own.{Own}
 use Rattle.process_model.specs.Handed.{held}
 use Rattle.driver_model.specs.Services.{OfEachService}

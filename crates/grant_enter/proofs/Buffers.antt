@@ -11,7 +11,7 @@ use Rattle.std.proofs.lemmas.List.{places}
 use Rattle.tk_base.specs.declared.access.TheConstants.{FLASH_START, RAM_START}
 use Rattle.process_layout.specs.LayoutView.{LayoutView}
 use Rattle.process_layout.specs.Interval.{lies_within}
-use Rattle.grant_model.specs.declared.kinds.PairKind.TheVariants.{ReadOnly, ReadWrite}
+use Rattle.tk_base.specs.declared.kinds.PairKind.TheVariants.{ReadOnly, ReadWrite}
 use Rattle.grant_model.specs.Grants.{Grant, grant_of, pair_of}
 use Rattle.board_memory.specs.Memory.{MemoryBytes, ram_between}
 use Rattle.process_model.specs.Handed.{HoldsInPlace, held, may_share, lies_in_ram, lies_in_flash}

@@ -3,7 +3,7 @@ ghost use Rattle.std.specs.Prelude.{◌≡◌, ◌+◌, ◌-◌, ◌==◌, ◌<�
 ghost use Rattle.std.specs.Borrow.{sem};
 ghost use Rattle.tk_base.specs.declared.access.TheConstants.{FLASH_START, RAM_START};
 ghost use Rattle.board_memory.specs.Memory.{ram_between};
-ghost use Rattle.grant_model.specs.declared.kinds.PairKind.TheVariants.{ReadOnly, ReadWrite};
+ghost use Rattle.tk_base.specs.declared.kinds.PairKind.TheVariants.{ReadOnly, ReadWrite};
 ghost use Rattle.process_model.specs.Handed.{held};
 ghost use Rattle.upcall_queue.specs.Pending.{has_room};
 ghost use Rattle.process_model.specs.Served.{bytes_at, is_queued, ram_at, own_scheduled, upcall_of, with_written};

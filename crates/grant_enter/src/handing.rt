@@ -7,11 +7,10 @@ ghost use Rattle.grant_enter.specs.Seats.{HasBlock, Reseats, SitsIn, SwapsIn, ke
 
 use crate::seat::{Pending, Seat};
 use board_memory::{Block, Memory, SplitBlock};
-use grant_model::PairKind;
 use grant_region::NoRoom;
 use process_layout::Layout;
 use swap_tables::{swap_ro, swap_rw, swap_upcall};
-use tk_base::Counts;
+use tk_base::{Counts, PairKind};
 
 /// The parts of a layout are in their order, as always. This does nothing.
 pub(crate) fn in_order(layout: &Layout)

@@ -18,7 +18,7 @@ use crate::instruction::{instruction_laws, turn_in, turns_in};
 use crate::seat::Seat;
 use crate::visit::{EnterError, Stale, Visit, block_at, enter_seat, peek_seat, visit_seat};
 use board_memory::{Memory, set_process};
-use grant_model::{PairKind, what_is_laid_is_read_back};
+use grant_model::what_is_laid_is_read_back;
 use grant_region::NoRoom;
 use grant_values::GrantValue;
 use pmp_regions::Pmp;
@@ -27,7 +27,7 @@ use process_model::Footprint;
 use rv32_model::{TurnEnd, sees_only_permitted, writes_are_permitted};
 use std::alloc::Global;
 use std::marker::Model;
-use tk_base::{Addr, Counts, NoMemory, ProcessId, Regs, Slot, Upcall, a_store_is_put};
+use tk_base::{a_store_is_put, Addr, Counts, NoMemory, PairKind, ProcessId, Regs, Slot, Upcall};
 
 /// The memory of the processes, and what the kernel keeps of each beside its registers: where its memory
 /// lies, which life it is in, whether it lives, how many upcalls it missed (Levy et al., SOSP 2017).

@@ -6,7 +6,7 @@ use Rattle.std.proofs.lemmas.List.{take_at, drop_at, length-replicate}
 use Rattle.tk_base.specs.declared.upcall.Counts.{Counts}
 use Rattle.grant_values.specs.Words.{IsWord, WordsInBytes, words_of}
 use Rattle.grant_values.specs.Drivers.{cost_of}
-use Rattle.grant_model.specs.declared.kinds.PairKind.TheVariants.{Upcall, ReadOnly, ReadWrite}
+use Rattle.tk_base.specs.declared.kinds.PairKind.TheVariants.{Upcall, ReadOnly, ReadWrite}
 use Rattle.grant_model.specs.Grants.{Grant, shape_of}
 use Rattle.grant_model.specs.Encoding.{body_size, padding_of, pair_words, value_words, body_words, areas, encode_grants}
 use Rattle.grant_model.specs.Encoding.{pairs_at_front, grant_in, grants_in, decode_grants, IsSound, EncodesGrants}

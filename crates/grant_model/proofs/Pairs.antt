@@ -6,9 +6,9 @@ use Rattle.std.proofs.lemmas.List.{set-append_left, set-append_right, get_or_app
 use Rattle.std.proofs.lemmas.List.{length-set}
 use Rattle.grant_values.specs.Words.{IsWord}
 use Rattle.grant_values.specs.Drivers.{counts_of, cost_of}
-use Rattle.grant_model.specs.declared.kinds.PairKind.{PairKind}
-use Rattle.grant_model.specs.declared.kinds.PairKind.TheVariants.{Upcall, ReadOnly, ReadWrite}
-use Rattle.grant_model.specs.Kinds.{count_of, pairs_before}
+use Rattle.tk_base.specs.declared.kinds.PairKind.{PairKind}
+use Rattle.tk_base.specs.declared.kinds.PairKind.TheVariants.{Upcall, ReadOnly, ReadWrite}
+use Rattle.tk_base.specs.Kinds.{count_of, pairs_before}
 use Rattle.grant_model.specs.Grants.{Grant, shape_of, pairs_of, with_pair}
 use Rattle.grant_model.specs.Encoding.{pair_words, value_words, body_words, IsSound}
 use Rattle.grant_model.proofs.Back.{length-pairs}

@@ -6,8 +6,8 @@ use Rattle.std.specs.Int.{w32, to_le_bytes}
 use Rattle.std.proofs.lemmas.List.{take_at, drop_at}
 use Rattle.tk_base.specs.declared.upcall.Counts.{Counts}
 use Rattle.grant_values.specs.Words.{IsWord, WordsInBytes, bytes_of_words, words_of}
-use Rattle.grant_model.specs.declared.kinds.PairKind.{PairKind}
-use Rattle.grant_model.specs.declared.kinds.PairKind.TheVariants.{Upcall, ReadOnly, ReadWrite}
+use Rattle.tk_base.specs.declared.kinds.PairKind.{PairKind}
+use Rattle.tk_base.specs.declared.kinds.PairKind.TheVariants.{Upcall, ReadOnly, ReadWrite}
 use Rattle.grant_model.specs.declared.places.Area.{Area}
 use Rattle.grant_model.specs.Grants.{Grant, shape_of, pairs_of, with_grant, with_value}
 use Rattle.grant_model.specs.Encoding.{padding_of, pair_words, body_words, areas, IsSound, EncodesGrants, Tells}

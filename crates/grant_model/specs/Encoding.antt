@@ -6,9 +6,9 @@ use Rattle.std.specs.List.{AllByRecursion}
 use Rattle.tk_base.specs.declared.upcall.Counts.{Counts}
 use Rattle.grant_values.specs.Words.{IsWord, bytes_of_words, words_of}
 use Rattle.grant_values.specs.Drivers.{counts_of, cost_of}
-use Rattle.grant_model.specs.declared.kinds.PairKind.{PairKind}
+use Rattle.tk_base.specs.declared.kinds.PairKind.{PairKind}
 use Rattle.grant_model.specs.declared.places.Area.{Area}
-use Rattle.grant_model.specs.Kinds.{count_of}
+use Rattle.tk_base.specs.Kinds.{count_of}
 use Rattle.grant_model.specs.Grants.{Grant, shape_of, pairs_of}
 
 -- how many words of a grant follow its driver and its cost, and how many of them are padding

@@ -3,8 +3,8 @@
 use Rattle.std.specs.Prelude.{ℕ, ◌/◌, ◌==◌, if◌then◌else◌, List, [], ◌∷◌, replicate, slice_index_or, slice_set, Option}
 use Rattle.std.specs.Prelude.{None, Some}
 use Rattle.tk_base.specs.declared.upcall.Counts.{Counts}
-use Rattle.grant_model.specs.declared.kinds.PairKind.{PairKind}
-use Rattle.grant_model.specs.declared.kinds.PairKind.TheVariants.{Upcall, ReadOnly, ReadWrite}
+use Rattle.tk_base.specs.declared.kinds.PairKind.{PairKind}
+use Rattle.tk_base.specs.declared.kinds.PairKind.TheVariants.{Upcall, ReadOnly, ReadWrite}
 use Rattle.grant_values.specs.Drivers.{counting, counts_of}
 
 -- A grant: its driver, the pairs of function and data of its upcalls, those of address and size of its buffers, and

@@ -3,9 +3,9 @@ use Rattle.std.specs.Prelude.{ℕ, ◌≡◌, ◌+◌, ◌*◌, ◌/◌, ◌<◌
 use Rattle.std.specs.Prelude.{slice_set, None, Some}
 use Rattle.std.specs.List.{AllByRecursion}
 use Rattle.grant_values.specs.Words.{IsWord, bytes_of_words, words_of}
-use Rattle.grant_model.specs.declared.kinds.PairKind.{PairKind}
+use Rattle.tk_base.specs.declared.kinds.PairKind.{PairKind}
 use Rattle.grant_model.specs.declared.places.Area.{Area}
-use Rattle.grant_model.specs.Kinds.{count_of, pairs_before}
+use Rattle.tk_base.specs.Kinds.{count_of, pairs_before}
 use Rattle.grant_model.specs.Grants.{Grant, shape_of, grant_of, with_grant, pair_of, with_pair, with_value}
 use Rattle.grant_model.specs.Encoding.{body_size, body_words, areas, encode_grants, IsSound, decode_grants}
 use Rattle.grant_model.specs.Encoding.{EncodesGrants, Tells, area_of}

@@ -1,4 +1,3 @@
-pub mod Kinds
 pub mod Grants
 pub mod Encoding
 pub mod Laws

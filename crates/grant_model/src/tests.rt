@@ -1,7 +1,7 @@
 //! Worked cases of the definitions, computed from them alone: the code here does nothing. The bytes
 //! were put together by hand.
 ghost use Rattle.std.specs.Prelude.{◌≡◌, [], ◌∷◌, ◌++◌, replicate};
-ghost use Rattle.grant_model.specs.declared.kinds.PairKind.TheVariants.{Upcall, ReadWrite};
+ghost use Rattle.tk_base.specs.declared.kinds.PairKind.TheVariants.{Upcall, ReadWrite};
 ghost use Rattle.grant_model.specs.Grants.{entered, pair_of, grant_of, with_grant, with_pair};
 ghost use Rattle.grant_model.specs.Encoding.{encode_grants};
 

@@ -6,9 +6,9 @@ use Rattle.std.proofs.lemmas.List.{replicate-append-replicate, length-replicate,
 use Rattle.tk_base.specs.declared.upcall.Counts.{Counts}
 use Rattle.grant_values.specs.Words.{IsWord, bytes_of_words}
 use Rattle.grant_values.specs.Drivers.{cost_of}
-use Rattle.grant_model.specs.declared.kinds.PairKind.{PairKind}
-use Rattle.grant_model.specs.declared.kinds.PairKind.TheVariants.{Upcall, ReadOnly, ReadWrite}
-use Rattle.grant_model.specs.Kinds.{count_of}
+use Rattle.tk_base.specs.declared.kinds.PairKind.{PairKind}
+use Rattle.tk_base.specs.declared.kinds.PairKind.TheVariants.{Upcall, ReadOnly, ReadWrite}
+use Rattle.tk_base.specs.Kinds.{count_of}
 use Rattle.grant_model.specs.Grants.{shape_of, pairs_of, fresh_of, fresh}
 use Rattle.grant_model.specs.Encoding.{body_size, padding_of, pair_words, value_words, body_words, IsSound, Tells}
 use Rattle.grant_model.specs.Laws.{IsReadBack}

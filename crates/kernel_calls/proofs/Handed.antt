@@ -1,7 +1,7 @@
 -- A swap that was served, and one that was refused.
 use Rattle.std.proofs.Common.{◌≡◌, ℕ, List, None, Some, sym, ap, ap₂, ◌∙◌}
 use Rattle.tk_base.specs.declared.call.CallRule.{CallRule}
-use Rattle.grant_model.specs.declared.kinds.PairKind.{PairKind}
+use Rattle.tk_base.specs.declared.kinds.PairKind.{PairKind}
 use Rattle.syscall_abi.specs.declared.reply.Reply.{Reply}
 use Rattle.syscall_abi.specs.declared.reply.Reply.TheVariants.{SuccessU32U32}
 use Rattle.process_model.specs.Own.{Own}

@@ -14,11 +14,10 @@ use crate::swaps::swap;
 use crate::yields::yield_call;
 use driver_model::takes_commands;
 use grant_enter::Home;
-use grant_model::PairKind;
 use kernel_model::no_call_is_left;
 use process_record::{Outcome, Process};
 use syscall_abi::Call;
-use tk_base::{CallRule, Slot};
+use tk_base::{CallRule, PairKind, Slot};
 
 /// Whether a call is a command to a driver that takes commands.
 fn is_taken(call: &Call) -> bool

@@ -8,12 +8,11 @@ ghost use Rattle.kernel_calls.specs.Outcomes.{broken_by, ComesAt, IsOfSlot, Keep
 
 use crate::replies::{failed_swap, give, refuse};
 use grant_enter::Home;
-use grant_model::PairKind;
 use grant_values::counts;
 use process_layout::Layout;
 use process_record::{Outcome, Process};
 use syscall_abi::Reply;
-use tk_base::{CallRule, Slot};
+use tk_base::{CallRule, PairKind, Slot};
 
 /// Whether a process may hand a pair: a null upcall, or a function of which 4 bytes lie in accessible RAM or
 /// flash; a buffer without bytes, or one that lies in accessible RAM, or, read-only, in accessible flash.

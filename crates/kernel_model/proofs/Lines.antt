@@ -3,7 +3,7 @@ use Rattle.std.proofs.Common.{◌≡◌, ℕ, Bool, true, cond, List, [], Option
 use Rattle.std.proofs.Common.{subst, ◌+◌, ◌≤◌}
 use Rattle.std.specs.Option.{option_and_then, option_map}
 use Rattle.grant_values.specs.declared.storage.StorageRequest.{StorageRequest}
-use Rattle.grant_model.specs.declared.kinds.PairKind.{PairKind}
+use Rattle.tk_base.specs.declared.kinds.PairKind.{PairKind}
 use Rattle.grant_model.specs.Grants.{Grant, grant_of}
 use Rattle.process_model.specs.Own.{Own, own_ended}
 use Rattle.process_model.specs.Handed.{handing}

@@ -12,9 +12,9 @@ use Rattle.tbf_headers.specs.declared.fault.HeaderFault.{HeaderFault}
 use Rattle.tbf_headers.specs.declared.program.Main.{Main}
 use Rattle.tbf_headers.specs.Meaning.{Meaning, header_reading}
 use Rattle.grant_values.specs.Drivers.{counts_of}
-use Rattle.grant_model.specs.declared.kinds.PairKind.{PairKind}
-use Rattle.grant_model.specs.declared.kinds.PairKind.TheVariants.{Upcall, ReadOnly, ReadWrite}
-use Rattle.grant_model.specs.Kinds.{count_of}
+use Rattle.tk_base.specs.declared.kinds.PairKind.{PairKind}
+use Rattle.tk_base.specs.declared.kinds.PairKind.TheVariants.{Upcall, ReadOnly, ReadWrite}
+use Rattle.tk_base.specs.Kinds.{count_of}
 use Rattle.grant_model.specs.Grants.{Grant, shape_of}
 use Rattle.tk_base.specs.declared.call.CallRule.TheVariants.{NoDriver, NoNumber, NoRoom, Outside}
 use Rattle.process_layout.specs.LayoutView.{LayoutView, first_break, permits_break}

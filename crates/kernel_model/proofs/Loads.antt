@@ -8,7 +8,7 @@ use Rattle.tk_base.specs.declared.access.Access.TheVariants.{Load}
 use Rattle.tk_base.specs.declared.access.Rule.TheVariants.{Misaligned, NoRegion}
 use Rattle.tk_base.specs.declared.access.Width.TheVariants.{Byte}
 use Rattle.grant_values.specs.declared.console.WaitingWrite.{WaitingWrite}
-use Rattle.grant_model.specs.declared.kinds.PairKind.TheVariants.{ReadOnly}
+use Rattle.tk_base.specs.declared.kinds.PairKind.TheVariants.{ReadOnly}
 use Rattle.process_layout.specs.LayoutView.{LayoutView}
 use Rattle.process_layout.specs.Interval.{lies_within}
 use Rattle.process_layout.specs.Permission.{denied_in_flash, denied_in_ram}

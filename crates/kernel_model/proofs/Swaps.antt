@@ -22,10 +22,10 @@ use Rattle.rv32_model.specs.declared.turn_end.TurnEnd.{TurnEnd}
 use Rattle.rv32_model.specs.declared.turn_end.TurnEnd.TheVariants as ends
 use Rattle.rv32_model.specs.UserTurn.{MemoryAccess}
 use Rattle.grant_values.specs.Drivers.{counts_of}
-use Rattle.grant_model.specs.declared.kinds.PairKind.{PairKind}
-use Rattle.grant_model.specs.declared.kinds.PairKind.TheVariants.{Upcall, ReadOnly, ReadWrite}
+use Rattle.tk_base.specs.declared.kinds.PairKind.{PairKind}
+use Rattle.tk_base.specs.declared.kinds.PairKind.TheVariants.{Upcall, ReadOnly, ReadWrite}
 use Rattle.grant_model.specs.Grants.{shape_of}
-use Rattle.grant_model.specs.Kinds.{count_of}
+use Rattle.tk_base.specs.Kinds.{count_of}
 use Rattle.process_model.specs.Own.{Own, own_ended as ended_own}
 use Rattle.process_model.specs.Handed.{handing, held}
 use Rattle.process_model.specs.Pairs.{HandsOne, HandsTheSame, HasShape, OnlyHandingChangesPairs}

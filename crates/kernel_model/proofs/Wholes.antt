@@ -9,8 +9,8 @@ use Rattle.tk_base.specs.declared.access.Width.TheVariants.{Byte, Half, Word}
 use Rattle.tk_base.specs.declared.call.CallRule.TheVariants.{NoDriver, NoNumber, NoRoom, Outside}
 use Rattle.rv32_model.specs.UserTurn.{Write}
 use Rattle.grant_values.specs.Drivers.{counts_of}
-use Rattle.grant_model.specs.declared.kinds.PairKind.{PairKind}
-use Rattle.grant_model.specs.Kinds.{count_of}
+use Rattle.tk_base.specs.declared.kinds.PairKind.{PairKind}
+use Rattle.tk_base.specs.Kinds.{count_of}
 use Rattle.grant_model.specs.Grants.{Grant, shape_of}
 use Rattle.process_layout.specs.LayoutView.{LayoutView}
 use Rattle.process_model.specs.Own.{Own}

@@ -6,7 +6,7 @@ use Rattle.std.specs.Prelude.{IfSome, is_some, is_none, option_and_then}
 use Rattle.std.specs.List.{flat_map}
 use Rattle.tk_base.specs.declared.process.Choice.{Choice}
 use Rattle.tk_base.specs.declared.upcall.Upcall.{Upcall as Scheduled}
-use Rattle.grant_model.specs.declared.kinds.PairKind.TheVariants.{Upcall}
+use Rattle.tk_base.specs.declared.kinds.PairKind.TheVariants.{Upcall}
 use Rattle.driver_model.specs.Upcalls.{IsHeld}
 use Rattle.process_record.specs.declared.emit.CallMade.{CallMade}
 use Rattle.process_record.specs.declared.process.Process.{Process}

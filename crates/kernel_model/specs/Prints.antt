@@ -5,7 +5,7 @@ use Rattle.tk_base.specs.declared.access.Access.TheVariants.{Load}
 use Rattle.tk_base.specs.declared.access.Width.TheVariants.{Byte}
 use Rattle.tk_base.specs.declared.process.Choice.{Choice}
 use Rattle.grant_values.specs.declared.console.WaitingWrite.{WaitingWrite}
-use Rattle.grant_model.specs.declared.kinds.PairKind.TheVariants.{ReadOnly}
+use Rattle.tk_base.specs.declared.kinds.PairKind.TheVariants.{ReadOnly}
 use Rattle.process_model.specs.Handed.{held}
 use Rattle.process_model.specs.Permission.{denied}
 use Rattle.process_model.specs.Served.{bytes_at}

@@ -18,8 +18,8 @@ use Rattle.rv32_model.specs.UserTurn.{UserTurn, Write, touch_of}
 use Rattle.rv32_model.specs.Laws.{WritesAreListed, WritesArePermitted, stores_at}
 use Rattle.process_layout.specs.LayoutView.{LayoutView}
 use Rattle.process_layout.specs.Interval.{lies_within}
-use Rattle.grant_model.specs.declared.kinds.PairKind.{PairKind}
-use Rattle.grant_model.specs.declared.kinds.PairKind.TheVariants.{Upcall, ReadOnly, ReadWrite}
+use Rattle.tk_base.specs.declared.kinds.PairKind.{PairKind}
+use Rattle.tk_base.specs.declared.kinds.PairKind.TheVariants.{Upcall, ReadOnly, ReadWrite}
 use Rattle.grant_model.specs.Grants.{Grant, grant_of}
 use Rattle.grant_region.specs.Region.{roomed}
 use Rattle.process_model.specs.Own.{Own}

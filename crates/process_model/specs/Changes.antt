@@ -5,8 +5,8 @@ use Rattle.std.specs.List.{list_any}
 use Rattle.tk_base.specs.Regs.{Registers}
 use Rattle.rv32_model.specs.declared.turn_end.TurnEnd.TheVariants.{Went}
 use Rattle.rv32_model.specs.Laws.{stores_at}
-use Rattle.grant_model.specs.declared.kinds.PairKind.{PairKind}
-use Rattle.grant_model.specs.declared.kinds.PairKind.TheVariants.{ReadWrite}
+use Rattle.tk_base.specs.declared.kinds.PairKind.{PairKind}
+use Rattle.tk_base.specs.declared.kinds.PairKind.TheVariants.{ReadWrite}
 use Rattle.process_model.specs.Own.{Own}
 use Rattle.process_model.specs.Instruction.{instruction_of, with_write}
 use Rattle.process_model.specs.Handed.{HoldsInPlace, own_entering, handing, held}

@@ -2,7 +2,7 @@
 use Rattle.std.specs.Prelude.{◌≡◌, ◌≤◌, ℕ, ◌+◌, ◌-◌, IsTrue, List, ◌++◌, length, replicate, slice_range}
 use Rattle.tk_base.specs.declared.access.TheConstants.{FLASH_START}
 use Rattle.process_layout.specs.LayoutView.{LayoutView}
-use Rattle.grant_model.specs.declared.kinds.PairKind.TheVariants.{ReadOnly}
+use Rattle.tk_base.specs.declared.kinds.PairKind.TheVariants.{ReadOnly}
 use Rattle.process_model.specs.declared.place.Object.{Object}
 use Rattle.process_model.specs.Own.{Own}
 use Rattle.process_model.specs.Handed.{may_share}

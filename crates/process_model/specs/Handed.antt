@@ -6,8 +6,8 @@ use Rattle.tk_base.specs.declared.upcall.Upcall.{Upcall as Scheduled}
 use Rattle.process_layout.specs.LayoutView.{LayoutView}
 use Rattle.process_layout.specs.Interval.{lies_within}
 use Rattle.upcall_queue.specs.Pending.{without_key}
-use Rattle.grant_model.specs.declared.kinds.PairKind.{PairKind}
-use Rattle.grant_model.specs.declared.kinds.PairKind.TheVariants.{Upcall, ReadOnly, ReadWrite}
+use Rattle.tk_base.specs.declared.kinds.PairKind.{PairKind}
+use Rattle.tk_base.specs.declared.kinds.PairKind.TheVariants.{Upcall, ReadOnly, ReadWrite}
 use Rattle.grant_model.specs.Grants.{grant_of, with_grant, with_pair, pair_of, entered}
 use Rattle.grant_region.specs.Region.{fits, roomed}
 use Rattle.process_model.specs.Own.{Own}

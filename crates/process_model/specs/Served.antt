@@ -7,7 +7,7 @@ use Rattle.std.specs.Prelude.{drop, slice_range, Option, option_map}
 use Rattle.tk_base.specs.declared.access.TheConstants.{FLASH_START}
 use Rattle.tk_base.specs.declared.upcall.Upcall.{Upcall as Scheduled}
 use Rattle.upcall_queue.specs.Pending.{has_room}
-use Rattle.grant_model.specs.declared.kinds.PairKind.TheVariants.{Upcall, ReadWrite}
+use Rattle.tk_base.specs.declared.kinds.PairKind.TheVariants.{Upcall, ReadWrite}
 use Rattle.grant_model.specs.Grants.{grant_of, with_grant, with_value}
 use Rattle.process_model.specs.Own.{Own}
 use Rattle.process_model.specs.Handed.{held, lies_in_ram}

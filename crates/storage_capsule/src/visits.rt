@@ -1,6 +1,6 @@
 //! What the storage does with the value that a process keeps for it.
 ghost use Rattle.std.specs.Prelude.{◌≡◌, ◌+◌, ◌<◌, ◌≤◌, ◌^◌, min, length};
-ghost use Rattle.grant_model.specs.declared.kinds.PairKind.TheVariants.{ReadWrite};
+ghost use Rattle.tk_base.specs.declared.kinds.PairKind.TheVariants.{ReadWrite};
 ghost use Rattle.process_model.specs.Handed.{held};
 ghost use Rattle.board_devices.specs.Storage.{bytes_from, slot_bytes};
 ghost use Rattle.process_model.specs.Served.{ram_at, with_written};

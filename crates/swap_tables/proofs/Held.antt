@@ -4,9 +4,9 @@ use Rattle.std.proofs.Common.{set, Some}
 use Rattle.tk_base.specs.declared.upcall.Counts.{Counts}
 use Rattle.grant_values.specs.Words.{WordsInBytes, bytes_of_words, words_of}
 use Rattle.grant_values.specs.Drivers.{counts_of}
-use Rattle.grant_model.specs.declared.kinds.PairKind.{PairKind}
+use Rattle.tk_base.specs.declared.kinds.PairKind.{PairKind}
 use Rattle.grant_model.specs.declared.places.Area.{Area}
-use Rattle.grant_model.specs.Kinds.{count_of, pairs_before}
+use Rattle.tk_base.specs.Kinds.{count_of, pairs_before}
 use Rattle.grant_model.specs.Grants.{shape_of, counts_or_none, with_grant, with_pair}
 use Rattle.grant_model.specs.Encoding.{EncodesGrants, Tells, area_of, decode_grants}
 use Rattle.grant_model.specs.Laws.{ArePair, PairsAreFound}

@@ -8,7 +8,7 @@ use Rattle.process_layout.specs.LayoutView.{LayoutView}
 use Rattle.grant_values.specs.declared.drivers.Driver.{Driver}
 use Rattle.grant_values.specs.declared.drivers.Driver.TheVariants.{Alarm, Console, Leds, Random, Storage}
 use Rattle.grant_values.specs.Drivers.{cost_of, counts_by, counts_of, driver_of}
-use Rattle.grant_model.specs.declared.kinds.PairKind.{PairKind}
+use Rattle.tk_base.specs.declared.kinds.PairKind.{PairKind}
 use Rattle.grant_model.specs.Grants.{Grant, grant_of, with_grant, entering, fresh, pair_of, with_pair}
 use Rattle.grant_model.specs.Encoding.{EncodesGrants, Tells, decode_grants}
 use Rattle.grant_region.specs.Region.{with_room, roomed, below, above, Leaves, LeavesArea}

@@ -3,8 +3,8 @@ use Rattle.std.specs.Prelude.{ℕ, ◌≡◌, ◌<◌, ◌^◌, List, length, Bo
 use Rattle.tk_base.specs.declared.upcall.Counts.{Counts}
 use Rattle.process_layout.specs.LayoutView.{LayoutView}
 use Rattle.grant_values.specs.Drivers.{counts_of}
-use Rattle.grant_model.specs.declared.kinds.PairKind.{PairKind}
-use Rattle.grant_model.specs.Kinds.{count_of}
+use Rattle.tk_base.specs.declared.kinds.PairKind.{PairKind}
+use Rattle.tk_base.specs.Kinds.{count_of}
 use Rattle.grant_model.specs.Grants.{Grant, grant_of, with_grant, entered, pair_of, with_pair}
 use Rattle.grant_model.specs.Encoding.{EncodesGrants, Tells, decode_grants}
 use Rattle.grant_region.specs.declared.room.NoRoom.{NoRoom}

@@ -1,14 +1,14 @@
 //! The pairs that a process holds.
 ghost use Rattle.std.specs.Prelude.{◌≡◌, ℕ, ◌+◌, ◌*◌, ◌/◌, ◌≤◌, List, length, slice_index, slice_set};
 ghost use Rattle.grant_values.specs.Words.{bytes_of_words, words_of};
-ghost use Rattle.grant_model.specs.declared.kinds.PairKind.TheVariants.{Upcall, ReadOnly, ReadWrite};
-ghost use Rattle.grant_model.specs.Kinds.{pairs_before};
+ghost use Rattle.tk_base.specs.declared.kinds.PairKind.TheVariants.{Upcall, ReadOnly, ReadWrite};
+ghost use Rattle.tk_base.specs.Kinds.{pairs_before};
 ghost use Rattle.swap_tables.specs.Swaps.{CanLookUp, held_pair};
 
-use grant_model::{Area, PairKind, areas_are_found, pairs_are_found};
+use grant_model::{Area, areas_are_found, pairs_are_found};
 use grant_region::area;
 use grant_values::{put_word, word_at, words_in_bytes};
-use tk_base::Counts;
+use tk_base::{Counts, PairKind};
 
 /// The read-only buffer of a number that the process has allowed the driver (TRD 104, "Read-Only
 /// Allow"): its address, and its size in bytes. It is (0, 0) where the process has not entered the

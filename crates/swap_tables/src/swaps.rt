@@ -1,16 +1,16 @@
 //! Swaps of the pairs that a process holds.
 ghost use Rattle.std.specs.Prelude.{◌≡◌, length, IfSome, IfNone, None};
-ghost use Rattle.grant_model.specs.declared.kinds.PairKind.TheVariants.{Upcall, ReadOnly, ReadWrite};
+ghost use Rattle.tk_base.specs.declared.kinds.PairKind.TheVariants.{Upcall, ReadOnly, ReadWrite};
 ghost use Rattle.grant_model.specs.Grants.{grant_of};
 ghost use Rattle.grant_model.specs.Encoding.{decode_grants};
 ghost use Rattle.swap_tables.specs.Swaps.{CanLookUp, CanSwap, SwapOutcome, SwapsHeld};
 
 use crate::pairs::{first_word, pair_at, put_pair};
-use grant_model::{PairKind, areas_are_found, pairs_are_found};
+use grant_model::{areas_are_found, pairs_are_found};
 use grant_region::{NoRoom, area, make_area, parts_join};
 use grant_values::{cost_of, words_in_bytes};
 use process_layout::Layout;
-use tk_base::Counts;
+use tk_base::{Counts, PairKind};
 
 /// Swaps the read-only buffer of a number that the process has allowed the driver (TRD 104,
 /// "Read-Only Allow"): the new one's address, and its size in bytes. The answer is the former one,

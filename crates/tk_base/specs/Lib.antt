@@ -2,6 +2,7 @@ pub mod Access
 pub mod Bus
 pub mod Bytes
 pub mod Call
+pub mod Kinds
 pub mod Laws
 pub mod Limits
 pub mod Numbers

@@ -6,6 +6,7 @@
 mod access;
 mod bus;
 mod call;
+mod kinds;
 mod laws;
 mod limits;
 mod no_memory;
@@ -18,6 +19,7 @@ mod words;
 pub use access::{Access, Addr, Denial, FLASH_START, RAM_START, Rule, Width};
 pub use bus::Bus;
 pub use call::{CallRule, ErrorCode};
+pub use kinds::PairKind;
 pub use laws::a_store_is_put;
 pub use limits::{
     BYTE_TICKS_LIMIT, EVENT_LIMIT, FAULT_LIMIT, FLASH_LIMIT, INPUT_LIMIT, LED_LIMIT, OBJECT_LIMIT,

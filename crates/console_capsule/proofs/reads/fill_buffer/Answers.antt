@@ -1,6 +1,6 @@
 use Rattle.std.proofs.Common.{ℕ, ◌≤◌, min, List, length, take, ap, arith, ◌∙◌}
 use Rattle.std.proofs.lemmas.List.{length-take}
-use Rattle.grant_model.specs.declared.kinds.PairKind.TheVariants.{ReadWrite}
+use Rattle.tk_base.specs.declared.kinds.PairKind.TheVariants.{ReadWrite}
 use Rattle.process_model.specs.Handed.{held}
 use Rattle.process_model.specs.Served.{ram_at, with_written}
 use Rattle.tk_base.specs.Bytes.{over}

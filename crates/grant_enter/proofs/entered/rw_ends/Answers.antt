@@ -1,5 +1,5 @@
 use Rattle.std.proofs.Common.{◌≡◌, ℕ, List, subst, sym, ap, ◌∙◌, rules}
-use Rattle.grant_model.specs.declared.kinds.PairKind.TheVariants.{ReadWrite}
+use Rattle.tk_base.specs.declared.kinds.PairKind.TheVariants.{ReadWrite}
 use Rattle.swap_tables.specs.Swaps.{held_pair}
 use Rattle.process_model.specs.Handed.{held}
 use Rattle.grant_enter.specs.Buffers.{buffer_start, last_of}

@@ -1,4 +1,4 @@
-use Rattle.grant_model.specs.declared.kinds.PairKind.TheVariants.{ReadOnly, ReadWrite}
+use Rattle.tk_base.specs.declared.kinds.PairKind.TheVariants.{ReadOnly, ReadWrite}
 use Rattle.process_model.specs.Handed.{held}
 use Rattle.grant_enter.specs.Seen.{own_entered}
 use Rattle.grant_enter.proofs.Buffers.{ro_may, rw_lies}

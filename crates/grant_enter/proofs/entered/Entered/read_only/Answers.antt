@@ -1,5 +1,5 @@
 use Rattle.std.proofs.Common.{◌≡◌, ℕ, List, subst, sym, ap, ◌∙◌}
-use Rattle.grant_model.specs.declared.kinds.PairKind.TheVariants.{ReadOnly}
+use Rattle.tk_base.specs.declared.kinds.PairKind.TheVariants.{ReadOnly}
 use Rattle.swap_tables.specs.Swaps.{held_pair}
 use Rattle.process_model.specs.Handed.{held}
 use Rattle.process_model.specs.Served.{bytes_at}

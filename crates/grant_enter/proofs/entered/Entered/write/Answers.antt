@@ -1,6 +1,6 @@
 use Rattle.std.proofs.Common.{ℕ, ◌-◌, length, min, refl, ap, ◌∙◌}
 use Rattle.board_memory.specs.Memory.{with_run}
-use Rattle.grant_model.specs.declared.kinds.PairKind.TheVariants.{ReadWrite}
+use Rattle.tk_base.specs.declared.kinds.PairKind.TheVariants.{ReadWrite}
 use Rattle.process_model.specs.Handed.{held}
 use Rattle.grant_enter.specs.Buffers.{buffer_start}
 use Rattle.grant_enter.specs.Seats.{own_in}

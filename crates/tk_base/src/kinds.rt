@@ -1,8 +1,8 @@
 //! The kinds of pairs.
-ghost use Rattle.std.specs.Prelude.{◌≡◌, ◌<◌, ◌^◌};
-ghost use Rattle.grant_model.specs.Kinds.{count_of, pairs_before};
+ghost use Rattle.std.specs.Prelude.{◌≡◌, ◌<◌, ◌*◌, ◌^◌};
+ghost use Rattle.tk_base.specs.Kinds.{count_of, pair_count, pairs_before};
 
-use tk_base::Counts;
+use crate::upcall::Counts;
 
 /// The kinds of pairs that a process hands to a driver (TRD 104, "Subscribe", "Read-Only Allow",
 /// "Read-Write Allow"), in the order in which they stand in a grant.
@@ -38,5 +38,15 @@ impl PairKind {
             PairKind::ReadOnly => counts.upcalls as usize,
             PairKind::ReadWrite => counts.upcalls as usize + counts.ro as usize,
         }
+    }
+}
+
+impl Counts {
+    /// How many pairs the grant of a driver with these counts has, of all kinds.
+    pub fn pairs(&self) -> usize
+        ensures pairs { result ≡ pair_count self.now }
+        ensures bound { result < 3 * 2 ^ 32 }
+    {
+        self.upcalls as usize + self.ro as usize + self.rw as usize
     }
 }

@@ -1,0 +1,33 @@
+-- The kinds of pairs that a process hands to a driver (TRD 104, "Subscribe", "Read-Only Allow", "Read-Write Allow"), in
+-- the order in which they stand in a grant.
+use Rattle.std.specs.Prelude.{ℕ, ◌+◌, List, [], ◌∷◌, slice_index, take}
+use Rattle.std.specs.List.{sum}
+use Rattle.tk_base.specs.declared.upcall.Counts.{Counts}
+use Rattle.tk_base.specs.declared.kinds.PairKind.{PairKind}
+use Rattle.tk_base.specs.declared.kinds.PairKind.TheVariants.{Upcall, ReadOnly, ReadWrite}
+
+-- which kind stands first, second and so on
+abbrev pub rank_of : PairKind → ℕ
+rank_of Upcall = 0
+rank_of ReadOnly = 1
+rank_of ReadWrite = 2
+
+-- how many pairs a driver has, kind by kind
+abbrev pub pair_counts : Counts → List ℕ
+pair_counts counts = counts.upcalls ∷ counts.ro ∷ counts.rw ∷ []
+
+-- how many pairs of a kind a driver has
+abbrev pub count_of : PairKind → Counts → ℕ
+count_of kind counts = slice_index (pair_counts counts) (rank_of kind)
+
+-- how many pairs stand before those of a kind
+abbrev pub pairs_before : PairKind → Counts → ℕ
+pairs_before kind counts = sum (take (rank_of kind) (pair_counts counts))
+
+-- how many pairs a driver has, of all kinds
+abbrev pub pair_count : Counts → ℕ
+pair_count counts = sum (pair_counts counts)
+
+-- where pair n of a kind stands among all pairs of a driver
+abbrev pub pair_place : PairKind → ℕ → Counts → ℕ
+pair_place kind n counts = pairs_before kind counts + n
