@@ -2,7 +2,7 @@
 use Rattle.std.proofs.Common.{arith, refl, ap, sym, subst, ◌∙◌, ◌≡◌, ◌≢◌, ◌⊎◌, inl, inr, ◌<◌, ◌≤◌, ℕ, zero, suc, ◌+◌, ◌-◌}
 use Rattle.std.proofs.Common.{List, [], ◌∷◌, length, take, drop, get_or, set, replicate, Some}
 use Rattle.std.specs.List.{sum}
-use Rattle.std.proofs.lemmas.Bool.{cases_lt}
+use Rattle.std.proofs.lemmas.Bool.{cases_eq, cases_lt}
 use Rattle.std.proofs.lemmas.List.{get_or-take, get_or-drop, get_or-set_same, get_or-set_other, drop-set-lt}
 use Rattle.std.proofs.lemmas.List.{drop-set-add, take-set-le, length-set, length-take-le, length-drop, length-replicate}
 use Rattle.std.proofs.lemmas.List.Sums.{sum_by-cons}
@@ -146,6 +146,25 @@ others-window kind other n m pair g small apart = by_rank (cases_lt (rank_of kin
         (sum-apart (pair_counts counts) (rank_of kind) (rank_of other) less) small))
     by_rank (inr most) = by_order (cases_lt (rank_of other) (rank_of kind)) most
 
+-- so each pair is the one that was put, or what it was
+either-window : (kind other : PairKind) (n m : ℕ) (pair : ℕ × ℕ) (g : Grant) → HasPairs g
+    → n < count_of kind (shape_of g.driver)
+    → ((other ≡ kind) × (pair_of other m (Some (with_pair kind n pair g)) ≡ pair))
+    ⊎ (pair_of other m (Some (with_pair kind n pair g)) ≡ pair_of other m (Some g))
+either-window kind other n m pair g has small = by_place (cases_eq (rank_of other) (rank_of kind)) (cases_eq m n)
+  where
+    after : PairKind → ℕ → ℕ × ℕ
+    after k i = pair_of k i (Some (with_pair kind n pair g))
+
+    by_place : (rank_of other ≡ rank_of kind) ⊎ (rank_of other ≢ rank_of kind) → (m ≡ n) ⊎ (m ≢ n)
+        → ((other ≡ kind) × (after other m ≡ pair)) ⊎ (after other m ≡ pair_of other m (Some g))
+    by_place (inl same) (inl at) =
+        let kind_is : other ≡ kind = same_rank kind other same in
+        inl (kind_is, ap (λ k. after k m) kind_is ∙ ap (after kind) at ∙ this-window kind n pair g has small)
+    by_place (inr differs) (inl at) =
+        inr (others-window kind other n m pair g small (λ same. absurd (differs (ap rank_of same))))
+    by_place rank (inr differs) = inr (others-window kind other n m pair g small (λ same. differs))
+
 -- all pairs of a list of zeros are zeros, in any window of it
 zeros-dropped : (before n i : ℕ) → ◌≡◌ {A = ℕ × ℕ} (get_or (drop before (replicate n (0, 0))) i (0, 0)) (0, 0)
 zeros-dropped zero zero i = refl
@@ -166,6 +185,7 @@ pairs-stand-by-kind = record {
   count = count-window;
   this = this-window;
   others = others-window;
+  either = either-window;
   keeps = λ kind n pair g has. length-set g.pairs (pair_place kind n (shape_of g.driver)) pair ∙ has;
   made = λ driver. length-replicate (pair_count (shape_of driver)) (0, 0);
   none =

@@ -1,6 +1,6 @@
 -- Laws of grants as bytes.
-use Rattle.std.specs.Prelude.{ℕ, ◌≡◌, ◌≢◌, ◌+◌, ◌*◌, ◌/◌, ◌<◌, ◌≤◌, ◌^◌, List, ◌++◌, length, take, drop, slice_index}
-use Rattle.std.specs.Prelude.{slice_set, None, Some}
+use Rattle.std.specs.Prelude.{ℕ, ◌≡◌, ◌≢◌, ◌⊎◌, ◌+◌, ◌*◌, ◌/◌, ◌<◌, ◌≤◌, ◌^◌, List, ◌++◌, length, take, drop}
+use Rattle.std.specs.Prelude.{slice_index, slice_set, None, Some}
 use Rattle.std.specs.List.{AllByRecursion}
 use Rattle.tk_base.specs.declared.kinds.PairKind.{PairKind}
 use Rattle.tk_base.specs.Kinds.{count_of, pair_count, pair_place}
@@ -12,14 +12,18 @@ use Rattle.grant_model.specs.Grants.{with_pair, with_value}
 use Rattle.grant_model.specs.Encoding.{CanBeKept, body_size, body_words, areas, encode_grants, IsSound, decode_grants}
 use Rattle.grant_model.specs.Encoding.{EncodesGrants, Tells, area_of}
 
--- In a grant that has its pairs, another pair n of a kind is that pair, and every other pair stays. A fresh grant has
--- its pairs, and all are (0, 0).
+-- In a grant that has its pairs, another pair n of a kind is that pair, and every other pair stays. So each is that
+-- pair, of its kind, or what it was. A fresh grant has its pairs, and all are (0, 0).
 pub record PairsStandByKind : Type 0 where
   pub count : (kind : PairKind) (g : Grant) → HasPairs g → length (pairs_of kind g) ≡ count_of kind (shape_of g.driver)
   pub this : (kind : PairKind) (n : ℕ) (pair : ℕ × ℕ) (g : Grant) → HasPairs g → n < count_of kind (shape_of g.driver)
       → pair_of kind n (Some (with_pair kind n pair g)) ≡ pair
   pub others : (kind other : PairKind) (n m : ℕ) (pair : ℕ × ℕ) (g : Grant) → n < count_of kind (shape_of g.driver)
       → (other ≡ kind → m ≢ n) → pair_of other m (Some (with_pair kind n pair g)) ≡ pair_of other m (Some g)
+  pub either : (kind other : PairKind) (n m : ℕ) (pair : ℕ × ℕ) (g : Grant) → HasPairs g
+      → n < count_of kind (shape_of g.driver)
+      → ((other ≡ kind) × (pair_of other m (Some (with_pair kind n pair g)) ≡ pair))
+      ⊎ (pair_of other m (Some (with_pair kind n pair g)) ≡ pair_of other m (Some g))
   pub keeps : (kind : PairKind) (n : ℕ) (pair : ℕ × ℕ) (g : Grant) → HasPairs g → HasPairs (with_pair kind n pair g)
   pub made : (driver : ℕ) → HasPairs (fresh driver)
   pub none : (kind : PairKind) (driver n : ℕ) → pair_of kind n (Some (fresh driver)) ≡ (0, 0)
