@@ -10,10 +10,10 @@ ghost use Rattle.process_model.specs.Handed.{HoldsInPlace, own_entering, handing
 ghost use Rattle.process_model.specs.Served.{kept};
 ghost use Rattle.swap_tables.specs.Swaps.{IsPair};
 ghost use Rattle.grant_enter.specs.Homes.{own_of, living, ChangesOnly, IsInPlace, IsStopped, CanMoveIn, FootprintBefore, MakesInstruction, MakesAll};
-ghost use Rattle.grant_enter.specs.Visits.{Asks, Enters, IsCounted, Visits, is_stale};
+ghost use Rattle.grant_enter.specs.Visits.{Asks, Enters, IsCounted, Peeks, Visits, grants_of};
 
 use crate::flag::put_flag_at;
-use crate::handing::{Handover, hand_at};
+use crate::handing::hand_at;
 use crate::instruction::{instruction_laws, turn_in, turns_in};
 use crate::seat::Seat;
 use crate::visit::{EnterError, Stale, Visit, block_at, enter_seat, peek_seat, visit_seat};
@@ -27,6 +27,7 @@ use process_model::Footprint;
 use rv32_model::{TurnEnd, sees_only_permitted, writes_are_permitted};
 use std::alloc::Global;
 use std::marker::Model;
+use swap_tables::Handover;
 use tk_base::{a_store_is_put, Addr, Counts, NoMemory, PairKind, ProcessId, Regs, Slot, Upcall};
 
 /// The memory of the processes, and what the kernel keeps of each beside its registers: where its memory
@@ -267,10 +268,10 @@ impl Home {
         counts: Counts,
         visitor: V,
     ) -> Result<V::Answer, EnterError>
-        requires counted { IsCounted driver counts T.SIZE }
-        requires asks { Asks (V.asks visitor) T.value driver counts self.old.flash
+        requires counted { IsCounted T.driver driver counts T.SIZE }
+        requires asks { Asks (grants_of driver counts T.kept) (V.asks visitor) self.old.flash
             (own_entering driver (own_of self.old id.slot)) }
-        ensures enters { Enters (V.leaves visitor) T.value T.words driver counts id.life
+        ensures enters { Enters (grants_of driver counts T.kept) (V.leaves visitor) id.life
             self.old.flash (own_of self.old id.slot) result (own_of self.new id.slot) }
         ensures rest { ChangesOnly id.slot self.old self.new }
     {
@@ -289,10 +290,10 @@ impl Home {
         counts: Counts,
         visitor: V,
     ) -> Result<Option<V::Answer>, Stale>
-        requires counted { IsCounted driver counts T.SIZE }
-        requires asks { Asks (V.asks visitor) T.value driver counts self.old.flash
+        requires counted { IsCounted T.driver driver counts T.SIZE }
+        requires asks { Asks (grants_of driver counts T.kept) (V.asks visitor) self.old.flash
             (own_of self.old id.slot) }
-        ensures visits { Visits (V.leaves visitor) T.value T.words driver counts id.life
+        ensures visits { Visits (grants_of driver counts T.kept) (V.leaves visitor) id.life
             self.old.flash (own_of self.old id.slot) result (own_of self.new id.slot) }
         ensures rest { ChangesOnly id.slot self.old self.new }
     {
@@ -310,10 +311,9 @@ impl Home {
         driver: u32,
         counts: Counts,
     ) -> Result<Option<T>, Stale>
-        requires counted { IsCounted driver counts T.SIZE }
-        ensures stale { is_ok result ≡ not (is_stale id.life (own_of self.now id.slot)) }
-        ensures kept { IfOk result
-            (λ value. value ≡ option_map T.value (kept driver (own_of self.now id.slot))) }
+        requires counted { IsCounted T.driver driver counts T.SIZE }
+        ensures peeks { Peeks (grants_of driver counts T.kept) id.life (own_of self.now id.slot)
+            result }
     {
         if !self.is_placed(id.slot) {
             return Err(Stale);

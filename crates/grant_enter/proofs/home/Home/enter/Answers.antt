@@ -1,5 +1,5 @@
 use Rattle.std.proofs.Common.{rules}
-use Rattle.grant_enter.specs.Visits.{Enters}
+use Rattle.grant_enter.specs.Visits.{Enters, grants_of}
 use Rattle.grant_enter.proofs.Moves.{Reads, placed, reseated, reseated_only, reseated_shows, sits_before}
 use Rattle.grant_enter.proofs.home.Home.enter.Goals as goal
 use Rattle.grant_enter.proofs.home.Home.enter.Given.{Over}
@@ -32,8 +32,8 @@ returns-clause-enters g c =
     reseated_shows (reads g (goal.at.returns-clause-enters g c).After-index_mut-seat) c.enter_seat.new.memory
     c.enter_seat.new.seat c.enter_seat.ensures.reseats
     (λ flash own own_after.
-    Enters (g.V.Visit.leaves c.args.visitor) g.T.GrantValue.value g.T.GrantValue.words c.args.driver c.args.counts
-    c.args.id.life flash own c.enter_seat.result own_after) c.enter_seat.ensures.enters
+    Enters (grants_of c.args.driver c.args.counts g.T.GrantValue.kept) (g.V.Visit.leaves c.args.visitor) c.args.id.life
+    flash own c.enter_seat.result own_after) c.enter_seat.ensures.enters
 
 pub returns-clause-rest : goal.returns-clause-rest
 returns-clause-rest g c =

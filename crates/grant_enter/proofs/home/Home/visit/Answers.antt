@@ -1,5 +1,5 @@
 use Rattle.std.proofs.Common.{rules}
-use Rattle.grant_enter.specs.Visits.{Visits}
+use Rattle.grant_enter.specs.Visits.{Visits, grants_of}
 use Rattle.grant_enter.proofs.Moves.{Reads, placed, reseated, reseated_only, reseated_shows, sits_before}
 use Rattle.grant_enter.proofs.home.Home.visit.Goals as goal
 use Rattle.grant_enter.proofs.home.Home.visit.Given.{Over}
@@ -32,8 +32,8 @@ returns-clause-visits g c =
     reseated_shows (reads g (goal.at.returns-clause-visits g c).After-index_mut-seat) c.visit_seat.new.memory
     c.visit_seat.new.seat c.visit_seat.ensures.reseats
     (λ flash own own_after.
-    Visits (g.V.Visit.leaves c.args.visitor) g.T.GrantValue.value g.T.GrantValue.words c.args.driver c.args.counts
-    c.args.id.life flash own c.visit_seat.result own_after) c.visit_seat.ensures.visits
+    Visits (grants_of c.args.driver c.args.counts g.T.GrantValue.kept) (g.V.Visit.leaves c.args.visitor) c.args.id.life
+    flash own c.visit_seat.result own_after) c.visit_seat.ensures.visits
 
 pub returns-clause-rest : goal.returns-clause-rest
 returns-clause-rest g c =
