@@ -188,7 +188,7 @@ pub entering_holds : PairsStandByKind → (e : LayoutView) (driver : ℕ) (gs : 
 entering_holds law e driver gs None all = (
   holds_fresh law (roomed driver e None) driver,
   all_grants (Holds e) (Holds (roomed driver e None)) gs (λ g. holds_on e (roomed driver e None) g (roomed_marks driver e))
-  all,
+      all,
 )
 entering_holds law e driver gs (Some g) all = all
 

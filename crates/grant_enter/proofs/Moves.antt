@@ -372,7 +372,7 @@ kept_with_break e brk kernel k = record { laid = k.laid; held = all_held (decode
     all_held [] all = tt
     all_held (g ∷ gs) all = (
       holds_on e (record e { brk = brk }) g
-      (record { start = refl; mark = omega arith; flash_start = refl; flash_end = refl }) all.0,
+          (record { start = refl; mark = omega arith; flash_start = refl; flash_end = refl }) all.0,
       all_held gs all.1,
     )
 

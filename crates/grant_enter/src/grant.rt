@@ -6,7 +6,7 @@ ghost use Rattle.grant_enter.specs.Homes.{ChangesOnly, own_of};
 ghost use Rattle.grant_enter.specs.Visits.{Asks, Enters, IsCounted, Peeks, Visits, grants_of};
 
 use crate::home::Home;
-use crate::visit::{EnterError, Stale, Visit};
+use crate::visit::{EnterError, Stale, Visit, enter_seat, peek_seat, visit_seat};
 use grant_values::{GrantValue, counts};
 use std::marker::PhantomData;
 use tk_base::{Counts, ProcessId};
@@ -62,7 +62,18 @@ impl<T: GrantValue, const UP: usize, const RO: usize, const RW: usize> Grant<T, 
             (own_of home.old id.slot) result (own_of home.new id.slot) }
         ensures rest { ChangesOnly id.slot home.old home.new }
     {
-        home.enter::<T, V>(id, self.driver, self.counts, visitor)
+        if !home.is_placed(id.slot) {
+            return Err(EnterError::Stale);
+        }
+        let seat = &mut home.seats[id.slot.index()];
+        enter_seat::<T, V>(
+            &mut home.memory,
+            seat,
+            id.life,
+            self.driver,
+            self.counts,
+            visitor,
+        )
     }
 
     /// Visits the grant that a process keeps for the driver, as [`Grant::enter`], and makes nothing. The
@@ -83,7 +94,18 @@ impl<T: GrantValue, const UP: usize, const RO: usize, const RW: usize> Grant<T, 
             (own_of home.old id.slot) result (own_of home.new id.slot) }
         ensures rest { ChangesOnly id.slot home.old home.new }
     {
-        home.visit::<T, V>(id, self.driver, self.counts, visitor)
+        if !home.is_placed(id.slot) {
+            return Err(Stale);
+        }
+        let seat = &mut home.seats[id.slot.index()];
+        visit_seat::<T, V>(
+            &mut home.memory,
+            seat,
+            id.life,
+            self.driver,
+            self.counts,
+            visitor,
+        )
     }
 
     /// The value that a process keeps for the driver; None exactly where it has not entered the driver in
@@ -93,6 +115,10 @@ impl<T: GrantValue, const UP: usize, const RO: usize, const RW: usize> Grant<T, 
         ensures { Peeks (grants_of self.now.driver (counting UP RO RW T.SIZE) T.kept) id.life
             (own_of home.now id.slot) result }
     {
-        home.peek::<T>(id, self.driver, self.counts)
+        if !home.is_placed(id.slot) {
+            return Err(Stale);
+        }
+        let seat = &home.seats[id.slot.index()];
+        peek_seat::<T>(&home.memory, seat, id.life, self.driver, self.counts)
     }
 }

@@ -103,15 +103,15 @@ stands kind n g s small =
           ∙ sym (get-window g.pairs (pairs_before kind counts) (count_of kind counts) n small);
       put = λ p. put2-left (pair_words g.pairs) (padded_words g) j p inside ∙ ap (λ z. z ++ padded_words g) (put p);
       sound = λ p a c. record {
-            known = s.known;
-            driver = s.driver;
-            pairs = length-set g.pairs place p ∙ s.pairs;
-            words =
-                subst (AllByRecursion IsWord) (put p)
-                (all_set (set (pair_words g.pairs) j p.0) (suc j) p.1 (all_set (pair_words g.pairs) j p.0 s.words a) c);
-            value = s.value;
-            cost = s.cost;
-          };
+        known = s.known;
+        driver = s.driver;
+        pairs = length-set g.pairs place p ∙ s.pairs;
+        words =
+            subst (AllByRecursion IsWord) (put p)
+            (all_set (set (pair_words g.pairs) j p.0) (suc j) p.1 (all_set (pair_words g.pairs) j p.0 s.words a) c);
+        value = s.value;
+        cost = s.cost;
+      };
     }
   where
     room : (place count l w : ℕ) → place < count → l ≡ count → w ≡ 2 * l → suc (2 * place) < w

@@ -1,6 +1,10 @@
 //! Laws of the definitions. The functions do nothing.
 ghost use Rattle.grant_model.specs.Laws.{
-    IsReadBack, AreasAreFound, PairsAreFound, PairsStandByKind, ValuesAreFound,
+  IsReadBack,
+  AreasAreFound,
+  PairsAreFound,
+  PairsStandByKind,
+  ValuesAreFound,
 };
 
 use grant_values::words_in_bytes;
