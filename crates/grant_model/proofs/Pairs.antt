@@ -98,7 +98,8 @@ cut ReadWrite g = sym (append_assoc (pair_words g.upcalls) (pair_words g.ro) (pa
 length_front : (kind : PairKind) (g : Grant) → IsSound g
     → length (front kind g) ≡ 2 * pairs_before kind (shape_of g.driver)
 length_front Upcall g s = refl
-length_front ReadOnly g s = length-pairs g.upcalls ∙ ap (λ n. 2 * n) (s.pairs Upcall)
+length_front ReadOnly g s = let u : length g.upcalls ≡ (shape_of g.driver).upcalls = s.pairs Upcall in
+    omega (arith, length-pairs g.upcalls)
 length_front ReadWrite g s =
     let u : length g.upcalls ≡ (shape_of g.driver).upcalls = s.pairs Upcall in
     let o : length g.ro ≡ (shape_of g.driver).ro = s.pairs ReadOnly in
