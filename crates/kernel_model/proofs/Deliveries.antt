@@ -57,9 +57,10 @@ use Rattle.kernel_model.specs.Deliveries.{Scheduling, is_yielded, subscription_k
 use Rattle.kernel_model.specs.Histories.{class_of}
 use Rattle.kernel_model.proofs.Classes.{command_in, exit_in, memop_in, of_registers, swap_in, yield_in}
 use Rattle.kernel_model.proofs.Comes.{plain}
+use Rattle.kernel_model.proofs.Handed.{is_handed}
 use Rattle.kernel_model.proofs.Memops.{by_test, memop_gives}
 use Rattle.kernel_model.proofs.Restarts.{restarts}
-use Rattle.kernel_model.proofs.Swaps.{in_count, refused_hands_nothing}
+use Rattle.kernel_model.proofs.Swaps.{refused_hands_nothing}
 
 -- what is known of pairs and of what drivers schedule
 pub record Promise : Type 0 where
@@ -360,7 +361,7 @@ module _ (promise : Promise) (around : CommandContext) (r : Record) where
   of_swap n swap handed = by_refusal (swap_refusal swap r.own) refl
     where
       by_refusal : (o : Option CallRule) → swap_refusal swap r.own ≡ o → LeavesByCall r n (swap_by r swap o)
-      by_refusal None e = handed (in_count swap r.own e)
+      by_refusal None e = handed (is_handed swap r.own e).counted
       by_refusal (Some rule) e = of_refused n rule (failed_swap swap.pair rule)
 
   -- the swap of each kind that the registers make

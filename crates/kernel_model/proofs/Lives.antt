@@ -48,7 +48,7 @@ use Rattle.kernel_model.specs.Lives.{AsManyStay, BlocksStayApart, EndedStays, Ha
 use Rattle.kernel_model.specs.Lives.{LivesAsItRuns, PlacesStay, HoldsThroughout, is_alive}
 use Rattle.kernel_model.proofs.Changes.{IsKept, after_answer, after_turn, over_choices}
 use Rattle.kernel_model.proofs.Restarts.{restarts}
-use Rattle.kernel_model.proofs.Runs.{passed_over}
+use Rattle.kernel_model.proofs.Handed.{is_handed}
 use Rattle.kernel_model.proofs.Turns.{step_same}
 use Rattle.kernel_model.proofs.Steps.{IsAnswer, of_step}
 
@@ -354,25 +354,6 @@ order_moved r new may h =
       end = h.places.end;
     }
 
-not_false : (b : Bool) → not b ≡ false → b ≡ true
-not_false true e = refl
-not_false false e = absurd (false≢true (sym e))
-
-placed : (swap : Swap) (own : Own) → swap_refusal swap own ≡ None → has_place swap.driver own ≡ true
-unfolding swap_refusal
-placed swap own none =
-    let room = passed_over (not (has_place swap.driver own)) NoRoom None in
-    let lies = passed_over (not (may_share swap.kind own.layout swap.pair)) Outside
-    (cond (not (has_place swap.driver own)) (Some NoRoom) None) in
-    let numbered = passed_over (not (nat_lt swap.number (count_of swap.kind (shape_of swap.driver)))) NoNumber
-    (cond (not (may_share swap.kind own.layout swap.pair)) (Some Outside)
-    (cond (not (has_place swap.driver own)) (Some NoRoom) None)) in
-    let known = passed_over (is_none (counts_of swap.driver)) NoDriver
-    (cond (not (nat_lt swap.number (count_of swap.kind (shape_of swap.driver)))) (Some NoNumber)
-    (cond (not (may_share swap.kind own.layout swap.pair)) (Some Outside)
-    (cond (not (has_place swap.driver own)) (Some NoRoom) None))) in
-    not_false (has_place swap.driver own) (room (lies (numbered (known none).1).1).1).0
-
 abbrev pub KeepsBoth : Own → Own → Type 0
 KeepsBoth own o = StaysInPlace own o × KeepsOrder own o
 
@@ -401,7 +382,7 @@ order_kept law = record {
   hands = λ r swap may h.
       let p = law.handed_places swap.kind swap.driver swap.number swap.pair r.own in
       order_on r _ h refl (ap (λ (x : Own). x.layout.start) p) (ap (λ (x : Own). x.layout.end) p)
-      (law.handed swap.kind swap.driver swap.number swap.pair r.own (placed swap r.own may) h.places);
+      (law.handed swap.kind swap.driver swap.number swap.pair r.own (is_handed swap r.own may).room h.places);
   moves = λ r new may h. order_on r _ h refl refl refl (order_moved r new may h);
   flags = λ r at byte h.
       let f = flag_rest at byte r.own in

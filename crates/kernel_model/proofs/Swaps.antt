@@ -56,6 +56,7 @@ use Rattle.kernel_model.specs.Turn.{turn_in, unknown_call}
 use Rattle.kernel_model.specs.Laws.{CanStartAgain, main_by}
 use Rattle.kernel_model.specs.Histories.{PairKey, class_of, handed_by, is_exit, is_swap, last_pair, swap_reply}
 use Rattle.kernel_model.proofs.Classes.{command_in, exit_in, memop_in, of_registers, swap_in, yield_in}
+use Rattle.kernel_model.proofs.Handed.{is_handed}
 use Rattle.kernel_model.proofs.Memops.{by_test, memop_gives}
 use Rattle.kernel_model.proofs.Restarts.{restart_forgets, restart_object}
 
@@ -152,22 +153,6 @@ refused_hands_nothing m rule is key =
 
 refused_ends_nothing : (m : CallMade) (rule : CallRule) → m.rule ≡ Some rule → is_exit m ≡ false
 refused_ends_nothing m rule is = ap (λ (o : Option CallRule). (m.class == 6) && is_none o) is ∙ and-false (m.class == 6)
-
--- a swap that was not refused is of a number that its driver has
-pub in_count : (swap : Swap) (own : Own) → swap_refusal swap own ≡ None
-    → swap.number < count_of swap.kind (shape_of swap.driver)
-unfolding swap_refusal
-in_count swap own passes =
-    by_tests (is_none (counts_of swap.driver)) (nat_lt swap.number (count_of swap.kind (shape_of swap.driver))) _ refl
-    passes
-  where
-    by_tests : (none within : Bool) (rest : Option CallRule)
-        → nat_lt swap.number (count_of swap.kind (shape_of swap.driver)) ≡ within
-        → cond none (Some NoDriver) (cond (not within) (Some NoNumber) rest) ≡ None
-        → swap.number < count_of swap.kind (shape_of swap.driver)
-    by_tests true within rest e passes = nothing NoDriver (sym passes)
-    by_tests false false rest e passes = nothing NoNumber (sym passes)
-    by_tests false true rest e passes = grind (arith, nat_tests)
 
 -- a key is that of a swap, or another
 record IsOf (key : PairKey) (of : PairKind) (to at : ℕ) : Type 0 where
@@ -445,7 +430,7 @@ module _ (law : OnlyHandingChangesPairs) (drivers : DriversLeavePairs) where
 
         by_refusal : (o : Option CallRule) → swap_refusal swap r.own ≡ o
             → Follows past (called r accesses call (swap_by r swap o))
-        by_refusal None e = succeeds kind is (in_count swap r.own e)
+        by_refusal None e = succeeds kind is (is_handed swap r.own e).counted
         by_refusal (Some rule) e = refused_so rule (FailureU32U32 (error_of rule) pair.0 pair.1)
 
     -- an exit that is accepted ends a life; the process has ended, or starts again without grants

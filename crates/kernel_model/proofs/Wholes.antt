@@ -31,7 +31,7 @@ use Rattle.kernel_model.specs.Wholes.{ChoicesHaveCauses, HasWholeOwn, OwnsStayWh
 use Rattle.kernel_model.proofs.Changes.{IsKept, after_answer, after_turn, over_choices}
 use Rattle.kernel_model.proofs.Lives.{KeepsBoth, keep_both, order_again, order_kept, order_moved, order_on, order_same}
 use Rattle.kernel_model.proofs.Lives.{restart_by}
-use Rattle.kernel_model.proofs.Runs.{passed_over}
+use Rattle.kernel_model.proofs.Handed.{is_handed}
 
 -- a value that is put leaves as many bytes
 put_size : (xs : List ℕ) (at : ℕ) (width : Width) (v : ℕ) → length (put xs at width v) ≡ length xs
@@ -79,43 +79,6 @@ settled_on own o layout grants size h =
       buffers = record { read_only = h.buffers.read_only; read_write = h.buffers.read_write };
       shape = record { counts = h.shape.counts };
     }))
-
-not_false : (b : Bool) → not b ≡ false → b ≡ true
-not_false true e = refl
-not_false false e = cc
-
-below : (n m : ℕ) → nat_lt n m ≡ true → n < m
-below n m e = grind (arith, nat_tests)
-
--- a swap that was not refused: its driver has such a number and a place, and the pair may be handed
-record IsHanded (swap : Swap) (own : Own) : Type 0 where
-  counted : swap.number < count_of swap.kind (shape_of swap.driver)
-  may : may_share swap.kind own.layout swap.pair ≡ true
-  room : has_place swap.driver own ≡ true
-
-is_handed : (swap : Swap) (own : Own)
-    → swap_refusal swap own ≡ None → IsHanded swap own
-unfolding swap_refusal
-is_handed swap own none =
-    by_tests (is_none (counts_of swap.driver)) (not (nat_lt swap.number (count_of swap.kind (shape_of swap.driver))))
-    (not (may_share swap.kind own.layout swap.pair)) (not (has_place swap.driver own)) refl refl refl none
-  where
-    by_tests : (a b c d : Bool) → not (nat_lt swap.number (count_of swap.kind (shape_of swap.driver))) ≡ b
-        → not (may_share swap.kind own.layout swap.pair) ≡ c → not (has_place swap.driver own) ≡ d
-        → cond a (Some NoDriver) (cond b (Some NoNumber) (cond c (Some Outside) (cond d (Some NoRoom) None))) ≡ None
-        → IsHanded swap own
-    by_tests a b c d numbered may room none =
-        let known = (passed_over a NoDriver (cond b (Some NoNumber) (cond c (Some Outside) (cond d (Some NoRoom) None)))
-        none).1 in
-        let first = passed_over b NoNumber (cond c (Some Outside) (cond d (Some NoRoom) None)) known in
-        let second = passed_over c Outside (cond d (Some NoRoom) None) first.1 in
-        let third = passed_over d NoRoom None second.1 in
-        record {
-          counted = below swap.number (count_of swap.kind (shape_of swap.driver))
-              (not_false (nat_lt swap.number (count_of swap.kind (shape_of swap.driver))) (numbered ∙ first.0));
-          may = not_false (may_share swap.kind own.layout swap.pair) (may ∙ second.0);
-          room = not_false (has_place swap.driver own) (room ∙ third.0);
-        }
 
 module _ (law : DriversKeep) (pairs : OnlyHandingChangesPairs) (settled : DriversKeepSettled) where
   abbrev KeepsAll : Own → Own → Type 0
