@@ -86,7 +86,7 @@ impl Uart {
     }
 
     /// All bytes of the ring, the oldest first. They stay there.
-    pub fn peek(&self) -> ArrayVec<u8, 256>
+    pub fn peek(&self) -> ArrayVec<u8, RING_SIZE>
         ensures { result.items ≡ self.now.ring }
     {
         let mut bytes = ArrayVec::new();

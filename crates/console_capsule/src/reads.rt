@@ -16,7 +16,7 @@ use board_devices::{Kind, Uart};
 use driver_requests::{Serve, Service, has_request};
 use grant_enter::{Entered, Home, Visit, a_buffer_is_written, buffers_are_whole, frames_join};
 use grant_values::{Console, WaitingRead};
-use tk_base::{ErrorCode, ProcessId};
+use tk_base::{ErrorCode, ProcessId, RING_SIZE};
 
 /// Moves bytes that came in to the read that waits, which completes. It hands the UART back.
 #[derive(Drop)]
@@ -139,7 +139,7 @@ fn step_of(home: &mut Home, id: ProcessId, uart: &mut Uart)
 }
 
 /// The bytes that have left the ring, of those that were in it.
-fn gone_from(mut bytes: ArrayVec<u8, 256>, uart: &Uart) -> ArrayVec<u8, 256>
+fn gone_from(mut bytes: ArrayVec<u8, RING_SIZE>, uart: &Uart) -> ArrayVec<u8, RING_SIZE>
     requires { length uart.now.ring ≤ length bytes.items }
     ensures { result.items ≡ take (length bytes.items - length uart.now.ring) bytes.items }
 {

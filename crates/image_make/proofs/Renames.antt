@@ -73,11 +73,12 @@ kept_more n at h g q low size good kind next here rest =
           ∙ ap (λ t. cond (t == k) (Some q) (find (is_of_type k g) (tlv_places_from n g (place_after h q)))) kind
           ∙ ap (λ r. cond (type_at h q == k) (Some q) r) (rest.first k)
           ∙ sym (ap (find (is_of_type k h)) ph);
-      content = λ k p found. elim (some_of_cond (type_at h q == k) q p _ (sym (ap (find (is_of_type k h)) ph) ∙ found)) [
-        | inl e ↦ subst (λ (r : ℕ). (r ≡ at) ⊎ (slice_range g (r + 4) (r + 4 + length_at g r)
-            ≡ slice_range h (r + 4) (r + 4 + length_at h r))) e here
-        | inr e ↦ rest.content k p e
-      ];
+      content = λ k p found.
+          elim (some_of_cond (type_at h q == k) q p _ (sym (ap (find (is_of_type k h)) ph) ∙ found)) [
+            | inl e ↦ subst (λ (r : ℕ). (r ≡ at) ⊎ (slice_range g (r + 4) (r + 4 + length_at g r)
+                ≡ slice_range h (r + 4) (r + 4 + length_at h r))) e here
+            | inr e ↦ rest.content k p e
+          ];
     }
 
 -- a header in which the element at a place got another content of the same rounded length

@@ -24,18 +24,15 @@ pub fn number_in(bytes: &[u8], at: usize, width: Width) -> u32
 /// Puts the lowest bytes of a value at a place of some bytes, as many as an access of the width
 /// covers.
 #[inline]
+#[tactic(auto, using(crate::proofs::Puts::word_over))]
 pub fn put_number(bytes: &mut [u8], at: usize, width: Width, value: u32)
     requires { at + width_bytes width ≤ length bytes.old }
     ensures { bytes.new ≡ put bytes.old at width value }
 {
-    bytes[at] = (value % 256) as u8;
-    if width == Width::Byte {
-        return;
+    let (_, place) = bytes.split_at_mut(at);
+    match width {
+        Width::Byte => place[0] = (value % 256) as u8,
+        Width::Half => LittleEndian::write_u16(place, (value % 65536) as u16),
+        Width::Word => LittleEndian::write_u32(place, value),
     }
-    bytes[at + 1] = (value / 256 % 256) as u8;
-    if width == Width::Half {
-        return;
-    }
-    bytes[at + 2] = (value / 65536 % 256) as u8;
-    bytes[at + 3] = (value / 16777216 % 256) as u8;
 }

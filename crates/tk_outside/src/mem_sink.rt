@@ -36,7 +36,8 @@ impl Model for MemSink {
           s.schedule;
     } };
 
-    ghost invariant = { λ s. (1 ≤ s.most) × (s.room ≤ vec_capacity s.bytes) × (vec_len s.bytes ≤ s.room) };
+    ghost invariant = { λ s. (1 ≤ s.most) × (s.room ≤ vec_capacity s.bytes)
+        × (vec_len s.bytes ≤ s.room) };
 }
 
 impl MemSink {
