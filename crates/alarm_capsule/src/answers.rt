@@ -69,7 +69,7 @@ fn first_due(home: &Home, now: u32) -> Option<Due>
 /// Fires an alarm that is due.
 fn fire(home: &mut Home, due: &Due, now: u32)
     requires due { AlarmIsDue now due.now.id.slot home.old due.now }
-    requires dropped { (own_of home.old due.now.id.slot).dropped + 1 < 2 ^ 32 }
+    requires dropped { (own_of home.old due.now.id.slot).inbox.dropped + 1 < 2 ^ 32 }
     ensures own { own_of home.new due.now.id.slot ≡ answered now (own_of home.old due.now.id.slot) }
     ensures rest { ChangesOnly due.now.id.slot home.old home.new }
 {
@@ -84,7 +84,7 @@ fn fire(home: &mut Home, due: &Due, now: u32)
 /// tick.
 #[inline(always)]
 pub(crate) fn fire_first(home: &mut Home, now: u32) -> Result<Answer, NotReady>
-    requires dropped { All (λ own. own.dropped + 1 < 2 ^ 32) home.old.owns }
+    requires dropped { All (λ own. own.inbox.dropped + 1 < 2 ^ 32) home.old.owns }
     ensures { AlarmAnswers now home.old result home.new }
 {
     let Some(due) = first_due(home, now) else {

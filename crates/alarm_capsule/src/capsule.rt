@@ -48,7 +48,7 @@ impl AlarmCapsule {
     // Inlined, an answer that its caller does not read is not made.
     #[inline(always)]
     pub fn answer(&mut self, home: &mut Home, now: u32) -> Result<Answer, NotReady>
-        requires dropped { All (λ own. own.dropped + 1 < 2 ^ 32) home.old.owns }
+        requires dropped { All (λ own. own.inbox.dropped + 1 < 2 ^ 32) home.old.owns }
         ensures { AlarmAnswers now home.old result home.new }
     {
         fire_first(home, now)

@@ -68,7 +68,7 @@ impl Visit<Alarm> for Fire {
 
     type Answer = ();
 
-    ghost asks = { λ fire value seen. (0 < seen.counts.upcalls) × (seen.own.dropped + 1 < 2 ^ 32) };
+    ghost asks = { λ fire value seen. (0 < seen.counts.upcalls) × (seen.own.inbox.dropped + 1 < 2 ^ 32) };
 
     ghost leaves = { λ fire value seen answer value' own. (value' ≡ record { armed = None })
         × (own ≡ own_scheduled seen.driver 0 (fire.now ∷ fire.expiration ∷ 0 ∷ []) seen.own) };

@@ -115,7 +115,7 @@ summary_shown b lines unplaced leds board e f lit =
 -- the line that was made of a slot
 pub line_is : (home : Homes) (ps : List Process) (p : Process) (slot known : ℕ) (flash name : List ℕ) (dropped : ℕ)
     → p ≡ slice_index_or ps slot p → name ≡ name_of (object_in flash p.object) → flash ≡ home.flash → known ≡ slot
-    → dropped ≡ (own_of home known).dropped
+    → dropped ≡ (own_of home known).inbox.dropped
     → record {
       name = record { items = name };
       state = p.state;
@@ -129,8 +129,8 @@ pub line_is : (home : Homes) (ps : List Process) (p : Process) (slot known : ℕ
 line_is home ps p slot known flash name dropped at named here is count =
     let title : name ≡ name_of (object_in home.flash p.object) =
     named ∙ ap (λ (f : List ℕ). name_of (object_in f p.object)) here in
-    let counted : dropped ≡ (slice_index_or home.owns slot nobody).dropped =
-    count ∙ ap (λ (k : ℕ). (own_of home k).dropped) is in
+    let counted : dropped ≡ (slice_index_or home.owns slot nobody).inbox.dropped =
+    count ∙ ap (λ (k : ℕ). (own_of home k).inbox.dropped) is in
     let line = line_in home.flash (p, slice_index_or home.owns slot nobody) in
     ap (λ (n : List ℕ). record line { name = record { items = n }; dropped = dropped }) title
     ∙ ap (λ (d : ℕ). record line { dropped = d }) counted

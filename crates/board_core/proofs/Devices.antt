@@ -52,18 +52,18 @@ use Rattle.board_core.proofs.Ready.{is_carried_out}
 
 -- what a slot's process has lost
 pub lost_there : (steps : ℕ) (home : Homes) (slot : ℕ) → All (HasLost steps) home.owns
-    → (own_of home slot).dropped ≤ steps
+    → (own_of home slot).inbox.dropped ≤ steps
 lost_there steps home slot lost = of_each home.owns slot lost
   where
-    past : (owns : List Own) (k : ℕ) → length owns ≤ k → (slice_index_or owns k nobody).dropped ≡ 0
+    past : (owns : List Own) (k : ℕ) → length owns ≤ k → (slice_index_or owns k nobody).inbox.dropped ≡ 0
     past [] k h = refl
     past (o ∷ owns) zero h = absurd (omega arith)
     past (o ∷ owns) (suc k) h = past owns k (omega arith)
 
-    of_each : (owns : List Own) (k : ℕ) → All (HasLost steps) owns → (slice_index_or owns k nobody).dropped ≤ steps
+    of_each : (owns : List Own) (k : ℕ) → All (HasLost steps) owns → (slice_index_or owns k nobody).inbox.dropped ≤ steps
     of_each owns k all = by_place (nat_lt k (length owns)) refl
       where
-        by_place : (b : Bool) → nat_lt k (length owns) ≡ b → (slice_index_or owns k nobody).dropped ≤ steps
+        by_place : (b : Bool) → nat_lt k (length owns) ≡ b → (slice_index_or owns k nobody).inbox.dropped ≤ steps
         by_place true e = all k nobody (let h : k < length owns = grind (arith, nat_tests) in h)
         by_place false e = let h : length owns ≤ k = grind (arith, nat_tests) in omega (arith, past owns k h)
 
@@ -93,14 +93,14 @@ still_guards guard home home_after slot only same guards = record {
         ∙ sym (in_place home s)
 
 pub lost_where : (steps : ℕ) (owns : List Own) (slot : ℕ) (own : Own) → slice_get owns slot ≡ Some own
-    → All (HasLost steps) owns → own.dropped ≤ steps
+    → All (HasLost steps) owns → own.inbox.dropped ≤ steps
 lost_where steps owns slot own was lost =
     subst (HasLost steps) (get_or_from_slice_get owns slot own own was)
     (lost slot own (slice_get_within owns slot own was))
 
 -- each process lost at most as many upcalls more as steps were made, so one more in a step
 pub still_lost_on : (steps more slot : ℕ) (home home_after : Homes) (own : Own)
-    → home_after ≡ record home { owns = slice_set home.owns slot own } → own.dropped ≤ steps + more
+    → home_after ≡ record home { owns = slice_set home.owns slot own } → own.inbox.dropped ≤ steps + more
     → All (HasLost steps) home.owns → All (HasLost (steps + more)) home_after.owns
 still_lost_on steps more slot home home_after own only few lost =
     subst (λ (h : Homes). All (HasLost (steps + more)) h.owns) (sym only)
@@ -108,7 +108,7 @@ still_lost_on steps more slot home home_after own only few lost =
     (All-weaker (HasLost steps) (HasLost (steps + more)) (λ o h. omega (arith, h)) home.owns lost))
 
 pub still_lost : (steps slot : ℕ) (home home_after : Homes) (own : Own)
-    → home_after ≡ record home { owns = slice_set home.owns slot own } → own.dropped ≤ steps + 1
+    → home_after ≡ record home { owns = slice_set home.owns slot own } → own.inbox.dropped ≤ steps + 1
     → All (HasLost steps) home.owns → All (HasLost (steps + 1)) home_after.owns
 still_lost steps slot home home_after own only few lost = still_lost_on steps 1 slot home home_after own only few lost
 

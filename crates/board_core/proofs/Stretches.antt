@@ -452,7 +452,7 @@ module _ (b : Inside) (board : IsBoard b) where
       lost = still_lost_on b.moment.steps k slot b.home home q.at.after.1 q.at.own_is
           (omega (
             arith,
-            ap (λ (o : Own). o.dropped) kept,
+            ap (λ (o : Own). o.inbox.dropped) kept,
             lost_where b.moment.steps b.home.owns slot q.at.before.1 q.at.own_was board.lost,
           )) board.lost;
       owns = as_many_owns slot b.home home b.processes.items processes q.at ∙ board.owns ∙ many;

@@ -166,7 +166,7 @@ module _ (b : Inside) (slot : ℕ) (home : Homes) (processes : List Process) (sh
       t.at.own_was)) ∙ can in
       seat.own.lives ∙ by_state t.at.before.0.state may
     where
-      by_state : (s : State) → has_turn s (is_pending t.at.before.1.pending) ≡ true → is_alive s ≡ true
+      by_state : (s : State) → has_turn s (is_pending t.at.before.1.inbox.pending) ≡ true → is_alive s ≡ true
       by_state Running e = refl
       by_state Yielded e = refl
       by_state Faulted e = absurd (false≢true e)

@@ -218,23 +218,23 @@ module _ (m : Moment) (slot : ℕ) (flash : List ℕ) where
       (refl, record { call = refl; denial = refl }, drives_nothing (id_of slot old.1) d)
 
   -- where an upcall is pending it is delivered
-  pub woken : (old new : Resident) (d : Drivers) → old.0.state ≡ Yielded → is_pending old.1.pending ≡ true
+  pub woken : (old new : Resident) (d : Drivers) → old.0.state ≡ Yielded → is_pending old.1.inbox.pending ≡ true
       → ((storage : List ℕ)
       → record_in flash new.0 new.1 storage ≡ deliver (record_in flash (after_turn old.0) old.1 storage))
       → Turns m slot flash old new nothing_shown d d
   unfolding turned
   woken old new d waits some delivers = is_quiet old new d (λ storage.
       let r = record_in flash old.0 old.1 storage in
-      ap (λ (s : State). turn_in m.settings m.time s r) waits ∙ by_pending r old.1.pending some
+      ap (λ (s : State). turn_in m.settings m.time s r) waits ∙ by_pending r old.1.inbox.pending some
       ∙ ap idle (sym (delivers storage)))
 
   -- where none is pending nothing happens
-  pub waits_on : (r : Resident) (d : Drivers) → r.0.state ≡ Yielded → is_pending r.1.pending ≡ false
+  pub waits_on : (r : Resident) (d : Drivers) → r.0.state ≡ Yielded → is_pending r.1.inbox.pending ≡ false
       → Turns m slot flash r r nothing_shown d d
   unfolding turned
   waits_on r d waits none = is_quiet r r d (λ storage.
       ap (λ (s : State). turn_in m.settings m.time s (record_in flash r.0 r.1 storage)) waits
-      ∙ none_pending (record_in flash r.0 r.1 storage) r.1.pending none)
+      ∙ none_pending (record_in flash r.0 r.1 storage) r.1.inbox.pending none)
 
   -- a process that ended has no turn
   pub rests : (r : Resident) (d : Drivers) → (r.0.state ≡ Faulted) ⊎ ((code : ℕ) × (r.0.state ≡ Terminated code))
@@ -274,7 +274,7 @@ module _ (m : Moment) (slot : ℕ) (flash : List ℕ) (old new : Resident) (show
       (sym (ap (λ (o : Own). o.grants) own) ∙ keeps.0, sym (ap (λ (o : Own). o.lives) own) ∙ keeps.1)
 
   -- and any turn drops one upcall at most
-  pub loses_one : DropsAtMostOne → Turns m slot flash old new shown d d' → new.1.dropped ≤ old.1.dropped + 1
+  pub loses_one : DropsAtMostOne → Turns m slot flash old new shown d d' → new.1.inbox.dropped ≤ old.1.inbox.dropped + 1
   loses_one law turns =
-      subst (λ (r : Record). r.own.dropped ≤ old.1.dropped + 1) (turns []).0
+      subst (λ (r : Record). r.own.inbox.dropped ≤ old.1.inbox.dropped + 1) (turns []).0
       (law m.settings m.time (record_in flash old.0 old.1 [])).not_more

@@ -119,7 +119,7 @@ pub record MayAsk (d : Drivers) (slot : ℕ) (own : Own) : Type 0 where
 -- what the drivers ask of a moment at which they serve a call of the process in a slot
 pub record MayServe (m : Moment) (d : Drivers) (slot : ℕ) (own : Own) : Type 0 where
   pub asks : MayAsk d slot own
-  pub lost : own.dropped ≤ m.steps
+  pub lost : own.inbox.dropped ≤ m.steps
   pub leds : length d.leds ≡ m.settings.leds
   pub size : d.stores.size ≡ m.settings.storage
 

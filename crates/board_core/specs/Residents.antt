@@ -160,7 +160,7 @@ pub record LeavesSlot (steps : ℕ) (place : ℕ) (home home_after : Homes) (pro
 
 -- it lost at most as many upcalls as there were steps
 abbrev pub HasLost : ℕ → Own → Type 0
-HasLost steps own = own.dropped ≤ steps
+HasLost steps own = own.inbox.dropped ≤ steps
 
 -- nothing but the process in one slot, and what is its own, has changed
 pub record ChangesSlot (slot : ℕ) (home home_after : Homes) (processes processes_after : List Process) : Type 0 where
@@ -180,7 +180,7 @@ pub record TurnsAt (m : Moment) (slot : ℕ) (home home_after : Homes) (processe
 
 -- whether a process can have a turn, and whether that in a slot can, if there is one
 abbrev pub resident_turns : Resident → Bool
-resident_turns r = has_turn r.0.state (is_pending r.1.pending)
+resident_turns r = has_turn r.0.state (is_pending r.1.inbox.pending)
 
 abbrev pub can_turn_in : Option Resident → Bool
 can_turn_in None = false
@@ -194,5 +194,5 @@ line_in flash r = record {
   denial = r.0.denial;
   turns = r.0.turns;
   restarts = r.0.restarts;
-  dropped = r.1.dropped;
+  dropped = r.1.inbox.dropped;
 }

@@ -160,7 +160,7 @@ impl Drivers {
     ) -> (Reply, Option<CallRule>)
         requires slot { id.slot < length home.old.owns }
         requires present { is_stale id.life (own_of home.old id.slot) ≡ false }
-        requires dropped { (own_of home.old id.slot).dropped + 1 < 2 ^ 32 }
+        requires dropped { (own_of home.old id.slot).inbox.dropped + 1 < 2 ^ 32 }
         requires lines { MayAsk self.old id.slot (own_of home.old id.slot) }
         requires driver { IsTaken order.now }
         ensures comes { Commands tick id order.now self.old (own_of home.old id.slot)

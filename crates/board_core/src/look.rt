@@ -59,7 +59,7 @@ impl Board {
     /// The upcalls that wait to be delivered to the process in a slot, the first one first.
     pub fn pending(&self, slot: Slot) -> Option<&[Upcall]>
         ensures { option_copied result
-            ≡ option_map (λ r. r.own.pending) (slice_get self.now.records slot) }
+            ≡ option_map (λ r. r.own.inbox.pending) (slice_get self.now.records slot) }
     {
         if slot.index() >= self.processes.len() {
             return None;
@@ -69,7 +69,7 @@ impl Board {
 
     /// How many upcalls of the process in a slot were dropped.
     pub fn dropped(&self, slot: Slot) -> Option<u32>
-        ensures { result ≡ option_map (λ r. r.own.dropped) (slice_get self.now.records slot) }
+        ensures { result ≡ option_map (λ r. r.own.inbox.dropped) (slice_get self.now.records slot) }
     {
         if slot.index() >= self.processes.len() {
             return None;

@@ -43,7 +43,7 @@ impl Visit<Console> for DropRead {
     type Answer = ();
 
     ghost asks = { λ drop value seen. (seen.driver ≡ console) × (2 < seen.counts.upcalls)
-        × (seen.own.dropped + 1 < 2 ^ 32) };
+        × (seen.own.inbox.dropped + 1 < 2 ^ 32) };
 
     ghost leaves = { λ drop value seen answer value' own. (value' ≡ record value { read = None })
         × (own ≡ own_scheduled console 2 (code_of CANCEL ∷ 0 ∷ 0 ∷ []) seen.own) };

@@ -31,7 +31,7 @@ impl<'a> Visit<Console> for Receive<'a> {
     type Answer = &'a mut Uart;
 
     ghost asks = { λ receive value seen. (seen.driver ≡ console) × (2 < seen.counts.upcalls)
-        × (1 < seen.counts.rw) × (seen.own.dropped + 1 < 2 ^ 32) };
+        × (1 < seen.counts.rw) × (seen.own.inbox.dropped + 1 < 2 ^ 32) };
 
     ghost leaves = { λ receive value seen uart value' own. (uart.ghost_name ≡ receive.uart.ghost_name)
         × Receives receive.uart.now value value.read seen.own uart.now value' own };
@@ -108,7 +108,7 @@ fn take_in(entered: &mut Entered<'_>, uart: &mut Uart, read: &WaitingRead)
     requires driver { (seen entered.old).driver ≡ console }
     requires upcall { 2 < (seen entered.old).counts.upcalls }
     requires buffer { 1 < (seen entered.old).counts.rw }
-    requires dropped { (own_entered entered.old).dropped + 1 < 2 ^ 32 }
+    requires dropped { (own_entered entered.old).inbox.dropped + 1 < 2 ^ 32 }
     ensures told { let own = own_entered entered.old in
         let bytes = bytes_moving uart.old.ring read.now own in
         (own_entered entered.new ≡ told_input bytes own)

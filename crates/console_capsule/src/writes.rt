@@ -32,7 +32,7 @@ impl<'a> Visit<Console> for Transmit<'a> {
     type Answer = &'a mut ArrayVec<u8, PRINT_LIMIT>;
 
     ghost asks = { λ transmit value seen. (seen.driver ≡ console) × (1 < seen.counts.upcalls)
-        × (1 < seen.counts.ro) × (seen.own.dropped + 1 < 2 ^ 32)
+        × (1 < seen.counts.ro) × (seen.own.inbox.dropped + 1 < 2 ^ 32)
         × (transmit.printed.now.items ≡ []) };
 
     ghost leaves = { λ transmit value seen printed value' own.
@@ -81,7 +81,7 @@ fn take_step(
     requires driver { (seen entered.old).driver ≡ console }
     requires upcall { 1 < (seen entered.old).counts.upcalls }
     requires buffer { 1 < (seen entered.old).counts.ro }
-    requires dropped { (own_entered entered.old).dropped + 1 < 2 ^ 32 }
+    requires dropped { (own_entered entered.old).inbox.dropped + 1 < 2 ^ 32 }
     requires empty { printed.old.items ≡ [] }
     ensures printed { printed.new.items
         ≡ next_bytes (seen entered.old).flash write.now (own_entered entered.old) }

@@ -32,7 +32,7 @@ use Rattle.driver_model.proofs.Follows.{arms_apart}
 
 -- by what is asked for after the answer
 follows : (left : QueueName → Bool) (own o : Own) (after : Asked) → Remains own o
-    → IsAtMostOneMore own.dropped o.dropped → asked o.grants ≡ after
+    → IsAtMostOneMore own.inbox.dropped o.inbox.dropped → asked o.grants ≡ after
     → Moves (λ line waits. cond (left line) false waits) (asked own.grants) after
     → ((size : ℕ) → LiesWithin size (asked own.grants).stores → LiesWithin size after.stores) → FollowsAnswer left own o
 follows left own o after rest dropped is moves lies = record {
@@ -53,7 +53,7 @@ remains own o grants served = subst (λ (x : Own). Remains own (record x { grant
 -- nothing changed
 unmoved : (left : QueueName → Bool) (own : Own) → ((line : QueueName) → left line ≡ false) → FollowsAnswer left own own
 unmoved left own stays =
-    follows left own own (asked own.grants) refl (none_more own.dropped) refl
+    follows left own own (asked own.grants) refl (none_more own.inbox.dropped) refl
     (record { writes = at Writes _; reads = at Reads _; randoms = at Randoms _; stores = at Stores _ })
     (λ size held. held)
   where

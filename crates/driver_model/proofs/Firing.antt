@@ -11,9 +11,9 @@ use Rattle.driver_model.specs.Laws.{AnAlarmLeavesTheRest, DueSlotIsThere, IsAtMo
 use Rattle.driver_model.proofs.Scheduled.{none_more, schedules}
 
 fires : (now : ℕ) (own : Own) (alarm : Option Armed) → let o = fired_if now own alarm in
-    (o ≡ record own { pending = o.pending; dropped = o.dropped; grants = o.grants })
-    × IsAtMostOneMore own.dropped o.dropped
-fires now own None = (refl, none_more own.dropped)
+    (o ≡ record own { inbox = o.inbox; grants = o.grants })
+    × IsAtMostOneMore own.inbox.dropped o.inbox.dropped
+fires now own None = (refl, none_more own.inbox.dropped)
 fires now own (Some alarm) =
     let q = schedules alarm_driver 0 (now ∷ expiration alarm ∷ 0 ∷ []) own in
     (ap (λ (o : Own). record o { grants = (fired now alarm own).grants }) q.rest, q.dropped)

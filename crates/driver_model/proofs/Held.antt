@@ -133,7 +133,7 @@ handed_places kind driver number pair own =
     (roomed_rest driver own.layout (grant_of driver own.grants))
     ∙ ap (λ (f : LayoutView). record own.layout { kernel_break = f.kernel_break; mark = o.layout.mark })
     (sym (marked_rest kind pair e)) in
-    ap (λ (f : LayoutView). record own { layout = f; ram = o.ram; grants = o.grants; pending = o.pending }) layout
+    ap (λ (f : LayoutView). record own { layout = f; ram = o.ram; grants = o.grants; inbox = o.inbox }) layout
 
 pub drivers_keep : DriversKeep
 drivers_keep = record {

@@ -58,16 +58,16 @@ commands_stay_in_place driver taker is around number a2 a3 own =
 
 pub command_drops_at_most_one : CommandDropsAtMostOne
 command_drops_at_most_one driver taker around number a2 a3 own is =
-    of_command (λ around own c. IsAtMostOneMore own.dropped c.own.dropped) driver taker is around number a2 a3 own
+    of_command (λ around own c. IsAtMostOneMore own.inbox.dropped c.own.inbox.dropped) driver taker is around number a2 a3 own
     (record {
-      refuses = λ rule. none_more own.dropped;
-      replies = λ reply. none_more own.dropped;
-      lights = λ led switch. none_more own.dropped;
-      arms = λ alarm room. none_more own.dropped;
-      stops = none_more own.dropped;
+      refuses = λ rule. none_more own.inbox.dropped;
+      replies = λ reply. none_more own.inbox.dropped;
+      lights = λ led switch. none_more own.inbox.dropped;
+      arms = λ alarm room. none_more own.inbox.dropped;
+      stops = none_more own.inbox.dropped;
       cancels = (cancels own).dropped;
-      writes = λ request room none. none_more own.dropped;
-      reads = λ request room none. none_more own.dropped;
-      draws = λ request room none. none_more own.dropped;
-      stores = λ request fits room none. none_more own.dropped;
+      writes = λ request room none. none_more own.inbox.dropped;
+      reads = λ request room none. none_more own.inbox.dropped;
+      draws = λ request room none. none_more own.inbox.dropped;
+      stores = λ request fits room none. none_more own.inbox.dropped;
     })

@@ -21,10 +21,10 @@ pub none_more : (dropped : ℕ) → IsAtMostOneMore dropped dropped
 none_more dropped = record { not_less = omega arith; not_more = omega arith }
 
 -- nothing was scheduled where the same waits
-pub schedules_none : (own o : Own) → o.pending ≡ own.pending → SchedulesHeld own o
+pub schedules_none : (own o : Own) → o.inbox.pending ≡ own.inbox.pending → SchedulesHeld own o
 schedules_none own o same = record {
   more = [];
-  pending = same ∙ sym (append-nil own.pending);
+  pending = same ∙ sym (append-nil own.inbox.pending);
   one = omega arith;
   each = All-nil (IsHeld own);
 }
@@ -42,29 +42,32 @@ is_less n m h = grind (arith, nat_tests)
 -- what waits to be delivered, and one more that is dropped
 pub record Queues (own o : Own) : Type 0 where
   pub limit : KeepsLimit own o
-  pub rest : o ≡ record own { pending = o.pending; dropped = o.dropped }
-  pub dropped : IsAtMostOneMore own.dropped o.dropped
+  pub rest : o ≡ record own { inbox = o.inbox }
+  pub dropped : IsAtMostOneMore own.inbox.dropped o.inbox.dropped
   pub upcalls : SchedulesHeld own o
 
 queues : (upcall : Upcall) (own : Own) → held Upcalls upcall.driver upcall.number own ≡ (upcall.function, upcall.app)
     → Queues own (queueing upcall own)
-queues upcall own is = by_function (upcall.function == 0) (has_room own.pending) refl refl
+queues upcall own is = by_function (upcall.function == 0) (has_room own.inbox.pending) refl refl
   where
-    by_function : (null room : Bool) → (upcall.function == 0) ≡ null → has_room own.pending ≡ room
-        → Queues own (cond null own (cond room (record own { pending = own.pending ++ upcall ∷ [] })
-        (record own { dropped = own.dropped + 1 })))
+    by_function : (null room : Bool) → (upcall.function == 0) ≡ null → has_room own.inbox.pending ≡ room
+        → Queues own (record own {
+          inbox = cond null own.inbox
+              (cond room (record own.inbox { pending = own.inbox.pending ++ upcall ∷ [] })
+              (record own.inbox { dropped = own.inbox.dropped + 1 }));
+        })
     by_function true room e h =
         record {
           limit = same_limit own;
           rest = refl;
-          dropped = none_more own.dropped;
+          dropped = none_more own.inbox.dropped;
           upcalls =
               schedules_none own _ refl;
         }
     by_function false true e h = record {
-      limit = record { limit = λ few. rw length-append (more_fits (length own.pending) h); room = λ few. refl };
+      limit = record { limit = λ few. rw length-append (more_fits (length own.inbox.pending) h); room = λ few. refl };
       rest = refl;
-      dropped = none_more own.dropped;
+      dropped = none_more own.inbox.dropped;
       upcalls = record {
         more = upcall ∷ [];
         pending = refl;
@@ -79,7 +82,7 @@ queues upcall own is = by_function (upcall.function == 0) (has_room own.pending)
               record {
                 limit = λ few. few;
                 room =
-                    λ few. absurd (false≢true (sym h ∙ is_less (length own.pending) PENDING_LIMIT few));
+                    λ few. absurd (false≢true (sym h ∙ is_less (length own.inbox.pending) PENDING_LIMIT few));
               };
           rest = refl;
           dropped =
@@ -101,8 +104,8 @@ as_before own whole low = refl
 pub record Serves (own o : Own) : Type 0 where
   pub size : AsMany own o.ram
   pub limit : KeepsLimit own o
-  pub rest : o ≡ record own { ram = o.ram; pending = o.pending; dropped = o.dropped }
-  pub dropped : IsAtMostOneMore own.dropped o.dropped
+  pub rest : o ≡ record own { ram = o.ram; inbox = o.inbox }
+  pub dropped : IsAtMostOneMore own.inbox.dropped o.inbox.dropped
   pub upcalls : SchedulesHeld own o
 
 -- it has bytes written, or not, and is told
@@ -113,7 +116,7 @@ serves driver number args ram own size =
     record {
       size = λ whole low. ap (λ (o : Own). length o.ram) q.rest ∙ size whole low;
       limit = record { limit = q.limit.limit; room = q.limit.room };
-      rest = subst (λ (o : Own). o ≡ record own { ram = o.ram; pending = o.pending; dropped = o.dropped }) (sym q.rest)
+      rest = subst (λ (o : Own). o ≡ record own { ram = o.ram; inbox = o.inbox }) (sym q.rest)
           refl;
       dropped = q.dropped;
       upcalls = record {
@@ -133,6 +136,6 @@ serves_silently ram own size =
       limit = record { limit = λ few. few; room = λ few. refl };
       rest = refl;
       dropped =
-          none_more own.dropped;
+          none_more own.inbox.dropped;
       upcalls = schedules_none own _ refl;
     }

@@ -12,13 +12,13 @@ use Rattle.driver_model.specs.Lines.{IsWithin, OfEachRequestKind, has_waiting}
 -- a device's answer may change the bytes of a process, its grants, what waits to be delivered and the count of dropped
 -- upcalls; where it lies, its life, and that it lives, stay
 abbrev pub Remains : Own → Own → Type 0
-Remains own o = o ≡ record own { ram = o.ram; grants = o.grants; pending = o.pending; dropped = o.dropped }
+Remains own o = o ≡ record own { ram = o.ram; grants = o.grants; inbox = o.inbox }
 
 -- What an answer leaves of a process: it remains; one upcall more was dropped at most; it has a request of a kind
 -- where it had one, unless it left that queue; and one for storage is for some of so many bytes, as one before it was.
 pub record FollowsAnswer (left : QueueName → Bool) (own o : Own) : Type 0 where
   pub rest : Remains own o
-  pub dropped : IsAtMostOneMore own.dropped o.dropped
+  pub dropped : IsAtMostOneMore own.inbox.dropped o.inbox.dropped
   pub lines : OfEachRequestKind (λ R request_kind.
       has_waiting request_kind o ≡ (if left request_kind.line then false else has_waiting request_kind own))
   pub within : (size : ℕ) → IsWithin size own → IsWithin size o

@@ -33,8 +33,8 @@ KeepsOrder own o = IsInOrder own → IsInOrder o
 
 -- so many upcalls wait at most, and one is dropped only where as many wait
 pub record KeepsLimit (own o : Own) : Type 0 where
-  pub limit : length own.pending ≤ PENDING_LIMIT → length o.pending ≤ PENDING_LIMIT
-  pub room : length own.pending < PENDING_LIMIT → o.dropped ≡ own.dropped
+  pub limit : length own.inbox.pending ≤ PENDING_LIMIT → length o.inbox.pending ≤ PENDING_LIMIT
+  pub room : length own.inbox.pending < PENDING_LIMIT → o.inbox.dropped ≡ own.inbox.dropped
 
 -- a pair that is handed leaves where a process lies, its life, that it lives, its break and its dropped upcalls
 abbrev pub HandsInPlace : Own → Own → Type 0
@@ -42,12 +42,11 @@ HandsInPlace own o = o ≡ record own {
   layout = record own.layout { kernel_break = o.layout.kernel_break; mark = o.layout.mark };
   ram = o.ram;
   grants = o.grants;
-  pending = o.pending;
+  inbox = record own.inbox { pending = o.inbox.pending };
 }
 
 -- So it is after each command, whichever driver takes it, and after each answer of a device. Memory stays in order
--- where
--- a pair is handed to a driver that has a place.
+-- where a pair is handed to a driver that has a place.
 pub record DriversKeep : Type 0 where
   pub places : OfEachService StaysInPlace
   pub order : OfEachService KeepsOrder

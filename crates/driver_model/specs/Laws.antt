@@ -25,7 +25,7 @@ pub record IsAtMostOneMore (before after : ℕ) : Type 0 where
 abbrev pub CommandDropsAtMostOne : Type 0
 CommandDropsAtMostOne =
     (driver : ℕ) (taker : CommandHandler) (around : CommandContext) (number a2 a3 : ℕ) (own : Own) →
-    handler_of driver ≡ Some taker → IsAtMostOneMore own.dropped (taker around number a2 a3 own).own.dropped
+    handler_of driver ≡ Some taker → IsAtMostOneMore own.inbox.dropped (taker around number a2 a3 own).own.inbox.dropped
 
 -- no ticks are left until the next alarm exactly where some slot has an alarm that is due
 abbrev pub IsDueWhereNoneAreLeft : Type 0
@@ -46,8 +46,7 @@ StaysInPlace own o = o ≡ record own {
   layout = record own.layout { kernel_break = o.layout.kernel_break };
   ram = o.ram;
   grants = o.grants;
-  pending = o.pending;
-  dropped = o.dropped;
+  inbox = o.inbox;
 }
 
 -- so does each command to a driver
@@ -73,8 +72,8 @@ abbrev pub AnAlarmLeavesTheRest : Type 0
 AnAlarmLeavesTheRest =
     (now : ℕ) (own : Own) →
     let o = answered now own in
-    (o ≡ record own { pending = o.pending; dropped = o.dropped; grants = o.grants })
-    × (own.dropped ≤ o.dropped) × (o.dropped ≤ own.dropped + 1)
+    (o ≡ record own { inbox = o.inbox; grants = o.grants })
+    × (own.inbox.dropped ≤ o.inbox.dropped) × (o.inbox.dropped ≤ own.inbox.dropped + 1)
 
 -- each LED of a list is a bit of their number
 abbrev pub EachLedIsItsBit : Type 0

@@ -14,7 +14,7 @@ IsHeld own upcall =
 -- What waits for a process is what waited before, and then at most one upcall more, which is one that it holds.
 pub record SchedulesHeld (own o : Own) : Type 0 where
   pub more : List Scheduled
-  pub pending : o.pending ≡ own.pending ++ more
+  pub pending : o.inbox.pending ≡ own.inbox.pending ++ more
   pub one : length more ≤ 1
   pub each : All (IsHeld own) more
 

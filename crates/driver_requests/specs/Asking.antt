@@ -26,7 +26,7 @@ pub record MayAskAt {R : Type 0} (request_kind : RequestKind R) (ids : List Proc
 -- a process may be told something: its slot is one of the home's, and its count of dropped upcalls may rise by one
 pub record MayBeTold (home : Homes) (id : ProcessId) : Type 0 where
   pub slot : id.slot < length home.owns
-  pub dropped : (own_of home id.slot).dropped + 1 < 2 ^ 32
+  pub dropped : (own_of home id.slot).inbox.dropped + 1 < 2 ^ 32
 
 -- What comes of a command of a process: its answer, what is then the process's own, and who waits in a list then.
 -- Nothing of another process changes.

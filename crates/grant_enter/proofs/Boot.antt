@@ -104,11 +104,9 @@ module _ (law : IsReadBack) (flash : List ℕ) (ram : ℕ) (fs : List Footprint)
         layout = e;
         ram = a;
         grants = gs;
-        pending =
-            [];
+        inbox = record { pending = []; dropped = 0 };
         life = 0;
         lives = true;
-        dropped = 0;
       })
       (zero_window ram (e.start - 2147483648) (e.kernel_break - 2147483648) (omega (arith, t.to, t.ordered.end))
       ∙ ap zeros (omega (arith, t.from, t.ordered.block, t.ordered.grants)))

@@ -67,5 +67,5 @@ module _ (driver : ℕ) (m : MemoryBytes) (seat : Seat) (m' : MemoryBytes) (f : 
       let held : AllByRecursion (Holds f) (entered driver gs) =
       subst (λ (x : LayoutView). AllByRecursion (Holds x) (entered driver gs)) (sym r.layout)
       (entering_holds law seat.layout driver gs (grant_of driver gs) t.seated.kept.held) in
-      regranted m seat t driver m' f (entered driver gs) r.layout r.grants f.mark seat.pending r.grants.ordered.buffers
+      regranted m seat t driver m' f (entered driver gs) r.layout r.grants f.mark seat.inbox r.grants.ordered.buffers
       held

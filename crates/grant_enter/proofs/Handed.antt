@@ -14,7 +14,7 @@ use Rattle.swap_tables.specs.declared.handover.Handover.{Handover}
 use Rattle.swap_tables.specs.Swaps.{CanHand, swapped}
 use Rattle.process_model.specs.Own.{Own}
 use Rattle.process_model.specs.Handed.{handing, may_share, marked, still_pending}
-use Rattle.grant_enter.specs.declared.seat.Pending.{Pending}
+use Rattle.upcall_queue.specs.declared.inbox.Inbox.{Inbox}
 use Rattle.grant_enter.specs.declared.seat.Seat.{Seat}
 use Rattle.grant_enter.specs.Seats.{Holds, Reseats, SitsIn, SwapsIn, app_in, kernel_in, own_in}
 use Rattle.grant_enter.proofs.Holding.{only_mark, mark_below, handed_holds, may_still}
@@ -23,10 +23,10 @@ use Rattle.grant_enter.proofs.Values.{shape_is}
 
 -- what the code leaves, in a seat that was settled
 module _ (m : MemoryBytes) (seat : Seat) (h : Handover) (m' : MemoryBytes) (f : LayoutView) (former : ℕ × ℕ)
-    (sw : SwapsIn h m seat.layout m' f former) (pending : Pending) where
-  pub own_handed : pending.queue ≡ still_pending h.kind h.driver h.number seat.pending.queue
-      → pending.dropped ≡ seat.pending.dropped
-      → own_in m'.ram (record seat { layout = marked h.kind h.pair f; pending = pending })
+    (sw : SwapsIn h m seat.layout m' f former) (inbox : Inbox) where
+  pub own_handed : inbox.pending ≡ still_pending h.kind h.driver h.number seat.inbox.pending
+      → inbox.dropped ≡ seat.inbox.dropped
+      → own_in m'.ram (record seat { layout = marked h.kind h.pair f; inbox = inbox })
       ≡ handing h.kind h.driver h.number h.pair (own_in m.ram seat)
   own_handed queue dropped =
       let gs = swapped h (decode_grants (kernel_in m.ram seat.layout)) in
@@ -37,22 +37,21 @@ module _ (m : MemoryBytes) (seat : Seat) (h : Handover) (m' : MemoryBytes) (f : 
         layout = marked h.kind h.pair e;
         ram = a;
         grants = gs;
-        pending = q;
+        inbox = record { pending = q; dropped = d };
         life =
             seat.life;
         lives = seat.lives;
-        dropped = d;
       } in
-      ap₂ (λ (a : List ℕ) (gs : List Grant). made f a gs pending.queue pending.dropped)
+      ap₂ (λ (a : List ℕ) (gs : List Grant). made f a gs inbox.pending inbox.dropped)
       (ap (app_in m'.ram) (only_mark h.kind h.pair f) ∙ sw.grants.app)
       (ap (λ (e : LayoutView). decode_grants (kernel_in m'.ram e)) (only_mark h.kind h.pair f) ∙ sw.grants.tells.grants)
       ∙ ap₂ (made f (below f (app_in m.ram seat.layout)) gs) queue dropped
       ∙ ap (λ (e : LayoutView). made e (below e (app_in m.ram seat.layout)) gs
-      (still_pending h.kind h.driver h.number seat.pending.queue) seat.pending.dropped) sw.layout
+      (still_pending h.kind h.driver h.number seat.inbox.pending) seat.inbox.dropped) sw.layout
 
   -- it is a seat as before
   pub hand_reseats : PairsStandByKind → SitsIn m seat → CanHand h → IsTrue (may_share h.kind seat.layout h.pair)
-      → Reseats m seat m' (record seat { layout = marked h.kind h.pair f; pending = pending })
+      → Reseats m seat m' (record seat { layout = marked h.kind h.pair f; inbox = inbox })
   hand_reseats law t can may =
       let before = decode_grants (kernel_in m.ram seat.layout) in
       let mark = (marked h.kind h.pair f).mark in
@@ -61,8 +60,8 @@ module _ (m : MemoryBytes) (seat : Seat) (h : Handover) (m' : MemoryBytes) (f : 
       subst (λ (c : Counts). h.number < count_of h.kind c) (sym (shape_is h.driver h.counts can.counts_are)) can.below in
       let held = handed_holds law h seat.layout f before t.seated.kept.laid.sound small sw.layout still
       t.seated.kept.held in
-      subst (λ (e : LayoutView). Reseats m seat m' (record seat { layout = e; pending = pending }))
+      subst (λ (e : LayoutView). Reseats m seat m' (record seat { layout = e; inbox = inbox }))
       (sym (only_mark h.kind h.pair f))
-      (regranted m seat t h.driver m' f (swapped h before) sw.layout sw.grants mark pending
+      (regranted m seat t h.driver m' f (swapped h before) sw.layout sw.grants mark inbox
       (mark_below h.kind h.pair f sw.grants.ordered.buffers)
       (subst (λ (e : LayoutView). AllByRecursion (Holds e) (swapped h before)) (only_mark h.kind h.pair f) held))

@@ -402,16 +402,16 @@ break_reseats m seat new e false t permits was kept =
 
 -- so do other pending upcalls, and whether the process lives
 pub requeued : (m : MemoryBytes) (seat : Seat) (queue : List Upcall) (lives : Bool) → SitsIn m seat
-    → Reseats m seat m (record seat { pending = record seat.pending { queue = queue }; lives = lives })
+    → Reseats m seat m (record seat { inbox = record seat.inbox { pending = queue }; lives = lives })
 requeued m seat queue lives t =
-    same_memory m seat (record seat { pending = record seat.pending { queue = queue }; lives = lives }) refl refl
+    same_memory m seat (record seat { inbox = record seat.inbox { pending = queue }; lives = lives }) refl refl
     (record { settled = t.settled; seated = record { object = t.seated.object; kept = t.seated.kept } })
 
 pub ended_own : (ram : List ℕ) (seat : Seat) (queue : List Upcall) → queue ≡ []
-    → own_in ram (record seat { pending = record seat.pending { queue = queue }; lives = false })
+    → own_in ram (record seat { inbox = record seat.inbox { pending = queue }; lives = false })
     ≡ own_ended (own_in ram seat)
 ended_own ram seat queue none =
-    ap (λ (q : List Upcall). own_in ram (record seat { pending = record seat.pending { queue = q }; lives = false }))
+    ap (λ (q : List Upcall). own_in ram (record seat { inbox = record seat.inbox { pending = q }; lives = false }))
     none
 
 -- an empty part has no grants
@@ -482,7 +482,7 @@ module _ {h : Inside} {old : Homes} {slot index : ℕ} {seat : Seat} (r : Reads 
   abbrev seat_again : Seat
   seat_again = record seat {
     layout = with_break brk seat.layout;
-    pending = record seat.pending { queue = [] };
+    inbox = record seat.inbox { pending = [] };
     life =
         seat.life + 1;
     lives = true;
@@ -521,24 +521,23 @@ module _ {h : Inside} {old : Homes} {slot index : ℕ} {seat : Seat} (r : Reads 
         ram =
             a;
         grants = gs;
-        pending = [];
+        inbox = record { pending = []; dropped = seat.inbox.dropped };
         life = seat.life + 1;
         lives = true;
-        dropped = seat.pending.dropped;
       }) whole none
 
   -- as the code leaves memory and the seat
   pub restarts : IsReadBack → (m : MemoryBytes) (f : LayoutView) (queue : List Upcall) → f ≡ with_break brk seat.layout
       → queue ≡ [] → m ≡ block_cleared f h.memory
       → Restarts h.memory seat brk m (record seat
-      { layout = f; pending = record seat.pending { queue = queue }; life = seat.life + 1; lives = true })
+      { layout = f; inbox = record seat.inbox { pending = queue }; life = seat.life + 1; lives = true })
   restarts law m f queue at none left =
       let same : m ≡ block_cleared (with_break brk seat.layout) h.memory =
       left ∙ ap (λ (x : LayoutView). block_cleared x h.memory) at in
       subst (λ (x : MemoryBytes). Restarts h.memory seat brk x
-      (record seat_again { layout = f; pending = record seat.pending { queue = queue } })) (sym same)
+      (record seat_again { layout = f; inbox = record seat.inbox { pending = queue } })) (sym same)
       (subst (λ (x : LayoutView). Restarts h.memory seat brk (block_cleared (with_break brk seat.layout) h.memory)
-      (record seat_again { layout = x; pending = record seat.pending { queue = queue } })) (sym at)
+      (record seat_again { layout = x; inbox = record seat.inbox { pending = queue } })) (sym at)
       (subst (λ (q : List Upcall). Restarts h.memory seat brk (block_cleared (with_break brk seat.layout) h.memory)
-      (record seat_again { pending = record seat.pending { queue = q } })) (sym none)
+      (record seat_again { inbox = record seat.inbox { pending = q } })) (sym none)
       (record { reseats = again_reseats law; own = again_own law })))

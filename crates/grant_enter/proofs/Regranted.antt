@@ -9,7 +9,7 @@ use Rattle.grant_region.specs.Region.{roomed}
 use Rattle.board_memory.specs.Memory.{MemoryBytes}
 use Rattle.process_model.specs.declared.place.Object.{Object}
 use Rattle.process_model.specs.Flash.{HasObject}
-use Rattle.grant_enter.specs.declared.seat.Pending.{Pending}
+use Rattle.upcall_queue.specs.declared.inbox.Inbox.{Inbox}
 use Rattle.grant_enter.specs.declared.seat.Seat.{Seat}
 use Rattle.grant_enter.specs.Homes.{FitsMemory}
 use Rattle.grant_enter.specs.Seats.{Holds, Regrants, Reseats, SitsIn, kernel_in}
@@ -53,9 +53,9 @@ module _ (m : MemoryBytes) (seat : Seat) (t : SitsIn m seat) (driver : ℕ) (m' 
     ≡ roomed driver seat.layout (grant_of driver (decode_grants (kernel_in m.ram seat.layout))))
     (r : Regrants m seat.layout m' f gs) where
   -- it is a seat as before, with any mark that the buffers of its grants permit, and whatever is pending
-  pub regranted : (mark : ℕ) (pending : Pending) → mark ≤ f.brk → AllByRecursion (Holds (with_mark mark f)) gs
-      → Reseats m seat m' (record seat { layout = with_mark mark f; pending = pending })
-  regranted mark pending low held =
+  pub regranted : (mark : ℕ) (inbox : Inbox) → mark ≤ f.brk → AllByRecursion (Holds (with_mark mark f)) gs
+      → Reseats m seat m' (record seat { layout = with_mark mark f; inbox = inbox })
+  regranted mark inbox low held =
       let g = grant_of driver (decode_grants (kernel_in m.ram seat.layout)) in
       let ends : SameEnds seat.layout f =
       subst (SameEnds seat.layout) (sym layout) (roomed_ends driver seat.layout g) in

@@ -14,7 +14,7 @@ use Rattle.grant_model.specs.Grants.{Grant, grant_of, pairs_of}
 use Rattle.board_memory.specs.Memory.{MemoryBytes}
 use Rattle.process_model.specs.Flash.{HasObject}
 use Rattle.process_model.specs.Own.{Own}
-use Rattle.grant_enter.specs.declared.seat.Pending.{Pending}
+use Rattle.upcall_queue.specs.declared.inbox.Inbox.{Inbox}
 use Rattle.grant_enter.specs.declared.seat.Seat.{Seat}
 use Rattle.grant_enter.specs.Homes.{FitsMemory}
 use Rattle.grant_enter.specs.Windows.{SameOutside}
@@ -113,8 +113,8 @@ module _ (driver : ℕ) (counts : Counts) (m : MemoryBytes) (seat : Seat) (l : I
   layout_same : seat'.layout ≡ seat.layout
   layout_same = ap (λ (x : Seat). x.layout) v.seat_is
 
-  seated_with : (pending : Pending) → IsSeated (length m'.flash) m'.ram (record seat { pending = pending })
-  seated_with pending = record {
+  seated_with : (inbox : Inbox) → IsSeated (length m'.flash) m'.ram (record seat { inbox = inbox })
+  seated_with inbox = record {
     object = subst (λ (n : ℕ). HasObject n seat.object seat.layout) (sym (ap length v.flash)) l.sits.seated.object;
     kept = subst (IsKept seat.layout) (sym kernel_same) l.sits.seated.kept;
   }
@@ -127,7 +127,7 @@ module _ (driver : ℕ) (counts : Counts) (m : MemoryBytes) (seat : Seat) (l : I
   still_lent = record {
     sits = record {
       settled = subst (FitsMemory (length m'.flash) (length m'.ram)) (sym layout_same) settled_same;
-      seated = subst (IsSeated (length m'.flash) m'.ram) (sym v.seat_is) (seated_with seat'.pending);
+      seated = subst (IsSeated (length m'.flash) m'.ram) (sym v.seat_is) (seated_with seat'.inbox);
     };
     counts_are = l.counts_are;
   }
@@ -145,24 +145,20 @@ module _ (driver : ℕ) (counts : Counts) (m : MemoryBytes) (seat : Seat) (l : I
   }
 
   -- what is the process's own
-  own_with : (pending : Pending)
-      → own_in m'.ram (record seat { pending = pending })
+  own_with : (inbox : Inbox)
+      → own_in m'.ram (record seat { inbox = inbox })
       ≡ record (own_in m.ram seat) {
         ram = app_in m'.ram seat.layout;
-        pending = pending.queue;
-        dropped =
-            pending.dropped;
+        inbox = inbox;
       }
-  own_with pending = ap (owned (record seat { pending = pending }) (app_in m'.ram seat.layout)) kernel_same
+  own_with inbox = ap (owned (record seat { inbox = inbox }) (app_in m'.ram seat.layout)) kernel_same
 
   pub own_same : own_in m'.ram seat'
       ≡ record (own_in m.ram seat) {
         ram = app_in m'.ram seat.layout;
-        pending = seat'.pending.queue;
-        dropped =
-            seat'.pending.dropped;
+        inbox = seat'.inbox;
       }
-  own_same = ap (own_in m'.ram) v.seat_is ∙ own_with seat'.pending
+  own_same = ap (own_in m'.ram) v.seat_is ∙ own_with seat'.inbox
 
   app_bytes : SameButIn (rw_buffers driver (own_in m.ram seat)) seat.layout.start (app_in m.ram seat.layout)
       (app_in m'.ram seat.layout)
@@ -173,7 +169,7 @@ module _ (driver : ℕ) (counts : Counts) (m : MemoryBytes) (seat : Seat) (l : I
   pub serving_own : VisitorChanges driver (own_in m.ram seat) (own_in m'.ram seat')
   serving_own = record {
     rest = own_same
-        ∙ sym (ap (λ (o : Own). record (own_in m.ram seat) { ram = o.ram; pending = o.pending; dropped = o.dropped })
+        ∙ sym (ap (λ (o : Own). record (own_in m.ram seat) { ram = o.ram; inbox = o.inbox })
         own_same);
     bytes = subst (λ (xs : List ℕ). SameButIn (rw_buffers driver (own_in m.ram seat)) seat.layout.start
         (app_in m.ram seat.layout) xs) (sym (ap (λ (o : Own). o.ram) own_same)) app_bytes;
@@ -188,7 +184,7 @@ pub serving_on : (driver : ℕ) (counts : Counts) (m : MemoryBytes) (seat : Seat
     (m2 : MemoryBytes) (seat2 : Seat) → IsLentTo driver counts m seat → ServesIn driver m seat m1 seat1
     → ServesIn driver m1 seat1 m2 seat2 → ServesIn driver m seat m2 seat2
 serving_on driver counts m seat m1 seat1 m2 seat2 l v w = record {
-  seat_is = w.seat_is ∙ ap (λ (x : Seat). record x { pending = seat2.pending }) v.seat_is;
+  seat_is = w.seat_is ∙ ap (λ (x : Seat). record x { inbox = seat2.inbox }) v.seat_is;
   flash = w.flash ∙ v.flash;
   bytes = record {
     long = w.bytes.long ∙ v.bytes.long;

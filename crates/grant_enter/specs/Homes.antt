@@ -28,10 +28,9 @@ nobody = record {
   layout = record { flash_start = 0; flash_end = 0; start = 0; end = 0; brk = 0; kernel_break = 0; mark = 0 };
   ram = [];
   grants = [];
-  pending = [];
+  inbox = record { pending = []; dropped = 0 };
   life = 0;
   lives = false;
-  dropped = 0;
 }
 
 -- what is the own of the process in a slot

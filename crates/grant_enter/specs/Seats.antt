@@ -6,7 +6,6 @@ use Rattle.std.specs.List.{AllByRecursion}
 use Rattle.tk_base.specs.declared.access.TheConstants.{FLASH_START, RAM_START}
 use Rattle.tk_base.specs.declared.limits.TheConstants.{FLASH_LIMIT}
 use Rattle.tk_base.specs.declared.upcall.Upcall.{Upcall}
-use Rattle.upcall_queue.specs.Pending.{has_room}
 use Rattle.process_layout.specs.LayoutView.{LayoutView}
 use Rattle.process_layout.specs.Interval.{lies_within}
 use Rattle.process_layout.specs.Ordered.{IsOrdered}
@@ -26,7 +25,6 @@ use Rattle.process_model.specs.Flash.{HasObject}
 use Rattle.board_memory.specs.Memory.{MemoryBytes, ram_between, with_run}
 use Rattle.grant_enter.specs.Homes.{Homes, FitsMemory, EndsBefore}
 use Rattle.grant_enter.specs.Windows.{SameOutside}
-use Rattle.grant_enter.specs.declared.seat.Pending.{Pending}
 use Rattle.grant_enter.specs.declared.seat.Seat.{Seat}
 use Rattle.grant_enter.specs.declared.home.Home.TheInside.{Inside}
 
@@ -34,7 +32,7 @@ abbrev pub first_seat : Footprint → Seat
 first_seat f = record {
   object = f.object;
   layout = f.layout;
-  pending = record { queue = []; dropped = 0 };
+  inbox = record { pending = []; dropped = 0 };
   life = 0;
   lives = true;
 }
@@ -46,10 +44,9 @@ owned seat app kernel = record {
   layout = seat.layout;
   ram = app;
   grants = decode_grants kernel;
-  pending = seat.pending.queue;
+  inbox = seat.inbox;
   life = seat.life;
   lives = seat.lives;
-  dropped = seat.pending.dropped;
 }
 
 -- the two parts of a block in RAM
@@ -160,13 +157,6 @@ fits_in driver ram e = fits e driver (grant_of driver (decode_grants (kernel_in 
 pub record MakesRoom (driver : ℕ) (m : MemoryBytes) (e : LayoutView) (m' : MemoryBytes) (e' : LayoutView) : Type 0 where
   pub layout : e' ≡ roomed driver e (grant_of driver (decode_grants (kernel_in m.ram e)))
   pub grants : Regrants m e m' e' (entered driver (decode_grants (kernel_in m.ram e)))
-
--- what is pending once an upcall was scheduled
-abbrev pub queued : Upcall → Pending → Pending
-queued upcall pending =
-    if upcall.function == 0 then pending
-    else (if has_room pending.queue then record pending { queue = pending.queue ++ upcall ∷ [] }
-    else record pending { dropped = pending.dropped + 1 })
 
 -- the bytes of a buffer that may be read, which has none where its size is 0
 abbrev pub readable : MemoryBytes → LayoutView → ℕ × ℕ → List ℕ

@@ -59,12 +59,12 @@ pub record SameButIn (buffers : List (ℕ × ℕ)) (first : ℕ) (old new : List
 -- a driver has changed of a process's own the bytes in its read-write buffers, what is pending and how many upcalls
 -- were dropped, and nothing else
 pub record VisitorChanges (driver : ℕ) (old new : Own) : Type 0 where
-  pub rest : new ≡ record old { ram = new.ram; pending = new.pending; dropped = new.dropped }
+  pub rest : new ≡ record old { ram = new.ram; inbox = new.inbox }
   pub bytes : SameButIn (rw_buffers driver old) old.layout.start old.ram new.ram
 
 -- the same of a seat and of all of memory
 pub record ServesIn (driver : ℕ) (m : MemoryBytes) (seat : Seat) (m' : MemoryBytes) (seat' : Seat) : Type 0 where
-  pub seat_is : seat' ≡ record seat { pending = seat'.pending }
+  pub seat_is : seat' ≡ record seat { inbox = seat'.inbox }
   pub flash : m'.flash ≡ m.flash
   pub bytes : SameButIn (rw_buffers driver (own_in m.ram seat)) RAM_START m.ram m'.ram
 

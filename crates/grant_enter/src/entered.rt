@@ -1,20 +1,20 @@
 //! A process while a driver visits its grant.
-ghost use Rattle.std.specs.Prelude.{◌≡◌, ◌+◌, ◌-◌, ◌==◌, ◌<◌, ◌≤◌, ◌^◌, ◌&&◌, not, min, length, take, slice_range};
+ghost use Rattle.std.specs.Prelude.{◌≡◌, ◌+◌, ◌-◌, ◌<◌, ◌≤◌, ◌^◌, min, length, take, slice_range};
 ghost use Rattle.std.specs.Borrow.{sem};
 ghost use Rattle.tk_base.specs.declared.access.TheConstants.{FLASH_START, RAM_START};
 ghost use Rattle.board_memory.specs.Memory.{ram_between};
 ghost use Rattle.tk_base.specs.declared.kinds.PairKind.TheVariants.{ReadOnly, ReadWrite};
 ghost use Rattle.process_model.specs.Handed.{held};
-ghost use Rattle.upcall_queue.specs.Pending.{has_room};
-ghost use Rattle.process_model.specs.Served.{bytes_at, is_queued, ram_at, own_scheduled, upcall_of, with_written};
+ghost use Rattle.upcall_queue.specs.Pending.{is_queued};
+ghost use Rattle.process_model.specs.Served.{bytes_at, ram_at, own_scheduled, upcall_of, with_written};
 ghost use Rattle.tk_base.specs.Bytes.{over};
 ghost use Rattle.grant_enter.specs.Buffers.{LendsBuffer, buffer_start, last_of};
 ghost use Rattle.grant_enter.specs.Homes.{FitsMemory};
-ghost use Rattle.grant_enter.specs.Seats.{MayBeRead, own_in, queued, readable};
+ghost use Rattle.grant_enter.specs.Seats.{MayBeRead, own_in, readable};
 ghost use Rattle.grant_enter.specs.Seen.{Framed, IsLent, IsLentTo, own_entered, seen};
 
 use crate::kept::kernel_of;
-use crate::seat::{Pending, Seat};
+use crate::seat::Seat;
 use board_memory::Memory;
 use process_layout::Layout;
 use swap_tables::{buffer_ro, buffer_rw, upcall};
@@ -28,22 +28,6 @@ pub struct Entered<'a> {
     pub(crate) seat: &'a mut Seat,
     pub(crate) driver: u32,
     pub(crate) counts: Counts,
-}
-
-/// Puts an upcall last, where it is not the null upcall and there is room; where there is none it is counted.
-fn queue(pending: &mut Pending, upcall: Upcall) -> bool
-    requires { pending.old.dropped + 1 < 2 ^ 32 }
-    ensures answer { result ≡ (not (upcall.function == 0) && has_room pending.old.queue) }
-    ensures pending { pending.new ≡ queued upcall pending.old }
-{
-    if upcall.function == 0 {
-        return false;
-    }
-    if pending.queue.schedule(upcall) {
-        return true;
-    }
-    pending.dropped += 1;
-    false
 }
 
 /// The bytes of flash from one address up to another.
@@ -157,10 +141,10 @@ impl Entered<'_> {
     pub fn schedule(&mut self, n: u32, args: [u32; 3]) -> bool
         requires lent { IsLent self.old }
         requires number { n < (seen self.old).counts.upcalls }
-        requires dropped { (own_entered self.old).dropped + 1 < 2 ^ 32 }
+        requires dropped { (own_entered self.old).inbox.dropped + 1 < 2 ^ 32 }
         ensures answer { result
             ≡ is_queued (upcall_of (seen self.old).driver n args (own_entered self.old))
-            (own_entered self.old) }
+            (own_entered self.old).inbox }
         ensures own { own_entered self.new
             ≡ own_scheduled (seen self.old).driver n args (own_entered self.old) }
         // what a visitor owes
@@ -180,7 +164,7 @@ impl Entered<'_> {
             app,
             args,
         };
-        queue(&mut self.seat.pending, upcall)
+        self.seat.inbox.schedule(upcall)
     }
 }
 

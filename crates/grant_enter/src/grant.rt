@@ -97,10 +97,10 @@ impl<T: GrantValue, const UP: usize, const RO: usize, const RW: usize> Grant<T, 
         if !home.is_placed(id.slot) {
             return Err(Stale);
         }
-        let seat = &mut home.seats[id.slot.index()];
+        let visited = &mut home.seats[id.slot.index()];
         visit_seat::<T, V>(
             &mut home.memory,
-            seat,
+            visited,
             id.life,
             self.driver,
             self.counts,

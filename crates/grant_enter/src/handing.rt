@@ -6,13 +6,14 @@ ghost use Rattle.process_model.specs.Handed.{handing, has_place as has_place_in,
 ghost use Rattle.process_layout.specs.Ordered.{IsOrdered};
 ghost use Rattle.grant_enter.specs.Seats.{HasBlock, Reseats, SitsIn, SwapsIn, fits_in, own_in};
 
-use crate::seat::{Pending, Seat};
+use crate::seat::Seat;
 use board_memory::{Block, Memory, SplitBlock};
 use grant_model::pairs_stand_by_kind;
 use grant_region::NoRoom;
 use process_layout::Layout;
 use swap_tables::{Handover, swap_ro, swap_rw, swap_upcall};
 use tk_base::PairKind;
+use upcall_queue::Inbox;
 
 /// The parts of a layout are in their order, as always. This does nothing.
 pub(crate) fn in_order(layout: &Layout)
@@ -78,14 +79,14 @@ fn raise_mark(layout: &mut Layout, buffer: (u32, u32))
 
 /// What else changes where a process has handed a pair to a driver: a buffer raises the mark, and another
 /// upcall takes away the pending ones of its driver and number.
-fn note_handed(layout: &mut Layout, pending: &mut Pending, handover: Handover)
+fn note_handed(layout: &mut Layout, inbox: &mut Inbox, handover: Handover)
     ensures layout { layout.new ≡ marked handover.kind handover.pair layout.old }
-    ensures queue { pending.new.queue
-        ≡ still_pending handover.kind handover.driver handover.number pending.old.queue }
-    ensures dropped { pending.new.dropped ≡ pending.old.dropped }
+    ensures pending { inbox.new.pending
+        ≡ still_pending handover.kind handover.driver handover.number inbox.old.pending }
+    ensures dropped { inbox.new.dropped ≡ inbox.old.dropped }
 {
     match handover.kind {
-        PairKind::Upcall => pending.queue.drop_of(handover.driver, handover.number),
+        PairKind::Upcall => inbox.pending.drop_of(handover.driver, handover.number),
         PairKind::ReadOnly | PairKind::ReadWrite => raise_mark(layout, handover.pair),
     }
 }
@@ -111,6 +112,6 @@ pub(crate) fn hand_at(
 {
     pairs_stand_by_kind();
     let former = swap_in(memory, &mut seat.layout, handover)?;
-    note_handed(&mut seat.layout, &mut seat.pending, handover);
+    note_handed(&mut seat.layout, &mut seat.inbox, handover);
     Ok(former)
 }

@@ -97,17 +97,17 @@ impl Home {
     /// The upcalls that wait to be delivered to the process in a slot, the first one first (TRD 104, "Yield").
     pub fn pending(&self, slot: Slot) -> &[Upcall]
         requires { slot < length self.now.owns }
-        ensures { result.now ≡ (own_of self.now slot).pending }
+        ensures { result.now ≡ (own_of self.now slot).inbox.pending }
     {
-        self.seats[slot.index()].pending.queue.as_slice()
+        self.seats[slot.index()].inbox.pending.as_slice()
     }
 
     /// How many upcalls of the process in a slot were dropped.
     pub fn dropped(&self, slot: Slot) -> u32
         requires { slot < length self.now.owns }
-        ensures { result ≡ (own_of self.now slot).dropped }
+        ensures { result ≡ (own_of self.now slot).inbox.dropped }
     {
-        self.seats[slot.index()].pending.dropped
+        self.seats[slot.index()].inbox.dropped
     }
 
     /// Sets the protection registers for the process in a slot (the privileged RISC-V manual, "Physical
@@ -152,7 +152,7 @@ impl Home {
         what_is_laid_is_read_back();
         let seat = &mut self.seats[slot.index()];
         seat.layout.restart(brk);
-        seat.pending.queue.clear();
+        seat.inbox.pending.clear();
         seat.life += 1;
         seat.lives = true;
         self.memory.clear_block(&seat.layout);
@@ -168,7 +168,7 @@ impl Home {
             return;
         }
         let seat = &mut self.seats[slot.index()];
-        seat.pending.queue.clear();
+        seat.inbox.pending.clear();
         seat.lives = false;
     }
 
@@ -232,20 +232,20 @@ impl Home {
     /// Whether an upcall waits to be delivered to the process in a slot.
     pub fn has_pending(&self, slot: Slot) -> bool
         requires { slot < length self.now.owns }
-        ensures { result ≡ not (length (own_of self.now slot).pending == 0) }
+        ensures { result ≡ not (length (own_of self.now slot).inbox.pending == 0) }
     {
-        !self.seats[slot.index()].pending.queue.is_empty()
+        !self.seats[slot.index()].inbox.pending.is_empty()
     }
 
     /// Takes out the first upcall that waits for the process in a slot, for its delivery (TRD 104, "Yield").
     /// None exactly where none waits. Nothing else of the process changes, and nothing of another slot.
     pub fn take_pending(&mut self, slot: Slot) -> Option<Upcall>
         requires { slot < length self.old.owns }
-        ensures first { result ≡ slice_get (own_of self.old slot).pending 0 }
+        ensures first { result ≡ slice_get (own_of self.old slot).inbox.pending 0 }
         ensures own { own_of self.new slot ≡ without_first (own_of self.old slot) }
         ensures rest { ChangesOnly slot self.old self.new }
     {
-        self.seats[slot.index()].pending.queue.pop()
+        self.seats[slot.index()].inbox.pending.pop()
     }
 
     /// Writes the byte by which a yield of the process in a slot tells whether an upcall was delivered (TRD

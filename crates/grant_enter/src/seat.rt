@@ -4,23 +4,14 @@ ghost use Rattle.grant_enter.specs.Seats.{first_seat};
 
 use process_layout::Layout;
 use process_model::{Footprint, Object};
-use upcall_queue::Queue;
-
-/// What is scheduled for a process.
-#[derive(Drop)]
-pub(crate) struct Pending {
-    /// The upcalls that wait to be delivered.
-    pub queue: Queue,
-    /// How many upcalls were dropped.
-    pub dropped: u32,
-}
+use upcall_queue::Inbox;
 
 /// A process's place in memory, what is scheduled for it, and what is counted of it.
 #[derive(Drop)]
 pub(crate) struct Seat {
     pub object: Object,
     pub layout: Layout,
-    pub pending: Pending,
+    pub inbox: Inbox,
     /// Which of its lives it is in: how often it was started again.
     pub life: u32,
     pub lives: bool,
@@ -34,10 +25,7 @@ impl Seat {
         Seat {
             object: footprint.object,
             layout: footprint.layout,
-            pending: Pending {
-                queue: Queue::new(),
-                dropped: 0,
-            },
+            inbox: Inbox::new(),
             life: 0,
             lives: true,
         }

@@ -35,7 +35,7 @@ fn flag(home: &mut Home, process: &mut Process, slot: Slot, at: Addr, byte: u8)
         ≡ flag_written (record_of_slot home.old slot process.old storage) at byte }
     ensures own { IsOwn home.new.flash process.new (own_of home.new slot) }
     ensures lives { (own_of home.new slot).lives ≡ (own_of home.old slot).lives }
-    ensures pending { (own_of home.new slot).pending ≡ (own_of home.old slot).pending }
+    ensures pending { (own_of home.new slot).inbox.pending ≡ (own_of home.old slot).inbox.pending }
     ensures life { (own_of home.new slot).life ≡ (own_of home.old slot).life }
     ensures process { process.new ≡ after_call process.old }
     ensures rest { ChangesOnly slot home.old home.new }
@@ -48,7 +48,7 @@ fn flag(home: &mut Home, process: &mut Process, slot: Slot, at: Addr, byte: u8)
 fn yield_at_once(home: &mut Home, process: &mut Process, slot: Slot, at: Addr) -> Outcome
     requires at { IsOfSlot slot home.old process.old }
     requires lives { (own_of home.old slot).lives ≡ true }
-    ensures serves { ComesAt slot home.old process.old (λ r. yield_now r at r.own.pending)
+    ensures serves { ComesAt slot home.old process.old (λ r. yield_now r at r.own.inbox.pending)
         home.new process.new result }
     ensures keeps { KeepsSlot slot home.old process.old home.new process.new }
 {

@@ -52,7 +52,7 @@ module _ (P : MemoryAccess → Type 0) where
       → All P (turn_in settings time state r).told.accesses
   by_state settings time Running r each = let t = instruction r in
       by_end settings time (with_effect (turn_counted r) t) t.accesses t.end each
-  by_state settings time Yielded r each = by_delivery r r.own.pending
+  by_state settings time Yielded r each = by_delivery r r.own.inbox.pending
   by_state settings time Faulted r each = All-nil P
   by_state settings time (Terminated code) r each = All-nil P
 
@@ -122,7 +122,7 @@ module _ (law : DenialsAreDue) (of_ecall : CallsAreOfEcall) (settings : Settings
       end_due r (with_effect (turn_counted r) t) t.accesses t.end
       (λ d trapped. inl (law (denied r.own.layout) (byte_at r) r.process.regs d trapped))
       (λ calls. let is = of_ecall (denied r.own.layout) (byte_at r) r.process.regs calls in (is.0, is.1))
-  state_due Yielded r = delivery_due r r.own.pending
+  state_due Yielded r = delivery_due r r.own.inbox.pending
   state_due Faulted r = tt
   state_due (Terminated code) r = tt
 

@@ -111,10 +111,10 @@ module _ (law : OnlyWritesChangeBytes) (commands : CommandsKeepBytes) (around : 
 
       by_number : (b : Bool)
           → Leaves r (cond b (flag_place at r.own) None)
-          (cond b (yield_now r at r.own.pending)
+          (cond b (yield_now r at r.own.inbox.pending)
           (cond (number == 1) (record { after = with_process r (waiting r.process); outcome = Waits; acts = [] })
           (record { after = with_process r (after_call r.process); outcome = GoesOn; acts = [] })))
-      by_number true = of_yield_now at r.own.pending
+      by_number true = of_yield_now at r.own.inbox.pending
       by_number false = by_one (number == 1)
 
   of_swap : (swap : Swap) (o : Option CallRule) → Leaves r None (swap_by r swap o)
@@ -231,7 +231,7 @@ module _ (law : OnlyWritesChangeBytes) (commands : CommandsKeepBytes) (settings 
 
   of_state : (state : State) (r : Record) → let t = turn_in settings time state r in TurnHasCauses r t.after t.told
   of_state Running r = of_instruction r
-  of_state Yielded r = of_delivery r r.own.pending
+  of_state Yielded r = of_delivery r r.own.inbox.pending
   of_state Faulted r = of_idle r
   of_state (Terminated code) r = of_idle r
 

@@ -178,7 +178,7 @@ module _ (R : Own → Own → Type 0) (services : OfEachService R) (I J : Record
   by_yield : (r : Record) → is_alive r.process.state ≡ true → I r → (number at : ℕ) → Q (yielding r number at)
   unfolding Q yielding
   by_yield r alive h number at =
-      by_test (number == 0) _ _ (λ now. by_yield_now r alive h at r.own.pending)
+      by_test (number == 0) _ _ (λ now. by_yield_now r alive h at r.own.inbox.pending)
       (λ later. by_test (number == 1) _ _ (λ waits. k.done _ (k.waits r alive h)) (λ on. by_past r h))
 
   by_swap : (r : Record) → I r → (swap : Swap) (o : Option CallRule) → swap_refusal swap r.own ≡ o
@@ -245,7 +245,7 @@ module _ (R : Own → Own → Type 0) (services : OfEachService R) (I J : Record
   -- had
   -- its effect
   pub after_turn : (settings : Settings) (time : ℕ) (r : Record)
-      → (has_turn r.process.state (is_pending r.own.pending) ≡ false → J r) → I (turn_counted r)
+      → (has_turn r.process.state (is_pending r.own.inbox.pending) ≡ false → J r) → I (turn_counted r)
       → I (with_effect (turn_counted r) (instruction r)) → J (turned settings time r).after
   unfolding turned
   after_turn settings time r none waited went = by_state r.process.state refl none
@@ -255,12 +255,12 @@ module _ (R : Own → Own → Type 0) (services : OfEachService R) (I J : Record
       by_pending [] is none = none refl
       by_pending (upcall ∷ more) is none = k.done _ (k.delivers (turn_counted r) upcall more (ap is_alive is) waited)
 
-      by_state : (state : State) → r.process.state ≡ state → (has_turn state (is_pending r.own.pending) ≡ false → J r)
+      by_state : (state : State) → r.process.state ≡ state → (has_turn state (is_pending r.own.inbox.pending) ≡ false → J r)
           → J (turn_in settings time state r).after
       by_state Running is none =
           after_end settings time (with_effect (turn_counted r) (instruction r)) (ap is_alive is) went
           (instruction r).accesses (instruction r).end
-      by_state Yielded is none = by_pending r.own.pending is none
+      by_state Yielded is none = by_pending r.own.inbox.pending is none
       by_state Faulted is none = none refl
       by_state (Terminated code) is none = none refl
 

@@ -38,8 +38,8 @@ use Rattle.kernel_model.proofs.Memops.{by_test, memop_gives}
 -- process keeps a request exactly where it waits
 pub record IsServed (around : CommandContext) (r : Record) (s : Served) : Type 0 where
   pub no_rule : rule_shown s.outcome ≡ None
-  pub dropped : IsAtMostOneMore r.own.dropped s.after.own.dropped
-  pub room : length r.own.pending < PENDING_LIMIT → s.after.own.dropped ≡ r.own.dropped
+  pub dropped : IsAtMostOneMore r.own.inbox.dropped s.after.own.inbox.dropped
+  pub room : length r.own.inbox.pending < PENDING_LIMIT → s.after.own.inbox.dropped ≡ r.own.inbox.dropped
   pub done : s.outcome ≢ ToDriver
   pub lines : r.own.lives ≡ true → CanStartAgain r → KeepsLines around.storage r.own s.after.own s.acts
 
@@ -60,7 +60,7 @@ served_so : (around : CommandContext) (r : Record) (s : Served) → rule_shown s
     → SameKept r.own s.after.own → s.outcome ≢ ToDriver → s.acts ≡ [] → IsServed around r s
 served_so around r s none same done acts = record {
   no_rule = none;
-  dropped = subst (IsAtMostOneMore r.own.dropped) (sym same.dropped) (no_more r.own.dropped);
+  dropped = subst (IsAtMostOneMore r.own.inbox.dropped) (sym same.dropped) (no_more r.own.inbox.dropped);
   room = λ few. same.dropped;
   done = done;
   lines = λ lives can.
@@ -69,11 +69,11 @@ served_so around r s none same done acts = record {
 
 -- and what was served, and takes a process out of all lists
 served_gone : (around : CommandContext) (r : Record) (s : Served) → rule_shown s.outcome ≡ None
-    → s.after.own.dropped ≡ r.own.dropped → s.outcome ≢ ToDriver
+    → s.after.own.inbox.dropped ≡ r.own.inbox.dropped → s.outcome ≢ ToDriver
     → (CanStartAgain r → KeepsLines around.storage r.own s.after.own s.acts) → IsServed around r s
 served_gone around r s none same done lines = record {
   no_rule = none;
-  dropped = subst (IsAtMostOneMore r.own.dropped) (sym same) (no_more r.own.dropped);
+  dropped = subst (IsAtMostOneMore r.own.inbox.dropped) (sym same) (no_more r.own.inbox.dropped);
   room = λ few. same;
   done = done;
   lines = λ lives can. lines can;
@@ -94,15 +94,15 @@ of_memop P around r operation argument both =
     (λ new reply. both.served _ (reply_served around r _ reply
     (record { grants = refl; lives = refl; life = refl; dropped = refl })))
 
-pub restart_keeps : (r : Record) → (restart r).own.dropped ≡ r.own.dropped
+pub restart_keeps : (r : Record) → (restart r).own.inbox.dropped ≡ r.own.inbox.dropped
 unfolding restart
 restart_keeps r = by_reading (header_reading r.object)
   where
-    by_main : (h : Meaning) (m : Option Main) → (restarted_main r h m).own.dropped ≡ r.own.dropped
+    by_main : (h : Meaning) (m : Option Main) → (restarted_main r h m).own.inbox.dropped ≡ r.own.inbox.dropped
     by_main h None = refl
     by_main h (Some m) = refl
 
-    by_reading : (h : Result Meaning HeaderFault) → (restarted_by r h).own.dropped ≡ r.own.dropped
+    by_reading : (h : Result Meaning HeaderFault) → (restarted_by r h).own.inbox.dropped ≡ r.own.inbox.dropped
     by_reading (Ok h) = by_main h h.main
     by_reading (Err fault) = refl
 
@@ -137,7 +137,7 @@ of_yield : (P : Served → Type 0) (around : CommandContext) (r : Record) (numbe
     → P (yielding r number at)
 unfolding yielding
 of_yield P around r number at both =
-    by_test P (number == 0) _ _ (of_yield_now P around r at r.own.pending both)
+    by_test P (number == 0) _ _ (of_yield_now P around r at r.own.inbox.pending both)
     (by_test P (number == 1) _ _ (both.served _ (served_so around r _ refl (all_same r.own) (λ e. cc) refl))
     (both.served _ (served_so around r _ refl (all_same r.own) (λ e. cc) refl)))
 
@@ -146,7 +146,7 @@ of_swap : (P : Served → Type 0) (promise : DriversPromise) (around : CommandCo
 of_swap P promise around r swap None both =
     both.served _ (record {
       no_rule = refl;
-      dropped = no_more r.own.dropped;
+      dropped = no_more r.own.inbox.dropped;
       room = λ few. refl;
       done = λ e. cc;
       lines = λ lives can. keeps_handed promise.alone around.storage swap r.own;
@@ -156,8 +156,8 @@ of_swap P promise around r swap (Some rule) both = both.refused rule
 of_commanded : (P : Served → Type 0) (around : CommandContext) (r : Record) (c : Commanded)
     (answer : Result Reply CallRule) → c.answer ≡ answer
     → ((rule : CallRule) → c.answer ≡ Err rule → c ≡ refused_by_driver rule r.own)
-    → IsAtMostOneMore r.own.dropped c.own.dropped
-    → (length r.own.pending < PENDING_LIMIT → c.own.dropped ≡ r.own.dropped)
+    → IsAtMostOneMore r.own.inbox.dropped c.own.inbox.dropped
+    → (length r.own.inbox.pending < PENDING_LIMIT → c.own.inbox.dropped ≡ r.own.inbox.dropped)
     → (r.own.lives ≡ true → KeepsLines around.storage r.own c.own c.acts) → OfBoth P around r plain → P (commanded r c)
 of_commanded P around r c (Ok reply) is refuses drops room lines both =
     let same : record (replied (record_with_own r c.own) reply) { acts = c.acts } ≡ commanded r c =

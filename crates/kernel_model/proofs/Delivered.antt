@@ -68,7 +68,7 @@ module _ (settings : Settings) (time : ℕ) (u : Scheduled) (more : List Schedul
   no_yield : (r : Record) (s : Served) → is_yield_now (made r.process.regs s.outcome) ≡ false → ByCall r s
   no_yield r s is e = absurd (false≢true (sym is ∙ e))
 
-  of_yield : (r : Record) → r.own.pending ≡ u ∷ more → ByCall r (yielding r (a0 r.process.regs) (a1 r.process.regs))
+  of_yield : (r : Record) → r.own.inbox.pending ≡ u ∷ more → ByCall r (yielding r (a0 r.process.regs) (a1 r.process.regs))
   unfolding yielding
   of_yield r pending = by_number (a0 r.process.regs == 0) refl
     where
@@ -78,11 +78,11 @@ module _ (settings : Settings) (time : ℕ) (u : Scheduled) (more : List Schedul
           (record { after = with_process r (after_call r.process); outcome = GoesOn; acts = [] })
 
       by_number : (b : Bool) → (a0 r.process.regs == 0) ≡ b
-          → ByCall r (cond b (yield_now r (a1 r.process.regs) r.own.pending) waits)
+          → ByCall r (cond b (yield_now r (a1 r.process.regs) r.own.inbox.pending) waits)
       by_number true is e = ap (λ (us : List Scheduled). (yield_now r (a1 r.process.regs) us).after.process) pending
       by_number false is e = no_yield r waits (not_of_number (made r.process.regs waits.outcome) is) e
 
-  of_served : (around : CommandContext) (r : Record) → r.own.pending ≡ u ∷ more
+  of_served : (around : CommandContext) (r : Record) → r.own.inbox.pending ≡ u ∷ more
       → ByCall r (served around r (yield_in r.process.regs))
   unfolding served by_form
   of_served around r pending =
@@ -91,7 +91,7 @@ module _ (settings : Settings) (time : ℕ) (u : Scheduled) (more : List Schedul
       (no_yield r (refused_with r Permission (failure_of call Permission))
       (not_refused (made r.process.regs (Replied (failure_of call Permission) (Some Permission))) Permission refl))
 
-  of_calls : (r : Record) (accesses : List MemoryAccess) → r.own.pending ≡ u ∷ more
+  of_calls : (r : Record) (accesses : List MemoryAccess) → r.own.inbox.pending ≡ u ∷ more
       → Delivers false r (calls settings time (turn_counted r) accesses (call_of r.process.regs))
   of_calls r accesses pending =
       of_registers (λ (o : Option SystemCall). Delivers false r (calls settings time (turn_counted r) accesses o)) regs
@@ -112,7 +112,7 @@ module _ (settings : Settings) (time : ℕ) (u : Scheduled) (more : List Schedul
           no_yield (turn_counted r) (served around (turn_counted r) call)
           (not_of_class (made regs (served around (turn_counted r) call).outcome) (ap (λ (k : ℕ). k == 0) is ∙ apart))
 
-  of_end : (r s : Record) (accesses : List MemoryAccess) (end : TurnEnd) → r.own.pending ≡ u ∷ more
+  of_end : (r s : Record) (accesses : List MemoryAccess) (end : TurnEnd) → r.own.inbox.pending ≡ u ∷ more
       → (end ≡ ends.Call → s ≡ turn_counted r) → Delivers false r (at_turn_end settings time s accesses end)
   of_end r s accesses ends.Went pending same e = absurd (false≢true e)
   of_end r s accesses ends.Call pending same e =
@@ -120,7 +120,7 @@ module _ (settings : Settings) (time : ℕ) (u : Scheduled) (more : List Schedul
       (sym (same refl)) (of_calls r accesses pending) e
   of_end r s accesses (ends.Trap denial) pending same e = absurd (false≢true e)
 
-  of_state : CallsAreOfEcall → (state : State) (r : Record) → r.own.pending ≡ u ∷ more
+  of_state : CallsAreOfEcall → (state : State) (r : Record) → r.own.inbox.pending ≡ u ∷ more
       → Delivers (is_yielded state) r (turn_in settings time state r)
   of_state of_ecall Running r pending e =
       let t = instruction r in
@@ -130,7 +130,7 @@ module _ (settings : Settings) (time : ℕ) (u : Scheduled) (more : List Schedul
   of_state of_ecall Faulted r pending e = absurd (false≢true e)
   of_state of_ecall (Terminated code) r pending e = absurd (false≢true e)
 
-  pub turn_delivers : CallsAreOfEcall → (r : Record) → r.own.pending ≡ u ∷ more →
+  pub turn_delivers : CallsAreOfEcall → (r : Record) → r.own.inbox.pending ≡ u ∷ more →
       let t = turned settings time r in
       delivers (is_yielded r.process.state) t.told.call ≡ true
       → t.after.process ≡ delivered u (before_delivery r.process)
@@ -141,7 +141,7 @@ module _ (settings : Settings) (time : ℕ) (u : Scheduled) (more : List Schedul
 pub step_delivers : CallsAreOfEcall
     → (w : World) (slot : ℕ) (choice : Choice) (r s : Record) (u : Scheduled) (more : List Scheduled)
     → slice_get w.records slot ≡ Some r → slice_get (after w choice).records slot ≡ Some s
-    → r.own.pending ≡ u ∷ more
+    → r.own.inbox.pending ≡ u ∷ more
     → All (λ told. delivers (is_yielded r.process.state) told.call ≡ true
     → s.process ≡ delivered u (before_delivery r.process)) (told_in slot w choice)
 step_delivers of_ecall w slot choice r s u more is left pending =

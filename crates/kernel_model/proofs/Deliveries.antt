@@ -71,7 +71,7 @@ pub record Promise : Type 0 where
 -- each upcall that waits is the one that is held
 pub record Sound (own : Own) : Type 0 where
   pub shape : HasShape own
-  pub held : All (IsHeld own) own.pending
+  pub held : All (IsHeld own) own.inbox.pending
 
 abbrev pub upcalls : List Scheduling → List Scheduled
 upcalls waiting = map (λ s. s.upcall) waiting
@@ -82,8 +82,8 @@ upcalls waiting = map (λ s. s.upcall) waiting
 pub record Leaves (r s : Record) (left : List Scheduling → List Scheduling) : Type 0 where
   pub object : s.object ≡ r.object
   pub more : List Scheduled
-  pub pending : (waiting : List Scheduling) → upcalls waiting ≡ r.own.pending
-      → s.own.pending ≡ upcalls (left waiting) ++ more
+  pub pending : (waiting : List Scheduling) → upcalls waiting ≡ r.own.inbox.pending
+      → s.own.inbox.pending ≡ upcalls (left waiting) ++ more
   pub one : length more ≤ 1
   pub sound : Sound r.own → Sound s.own
 
@@ -103,15 +103,15 @@ module _ (law : OnlyHandingChangesPairs) where
     one = sched.one;
     sound = λ sound. record {
       shape = law.shape r.own s.own same sound.shape;
-      held = All-same (IsHeld s.own) s.own.pending (r.own.pending ++ sched.more) sched.pending
-          (All-weaker (IsHeld r.own) (IsHeld s.own) (still_held r.own s.own same) (r.own.pending ++ sched.more)
-          (All-append (IsHeld r.own) r.own.pending sched.more sound.held sched.each));
+      held = All-same (IsHeld s.own) s.own.inbox.pending (r.own.inbox.pending ++ sched.more) sched.pending
+          (All-weaker (IsHeld r.own) (IsHeld s.own) (still_held r.own s.own same) (r.own.inbox.pending ++ sched.more)
+          (All-append (IsHeld r.own) r.own.inbox.pending sched.more sound.held sched.each));
     };
   }
 
   -- what waits is some of what waited before
   leaves_some : (r s : Record) (left : List Scheduling → List Scheduling) → s.object ≡ r.object
-      → ((waiting : List Scheduling) → upcalls waiting ≡ r.own.pending → s.own.pending ≡ upcalls (left waiting))
+      → ((waiting : List Scheduling) → upcalls waiting ≡ r.own.inbox.pending → s.own.inbox.pending ≡ upcalls (left waiting))
       → (Sound r.own → Sound s.own) → Leaves r s left
   leaves_some r s left object pending sound = record {
     object = object;
@@ -123,12 +123,12 @@ module _ (law : OnlyHandingChangesPairs) where
 
   -- all of it
   leaves_all : (r s : Record) (left : List Scheduling → List Scheduling) → s.object ≡ r.object
-      → s.own.pending ≡ r.own.pending → HandsTheSame r.own s.own
+      → s.own.inbox.pending ≡ r.own.inbox.pending → HandsTheSame r.own s.own
       → ((waiting : List Scheduling) → left waiting ≡ waiting) → Leaves r s left
   leaves_all r s left object pending same all =
       schedules r s left object same (record {
         more = [];
-        pending = pending ∙ sym (append-nil r.own.pending);
+        pending = pending ∙ sym (append-nil r.own.inbox.pending);
         one =
             omega arith;
         each = All-nil (IsHeld r.own);
@@ -136,7 +136,7 @@ module _ (law : OnlyHandingChangesPairs) where
 
   -- all but the first
   leaves_rest : (r s : Record) (left : List Scheduling → List Scheduling) → s.object ≡ r.object
-      → s.own.pending ≡ drop 1 r.own.pending → HandsTheSame r.own s.own
+      → s.own.inbox.pending ≡ drop 1 r.own.inbox.pending → HandsTheSame r.own s.own
       → ((waiting : List Scheduling) → left waiting ≡ drop 1 waiting) → Leaves r s left
   leaves_rest r s left object pending same rest =
       leaves_some r s left object
@@ -144,20 +144,20 @@ module _ (law : OnlyHandingChangesPairs) where
       ∙ ap upcalls (sym (rest waiting)))
       (λ sound. record {
         shape = law.shape r.own s.own same sound.shape;
-        held = All-same (IsHeld s.own) s.own.pending (drop 1 r.own.pending) pending
-            (All-weaker (IsHeld r.own) (IsHeld s.own) (still_held r.own s.own same) (drop 1 r.own.pending)
-            (All-drop (IsHeld r.own) 1 r.own.pending sound.held));
+        held = All-same (IsHeld s.own) s.own.inbox.pending (drop 1 r.own.inbox.pending) pending
+            (All-weaker (IsHeld r.own) (IsHeld s.own) (still_held r.own s.own same) (drop 1 r.own.inbox.pending)
+            (All-drop (IsHeld r.own) 1 r.own.inbox.pending sound.held));
       })
 
   -- nothing
-  leaves_none : (r s : Record) (left : List Scheduling → List Scheduling) → s.object ≡ r.object → s.own.pending ≡ []
+  leaves_none : (r s : Record) (left : List Scheduling → List Scheduling) → s.object ≡ r.object → s.own.inbox.pending ≡ []
       → (HasShape r.own → HasShape s.own) → ((waiting : List Scheduling) → left waiting ≡ []) → Leaves r s left
   leaves_none r s left object pending shape none =
       leaves_some r s left object (λ waiting is. pending ∙ ap upcalls (sym (none waiting)))
       (λ sound. record {
         shape = shape sound.shape;
         held =
-            All-same (IsHeld s.own) s.own.pending [] pending (All-nil (IsHeld s.own));
+            All-same (IsHeld s.own) s.own.inbox.pending [] pending (All-nil (IsHeld s.own));
       })
 
 -- a filter that passes all, or none; one of upcalls, by their schedulings
@@ -252,16 +252,16 @@ module _ (promise : Promise) (around : CommandContext) (r : Record) where
       (refused_leaves r.process.regs class reply rule))
 
   -- a yield
-  flag_pending : (at byte : ℕ) → (with_flag at byte r.own).pending ≡ r.own.pending
+  flag_pending : (at byte : ℕ) → (with_flag at byte r.own).inbox.pending ≡ r.own.inbox.pending
   flag_pending at byte = by_place (lies_in_ram r.own.layout at 1)
     where
       by_place : (b : Bool)
-          → (cond b (record r.own { ram = slice_set r.own.ram (at - r.own.layout.start) byte }) r.own).pending
-          ≡ r.own.pending
+          → (cond b (record r.own { ram = slice_set r.own.ram (at - r.own.layout.start) byte }) r.own).inbox.pending
+          ≡ r.own.inbox.pending
       by_place true = refl
       by_place false = refl
 
-  of_yield_now : (at : ℕ) (pending : List Scheduled) → r.own.pending ≡ pending
+  of_yield_now : (at : ℕ) (pending : List Scheduled) → r.own.inbox.pending ≡ pending
       → Leaves r (yield_now r at pending).after (λ waiting. filter (λ s. true) (drop 1 waiting))
   of_yield_now at [] is =
       leaves_rest law r _ _ refl (flag_pending at 0 ∙ is ∙ ap (drop 1) (sym is)) (law.flag at 0 r.own)
@@ -296,7 +296,7 @@ module _ (promise : Promise) (around : CommandContext) (r : Record) where
       goes : (process : Process) → Leaves r (with_process r process) (λ waiting. filter (λ x. true) waiting)
       goes process = leaves_all law r _ _ refl refl (law.grants r.own r.own refl) passes_all
 
-      by_pending : (number == 0) ≡ true → (pending : List Scheduled) → r.own.pending ≡ pending
+      by_pending : (number == 0) ≡ true → (pending : List Scheduled) → r.own.inbox.pending ≡ pending
           → LeavesByCall r 0 (yield_now r at pending)
       by_pending e [] is = by_leaves r 0 _ (told_so true _ e (of_yield_now at [] is))
       by_pending e (upcall ∷ more) is = by_leaves r 0 _ (told_so true _ e (of_yield_now at (upcall ∷ more) is))
@@ -307,8 +307,8 @@ module _ (promise : Promise) (around : CommandContext) (r : Record) where
       by_one e true = by_leaves r 0 _ (told_so false _ e (goes (waiting r.process)))
       by_one e false = by_leaves r 0 _ (told_so false _ e (goes (after_call r.process)))
 
-      by_number : (b : Bool) → (number == 0) ≡ b → LeavesByCall r 0 (cond b (yield_now r at r.own.pending) waits)
-      by_number true e = by_pending e r.own.pending refl
+      by_number : (b : Bool) → (number == 0) ≡ b → LeavesByCall r 0 (cond b (yield_now r at r.own.inbox.pending) waits)
+      by_number true e = by_pending e r.own.inbox.pending refl
       by_number false e = by_one e (number == 1)
 
   -- a subscribe that the registers make
@@ -327,7 +327,7 @@ module _ (promise : Promise) (around : CommandContext) (r : Record) where
       let one = law.handing Upcall swap.driver swap.number swap.pair r.own sound.shape lt in
       record {
         shape = one.shape;
-        held = each_passing (IsHeld r.own) (IsHeld o) (λ u. not (is_of swap.driver swap.number u)) r.own.pending
+        held = each_passing (IsHeld r.own) (IsHeld o) (λ u. not (is_of swap.driver swap.number u)) r.own.inbox.pending
             (λ u h apart. (
               one.others Upcall u.driver u.number
                   (λ k d n. not_both (u.driver == swap.driver) (u.number == swap.number) apart
@@ -343,15 +343,15 @@ module _ (promise : Promise) (around : CommandContext) (r : Record) where
       → swap.number < count_of swap.kind (shape_of swap.driver)
       → Leaves r (swap_by r swap None).after (λ waiting. filter (λ s. true) waiting)
   of_allowed swap apart still lt =
-      leaves_some law r _ _ refl (λ waiting is. still r.own.pending ∙ sym is ∙ ap upcalls (sym (passes_all waiting)))
+      leaves_some law r _ _ refl (λ waiting is. still r.own.inbox.pending ∙ sym is ∙ ap upcalls (sym (passes_all waiting)))
       (λ sound.
       let one = law.handing swap.kind swap.driver swap.number swap.pair r.own sound.shape lt in
       let o = own_swapped swap r.own in
       record {
         shape = one.shape;
-        held = All-same (IsHeld o) o.pending r.own.pending (still r.own.pending)
+        held = All-same (IsHeld o) o.inbox.pending r.own.inbox.pending (still r.own.inbox.pending)
             (All-weaker (IsHeld r.own) (IsHeld o)
-            (λ u h. (one.others Upcall u.driver u.number (λ k d n. apart k) ∙ h.0, h.1)) r.own.pending sound.held);
+            (λ u h. (one.others Upcall u.driver u.number (λ k d n. apart k) ∙ h.0, h.1)) r.own.inbox.pending sound.held);
       })
 
   -- a swap, which is refused or of a number that its driver has
@@ -517,7 +517,7 @@ module _ (promise : Promise) (settings : Settings) (time : ℕ) where
   of_idle : (r : Record) → Leaves r (idle r).after (left_by_turn false (idle r).told)
   of_idle r = leaves_all promise.pairs r _ _ refl refl (promise.pairs.grants r.own r.own refl) passes_all
 
-  of_delivery : (r : Record) (pending : List Scheduled) → r.own.pending ≡ pending → let t = delivery r pending in
+  of_delivery : (r : Record) (pending : List Scheduled) → r.own.inbox.pending ≡ pending → let t = delivery r pending in
       Leaves r t.after (left_by_turn true t.told)
   of_delivery r [] is =
       leaves_rest promise.pairs r _ _ refl (is ∙ ap (drop 1) (sym is)) (promise.pairs.grants r.own r.own refl)
@@ -529,7 +529,7 @@ module _ (promise : Promise) (settings : Settings) (time : ℕ) where
   of_state : (state : State) (r : Record) → CanStartAgain r → let t = turn_in settings time state r in
       Leaves r t.after (left_by_turn (is_yielded state) t.told)
   of_state Running r can = of_instruction r can
-  of_state Yielded r can = of_delivery r r.own.pending refl
+  of_state Yielded r can = of_delivery r r.own.inbox.pending refl
   of_state Faulted r can = of_idle r
   of_state (Terminated code) r can = of_idle r
 

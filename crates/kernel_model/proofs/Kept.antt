@@ -35,15 +35,15 @@ use Rattle.kernel_model.proofs.Lines.{SameKept, keeps_ended, keeps_restarted, ke
 
 -- at most one upcall was dropped; and a process that lives keeps a request exactly where it waits
 record Leaves (settings : Settings) (r : Record) (t : Turned) : Type 0 where
-  dropped : IsAtMostOneMore r.own.dropped t.after.own.dropped
-  room : length r.own.pending < PENDING_LIMIT → t.after.own.dropped ≡ r.own.dropped
+  dropped : IsAtMostOneMore r.own.inbox.dropped t.after.own.inbox.dropped
+  room : length r.own.inbox.pending < PENDING_LIMIT → t.after.own.inbox.dropped ≡ r.own.inbox.dropped
   lines : r.own.lives ≡ true → CanStartAgain r → KeepsLines settings.storage r.own t.after.own t.acts
 
 -- a turn that asks nothing of the board, of a process of which drivers keep the same
 leaves_same : (settings : Settings) (r : Record) (t : Turned) → SameKept r.own t.after.own → t.acts ≡ []
     → Leaves settings r t
 leaves_same settings r t same acts = record {
-  dropped = subst (IsAtMostOneMore r.own.dropped) (sym same.dropped) (no_more r.own.dropped);
+  dropped = subst (IsAtMostOneMore r.own.inbox.dropped) (sym same.dropped) (no_more r.own.inbox.dropped);
   room = λ few. same.dropped;
   lines = λ lives can.
       subst (KeepsLines settings.storage r.own t.after.own) (sym acts)
@@ -72,14 +72,14 @@ leaves_fault settings r denial = by_action (decision settings.policy r.process.r
     by_action : (action : Action) → Leaves settings r (record (faulted settings r denial) { after = settled s action })
     by_action Stop =
         record {
-          dropped = no_more r.own.dropped;
+          dropped = no_more r.own.inbox.dropped;
           room = λ few. refl;
           lines =
               λ lives can. keeps_ended settings.storage r.own;
         }
     by_action Restart =
         record {
-          dropped = subst (IsAtMostOneMore r.own.dropped) (sym (restart_keeps s)) (no_more r.own.dropped);
+          dropped = subst (IsAtMostOneMore r.own.inbox.dropped) (sym (restart_keeps s)) (no_more r.own.inbox.dropped);
           room =
               λ few. restart_keeps s;
           lines = λ lives can. keeps_restarted settings.storage s can;
@@ -118,7 +118,7 @@ leaves_delivery settings r (upcall ∷ more) =
 leaves_turn : (promise : DriversPromise) (settings : Settings) (time : ℕ) (state : State) (r : Record)
     → Leaves settings r (turn_in settings time state r)
 leaves_turn promise settings time Running r = leaves_instructed promise settings time r
-leaves_turn promise settings time Yielded r = leaves_delivery settings r r.own.pending
+leaves_turn promise settings time Yielded r = leaves_delivery settings r r.own.inbox.pending
 leaves_turn promise settings time Faulted r = leaves_idle settings r
 leaves_turn promise settings time (Terminated code) r = leaves_idle settings r
 
@@ -127,7 +127,7 @@ unfolding turned
 drops_at_most_one promise settings time r = (leaves_turn promise settings time r.process.state r).dropped
 
 pub drops_with_room : DriversPromise → (settings : Settings) (time : ℕ) (r : Record)
-    → length r.own.pending < PENDING_LIMIT → (turned settings time r).after.own.dropped ≡ r.own.dropped
+    → length r.own.inbox.pending < PENDING_LIMIT → (turned settings time r).after.own.inbox.dropped ≡ r.own.inbox.dropped
 unfolding turned
 drops_with_room promise settings time r = (leaves_turn promise settings time r.process.state r).room
 
@@ -137,15 +137,15 @@ same_some x y e = cc
 pub drops_only_where_full : DriversPromise → DropsOnlyWhereFull
 drops_only_where_full promise w choices choice slot before now is later few =
     let v = after_all w choices in
-    subst (λ (o : Option Record). IfSome o (λ x. x.own.dropped ≡ before.own.dropped)) later
-    (of_step v slot (λ tolds o. IfSome o (λ x. x.own.dropped ≡ before.own.dropped))
+    subst (λ (o : Option Record). IfSome o (λ x. x.own.inbox.dropped ≡ before.own.inbox.dropped)) later
+    (of_step v slot (λ tolds o. IfSome o (λ x. x.own.inbox.dropped ≡ before.own.inbox.dropped))
     (record {
-      stays = subst (λ (o : Option Record). IfSome o (λ x. x.own.dropped ≡ before.own.dropped)) (sym is) refl;
+      stays = subst (λ (o : Option Record). IfSome o (λ x. x.own.inbox.dropped ≡ before.own.inbox.dropped)) (sym is) refl;
       turn = λ r at.
-          subst (λ (x : Record). (turned v.settings v.clock.time x).after.own.dropped ≡ before.own.dropped)
+          subst (λ (x : Record). (turned v.settings v.clock.time x).after.own.inbox.dropped ≡ before.own.inbox.dropped)
           (same_some before r (sym is ∙ at)) (drops_with_room promise v.settings v.clock.time before few);
       answer = λ r at event answers.
-          subst (λ (x : Record). (apply v.settings event x).own.dropped ≡ before.own.dropped)
+          subst (λ (x : Record). (apply v.settings event x).own.inbox.dropped ≡ before.own.inbox.dropped)
           (same_some before r (sym is
           ∙ at)) ((of_answer KeepsLimit promise.limit v.settings event before answers).room few);
     })
@@ -187,7 +187,7 @@ quiet_delivery r (upcall ∷ more) call denial = (refl, refl, refl)
 quiet_turn : (settings : Settings) (time : ℕ) (state : State) (r : Record) → IsQuiet r (turn_in settings time state r)
 quiet_turn settings time Running r call denial = let t = instruction r in
     quiet_ended settings time (with_effect (turn_counted r) t) t.accesses t.end call denial
-quiet_turn settings time Yielded r call denial = quiet_delivery r r.own.pending call denial
+quiet_turn settings time Yielded r call denial = quiet_delivery r r.own.inbox.pending call denial
 quiet_turn settings time Faulted r call denial = (refl, refl, refl)
 quiet_turn settings time (Terminated code) r call denial = (refl, refl, refl)
 

@@ -24,7 +24,7 @@ pub record SameKept (own o : Own) : Type 0 where
   pub grants : o.grants ≡ own.grants
   pub lives : o.lives ≡ own.lives
   pub life : o.life ≡ own.life
-  pub dropped : o.dropped ≡ own.dropped
+  pub dropped : o.inbox.dropped ≡ own.inbox.dropped
 
 same_waiting : {R : Type 0} (request_kind : RequestKind R) (own o : Own) → SameKept own o
     → has_waiting request_kind o ≡ has_waiting request_kind own

@@ -74,7 +74,7 @@ module _ (law : RefusedChangesNothingElse) (of_ecall : CallsAreOfEcall) (setting
       of_end r (with_effect (turn_counted r) t) t.accesses t.end
       (λ calls. let is = of_ecall (denied r.own.layout) (byte_at r) r.process.regs calls in only_counts r t is.1 is.2)
       rule e
-  of_state Yielded r rule e = of_delivery r r.own.pending rule e
+  of_state Yielded r rule e = of_delivery r r.own.inbox.pending rule e
   of_state Faulted r rule e = absurd (no_rule rule e)
   of_state (Terminated code) r rule e = absurd (no_rule rule e)
 

@@ -31,7 +31,7 @@ with_counts_of x r = record {
     refusal = r.process.refusal;
   };
   object = x.object;
-  own = record x.own { life = r.own.life + 1; dropped = r.own.dropped };
+  own = record x.own { inbox = record x.own.inbox { dropped = r.own.inbox.dropped }; life = r.own.life + 1 };
   storage = r.storage;
 }
 
@@ -62,10 +62,9 @@ starts_as first r h m l = λ i. record {
     };
     ram = replicate (l.end i - l.start i) 0;
     grants = [];
-    pending = [];
+    inbox = record { pending = []; dropped = r.own.inbox.dropped };
     life = r.own.life + 1;
     lives = true;
-    dropped = r.own.dropped;
   };
   storage = r.storage;
 }

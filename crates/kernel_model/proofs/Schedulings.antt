@@ -162,7 +162,7 @@ begins_good promise (Some r) nothing = record {
   sound = record {
     shape = (promise.pairs.none r.own nothing.grants).shape;
     held =
-        All-same (IsHeld r.own) r.own.pending [] nothing.pending (All-nil (IsHeld r.own));
+        All-same (IsHeld r.own) r.own.inbox.pending [] nothing.pending (All-nil (IsHeld r.own));
   };
 }
 
@@ -284,9 +284,9 @@ deliveries_are_of_the_last promise of_ecall w slot nothing = record {
       (good_after_all promise slot choices w good) (history choices);
   last = last;
   delivered = λ choices choice r s is after_it.
-      let held_there : All (IsHeld r.own) r.own.pending =
-      subst (λ (o : Option Record). IfSome o (λ r. All (IsHeld r.own) r.own.pending)) is (held choices) in
-      let waits : upcalls (schedulings slot w choices) ≡ r.own.pending = history choices ∙ ap pending_of is in
+      let held_there : All (IsHeld r.own) r.own.inbox.pending =
+      subst (λ (o : Option Record). IfSome o (λ r. All (IsHeld r.own) r.own.inbox.pending)) is (held choices) in
+      let waits : upcalls (schedulings slot w choices) ≡ r.own.inbox.pending = history choices ∙ ap pending_of is in
       first_delivered choices choice r s is after_it (schedulings slot w choices) waits held_there (last choices);
 }
   where
@@ -296,12 +296,12 @@ deliveries_are_of_the_last promise of_ecall w slot nothing = record {
     history : (choices : List Choice) → upcalls (schedulings slot w choices) ≡ pending_in slot (after_all w choices)
     history choices = history_from promise slot choices 0 w [] good (begins_empty (slice_get w.records slot) nothing)
 
-    all_held : (o : Option Record) → IfSome o IsGood → IfSome o (λ r. All (IsHeld r.own) r.own.pending)
+    all_held : (o : Option Record) → IfSome o IsGood → IfSome o (λ r. All (IsHeld r.own) r.own.inbox.pending)
     all_held None h = tt
     all_held (Some r) h = h.sound.held
 
     held : (choices : List Choice)
-        → IfSome (slice_get (after_all w choices).records slot) (λ r. All (IsHeld r.own) r.own.pending)
+        → IfSome (slice_get (after_all w choices).records slot) (λ r. All (IsHeld r.own) r.own.inbox.pending)
     held choices = all_held (slice_get (after_all w choices).records slot) (good_after_all promise slot choices w good)
 
     last : (choices : List Choice) → All (IsOfTheLast slot w choices) (schedulings slot w choices)
@@ -318,7 +318,7 @@ deliveries_are_of_the_last promise of_ecall w slot nothing = record {
     first_delivered : (choices : List Choice) (choice : Choice) (r s : Record)
         → slice_get (after_all w choices).records slot ≡ Some r
         → slice_get (after (after_all w choices) choice).records slot ≡ Some s
-        → (waiting : List Scheduling) → upcalls waiting ≡ r.own.pending → All (IsHeld r.own) r.own.pending
+        → (waiting : List Scheduling) → upcalls waiting ≡ r.own.inbox.pending → All (IsHeld r.own) r.own.inbox.pending
         → All (IsOfTheLast slot w choices) waiting
         → All (DeliversFirst choices r s waiting) (told_in slot (after_all w choices) choice)
     first_delivered choices choice r s is after_it [] waits held lasts =

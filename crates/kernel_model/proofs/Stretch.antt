@@ -60,8 +60,8 @@ stays_on w slot r p at runs u =
     (ap (λ (g : Bool). if g then Some slot else find (is_ready_at (ready_slots w)) (slots_after (Some slot)))
     (ap (λ (b : Bool). b && nat_lt w.present.used w.pace.slice) ready ∙ left))
   where
-    may : (state : State) → state ≡ Running → has_turn state (is_pending r.own.pending) ≡ true
-    may state e = ap (λ (s : State). has_turn s (is_pending r.own.pending)) e
+    may : (state : State) → state ≡ Running → has_turn state (is_pending r.own.inbox.pending) ≡ true
+    may state e = ap (λ (s : State). has_turn s (is_pending r.own.inbox.pending)) e
 
     ready : is_ready_at (ready_slots w) slot ≡ true
     ready = get_or_from_slice_get (ready_slots w) slot true false
@@ -74,7 +74,7 @@ stays_on w slot r p at runs u =
 runs_ready : (w : World) (slot : ℕ) (r : Record) → slice_get w.records slot ≡ Some r → r.process.state ≡ Running
     → w.clock.steps < STEP_LIMIT → is_ready w (Run slot) ≡ true
 runs_ready w slot r at runs below =
-    run_ready w slot (ap can_run at ∙ ap (λ (state : State). has_turn state (is_pending r.own.pending)) runs) below
+    run_ready w slot (ap can_run at ∙ ap (λ (state : State). has_turn state (is_pending r.own.inbox.pending)) runs) below
 
 module _ (w : World) (slot : ℕ) (r : Record) (p : w.present.slot ≡ Some slot) (at : slice_get w.records slot ≡ Some r)
     (runs : r.process.state ≡ Running) where

@@ -281,7 +281,7 @@ module _ (law : OnlyHandingChangesPairs) (drivers : DriversLeavePairs) where
     keeps_yield : (number at : ℕ) → Keeps r (yielding r number at).after
     unfolding yielding
     keeps_yield number at =
-        by_test (λ s. Keeps r s.after) (number == 0) _ _ (keeps_yield_now at r.own.pending)
+        by_test (λ s. Keeps r s.after) (number == 0) _ _ (keeps_yield_now at r.own.inbox.pending)
         (by_test (λ s. Keeps r s.after) (number == 1) _ _ (same_kept r _ refl refl) (same_kept r _ refl refl))
 
     keeps_answered : (c : Commanded) (answer : Result Reply CallRule) → HandsTheSame r.own c.own
@@ -537,7 +537,7 @@ module _ (law : OnlyHandingChangesPairs) (drivers : DriversLeavePairs) where
   follows_state past settings time Running r is remembers =
       follows_instructed past settings time r (remembers (ap is_over is))
   follows_state past settings time Yielded r is remembers =
-      follows_delivery past r r.own.pending (remembers (ap is_over is))
+      follows_delivery past r r.own.inbox.pending (remembers (ap is_over is))
   follows_state past settings time Faulted r is remembers = follows_over past r (ap is_over is)
   follows_state past settings time (Terminated code) r is remembers = follows_over past r (ap is_over is)
 

@@ -100,7 +100,7 @@ deliver_by r [] = r
 deliver_by r (upcall ∷ more) = record r { process = delivered upcall r.process; own = own.without_first r.own }
 
 abbrev pub deliver : Record → Record
-deliver r = deliver_by r r.own.pending
+deliver r = deliver_by r r.own.inbox.pending
 
 -- a process past its `ecall`, with its flag written
 abbrev pub flag_written : Record → ℕ → ℕ → Record
@@ -119,7 +119,7 @@ yield_now r at (upcall ∷ more) = record {
 -- yield with 0 does not wait, with 1 waits for an upcall; another number goes on
 unfoldable pub yielding : Record → ℕ → ℕ → Served
 yielding r number at =
-    if number == 0 then yield_now r at r.own.pending
+    if number == 0 then yield_now r at r.own.inbox.pending
     else (if number == 1 then record { after = with_process r (waiting r.process); outcome = Waits; acts = [] }
     else record { after = with_process r (after_call r.process); outcome = GoesOn; acts = [] })
 

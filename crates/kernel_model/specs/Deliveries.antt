@@ -68,7 +68,7 @@ yielded_of (Some r) = is_yielded r.process.state
 -- the upcalls that wait for a process, if there is one
 abbrev pub pending_of : Option Record → List Scheduled
 pending_of None = []
-pending_of (Some r) = r.own.pending
+pending_of (Some r) = r.own.inbox.pending
 
 -- the upcalls that wait for the process in a slot
 abbrev pub pending_in : ℕ → World → List Scheduled
@@ -131,7 +131,7 @@ pub record IsDelivered (slot : ℕ) (w : World) (choices : List Choice) (r s : R
 -- it was scheduled, and none of one of an earlier life.
 pub record DeliversTheLast (w : World) (slot : ℕ) : Type 0 where
   pub held : (choices : List Choice) →
-      IfSome (slice_get (after_all w choices).records slot) (λ r. All (IsHeld r.own) r.own.pending)
+      IfSome (slice_get (after_all w choices).records slot) (λ r. All (IsHeld r.own) r.own.inbox.pending)
   pub history : (choices : List Choice) →
       map (λ s. s.upcall) (schedulings slot w choices) ≡ pending_in slot (after_all w choices)
   pub one : (choices : List Choice) (choice : Choice) →

@@ -75,7 +75,7 @@ last_pair key (told ∷ earlier) =
 -- a process that has handed nothing yet, with the object of an application, so that it can start again
 pub record HandedNothing (r : Record) : Type 0 where
   pub grants : r.own.grants ≡ []
-  pub pending : r.own.pending ≡ []
+  pub pending : r.own.inbox.pending ≡ []
   pub application : CanStartAgain r
 
 -- the words of the reply to a swap that succeeded: the variant of a success with two words, the pair that it gives

@@ -84,7 +84,7 @@ GrantsChangeAtCalls = (settings : Settings) (time : ℕ) (r : Record) →
 -- a turn drops one upcall at most: one that its command has a driver schedule where as many are pending as may be
 abbrev pub DropsAtMostOne : Type 0
 DropsAtMostOne = (settings : Settings) (time : ℕ) (r : Record) →
-    IsAtMostOneMore r.own.dropped (turned settings time r).after.own.dropped
+    IsAtMostOneMore r.own.inbox.dropped (turned settings time r).after.own.inbox.dropped
 
 -- where an application starts, as its header says, if it can be read and says so
 abbrev pub main_by : Result Meaning HeaderFault → Option Main

@@ -82,7 +82,7 @@ pub record HasOrder (r : Record) : Type 0 where
 
 -- so many upcalls wait at most
 abbrev pub HasPendingWithinLimit : Record → Type 0
-HasPendingWithinLimit r = length r.own.pending ≤ PENDING_LIMIT
+HasPendingWithinLimit r = length r.own.inbox.pending ≤ PENDING_LIMIT
 
 -- An upcall of a process is dropped only where as many wait as may: after any choices a step drops none where fewer did
 -- before it.
@@ -90,7 +90,7 @@ abbrev pub DropsOnlyWhereFull : Type 0
 DropsOnlyWhereFull = (w : World) (choices : List Choice) (choice : Choice) (slot : ℕ) (before now : Record) →
     slice_get (after_all w choices).records slot ≡ Some before →
     slice_get (after (after_all w choices) choice).records slot ≡ Some now →
-    length before.own.pending < PENDING_LIMIT → now.own.dropped ≡ before.own.dropped
+    length before.own.inbox.pending < PENDING_LIMIT → now.own.inbox.dropped ≡ before.own.inbox.dropped
 
 -- A process is as another was, but for its turns, its restarts and its life, its dropped upcalls, its last denial, its
 -- last
@@ -105,7 +105,10 @@ IsAsAtFirst first now =
         refusal = now.process.refusal;
       };
       object = first.object;
-      own = record first.own { life = now.own.life; dropped = now.own.dropped };
+      own = record first.own {
+        inbox = record first.own.inbox { dropped = now.own.inbox.dropped };
+        life = now.own.life;
+      };
       storage = now.storage;
     }
 

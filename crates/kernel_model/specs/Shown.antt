@@ -16,7 +16,7 @@ slot_line_of r = record {
   denial = r.process.denial;
   turns = r.process.turns;
   restarts = r.process.restarts;
-  dropped = r.own.dropped;
+  dropped = r.own.inbox.dropped;
 }
 
 -- what the report says of a world

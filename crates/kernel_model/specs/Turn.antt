@@ -173,7 +173,7 @@ delivery r (upcall ∷ more) = idle (deliver_by (turn_counted r) (upcall ∷ mor
 -- its turn, as it runs or waits; one that ended has none
 abbrev pub turn_in : Settings → ℕ → State → Record → Turned
 turn_in settings time Running r = instructed settings time r
-turn_in settings time Yielded r = delivery r r.own.pending
+turn_in settings time Yielded r = delivery r r.own.inbox.pending
 turn_in settings time Faulted r = idle r
 turn_in settings time (Terminated code) r = idle r
 
@@ -233,4 +233,4 @@ is_pending pending = not (length pending == 0)
 
 -- whether a process can have a turn
 abbrev pub may_turn : Record → Bool
-may_turn r = has_turn r.process.state (is_pending r.own.pending)
+may_turn r = has_turn r.process.state (is_pending r.own.inbox.pending)

@@ -219,14 +219,7 @@ same_grants own o same =
     record { pairs = λ driver. ap (λ (gs : List Grant). pairs_in driver (grant_of driver gs)) same }
 
 queued_same : (upcall : Scheduled) (own : Own) → (queueing upcall own).grants ≡ own.grants
-queued_same upcall own = by_function (upcall.function == 0) (has_room own.pending)
-  where
-    by_function : (null room : Bool)
-        → (cond null own (cond room (record own { pending = own.pending ++ upcall ∷ [] })
-        (record own { dropped = own.dropped + 1 }))).grants ≡ own.grants
-    by_function true room = refl
-    by_function false true = refl
-    by_function false false = refl
+queued_same upcall own = refl
 
 flagged_same : (at byte : ℕ) (own : Own) → (with_flag at byte own).grants ≡ own.grants
 flagged_same at byte own = by_place (lies_in_ram own.layout at 1)

@@ -1,5 +1,4 @@
--- What a process hands to a driver: the upcalls that it subscribes and the buffers that it allows (TRD 104,
--- "Subscribe",
+-- What a process hands to a driver: the upcalls that it subscribes and the buffers that it allows (TRD 104, "Subscribe",
 -- "Read-Only Allow", "Read-Write Allow"; Levy et al., SOSP 2017, section 4).
 use Rattle.std.specs.Prelude.{ℕ, ◌+◌, ◌-◌, ◌*◌, ◌/◌, ◌==◌, Bool, IsTrue, ◌||◌, max, if◌then◌else◌, List, take}
 use Rattle.tk_base.specs.declared.upcall.Upcall.{Upcall as Scheduled}
@@ -70,7 +69,7 @@ handing kind driver number pair own =
     record o {
       layout = marked kind pair o.layout;
       grants = with_grant driver (with_pair kind number pair) o.grants;
-      pending = still_pending kind driver number o.pending;
+      inbox = record o.inbox { pending = still_pending kind driver number o.inbox.pending };
     }
 
 -- every buffer that a process has allowed a driver lies where it may still be allowed

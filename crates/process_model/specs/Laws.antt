@@ -11,7 +11,7 @@ pub record SamePlace (a b : Own) : Type 0 where
   pub start : a.layout.start ≡ b.layout.start
   pub end : a.layout.end ≡ b.layout.end
   pub life : a.life ≡ b.life
-  pub dropped : a.dropped ≡ b.dropped
+  pub dropped : a.inbox.dropped ≡ b.inbox.dropped
 
 -- a restart forgets every byte of the block, the grants and the pending upcalls, and where the breaks were
 abbrev pub RestartForgets : Type 0

@@ -1,10 +1,9 @@
 -- What the kernel keeps of one process beside its registers: where it lies, the bytes of its block and the grants in it
--- (Levy et al., SOSP 2017); the upcalls that wait for it (TRD 104, "Yield"); which of its lives it is in, and whether
--- it
+-- (Levy et al., SOSP 2017); the upcalls that wait for it (TRD 104, "Yield"); which of its lives it is in, and whether it
 -- lives (TRD 104, "Exit"); how many upcalls were dropped.
 use Rattle.std.specs.Prelude.{ℕ, ◌+◌, ◌-◌, Bool, true, false, List, [], ◌++◌, replicate, drop}
 use Rattle.tk_base.specs.Numbers.{rounded_up}
-use Rattle.tk_base.specs.declared.upcall.Upcall.{Upcall}
+use Rattle.upcall_queue.specs.declared.inbox.Inbox.{Inbox}
 use Rattle.process_layout.specs.LayoutView.{LayoutView, with_break}
 use Rattle.grant_model.specs.Grants.{Grant}
 use Rattle.grant_model.specs.Encoding.{encode_grants}
@@ -20,11 +19,10 @@ pub record Own : Type 0 where
   pub ram : List ℕ
   -- its grants, the last entered first; their bytes fill the block from the kernel break on
   pub grants : List Grant
-  -- the upcalls that wait to be delivered, the first one first
-  pub pending : List Upcall
+  -- the upcalls that wait to be delivered, the first one first, and how many were dropped
+  pub inbox : Inbox
   pub life : ℕ
   pub lives : Bool
-  pub dropped : ℕ
 
 -- the bytes of the block: the process's own, and its grants
 abbrev pub block_of : Own → List ℕ
@@ -37,10 +35,9 @@ opened f = record {
   layout = f.layout;
   ram = replicate (f.layout.kernel_break - f.layout.start) 0;
   grants = [];
-  pending = [];
+  inbox = record { pending = []; dropped = 0 };
   life = 0;
   lives = true;
-  dropped = 0;
 }
 
 -- a process whose break was moved to an address, rounded up to a multiple of 4 (TRD 104, "Memop")
@@ -54,15 +51,15 @@ own_restarted brk own = record own {
   layout = with_break brk own.layout;
   ram = replicate (own.layout.end - own.layout.start) 0;
   grants = [];
-  pending = [];
+  inbox = record own.inbox { pending = [] };
   life = own.life + 1;
   lives = true;
 }
 
 -- a process that ended: it has no pending upcalls, and its memory stays as it is
 abbrev pub own_ended : Own → Own
-own_ended own = record own { pending = []; lives = false }
+own_ended own = record own { inbox = record own.inbox { pending = [] }; lives = false }
 
 -- a process whose first pending upcall was taken out, to be delivered (TRD 104, "Yield")
 abbrev pub without_first : Own → Own
-without_first own = record own { pending = drop 1 own.pending }
+without_first own = record own { inbox = record own.inbox { pending = drop 1 own.inbox.pending } }

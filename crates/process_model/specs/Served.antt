@@ -1,12 +1,11 @@
 -- What a driver does to a process that it serves: it schedules upcalls (TRD 104, "Subscribe", "Yield"), reads and
--- writes
--- the buffers that the process has allowed (TRD 104, "Read-Only Allow", "Read-Write Allow"), and keeps a value in the
+-- writes the buffers that the process has allowed (TRD 104, "Read-Only Allow", "Read-Write Allow"), and keeps a value in the
 -- process's grant (Levy et al., SOSP 2017, section 4).
 use Rattle.std.specs.Prelude.{ℕ, ◌+◌, ◌-◌, ◌==◌, Bool, ◌&&◌, not, if◌then◌else◌, List, [], ◌∷◌, ◌++◌, take}
 use Rattle.std.specs.Prelude.{slice_range, Option, option_map}
 use Rattle.tk_base.specs.declared.access.TheConstants.{FLASH_START}
 use Rattle.tk_base.specs.declared.upcall.Upcall.{Upcall as Scheduled}
-use Rattle.upcall_queue.specs.Pending.{has_room}
+use Rattle.upcall_queue.specs.Pending.{scheduled}
 use Rattle.tk_base.specs.declared.kinds.PairKind.TheVariants.{Upcall, ReadWrite}
 use Rattle.grant_values.specs.Values.{KeptValue}
 use Rattle.grant_model.specs.Grants.{grant_of, with_grant, with_value}
@@ -20,17 +19,9 @@ upcall_of driver number args own =
     let pair = held Upcall driver number own in
     record { driver = driver; number = number; function = pair.0; app = pair.1; args = args }
 
--- whether an upcall that is scheduled is put last: it is not the null upcall, and there is room for it
-abbrev pub is_queued : Scheduled → Own → Bool
-is_queued upcall own = not (upcall.function == 0) && has_room own.pending
-
--- a process for which an upcall was scheduled: it is the last that waits; where there is no room it is dropped, and
--- counted; the null upcall changes nothing
+-- a process for which an upcall was scheduled
 abbrev pub queueing : Scheduled → Own → Own
-queueing upcall own =
-    if upcall.function == 0 then own
-    else (if has_room own.pending then record own { pending = own.pending ++ upcall ∷ [] }
-    else record own { dropped = own.dropped + 1 })
+queueing upcall own = record own { inbox = scheduled upcall own.inbox }
 
 -- the same of the upcall that the process now holds
 abbrev pub own_scheduled : ℕ → ℕ → List ℕ → Own → Own

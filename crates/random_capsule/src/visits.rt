@@ -46,7 +46,7 @@ impl Visit<Random> for Advance {
     type Answer = Step;
 
     ghost asks = { λ advance value seen. (seen.driver ≡ random) × (0 < seen.counts.upcalls)
-        × (0 < seen.counts.rw) × (seen.own.dropped + 1 < 2 ^ 32) };
+        × (0 < seen.counts.rw) × (seen.own.inbox.dropped + 1 < 2 ^ 32) };
 
     ghost leaves = { λ advance value seen answer value' own.
         Steps advance.word value.request seen.own answer value' own };
@@ -87,7 +87,7 @@ fn complete(entered: &mut Entered<'_>, took: bool, outcome: u32, bytes: u32) -> 
     requires lent { IsLent entered.old }
     requires driver { (seen entered.old).driver ≡ random }
     requires upcall { 0 < (seen entered.old).counts.upcalls }
-    requires dropped { (own_entered entered.old).dropped + 1 < 2 ^ 32 }
+    requires dropped { (own_entered entered.old).inbox.dropped + 1 < 2 ^ 32 }
     ensures step { step_progress result (own_entered entered.new)
         ≡ completing took outcome bytes (own_entered entered.old) }
     // what a visitor owes
@@ -104,7 +104,7 @@ fn draw(entered: &mut Entered<'_>, request: &RandomRequest, left: u32, word: u32
     requires driver { (seen entered.old).driver ≡ random }
     requires upcall { 0 < (seen entered.old).counts.upcalls }
     requires buffer { 0 < (seen entered.old).counts.rw }
-    requires dropped { (own_entered entered.old).dropped + 1 < 2 ^ 32 }
+    requires dropped { (own_entered entered.old).inbox.dropped + 1 < 2 ^ 32 }
     requires left { request.now.written + left < 2 ^ 32 }
     ensures step { step_progress result (own_entered entered.new)
         ≡ drawing left request.now (own_entered entered.old) (Some word) }
@@ -134,7 +134,7 @@ fn take_step(entered: &mut Entered<'_>, request: &RandomRequest, word: Option<u3
     requires driver { (seen entered.old).driver ≡ random }
     requires upcall { 0 < (seen entered.old).counts.upcalls }
     requires buffer { 0 < (seen entered.old).counts.rw }
-    requires dropped { (own_entered entered.old).dropped + 1 < 2 ^ 32 }
+    requires dropped { (own_entered entered.old).inbox.dropped + 1 < 2 ^ 32 }
     ensures step { step_progress result (own_entered entered.new)
         ≡ progress word request.now (own_entered entered.old) }
     // what a visitor owes

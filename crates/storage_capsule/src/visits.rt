@@ -44,7 +44,7 @@ impl<'a> Visit<Storage> for Transfer<'a> {
     type Answer = &'a mut Stores;
 
     ghost asks = { λ serve value seen. (seen.driver ≡ storage) × (1 < seen.counts.upcalls)
-        × (0 < seen.counts.ro) × (0 < seen.counts.rw) × (seen.own.dropped + 1 < 2 ^ 32)
+        × (0 < seen.counts.ro) × (0 < seen.counts.rw) × (seen.own.inbox.dropped + 1 < 2 ^ 32)
         × IfSome value.request (λ request.
         request.offset + request.length ≤ serve.stores.now.size) };
 
@@ -103,7 +103,7 @@ fn move_bytes(
         (slot_bytes stores.old slot) request.now (own_entered entered.old) in
         (completing request.now.kind result 0 (own_entered entered.new) ≡ s.own)
         × (stores.new ≡ storage_after slot s.written stores.old) }
-    ensures dropped { (own_entered entered.new).dropped ≡ (own_entered entered.old).dropped }
+    ensures dropped { (own_entered entered.new).inbox.dropped ≡ (own_entered entered.old).inbox.dropped }
     // what a visitor owes
     ensures lent { IsLent entered.new }
     ensures framed { Framed entered.old entered.new }
@@ -120,7 +120,7 @@ fn complete(entered: &mut Entered<'_>, kind: StorageKind, count: u32, outcome: u
     requires lent { IsLent entered.old }
     requires driver { (seen entered.old).driver ≡ storage }
     requires upcalls { 1 < (seen entered.old).counts.upcalls }
-    requires dropped { (own_entered entered.old).dropped + 1 < 2 ^ 32 }
+    requires dropped { (own_entered entered.old).inbox.dropped + 1 < 2 ^ 32 }
     ensures own { own_entered entered.new
         ≡ completing kind count outcome (own_entered entered.old) }
     // what a visitor owes
@@ -146,7 +146,7 @@ fn serve_request(
     requires upcalls { 1 < (seen entered.old).counts.upcalls }
     requires read { 0 < (seen entered.old).counts.ro }
     requires write { 0 < (seen entered.old).counts.rw }
-    requires dropped { (own_entered entered.old).dropped + 1 < 2 ^ 32 }
+    requires dropped { (own_entered entered.old).inbox.dropped + 1 < 2 ^ 32 }
     requires within { request.now.offset + request.now.length ≤ stores.old.size }
     ensures served { let s = storage_served fault (seen entered.old).flash
         (slot_bytes stores.old slot) request.now (own_entered entered.old) in

@@ -19,10 +19,9 @@ made brk object flash_start flash_end start end life dropped = record {
   };
   ram = replicate (end - start) 0;
   grants = [];
-  pending = [];
+  inbox = record { pending = []; dropped = dropped };
   life = life + 1;
   lives = true;
-  dropped = dropped;
 }
 
 pub returns : goal.returns
@@ -30,10 +29,10 @@ unfolding made
 returns c = λ brk a b same.
     let e = a.layout in
     let f = b.layout in
-    ap (λ (o : Object). made brk o e.flash_start e.flash_end e.start e.end a.life a.dropped) same.object
-    ∙ ap (λ (n : ℕ). made brk b.object n e.flash_end e.start e.end a.life a.dropped) same.flash_start
-    ∙ ap (λ (n : ℕ). made brk b.object f.flash_start n e.start e.end a.life a.dropped) same.flash_end
-    ∙ ap (λ (n : ℕ). made brk b.object f.flash_start f.flash_end n e.end a.life a.dropped) same.start
-    ∙ ap (λ (n : ℕ). made brk b.object f.flash_start f.flash_end f.start n a.life a.dropped) same.end
-    ∙ ap (λ (n : ℕ). made brk b.object f.flash_start f.flash_end f.start f.end n a.dropped) same.life
+    ap (λ (o : Object). made brk o e.flash_start e.flash_end e.start e.end a.life a.inbox.dropped) same.object
+    ∙ ap (λ (n : ℕ). made brk b.object n e.flash_end e.start e.end a.life a.inbox.dropped) same.flash_start
+    ∙ ap (λ (n : ℕ). made brk b.object f.flash_start n e.start e.end a.life a.inbox.dropped) same.flash_end
+    ∙ ap (λ (n : ℕ). made brk b.object f.flash_start f.flash_end n e.end a.life a.inbox.dropped) same.start
+    ∙ ap (λ (n : ℕ). made brk b.object f.flash_start f.flash_end f.start n a.life a.inbox.dropped) same.end
+    ∙ ap (λ (n : ℕ). made brk b.object f.flash_start f.flash_end f.start f.end n a.inbox.dropped) same.life
     ∙ ap (made brk b.object f.flash_start f.flash_end f.start f.end b.life) same.dropped

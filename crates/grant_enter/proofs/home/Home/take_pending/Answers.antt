@@ -21,7 +21,7 @@ reads c = record {
 -- the seat afterwards
 left : (c : After-pop)
     → Reseats c.self.inside.memory c.index_mut.result.now c.self.inside.memory
-    (record c.index_mut.result.now { pending = record c.index_mut.result.now.pending { queue = c.pop.new.self } })
+    (record c.index_mut.result.now { inbox = record c.index_mut.result.now.inbox { pending = c.pop.new.self } })
 left c = requeued c.self.inside.memory c.index_mut.result.now c.pop.new.self c.index_mut.result.now.lives
     (sits_before (reads c))
 
@@ -32,7 +32,7 @@ invariant_of-self c = let a = (goal.at.invariant_of-self c).After-pop in
 pub returns-clause-first : goal.returns-clause-first
 returns-clause-first c =
     c.pop.ensures.first
-    ∙ ap (λ (o : Own). slice_get o.pending 0) (sym (own_before (reads (goal.at.returns-clause-first c).After-pop)))
+    ∙ ap (λ (o : Own). slice_get o.inbox.pending 0) (sym (own_before (reads (goal.at.returns-clause-first c).After-pop)))
 
 pub returns-clause-own : goal.returns-clause-own
 returns-clause-own c =
@@ -40,7 +40,7 @@ returns-clause-own c =
     let seat = c.index_mut.result.now in
     reseated_shows (reads a) c.self.inside.memory _ (left a) (λ flash own own_after. own_after ≡ without_first own)
     (ap (λ (q : List Upcall). own_in c.self.inside.memory.ram
-    (record seat { pending = record seat.pending { queue = q } })) c.pop.ensures.rest)
+    (record seat { inbox = record seat.inbox { pending = q } })) c.pop.ensures.rest)
 
 pub returns-clause-rest : goal.returns-clause-rest
 returns-clause-rest c = let a = (goal.at.returns-clause-rest c).After-pop in

@@ -1,7 +1,7 @@
 use Rattle.std.proofs.Common.{rules, ap, ◌∙◌}
 use Rattle.arrayvec.proofs.ArrayVecLemmas.{filter-from_retain}
 use Rattle.upcall_queue.specs.Pending.{without_key}
-use Rattle.upcall_queue.proofs.Queue.drop_of.Goals as goal
+use Rattle.upcall_queue.proofs.queue.Queue.drop_of.Goals as goal
 
 pub returns : goal.returns
 returns c =
