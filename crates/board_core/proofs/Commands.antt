@@ -120,7 +120,7 @@ module _ (m : Moment) (slot : ℕ) (home home' : Homes) (order : Order) (answer 
     serves = λ storage.
         let r = record_in home.flash p own storage in
         ap (λ (b : Bool). cond b (by_form around r (form_of call))
-        (refused_with r Permission (failure_of call Permission)))
+        (refused_with r Permission (failure_of (form_of call) Permission)))
         (both (object_permits (object_in home.flash p.object) call) (is_driver_command call) for).0
         ∙ ap (λ (c : SystemCall). by_form around r (form_of c)) is
         ∙ ap (taken_by around order.number order.a2 order.a3 r) found

@@ -56,7 +56,7 @@ comes_so law slot home home_after p q call Again free comes = record { not_for_d
 -- a call that is not permitted
 pub not_permitted : (law : NoneIsLeft) (slot : ℕ) (home : Homes) (p q : Process) (call : Call) (o : Outcome)
     (failure : Reply)
-    → object_permits (object_in home.flash p.object) call ≡ false → failure ≡ failure_of call Permission
+    → object_permits (object_in home.flash p.object) call ≡ false → failure ≡ failure_of (form_of call) Permission
     → q.object ≡ p.object
     → ((r : Record) → ServingComesTo (refused_with (with_process r p) Permission failure) (with_process r q) o)
     → ServesAt slot home p call home q o
@@ -65,7 +65,7 @@ not_permitted law slot home p q call o failure forbidden is same refuses =
     comes_so law slot home home p q call o (ap (λ (b : Bool). b && is_driver_command call) forbidden)
     (λ around storage. let r = record_of_slot home slot p storage in
     ap (λ (b : Bool). if b then by_form around r (form_of call)
-    else refused_with r Permission (failure_of call Permission)) forbidden
+    else refused_with r Permission (failure_of (form_of call) Permission)) forbidden
     ∙ ap (refused_with r Permission) (sym is)
     ∙ refuses r
     ∙ ap (λ (s : Record). record { after = s; outcome = o; acts = acts_for o })
@@ -85,6 +85,6 @@ permitted_so law slot home home_after p q call form o is permitted free comes =
     (ap (λ (b : Bool). b && is_driver_command call) permitted ∙ ap is_taken (sym is) ∙ free)
     (λ around storage. let r = record_of_slot home slot p storage in
     ap (λ (b : Bool). if b then by_form around r (form_of call)
-    else refused_with r Permission (failure_of call Permission)) permitted
+    else refused_with r Permission (failure_of (form_of call) Permission)) permitted
     ∙ ap (by_form around r) (sym is)
     ∙ comes around storage)

@@ -49,8 +49,8 @@ swap_refused flash p q own storage swap rule failure o some fails object gives =
     ∙ ap (λ (s : Record). record { after = s; outcome = o; acts = acts_for o }) (of_object flash p q own storage object)
 
 -- another kernel break and another mark move no process's start
-still_starts : (address : ℕ) (e : LayoutView) (k m : ℕ) (read : Result Meaning HeaderFault) → IsApplication address e read
-    → IsApplication address (record e { kernel_break = k; mark = m }) read
+still_starts : (address : ℕ) (e : LayoutView) (k m : ℕ) (read : Result Meaning HeaderFault)
+    → IsApplication address e read → IsApplication address (record e { kernel_break = k; mark = m }) read
 still_starts address e k m (Err fault) a = a
 still_starts address e k m (Ok h) a = by_main h.main a
   where

@@ -4,7 +4,7 @@ use Rattle.std.specs.Prelude.{length, Option, None, Some, Result, Ok, Err}
 use Rattle.tk_base.specs.declared.call.CallRule.{CallRule}
 use Rattle.syscall_abi.specs.declared.call.Call.{Call}
 use Rattle.syscall_abi.specs.declared.form.CallForm.{CallForm}
-use Rattle.syscall_abi.specs.declared.form.CallForm.TheVariants.{Yield, Swap, Command, Memop, Exit}
+use Rattle.syscall_abi.specs.declared.form.CallForm.TheVariants.{Command}
 use Rattle.syscall_abi.specs.Call.{form_of}
 use Rattle.process_model.specs.Own.{Own}
 use Rattle.process_record.specs.declared.outcome.Outcome.{Outcome}
@@ -39,11 +39,8 @@ record_of_slot home slot process storage = record_in home.flash process (own_of 
 
 -- whether a form of calls is a command to a driver that takes commands
 abbrev pub is_taken : CallForm → Bool
-is_taken (Yield number a1 a2) = false
-is_taken (Swap swap) = false
 is_taken (Command driver command a2 a3) = takes_commands driver
-is_taken (Memop operation argument) = false
-is_taken (Exit kind code) = false
+is_taken form = false
 
 -- whether a call is a command to a driver that takes commands
 abbrev pub is_driver_command : Call → Bool

@@ -1,7 +1,7 @@
 //! What a process gets back for a system call.
 ghost use Rattle.std.specs.Prelude.{◌≡◌, []};
 ghost use Rattle.kernel_model.specs.Record.{Record, with_process};
-ghost use Rattle.kernel_model.specs.Calls.{driver_answered, failed_swap, failure_by, refused_with};
+ghost use Rattle.kernel_model.specs.Calls.{driver_answered, failed_swap, failure_of, refused_with};
 ghost use Rattle.kernel_calls.specs.Given.{given};
 ghost use Rattle.kernel_calls.specs.Outcomes.{acts_for, ServingComesTo};
 
@@ -12,7 +12,7 @@ use tk_base::CallRule;
 /// The failure with which a call of a form is refused that breaks a rule (TRD 104, "Return Values"): a subscribe and
 /// an allow get back the pair that they passed.
 pub(crate) fn failure(form: &CallForm, rule: CallRule) -> Reply
-    ensures { result ≡ failure_by form.now rule }
+    ensures { result ≡ failure_of form.now rule }
 {
     match *form {
         CallForm::Swap(swap) => failed_swap(swap.pair, rule),

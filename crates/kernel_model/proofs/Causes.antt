@@ -39,8 +39,7 @@ use Rattle.kernel_model.specs.declared.settings.Settings.{Settings}
 use Rattle.kernel_model.specs.Calls.{Served, driver_answered, by_form, exit, memop, object_permits, restart}
 use Rattle.kernel_model.specs.Calls.{restarted_by, restarted_main, served, swap_by, swap_refusal, taken_by, yield_now}
 use Rattle.kernel_model.specs.Calls.{yielding}
-use Rattle.kernel_model.specs.Turn.{Turned, calls, turn_counted, delivery, at_turn_end, faulted, flag_by, idle}
-use Rattle.kernel_model.specs.Turn.{yield_flag_of}
+use Rattle.kernel_model.specs.Turn.{Turned, calls, turn_counted, delivery, at_turn_end, faulted, yield_flag_of, idle}
 use Rattle.kernel_model.specs.Turn.{instructed, made, settled, surroundings, turned, turn_in, unknown_call}
 use Rattle.kernel_model.specs.Histories.{ends_life, is_exit}
 use Rattle.kernel_model.specs.Causes.{IsDoneByTurn, TurnHasCauses, TurnsHaveCauses}
@@ -145,7 +144,8 @@ module _ (law : OnlyWritesChangeBytes) (commands : CommandsKeepBytes) (around : 
       (by_test (Leaves r None) (kind == 1) _ _ (restarts_so r None _ (ap (λ (n : ℕ). n == 6 && true) six))
       (same_own r None _))
 
-  of_form : (form : CallForm) → form_in r.process.regs ≡ Some form → Leaves r (flag_by r form) (by_form around r form)
+  of_form : (form : CallForm) → form_in r.process.regs ≡ Some form
+      → Leaves r (yield_flag_of r form) (by_form around r form)
   unfolding by_form
   of_form (forms.Yield number a1 a2) is = of_yield number a1
   of_form (forms.Swap swap) is = of_swap swap (swap_refusal swap r.own)
@@ -154,10 +154,10 @@ module _ (law : OnlyWritesChangeBytes) (commands : CommandsKeepBytes) (around : 
   of_form (forms.Exit kind code) is = of_exit kind code (exit_class r.process.regs kind code is)
 
   of_served : (call : SystemCall) → call_of r.process.regs ≡ Some call
-      → Leaves r (yield_flag_of r call) (served around r call)
+      → Leaves r (yield_flag_of r (form_of call)) (served around r call)
   unfolding served
   of_served call is =
-      by_test (Leaves r (yield_flag_of r call)) (object_permits r.object call) _ _
+      by_test (Leaves r (yield_flag_of r (form_of call))) (object_permits r.object call) _ _
       (of_form (form_of call) (ap (option_map form_of) is)) (same_own r _ _)
 
 of_fault : (settings : Settings) (r : Record) (denial : Denial) → Changes r None true (faulted settings r denial).after

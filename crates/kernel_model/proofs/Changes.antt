@@ -38,10 +38,11 @@ use Rattle.process_record.specs.Process.{after_call as after_call_of, after_exit
 use Rattle.process_record.specs.Process.{after_reply, past_call, waiting}
 use Rattle.kernel_model.specs.Record.{Record, instruction, with_effect, record_with_own, with_process}
 use Rattle.kernel_model.specs.declared.settings.Settings.{Settings}
-use Rattle.kernel_model.specs.Calls.{Served, driver_answered, break_moved, by_form, deliver_by, exit, failure_of, former_pair}
-use Rattle.kernel_model.specs.Calls.{flag_written, memop, memops, moved_by, or_refused, object_permits, own_swapped}
-use Rattle.kernel_model.specs.Calls.{refused, refused_with, region, region_end, regions_named, replied, restart, served}
-use Rattle.kernel_model.specs.Calls.{swap_by, swap_refusal, taken_by, with_break_at, yield_now, yielding}
+use Rattle.kernel_model.specs.Calls.{Served, driver_answered, break_moved, by_form, deliver_by, exit, failure_of}
+use Rattle.kernel_model.specs.Calls.{flag_written, former_pair, memop, memops, moved_by, or_refused, object_permits}
+use Rattle.kernel_model.specs.Calls.{own_swapped, refused, refused_with, region, region_end, regions_named, replied}
+use Rattle.kernel_model.specs.Calls.{restart, served, swap_by, swap_refusal}
+use Rattle.kernel_model.specs.Calls.{taken_by, with_break_at, yield_now, yielding}
 use Rattle.kernel_model.specs.Turn.{Event, apply, calls, turn_counted, delivery, at_turn_end, faulted, has_turn}
 use Rattle.kernel_model.specs.Turn.{is_pending, settled, surroundings, turned, turn_in}
 use Rattle.kernel_model.specs.World.{World, after}
@@ -219,7 +220,7 @@ module _ (R : Own → Own → Type 0) (services : OfEachService R) (I J : Record
   unfolding Q served
   after_call around r alive h call =
       by_test (object_permits r.object call) _ _ (λ may. of_form around r alive h (form_of call))
-      (λ may_not. by_refused r h Permission (failure_of call Permission))
+      (λ may_not. by_refused r h Permission (failure_of (form_of call) Permission))
 
   after_denial : (settings : Settings) (r : Record) → is_alive r.process.state ≡ true → I r → (denial : Denial)
       → J (faulted settings r denial).after

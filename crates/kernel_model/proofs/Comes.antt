@@ -23,11 +23,12 @@ use Rattle.syscall_abi.specs.declared.form.CallForm.TheVariants as forms
 use Rattle.syscall_abi.specs.declared.form.Swap.{Swap}
 use Rattle.syscall_abi.specs.Call.{form_of}
 use Rattle.syscall_abi.specs.declared.reply.Reply.{Reply}
-use Rattle.syscall_abi.specs.declared.reply.Reply.TheVariants.{Failure, FailureU32U32}
+use Rattle.syscall_abi.specs.declared.reply.Reply.TheVariants.{Failure}
 use Rattle.process_record.specs.declared.outcome.Outcome.TheVariants.{ToDriver}
 use Rattle.kernel_model.specs.Record.{Record, record_with_own}
 use Rattle.kernel_model.specs.Turn.{rule_shown}
-use Rattle.kernel_model.specs.Calls.{failed_swap, Served, driver_answered, by_form, commanded, exit, failure_by, failure_of, memop}
+use Rattle.kernel_model.specs.Calls.{Served, driver_answered, by_form, commanded, exit, failed_swap, failure_of}
+use Rattle.kernel_model.specs.Calls.{memop}
 use Rattle.kernel_model.specs.Calls.{object_permits, refused_with, replied, restart, restarted_by, restarted_main}
 use Rattle.kernel_model.specs.Calls.{served, swap_by, swap_refusal, taken_by, yield_now, yielding}
 use Rattle.kernel_model.specs.Laws.{CanStartAgain, DriversPromise, KeepsLines}
@@ -182,7 +183,7 @@ of_taken P promise around driver number a2 a3 r (Some taker) is both =
     (λ lives. keeps_commanded around r.own (taker around number a2 a3 r.own) lives follows stays) both
 
 of_form : (P : Served → Type 0) (promise : DriversPromise) (around : CommandContext) (r : Record) (form : CallForm)
-    → OfBoth P around r (failure_by form) → P (by_form around r form)
+    → OfBoth P around r (failure_of form) → P (by_form around r form)
 unfolding by_form
 of_form P promise around r (forms.Yield number a1 a2) both = of_yield P around r number a1 both
 of_form P promise around r (forms.Swap swap) both = of_swap P promise around r swap (swap_refusal swap r.own) both
@@ -193,7 +194,8 @@ of_form P promise around r (forms.Exit kind code) both = of_exit P around r kind
 
 -- what holds of a call that is refused and of one that is served holds of every call
 pub of_call : (P : Served → Type 0) (promise : DriversPromise) (around : CommandContext) (r : Record)
-    (call : SystemCall) → OfBoth P around r (failure_of call) → P (served around r call)
+    (call : SystemCall) → OfBoth P around r (failure_of (form_of call)) → P (served around r call)
 unfolding served
 of_call P promise around r call both =
-    by_test P (object_permits r.object call) _ _ (of_form P promise around r (form_of call) both) (both.refused Permission)
+    by_test P (object_permits r.object call) _ _ (of_form P promise around r (form_of call) both)
+    (both.refused Permission)

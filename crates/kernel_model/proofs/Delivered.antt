@@ -14,7 +14,7 @@ use Rattle.rv32_model.specs.declared.turn_end.TurnEnd.TheVariants as ends
 use Rattle.rv32_model.specs.Laws.{CallsAreOfEcall}
 use Rattle.rv32_model.specs.UserTurn.{MemoryAccess}
 use Rattle.syscall_abi.specs.declared.call.Call.{Call as SystemCall}
-use Rattle.syscall_abi.specs.Call.{a0, a1, call_of, class}
+use Rattle.syscall_abi.specs.Call.{a0, a1, call_of, class, form_of}
 use Rattle.process_model.specs.Permission.{denied}
 use Rattle.driver_model.specs.Drivers.{CommandContext}
 use Rattle.process_record.specs.declared.emit.CallMade.{CallMade}
@@ -87,9 +87,10 @@ module _ (settings : Settings) (time : ℕ) (u : Scheduled) (more : List Schedul
   unfolding served by_form
   of_served around r pending =
       let call = yield_in r.process.regs in
+      let failure = failure_of (form_of call) Permission in
       by_test (ByCall r) (object_permits r.object call) _ _ (of_yield r pending)
-      (no_yield r (refused_with r Permission (failure_of call Permission))
-      (not_refused (made r.process.regs (Replied (failure_of call Permission) (Some Permission))) Permission refl))
+      (no_yield r (refused_with r Permission failure)
+      (not_refused (made r.process.regs (Replied failure (Some Permission))) Permission refl))
 
   of_calls : (r : Record) (accesses : List MemoryAccess) → r.own.inbox.pending ≡ u ∷ more
       → Delivers false r (calls settings time (turn_counted r) accesses (call_of r.process.regs))

@@ -426,7 +426,7 @@ module _ (promise : Promise) (around : CommandContext) (r : Record) where
   unfolding served
   of_served n call leaves =
       by_test (LeavesByCall r n) (object_permits r.object call) _ _ leaves
-      (of_refused n Permission (failure_of call Permission))
+      (of_refused n Permission (failure_of (form_of call) Permission))
 
 -- the same of a turn
 abbrev pub LeavesByTurn : Record → Turned → Type 0

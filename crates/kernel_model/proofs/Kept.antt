@@ -13,7 +13,7 @@ use Rattle.rv32_model.specs.declared.turn_end.TurnEnd.{TurnEnd}
 use Rattle.rv32_model.specs.declared.turn_end.TurnEnd.TheVariants as ends
 use Rattle.rv32_model.specs.UserTurn.{MemoryAccess}
 use Rattle.syscall_abi.specs.declared.call.Call.{Call as SystemCall}
-use Rattle.syscall_abi.specs.Call.{call_of}
+use Rattle.syscall_abi.specs.Call.{call_of, form_of}
 use Rattle.process_record.specs.declared.emit.CallMade.{CallMade}
 use Rattle.process_record.specs.declared.process.State.{State}
 use Rattle.process_record.specs.declared.process.State.TheVariants.{Running, Yielded, Faulted, Terminated}
@@ -58,7 +58,8 @@ leaves_call : (promise : DriversPromise) (settings : Settings) (time : ℕ) (r :
 leaves_call promise settings time r accesses call =
     of_call (λ s. Leaves settings r (called r accesses call s)) promise (surroundings settings time) r call
     (record {
-      refused = λ rule. leaves_same settings r (called r accesses call (refused_with r rule (failure_of call rule)))
+      refused = λ rule.
+          leaves_same settings r (called r accesses call (refused_with r rule (failure_of (form_of call) rule)))
           (all_same r.own) refl;
       served = λ s is. record { dropped = is.dropped; room = is.room; lines = is.lines };
     })

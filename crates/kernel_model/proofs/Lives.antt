@@ -1,6 +1,6 @@
 -- When a process lives, and what stays of it, by the one walk over what may happen to it.
-use Rattle.std.proofs.Common.{◌≡◌, ◌≤◌, ℕ, ◌+◌, ◌-◌, ◌==◌, Bool, true, false, cond, not, ◌&&◌, nat_le, nat_lt, List, []}
-use Rattle.std.proofs.Common.{◌∷◌, drop, filter, length, slice_get, slice_set, is_none, unwrap_or, option_map, Option}
+use Rattle.std.proofs.Common.{◌≡◌, ◌≤◌, ℕ, ◌+◌, ◌-◌, ◌==◌, Bool, true, false, cond, not, ◌&&◌, nat_le, List, []}
+use Rattle.std.proofs.Common.{◌∷◌, drop, filter, length, slice_get, slice_set, unwrap_or, option_map, Option}
 use Rattle.std.proofs.Common.{None, Some, IfSome, Result, Ok, Err, refl, sym, ap, subst, ◌∙◌, arith}
 use Rattle.std.proofs.lemmas.Bool.{false≢true, leb-true}
 use Rattle.tk_base.specs.Numbers.{rounded_up}
@@ -11,17 +11,14 @@ use Rattle.tk_base.specs.Regs.{Registers}
 use Rattle.tbf_headers.specs.declared.fault.HeaderFault.{HeaderFault}
 use Rattle.tbf_headers.specs.declared.program.Main.{Main}
 use Rattle.tbf_headers.specs.Meaning.{Meaning, header_reading}
-use Rattle.grant_values.specs.Drivers.{counts_of}
 use Rattle.tk_base.specs.declared.kinds.PairKind.{PairKind}
 use Rattle.tk_base.specs.declared.kinds.PairKind.TheVariants.{Upcall, ReadOnly, ReadWrite}
-use Rattle.tk_base.specs.Kinds.{count_of}
-use Rattle.grant_model.specs.Grants.{Grant, shape_of}
-use Rattle.tk_base.specs.declared.call.CallRule.TheVariants.{NoDriver, NoNumber, NoRoom, Outside}
+use Rattle.grant_model.specs.Grants.{Grant}
 use Rattle.process_layout.specs.LayoutView.{LayoutView, first_break, permits_break}
 use Rattle.upcall_queue.specs.Pending.{is_of}
 use Rattle.process_model.specs.Own.{Own}
 use Rattle.process_model.specs.Flag.{with_flag}
-use Rattle.process_model.specs.Handed.{has_place, lies_in_ram, may_share, still_pending}
+use Rattle.process_model.specs.Handed.{lies_in_ram, still_pending}
 use Rattle.driver_model.specs.Alarm as alarm
 use Rattle.driver_model.specs.Console as console
 use Rattle.driver_model.specs.Console.{console_reads, console_writes}
@@ -35,10 +32,9 @@ use Rattle.driver_model.specs.Keeping.{DriversKeep, IsInOrder, KeepsLimit, Keeps
 use Rattle.driver_model.specs.Services.{OfEachService}
 use Rattle.process_record.specs.declared.process.State.{State}
 use Rattle.process_record.specs.declared.process.State.TheVariants.{Running, Yielded, Faulted, Terminated}
-use Rattle.syscall_abi.specs.declared.form.Swap.{Swap}
 use Rattle.kernel_model.specs.Record.{Record, record_with_own}
 use Rattle.kernel_model.specs.declared.settings.Settings.{Settings}
-use Rattle.kernel_model.specs.Calls.{restart, restarted_by, restarted_main, restarted_with, own_swapped, swap_refusal}
+use Rattle.kernel_model.specs.Calls.{restart, restarted_by, restarted_main, restarted_with, own_swapped}
 use Rattle.kernel_model.specs.Turn.{Event, Turn, Alarmed, Taken, WriteDone, Input, Word, NoWord, Stored, apply}
 use Rattle.kernel_model.specs.Turn.{flash_of, turned, turn_in, written_over}
 use Rattle.kernel_model.specs.World.{World, after}

@@ -12,7 +12,7 @@ use Rattle.rv32_model.specs.declared.turn_end.TurnEnd.TheVariants as ends
 use Rattle.rv32_model.specs.Laws.{CallsAreOfEcall}
 use Rattle.rv32_model.specs.UserTurn.{MemoryAccess, UserTurn, Write}
 use Rattle.syscall_abi.specs.declared.call.Call.{Call as SystemCall}
-use Rattle.syscall_abi.specs.Call.{call_of}
+use Rattle.syscall_abi.specs.Call.{call_of, form_of}
 use Rattle.process_model.specs.Instruction.{ram_after}
 use Rattle.process_model.specs.Permission.{denied}
 use Rattle.driver_model.specs.Commands.{BoardRequest}
@@ -52,7 +52,7 @@ module _ (law : RefusedChangesNothingElse) (of_ecall : CallsAreOfEcall) (setting
   of_calls r accesses None is rule e = absurd (no_rule rule e)
   of_calls r accesses (Some call) is rule e =
       let same : served (surroundings settings time) (turn_counted r) call
-      ≡ refused_with (turn_counted r) rule (failure_of call rule) =
+      ≡ refused_with (turn_counted r) rule (failure_of (form_of call) rule) =
       law (surroundings settings time) (turn_counted r) call rule e in
       ((call, is, ap (λ (s : Served). s.after) same), ap (λ (s : Served). s.acts) same)
 

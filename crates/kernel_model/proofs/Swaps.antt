@@ -11,7 +11,7 @@ use Rattle.std.proofs.lemmas.List.{get_or-set_same, get_or-set_other, get_or_pas
 use Rattle.tk_base.specs.Call.{error_of}
 use Rattle.tk_base.specs.declared.access.Denial.{Denial}
 use Rattle.tk_base.specs.declared.call.CallRule.{CallRule}
-use Rattle.tk_base.specs.declared.call.CallRule.TheVariants.{NoDriver, NoNumber, NoOperation, Permission}
+use Rattle.tk_base.specs.declared.call.CallRule.TheVariants.{NoOperation, Permission}
 use Rattle.tk_base.specs.Regs.{Registers}
 use Rattle.tk_base.specs.declared.upcall.Upcall.{Upcall as Scheduled}
 use Rattle.tbf_headers.specs.Meaning.{header_reading}
@@ -21,7 +21,6 @@ use Rattle.fault_policy.specs.Policy.{decision}
 use Rattle.rv32_model.specs.declared.turn_end.TurnEnd.{TurnEnd}
 use Rattle.rv32_model.specs.declared.turn_end.TurnEnd.TheVariants as ends
 use Rattle.rv32_model.specs.UserTurn.{MemoryAccess}
-use Rattle.grant_values.specs.Drivers.{counts_of}
 use Rattle.tk_base.specs.declared.kinds.PairKind.{PairKind}
 use Rattle.tk_base.specs.declared.kinds.PairKind.TheVariants.{Upcall, ReadOnly, ReadWrite}
 use Rattle.grant_model.specs.Grants.{shape_of}
@@ -104,7 +103,7 @@ both_true false c a b = a
 
 -- kinds are told apart by the classes of their calls
 abbrev kind_of : ℕ → PairKind
-kind_of n = cond (n == 1) Upcall (cond (n == 4) ReadOnly ReadWrite)
+kind_of n = cond (n == class_of Upcall) Upcall (cond (n == class_of ReadOnly) ReadOnly ReadWrite)
 
 kind_of_class : (kind : PairKind) → kind_of (class_of kind) ≡ kind
 kind_of_class Upcall = refl
@@ -117,7 +116,7 @@ same_kind a b e =
 
 -- whether a class is that of a swap; one that is not, the one way round and the other
 abbrev pub is_of_swaps : ℕ → Bool
-is_of_swaps n = n == 1 || (n == 4 || n == 3)
+is_of_swaps n = n == class_of Upcall || (n == class_of ReadOnly || n == class_of ReadWrite)
 
 neither : (a b : Bool) → (a || b) ≡ false → (a ≡ false) × (b ≡ false)
 neither true b e = absurd (false≢true (sym e))
@@ -208,7 +207,7 @@ telling r accesses call outcome =
     record {
       accesses = accesses;
       call = Some (made r.process.regs outcome);
-      flag = yield_flag_of r call;
+      flag = yield_flag_of r (form_of call);
       denial =
           None;
     }
@@ -470,7 +469,7 @@ module _ (law : OnlyHandingChangesPairs) (drivers : DriversLeavePairs) where
     unfolding served
     permitted around follows =
         by_test (λ s. Follows past (called r accesses call s)) (object_permits r.object call) _ _ follows
-        (refused_so Permission (failure_of call Permission))
+        (refused_so Permission (failure_of (form_of call) Permission))
 
   -- a call that the registers make, or none that there is
   asks : (past : List TurnTrace) (settings : Settings) (time : ℕ) (r : Record) (accesses : List MemoryAccess)

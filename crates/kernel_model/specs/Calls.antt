@@ -76,10 +76,11 @@ swap_refusal swap o =
 abbrev pub failed_swap : ℕ × ℕ → CallRule → Reply
 failed_swap pair rule = FailureU32U32 (error_of rule) pair.0 pair.1
 
--- what a swap leaves of its process, and the pair that it gives back
+-- what a swap leaves of its process
 abbrev pub own_swapped : Swap → Own → Own
 own_swapped swap o = handing swap.kind swap.driver swap.number swap.pair o
 
+-- the pair that a swap gives back
 abbrev pub former_pair : Swap → Own → ℕ × ℕ
 former_pair swap o = held swap.kind swap.driver swap.number o
 
@@ -236,16 +237,9 @@ by_form around r (forms.Memop operation argument) = memop r operation argument
 by_form around r (forms.Exit kind code) = exit r kind code
 
 -- the failure with which a form of calls is refused that breaks a rule
-abbrev pub failure_by : CallForm → CallRule → Reply
-failure_by (forms.Yield number a1 a2) rule = Failure (error_of rule)
-failure_by (forms.Swap swap) rule = failed_swap swap.pair rule
-failure_by (forms.Command driver command a2 a3) rule = Failure (error_of rule)
-failure_by (forms.Memop operation argument) rule = Failure (error_of rule)
-failure_by (forms.Exit kind code) rule = Failure (error_of rule)
-
--- the failure with which a call is refused that breaks a rule
-abbrev pub failure_of : SystemCall → CallRule → Reply
-failure_of call rule = failure_by (form_of call) rule
+abbrev pub failure_of : CallForm → CallRule → Reply
+failure_of (forms.Swap swap) rule = failed_swap swap.pair rule
+failure_of form rule = Failure (error_of rule)
 
 -- whether a header permits a call (Tock Binary Format, "Permissions"); one that cannot be read permits every call
 abbrev pub permits_by : Result Meaning HeaderFault → SystemCall → Bool
@@ -261,4 +255,4 @@ object_permits object call = permits_by (header_reading object) call
 unfoldable pub served : CommandContext → Record → SystemCall → Served
 served around r call =
     if object_permits r.object call then by_form around r (form_of call)
-    else refused_with r Permission (failure_of call Permission)
+    else refused_with r Permission (failure_of (form_of call) Permission)

@@ -10,6 +10,7 @@ use Rattle.tk_base.specs.declared.call.CallRule.{CallRule}
 use Rattle.tbf_headers.specs.declared.fault.HeaderFault.{HeaderFault}
 use Rattle.tbf_headers.specs.declared.program.Main.{Main}
 use Rattle.tbf_headers.specs.Meaning.{Meaning, header_reading}
+use Rattle.syscall_abi.specs.Call.{form_of}
 use Rattle.syscall_abi.specs.declared.call.Call.{Call as SystemCall}
 use Rattle.process_model.specs.Own.{Own}
 use Rattle.driver_model.specs.Commands.{BoardRequest}
@@ -68,7 +69,7 @@ abbrev pub RefusedChangesNothingElse : Type 0
 RefusedChangesNothingElse =
     (around : CommandContext) (r : Record) (call : SystemCall) (rule : CallRule)
     → rule_shown (served around r call).outcome ≡ Some rule
-    → served around r call ≡ refused_with r rule (failure_of call rule)
+    → served around r call ≡ refused_with r rule (failure_of (form_of call) rule)
 
 -- a call has come to its end once it is served: no driver has it still to answer
 abbrev pub NoneIsLeft : Type 0

@@ -4,7 +4,7 @@ use Rattle.tk_base.specs.declared.call.CallRule.{CallRule}
 use Rattle.tk_base.specs.declared.process.Choice.{Choice}
 use Rattle.turn_scheduler.specs.RoundRobin.{used_after}
 use Rattle.syscall_abi.specs.declared.call.Call.{Call as SystemCall}
-use Rattle.syscall_abi.specs.Call.{call_of}
+use Rattle.syscall_abi.specs.Call.{call_of, form_of}
 use Rattle.process_record.specs.Process.{after_refusal, after_turn}
 use Rattle.kernel_model.specs.Record.{Record, with_process}
 use Rattle.kernel_model.specs.Calls.{failure_of}
@@ -21,7 +21,7 @@ refusal_in told = option_and_then (λ made. made.rule) told.call
 abbrev pub CallIsRefused : CallRule → Record → Record → Type 0
 CallIsRefused rule r s =
     (call : SystemCall) × (call_of r.process.regs ≡ Some call)
-    × (s ≡ with_process r (after_refusal (after_turn r.process) rule (failure_of call rule)))
+    × (s ≡ with_process r (after_refusal (after_turn r.process) rule (failure_of (form_of call) rule)))
 
 -- Of the world: beside that record the time, the steps, the present slot and its used turns. So no device and no list
 -- of

@@ -2,6 +2,7 @@
 use Rattle.std.specs.Prelude.{ℕ, ◌==◌, List, [], ◌∷◌, find, Option, None, Some, option_map}
 use Rattle.tk_base.specs.Regs.{Registers}
 use Rattle.tk_base.specs.Regs.{register}
+use Rattle.tk_base.specs.declared.kinds.PairKind.{PairKind}
 use Rattle.tk_base.specs.declared.kinds.PairKind.TheVariants.{Upcall, ReadOnly, ReadWrite}
 use Rattle.syscall_abi.specs.declared.call.Call.{Call}
 use Rattle.syscall_abi.specs.declared.call.Call.TheVariants.{Yield, Subscribe, Command, AllowRw, AllowRo, Memop, Exit}
@@ -44,26 +45,25 @@ class_table regs =
 unfoldable pub call_of : Registers → Option Call
 call_of regs = option_map (λ row. row.1) (find (λ row. row.0 == class regs) (class_table regs))
 
+-- the form of a call that hands a pair to a driver
+abbrev pub swap_form : PairKind → ℕ → ℕ → ℕ × ℕ → CallForm
+swap_form kind driver number pair = forms.Swap (record { kind = kind; driver = driver; number = number; pair = pair })
+
 -- a call by its form: subscribe, the read-write and the read-only allow are swaps, each of its kind of pairs
 abbrev pub form_of : Call → CallForm
 form_of (Yield number a1 a2) = forms.Yield number a1 a2
-form_of (Subscribe driver number function app) =
-    forms.Swap (record { kind = Upcall; driver = driver; number = number; pair = (function, app) })
+form_of (Subscribe driver number function app) = swap_form Upcall driver number (function, app)
 form_of (Command driver command a2 a3) = forms.Command driver command a2 a3
-form_of (AllowRw driver number address size) =
-    forms.Swap (record { kind = ReadWrite; driver = driver; number = number; pair = (address, size) })
-form_of (AllowRo driver number address size) =
-    forms.Swap (record { kind = ReadOnly; driver = driver; number = number; pair = (address, size) })
+form_of (AllowRw driver number address size) = swap_form ReadWrite driver number (address, size)
+form_of (AllowRo driver number address size) = swap_form ReadOnly driver number (address, size)
 form_of (Memop operation argument) = forms.Memop operation argument
 form_of (Exit kind code) = forms.Exit kind code
 
 -- the driver that a form of calls names; none of a yield, a memop and an exit
 abbrev pub driver_in : CallForm → Option ℕ
-driver_in (forms.Yield number a1 a2) = None
 driver_in (forms.Swap swap) = Some swap.driver
 driver_in (forms.Command driver command a2 a3) = Some driver
-driver_in (forms.Memop operation argument) = None
-driver_in (forms.Exit kind code) = None
+driver_in form = None
 
 -- the driver that a call names
 abbrev pub driver_named : Call → Option ℕ

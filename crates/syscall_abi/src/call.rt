@@ -1,7 +1,6 @@
 //! What a process asks for by `ecall`.
 ghost use Rattle.std.specs.Prelude.{◌≡◌, ◌<◌, ◌↔◌, IsNone};
-ghost use Rattle.syscall_abi.specs.Call.{call_of, class, driver_named, form_of};
-ghost use Rattle.syscall_abi.specs.declared.form.CallForm.TheVariants as forms;
+ghost use Rattle.syscall_abi.specs.Call.{call_of, class, driver_named, form_of, swap_form};
 
 use crate::form::{CallForm, Swap};
 use tk_base::{PairKind, Regs};
@@ -163,8 +162,7 @@ impl Call {
 
 /// The form of a subscribe or an allow.
 fn swap(kind: PairKind, driver: u32, number: u32, pair: (u32, u32)) -> CallForm
-    ensures { result
-        ≡ forms.Swap (record { kind = kind; driver = driver; number = number; pair = pair }) }
+    ensures { result ≡ swap_form kind driver number pair }
 {
     CallForm::Swap(Swap {
         kind,

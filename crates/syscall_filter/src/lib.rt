@@ -2,6 +2,7 @@
 #![tactic(auto)]
 
 ghost use Rattle.std.specs.Prelude.{◌≡◌};
+ghost use Rattle.syscall_abi.specs.Call.{form_of};
 ghost use Rattle.syscall_filter.specs.Permission.{listed, permission};
 ghost use Rattle.tbf_headers.specs.Shown.{permissions_of, shown};
 
@@ -24,7 +25,7 @@ pub fn filter(header: &Header<'_>, call: &Call) -> Result<(), CallRule>
 
 /// Whether the entries permit a call.
 fn lists_call(perms: &Perms<'_>, call: &Call) -> bool
-    ensures { result ≡ listed (permissions_of perms.now) call.now }
+    ensures { result ≡ listed (permissions_of perms.now) (form_of call.now) }
 {
     match call.form() {
         CallForm::Command {
