@@ -10,6 +10,7 @@ use Rattle.tbf_headers.specs.Meaning.{Meaning, header_reading}
 use Rattle.process_layout.specs.LayoutView.{LayoutView}
 use Rattle.syscall_abi.specs.declared.call.Call.{Call as SystemCall}
 use Rattle.syscall_abi.specs.declared.call.Call.TheVariants.{Command}
+use Rattle.syscall_abi.specs.Call.{form_of}
 use Rattle.syscall_abi.specs.declared.reply.Reply.{Reply}
 use Rattle.process_model.specs.declared.place.Object.{Object}
 use Rattle.process_model.specs.Own.{Own}
@@ -25,7 +26,7 @@ use Rattle.driver_model.specs.Laws.{CommandsStayInPlace, StaysInPlace}
 use Rattle.tk_base.specs.declared.process.ProcessId.{ProcessId}
 use Rattle.grant_enter.specs.Homes.{Homes, living, nobody, own_of}
 use Rattle.kernel_model.specs.Record.{Record, record_with_own, with_process}
-use Rattle.kernel_model.specs.Calls.{Served, driver_answered, by_class, commanded, failure_of, object_permits}
+use Rattle.kernel_model.specs.Calls.{Served, driver_answered, by_form, commanded, failure_of, object_permits}
 use Rattle.kernel_model.specs.Calls.{refused_with, served, taken_by}
 use Rattle.kernel_calls.specs.Own.{IsApplication, IsOwnObject, HasStart, object_in, record_in}
 use Rattle.kernel_model.specs.Lives.{is_alive}
@@ -113,14 +114,15 @@ module _ (m : Moment) (slot : ℕ) (home home' : Homes) (order : Order) (answer 
       → Came m slot home home' order answer d d' taker → p'.object ≡ p.object → home'.flash ≡ home.flash
       → ((r : Record) → ServingComesTo (given (with_process r p) answer) (with_process r p') o)
       → Finishes m slot home p call home' p' o d d'
-  unfolding served by_class
+  unfolding served by_form
   finishes p p' call o taker found is for come object same gives = record {
     acts = c.acts;
     serves = λ storage.
         let r = record_in home.flash p own storage in
-        ap (λ (b : Bool). cond b (by_class around r call) (refused_with r Permission (failure_of call Permission)))
+        ap (λ (b : Bool). cond b (by_form around r (form_of call))
+        (refused_with r Permission (failure_of call Permission)))
         (both (object_permits (object_in home.flash p.object) call) (is_driver_command call) for).0
-        ∙ ap (by_class around r) is
+        ∙ ap (λ (c : SystemCall). by_form around r (form_of c)) is
         ∙ ap (taken_by around order.number order.a2 order.a3 r) found
         ∙ ap (commanded r) (sym known)
         ∙ ap (λ (s : Served). record s { acts = c.acts })

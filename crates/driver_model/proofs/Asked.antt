@@ -1,18 +1,16 @@
 -- All that a process asks for, as its grants tell it.
-use Rattle.std.proofs.Common.{◌≡◌, ℕ, ◌==◌, Bool, true, false, List, [], Option, None, Some, is_some, option_and_then}
+use Rattle.std.proofs.Common.{◌≡◌, ℕ, ◌==◌, Bool, true, false, List, Option, None, Some, is_some, option_and_then}
 use Rattle.std.proofs.Common.{unwrap_or, refl, ap, ◌∙◌, eqb-true}
 use Rattle.std.proofs.lemmas.Bool.{false≢true}
 use Rattle.std.specs.Option.{option_map}
 use Rattle.tk_base.specs.declared.kinds.PairKind.{PairKind}
-use Rattle.tk_base.specs.declared.kinds.PairKind.TheVariants.{Upcall, ReadOnly, ReadWrite}
 use Rattle.grant_model.specs.Grants.{with_pair, Grant, entered, grant_of, with_grant, with_value, shape_of}
 use Rattle.grant_values.specs.declared.console.WaitingRead.{WaitingRead}
 use Rattle.grant_values.specs.declared.console.WaitingWrite.{WaitingWrite}
 use Rattle.grant_values.specs.declared.random.RandomRequest.{RandomRequest}
-use Rattle.grant_values.specs.declared.storage.StorageKind.{StorageKind}
-use Rattle.grant_values.specs.declared.storage.StorageKind.TheVariants.{Read, Write}
 use Rattle.grant_values.specs.declared.storage.StorageRequest.{StorageRequest}
 use Rattle.grant_values.specs.Drivers.{counts_of, drivers}
+use Rattle.grant_values.specs.Values.{KeptValue, NoValue}
 use Rattle.process_model.specs.Own.{Own}
 use Rattle.process_model.specs.Handed.{own_entering}
 use Rattle.driver_model.specs.Requests.{RequestKind, with_request}
@@ -68,17 +66,10 @@ asked_pair : {R : Type 0} (request_kind : RequestKind R) (kind : PairKind) (driv
     ≡ told_by request_kind (grant_of request_kind.driver gs)
 asked_pair request_kind kind driver number pair gs = by_test (driver == request_kind.driver) refl
   where
-    stays : (k : PairKind) → StaysWith (with_pair k number pair)
-    stays Upcall g = refl
-    stays ReadOnly g = refl
-    stays ReadWrite g = refl
-
-    by_grant : (k : PairKind) (found : Option Grant)
-        → told_by request_kind (option_map (with_pair k number pair) found) ≡ told_by request_kind found
-    by_grant k None = refl
-    by_grant Upcall (Some g) = refl
-    by_grant ReadOnly (Some g) = refl
-    by_grant ReadWrite (Some g) = refl
+    by_grant : (found : Option Grant)
+        → told_by request_kind (option_map (with_pair kind number pair) found) ≡ told_by request_kind found
+    by_grant None = refl
+    by_grant (Some g) = refl
 
     by_test : (b : Bool) → (driver == request_kind.driver) ≡ b
         → told_by request_kind (grant_of request_kind.driver (with_grant driver (with_pair kind number pair) gs))
@@ -86,9 +77,9 @@ asked_pair request_kind kind driver number pair gs = by_test (driver == request_
     by_test true e =
         ap (λ (d : ℕ). told_by request_kind (grant_of request_kind.driver
         (with_grant d (with_pair kind number pair) gs))) (eqb-true driver request_kind.driver e)
-        ∙ ap (told_by request_kind) (changed request_kind.driver _ gs (stays kind))
-        ∙ by_grant kind (grant_of request_kind.driver gs)
-    by_test false e = ap (told_by request_kind) (unchanged request_kind.driver driver _ gs e (stays kind))
+        ∙ ap (told_by request_kind) (changed request_kind.driver _ gs (λ g. refl))
+        ∙ by_grant (grant_of request_kind.driver gs)
+    by_test false e = ap (told_by request_kind) (unchanged request_kind.driver driver _ gs e (λ g. refl))
 
 pub asked_handed : (kind : PairKind) (driver number : ℕ) (pair : ℕ × ℕ) (gs : List Grant)
     → asked (with_grant driver (with_pair kind number pair) gs) ≡ asked gs
@@ -99,20 +90,21 @@ asked_handed kind driver number pair gs =
     (asked_pair randoms kind driver number pair gs)
     (asked_pair storages kind driver number pair gs)
 
--- what a list of grants tells where one of them has words of another request
+-- a list of grants where the value of one of them has another request
 abbrev putting : {R : Type 0} → RequestKind R → Option R → List Grant → List Grant
 putting request_kind request gs =
     with_grant request_kind.driver (with_value
-    (request_kind.words_with request (unwrap_or (option_map (λ g. g.value) (grant_of request_kind.driver gs)) []))) gs
+    (request_kind.with_request request
+    (unwrap_or (option_map (λ g. g.value) (grant_of request_kind.driver gs)) NoValue))) gs
 
 -- a request where there is a grant for it
 abbrev pub if_there : {R : Type 0} → Option R → Option Grant → Option R
-if_there request found = option_and_then (λ words. request) (option_map (λ g. g.value) found)
+if_there request found = option_and_then (λ value. request) (option_map (λ g. g.value) found)
 
--- what the words that are put tell, at that kind of request and at another of the same driver
+-- what the value that is put tells, at that kind of request and at another of the same driver
 put_here : {R S : Type 0} (request_kind : RequestKind R) (other : RequestKind S) (request : Option R)
-    (tells : List ℕ → Option S) (gs : List Grant)
-    → ((words : List ℕ) → other.told (request_kind.words_with request words) ≡ tells words)
+    (tells : KeptValue → Option S) (gs : List Grant)
+    → ((value : KeptValue) → other.told (request_kind.with_request request value) ≡ tells value)
     → told_by other (grant_of request_kind.driver (putting request_kind request gs))
     ≡ option_and_then tells (option_map (λ g. g.value) (grant_of request_kind.driver gs))
 put_here request_kind other request tells gs reads =
@@ -120,7 +112,7 @@ put_here request_kind other request tells gs reads =
   where
     by_grant : (found : Option Grant)
         → told_by other (option_map (with_value
-        (request_kind.words_with request (unwrap_or (option_map (λ g. g.value) found) []))) found)
+        (request_kind.with_request request (unwrap_or (option_map (λ g. g.value) found) NoValue))) found)
         ≡ option_and_then tells (option_map (λ g. g.value) found)
     by_grant None = refl
     by_grant (Some g) = reads g.value
@@ -131,49 +123,14 @@ put_elsewhere : {R S : Type 0} (request_kind : RequestKind R) (other : RequestKi
 put_elsewhere request_kind other request gs apart =
     ap (told_by other) (unchanged other.driver request_kind.driver _ gs apart (λ g. refl))
 
--- the words of a value tell the request that was put into them
-write_is_told : (request : Option WaitingWrite) (words : List ℕ)
-    → console_writes.told (console_writes.words_with request words) ≡ request
-write_is_told None words = refl
-write_is_told (Some request) words = refl
-
-read_is_told : (request : Option WaitingRead) (words : List ℕ)
-    → console_reads.told (console_reads.words_with request words) ≡ request
-read_is_told None words = refl
-read_is_told (Some request) words = refl
-
-random_is_told : (request : Option RandomRequest) (words : List ℕ)
-    → randoms.told (randoms.words_with request words) ≡ request
-random_is_told None words = refl
-random_is_told (Some request) words = refl
-
-storage_is_told : (request : Option StorageRequest) (words : List ℕ)
-    → storages.told (storages.words_with request words) ≡ request
-storage_is_told None words = refl
-storage_is_told (Some request) words = by_kind request.kind
-  where
-    by_kind : (kind : StorageKind)
-        → storages.told (storages.words_with (Some (record request { kind = kind })) words)
-        ≡ Some (record request { kind = kind })
-    by_kind Read = refl
-    by_kind Write = refl
-
-write_stays : (request : Option WaitingRead) (words : List ℕ)
-    → console_writes.told (console_reads.words_with request words) ≡ console_writes.told words
-write_stays request words = write_is_told (console_writes.told words) (console_reads.words_with request words)
-
-read_stays : (request : Option WaitingWrite) (words : List ℕ)
-    → console_reads.told (console_writes.words_with request words) ≡ console_reads.told words
-read_stays request words = read_is_told (console_reads.told words) (console_writes.words_with request words)
-
 -- each request that is put changes what is asked there
 pub asked_writes : (request : Option WaitingWrite) (own : Own)
     → asked (with_request console_writes request own).grants
     ≡ record (asked own.grants) { writes = if_there request (grant_of console own.grants) }
 asked_writes request own =
     all_same _ _
-    (put_here console_writes console_writes request (λ words. request) own.grants (write_is_told request))
-    (put_here console_writes console_reads request console_reads.told own.grants (read_stays request))
+    (put_here console_writes console_writes request (λ value. request) own.grants (λ value. refl))
+    (put_here console_writes console_reads request console_reads.told own.grants (λ value. refl))
     (put_elsewhere console_writes randoms request own.grants refl)
     (put_elsewhere console_writes storages request own.grants refl)
 
@@ -182,8 +139,8 @@ pub asked_reads : (request : Option WaitingRead) (own : Own)
     ≡ record (asked own.grants) { reads = if_there request (grant_of console own.grants) }
 asked_reads request own =
     all_same _ _
-    (put_here console_reads console_writes request console_writes.told own.grants (write_stays request))
-    (put_here console_reads console_reads request (λ words. request) own.grants (read_is_told request))
+    (put_here console_reads console_writes request console_writes.told own.grants (λ value. refl))
+    (put_here console_reads console_reads request (λ value. request) own.grants (λ value. refl))
     (put_elsewhere console_reads randoms request own.grants refl)
     (put_elsewhere console_reads storages request own.grants refl)
 
@@ -194,7 +151,7 @@ asked_randoms request own =
     all_same _ _
     (put_elsewhere randoms console_writes request own.grants refl)
     (put_elsewhere randoms console_reads request own.grants refl)
-    (put_here randoms randoms request (λ words. request) own.grants (random_is_told request))
+    (put_here randoms randoms request (λ value. request) own.grants (λ value. refl))
     (put_elsewhere randoms storages request own.grants refl)
 
 pub asked_stores : (request : Option StorageRequest) (own : Own)
@@ -205,7 +162,7 @@ asked_stores request own =
     (put_elsewhere storages console_writes request own.grants refl)
     (put_elsewhere storages console_reads request own.grants refl)
     (put_elsewhere storages randoms request own.grants refl)
-    (put_here storages storages request (λ words. request) own.grants (storage_is_told request))
+    (put_here storages storages request (λ value. request) own.grants (λ value. refl))
 
 -- where the driver is entered, the request is the one that was put; where none is put, there is none
 if_entered : {R : Type 0} (request : Option R) (driver : ℕ) (gs : List Grant)

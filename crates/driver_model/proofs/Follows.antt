@@ -6,7 +6,7 @@ use Rattle.tk_base.specs.Call.{code_of}
 use Rattle.tk_base.specs.declared.call.ErrorCode.TheVariants.{CANCEL}
 use Rattle.grant_model.specs.Grants.{grant_of, with_value}
 use Rattle.grant_values.specs.declared.alarm.Armed.{Armed}
-use Rattle.grant_values.specs.Alarm.{alarm_words}
+use Rattle.grant_values.specs.Values.{AlarmValue}
 use Rattle.syscall_abi.specs.declared.reply.Reply.TheVariants.{Success}
 use Rattle.process_model.specs.Own.{Own}
 use Rattle.process_model.specs.Handed.{own_entering}
@@ -59,7 +59,7 @@ follows around own c after lives is moves lies once = record {
 -- another driver than those of the desks is armed, or stopped
 pub arms_apart : (armed : Option Armed) (own : Own) → asked (with_alarm armed own).grants ≡ asked own.grants
 arms_apart armed own =
-    asked_apart alarm_driver (with_value (alarm_words (record { armed = armed }))) own.grants refl refl refl (λ g. refl)
+    asked_apart alarm_driver (with_value (AlarmValue (record { armed = armed }))) own.grants refl refl refl (λ g. refl)
 
 cancels : (around : CommandContext) (own : Own)
     → FollowsCommand around own (record { answer = Ok Success; own = without_read own; acts = Leaves Reads ∷ [] })

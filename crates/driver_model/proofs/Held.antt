@@ -3,6 +3,7 @@ use Rattle.std.proofs.Common.{◌≡◌, ◌≤◌, ℕ, ◌+◌, ◌==◌, Bool
 use Rattle.std.proofs.Common.{None, Some, refl, sym, ap, subst, ◌∙◌, arith}
 use Rattle.std.proofs.lemmas.Bool.{false≢true, leb-true}
 use Rattle.grant_values.specs.Drivers.{cost_of}
+use Rattle.grant_values.specs.Values.{KeptValue}
 use Rattle.grant_model.specs.Grants.{Grant, entering as entering_grants, grant_of, shape_of, with_grant, with_pair}
 use Rattle.tk_base.specs.declared.kinds.PairKind.{PairKind}
 use Rattle.tk_base.specs.declared.kinds.PairKind.TheVariants.{Upcall, ReadOnly, ReadWrite}
@@ -55,9 +56,9 @@ entering_order driver own room h = by_grant (grant_of driver own.grants) room
         record { mark = h.mark; brk = h.brk; kernel_break = omega (arith, least); end = omega (arith, least, h.end) }
     by_grant (Some g) room = record { mark = h.mark; brk = h.brk; kernel_break = h.kernel_break; end = h.end }
 
-pub keeping_order : (driver : ℕ) (words : List ℕ) (own : Own) → KeepsOrder own (with_kept driver words own)
-keeping_order driver words own h =
-    same_order own (with_kept driver words own) refl (same_costs driver _ own.grants (λ g. refl)) h
+pub keeping_order : (driver : ℕ) (value : KeptValue) (own : Own) → KeepsOrder own (with_kept driver value own)
+keeping_order driver value own h =
+    same_order own (with_kept driver value own) refl (same_costs driver _ own.grants (λ g. refl)) h
 
 -- a buffer that lies in accessible RAM raises the mark to its end at most
 and_right : (a b : Bool) → (a && b) ≡ true → b ≡ true
@@ -101,18 +102,13 @@ marked_in_order Upcall pair own h = h
 marked_in_order ReadOnly pair own h = raised_in_order pair own h
 marked_in_order ReadWrite pair own h = raised_in_order pair own h
 
-pair_keeps_driver : (kind : PairKind) (number : ℕ) (pair : ℕ × ℕ) → StaysWith (with_pair kind number pair)
-pair_keeps_driver Upcall number pair g = refl
-pair_keeps_driver ReadOnly number pair g = refl
-pair_keeps_driver ReadWrite number pair g = refl
-
 pub handed_order : (kind : PairKind) (driver number : ℕ) (pair : ℕ × ℕ) (own : Own) → has_place driver own ≡ true
     → KeepsOrder own (handing kind driver number pair own)
 handed_order kind driver number pair own room h =
     let o = own_entering driver own in
     let m = record o { layout = marked kind pair o.layout } in
     same_order m (handing kind driver number pair own) refl
-    (same_costs driver (with_pair kind number pair) o.grants (pair_keeps_driver kind number pair))
+    (same_costs driver (with_pair kind number pair) o.grants (λ g. refl))
     (marked_in_order kind pair o (entering_order driver own room h))
 
 pub marked_rest : (kind : PairKind) (pair : ℕ × ℕ) (e : LayoutView)
@@ -143,23 +139,23 @@ pub drivers_keep : DriversKeep
 drivers_keep = record {
   places = of_services StaysInPlace (record {
     same = λ own. refl;
-    keeps = λ driver words own. refl;
-    enters = λ driver words own room. ap (with_kept driver words) (entering_stays driver own);
-    serves = λ driver words own o s. subst (λ (x : Own). StaysInPlace own (with_kept driver words x)) (sym s.rest) refl;
+    keeps = λ driver value own. refl;
+    enters = λ driver value own room. ap (with_kept driver value) (entering_stays driver own);
+    serves = λ driver value own o s. subst (λ (x : Own). StaysInPlace own (with_kept driver value x)) (sym s.rest) refl;
   });
   order = of_services KeepsOrder (record {
     same = λ own h. h;
     keeps = keeping_order;
-    enters = λ driver words own room h. keeping_order driver words (own_entering driver own)
+    enters = λ driver value own room h. keeping_order driver value (own_entering driver own)
         (entering_order driver own room h);
-    serves = λ driver words own o s h. keeping_order driver words o
+    serves = λ driver value own o s h. keeping_order driver value o
         (same_order own o (ap (λ (x : Own). x.layout) s.rest) (ap (λ (x : Own). costs x.grants) s.rest) h);
   });
   limit = of_services KeepsLimit (record {
     same = same_limit;
-    keeps = λ driver words own. record { limit = λ few. few; room = λ few. refl };
-    enters = λ driver words own room. record { limit = λ few. few; room = λ few. refl };
-    serves = λ driver words own o s. record { limit = s.limit.limit; room = s.limit.room };
+    keeps = λ driver value own. record { limit = λ few. few; room = λ few. refl };
+    enters = λ driver value own room. record { limit = λ few. few; room = λ few. refl };
+    serves = λ driver value own o s. record { limit = s.limit.limit; room = s.limit.room };
   });
   handed = handed_order;
   handed_places = handed_places;

@@ -1,6 +1,7 @@
 -- The one walk over all that drivers do to a process.
-use Rattle.std.proofs.Common.{◌≡◌, true, ℕ, List, slice_get, Option, None, Some, option_map, unwrap_or}
+use Rattle.std.proofs.Common.{◌≡◌, true, ℕ, slice_get, Option, None, Some, option_map, unwrap_or}
 use Rattle.grant_values.specs.declared.alarm.Armed.{Armed}
+use Rattle.grant_values.specs.Values.{KeptValue}
 use Rattle.process_model.specs.Own.{Own}
 use Rattle.process_model.specs.Handed.{own_entering, has_place}
 use Rattle.process_model.specs.Served.{with_kept}
@@ -23,10 +24,10 @@ use Rattle.driver_model.proofs.Sizes.{written_size}
 -- the driver was entered; and of one that keeps one once the driver served it
 pub record OfEachForm (P : Own → Own → Type 0) : Type 0 where
   pub same : (own : Own) → P own own
-  pub keeps : (driver : ℕ) (words : List ℕ) (own : Own) → P own (with_kept driver words own)
-  pub enters : (driver : ℕ) (words : List ℕ) (own : Own) → has_place driver own ≡ true
-      → P own (with_kept driver words (own_entering driver own))
-  pub serves : (driver : ℕ) (words : List ℕ) (own o : Own) → Serves own o → P own (with_kept driver words o)
+  pub keeps : (driver : ℕ) (value : KeptValue) (own : Own) → P own (with_kept driver value own)
+  pub enters : (driver : ℕ) (value : KeptValue) (own : Own) → has_place driver own ≡ true
+      → P own (with_kept driver value (own_entering driver own))
+  pub serves : (driver : ℕ) (value : KeptValue) (own o : Own) → Serves own o → P own (with_kept driver value o)
 
 -- what holds of what comes where one waits, and where none does
 pub if_waits : {R X : Type 0} (Q : X → Type 0) (serve : R → X) (none : X) (waiting : Option R) → Q none

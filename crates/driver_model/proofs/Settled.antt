@@ -128,9 +128,9 @@ keep_size : OfEachService KeepsSize
 keep_size =
     of_services KeepsSize (record {
       same = λ own h whole. whole.bytes;
-      keeps = λ driver words own h whole. whole.bytes;
-      enters = λ driver words own room h whole. entering_size driver own whole.bytes;
-      serves = λ driver words own o s h whole. s.size whole h.kernel_break ∙ whole.bytes
+      keeps = λ driver value own h whole. whole.bytes;
+      enters = λ driver value own room h whole. entering_size driver own whole.bytes;
+      serves = λ driver value own o s h whole. s.size whole h.kernel_break ∙ whole.bytes
           ∙ ap (λ (x : Own). x.layout.kernel_break - x.layout.start) (sym s.rest);
     })
 

@@ -8,9 +8,9 @@ pub drivers_schedule_held : DriversScheduleHeld
 drivers_schedule_held =
     of_services SchedulesHeld (record {
       same = λ own. schedules_none own own refl;
-      keeps = λ driver words own. schedules_none own _ refl;
-      enters = λ driver words own room. schedules_none own _ refl;
-      serves = λ driver words own o s. record {
+      keeps = λ driver value own. schedules_none own _ refl;
+      enters = λ driver value own room. schedules_none own _ refl;
+      serves = λ driver value own o s. record {
         more = s.upcalls.more;
         pending = s.upcalls.pending;
         one =

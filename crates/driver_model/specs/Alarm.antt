@@ -6,7 +6,7 @@ use Rattle.tk_base.specs.declared.call.CallRule.TheVariants.{NoRoom, Nothing}
 use Rattle.tk_base.specs.declared.limits.TheConstants.{SLOT_COUNT}
 use Rattle.grant_values.specs.declared.alarm.Armed.{Armed}
 use Rattle.grant_values.specs.declared.drivers.Driver.TheVariants.{Alarm}
-use Rattle.grant_values.specs.Alarm.{alarm_words, alarm_of}
+use Rattle.grant_values.specs.Values.{KeptValue, AlarmValue}
 use Rattle.grant_values.specs.Drivers.{number_of_driver}
 use Rattle.syscall_abi.specs.declared.reply.Reply.TheVariants.{Success, SuccessU32}
 use Rattle.process_model.specs.Own.{Own}
@@ -26,10 +26,10 @@ expiration alarm = (alarm.reference + alarm.delta) % 2 ^ 32
 abbrev pub is_due : ℕ → Armed → Bool
 is_due now alarm = nat_le alarm.delta ((now + (2 ^ 32 - alarm.reference)) % 2 ^ 32)
 
--- the alarm that a process has armed, if it has
-abbrev pub armed_in : Option (List ℕ) → Option Armed
-armed_in None = None
-armed_in (Some words) = (alarm_of words).armed
+-- the alarm in a value that is kept, if one is armed
+abbrev pub armed_in : Option KeptValue → Option Armed
+armed_in (Some (AlarmValue alarm)) = alarm.armed
+armed_in other = None
 
 -- the alarm that a process has armed, if it has
 abbrev pub alarm_in : Own → Option Armed
@@ -37,7 +37,7 @@ alarm_in own = armed_in (kept alarm_driver own)
 
 -- a process with that alarm armed, or with none
 abbrev pub with_alarm : Option Armed → Own → Own
-with_alarm alarm own = with_kept alarm_driver (alarm_words (record { armed = alarm })) own
+with_alarm alarm own = with_kept alarm_driver (AlarmValue (record { armed = alarm })) own
 
 -- An alarm is armed in place of the one before, if there is room for the driver's grant; the reply is when it expires.
 abbrev pub arming : Armed → Own → Commanded

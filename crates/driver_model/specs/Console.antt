@@ -7,10 +7,11 @@ use Rattle.tk_base.specs.declared.call.ErrorCode.TheVariants.{CANCEL, SIZE}
 use Rattle.tk_base.specs.declared.call.CallRule.TheVariants.{Empty, Nothing}
 use Rattle.tk_base.specs.declared.limits.TheConstants.{PRINT_LIMIT}
 use Rattle.tk_base.specs.declared.kinds.PairKind.TheVariants.{ReadOnly, ReadWrite}
+use Rattle.grant_values.specs.declared.console.Console.{Console as KeptConsole}
 use Rattle.grant_values.specs.declared.console.WaitingRead.{WaitingRead}
 use Rattle.grant_values.specs.declared.console.WaitingWrite.{WaitingWrite}
 use Rattle.grant_values.specs.declared.drivers.Driver.TheVariants.{Console}
-use Rattle.grant_values.specs.Console.{console_of, console_words, read_of, write_of}
+use Rattle.grant_values.specs.Values.{KeptValue, ConsoleValue}
 use Rattle.grant_values.specs.Drivers.{number_of_driver}
 use Rattle.syscall_abi.specs.declared.reply.Reply.TheVariants.{Success}
 use Rattle.process_model.specs.Own.{Own}
@@ -23,12 +24,17 @@ use Rattle.driver_model.specs.Requests.{RequestKind, asking, request_in, waiting
 abbrev pub console : ℕ
 console = number_of_driver Console
 
+-- the console's value; one in which nothing waits where the value is another driver's
+abbrev pub console_in : KeptValue → KeptConsole
+console_in (ConsoleValue kept) = kept
+console_in other = record { write = None; read = None }
+
 -- where a process asks to write, and where to read; the one request stands beside the other
 abbrev pub console_writes : RequestKind WaitingWrite
 console_writes = record {
   driver = console;
-  told = write_of;
-  words_with = λ write words. console_words (record (console_of words) { write = write });
+  told = λ value. (console_in value).write;
+  with_request = λ write value. ConsoleValue (record (console_in value) { write = write });
   line = Writes;
 }
 
@@ -36,8 +42,8 @@ console_writes = record {
 abbrev pub console_reads : RequestKind WaitingRead
 console_reads = record {
   driver = console;
-  told = read_of;
-  words_with = λ read words. console_words (record (console_of words) { read = read });
+  told = λ value. (console_in value).read;
+  with_request = λ read value. ConsoleValue (record (console_in value) { read = read });
   line = Reads;
 }
 

@@ -5,7 +5,7 @@ use Rattle.std.specs.Prelude.{slice_get, take, Option, None, Some, is_none, opti
 use Rattle.std.specs.Int.{w32, to_le_bytes}
 use Rattle.grant_values.specs.declared.random.RandomRequest.{RandomRequest}
 use Rattle.grant_values.specs.declared.drivers.Driver.TheVariants.{Random}
-use Rattle.grant_values.specs.Random.{random_of, random_words}
+use Rattle.grant_values.specs.Values.{KeptValue, RandomValue}
 use Rattle.grant_values.specs.Drivers.{number_of_driver}
 use Rattle.syscall_abi.specs.declared.reply.Reply.TheVariants.{Success}
 use Rattle.tk_base.specs.declared.kinds.PairKind.TheVariants.{ReadWrite}
@@ -19,12 +19,17 @@ use Rattle.driver_model.specs.Requests.{RequestKind, asking, waiting_of, with_re
 abbrev pub random : ℕ
 random = number_of_driver Random
 
+-- the request in a value that is kept, if one waits
+abbrev pub random_request : KeptValue → Option RandomRequest
+random_request (RandomValue kept) = kept.request
+random_request other = None
+
 -- where a process asks for bytes: its request is all that it keeps
 abbrev pub randoms : RequestKind RandomRequest
 randoms = record {
   driver = random;
-  told = λ words. (random_of words).request;
-  words_with = λ request words. random_words (record { request = request });
+  told = random_request;
+  with_request = λ request value. RandomValue (record { request = request });
   line = Randoms;
 }
 

@@ -1,20 +1,21 @@
 -- Requests of processes that a driver serves one after another. A process's request waits in the grant that it keeps
--- for
--- the driver (Levy et al., SOSP 2017, section 4), and the process waits in a list of the board's.
-use Rattle.std.specs.Prelude.{ℕ, ◌==◌, if◌then◌else◌, List, [], ◌∷◌, Option, None, Some, option_and_then, unwrap_or, Ok}
+-- for the driver (Levy et al., SOSP 2017, section 4), and the process waits in a list of the board's.
+use Rattle.std.specs.Prelude.{ℕ, ◌==◌, if◌then◌else◌, [], ◌∷◌, Option, None, Some, option_and_then, unwrap_or, Ok}
 use Rattle.tk_base.specs.declared.call.CallRule.TheVariants.{Busy, NoRoom}
+use Rattle.grant_values.specs.Values.{KeptValue, NoValue}
 use Rattle.syscall_abi.specs.declared.reply.Reply.TheVariants.{Success}
 use Rattle.process_model.specs.Own.{Own}
 use Rattle.process_model.specs.Handed.{own_entering, has_place}
 use Rattle.process_model.specs.Served.{kept, with_kept}
 use Rattle.driver_model.specs.Commands.{Commanded, QueueName, Waits, refusing}
 
--- Where a process asks a driver for something: the driver's number; the request that the words tell which it keeps for
--- the driver, if one waits; those words with another request, or with none; the list in which it waits.
+-- Where a process asks a driver for something: the driver's number; the request in the value that it keeps for the
+-- driver, if one waits; that value with another request, or with none; the list in which it waits. In a value of
+-- another driver nothing waits, and a request replaces it.
 pub record RequestKind (R : Type 0) : Type 0 where
   pub driver : ℕ
-  pub told : List ℕ → Option R
-  pub words_with : Option R → List ℕ → List ℕ
+  pub told : KeptValue → Option R
+  pub with_request : Option R → KeptValue → KeptValue
   pub line : QueueName
 
 -- the request that a process keeps, if it keeps one
@@ -24,7 +25,8 @@ request_in request_kind own = option_and_then request_kind.told (kept request_ki
 -- a process that keeps another request, or none; all else that it keeps stays
 abbrev pub with_request : {R : Type 0} → RequestKind R → Option R → Own → Own
 with_request request_kind request own =
-    with_kept request_kind.driver (request_kind.words_with request (unwrap_or (kept request_kind.driver own) [])) own
+    with_kept request_kind.driver
+    (request_kind.with_request request (unwrap_or (kept request_kind.driver own) NoValue)) own
 
 -- the request of a process that waits, if one does; none of one that has ended
 abbrev pub waiting_in : {R : Type 0} → RequestKind R → Own → Option R

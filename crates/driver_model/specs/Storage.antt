@@ -9,7 +9,7 @@ use Rattle.grant_values.specs.declared.storage.StorageKind.{StorageKind}
 use Rattle.grant_values.specs.declared.storage.StorageKind.TheVariants.{Read, Write}
 use Rattle.grant_values.specs.declared.storage.StorageRequest.{StorageRequest}
 use Rattle.grant_values.specs.declared.drivers.Driver.TheVariants.{Storage}
-use Rattle.grant_values.specs.Storage.{storage_of, storage_words}
+use Rattle.grant_values.specs.Values.{KeptValue, StorageValue}
 use Rattle.grant_values.specs.Drivers.{number_of_driver}
 use Rattle.syscall_abi.specs.declared.reply.Reply.TheVariants.{Success, SuccessU32}
 use Rattle.process_model.specs.Own.{Own}
@@ -22,12 +22,17 @@ use Rattle.driver_model.specs.Requests.{RequestKind, asking, waiting_of, with_re
 abbrev pub storage : ℕ
 storage = number_of_driver Storage
 
+-- the request in a value that is kept, if one waits
+abbrev pub storage_request : KeptValue → Option StorageRequest
+storage_request (StorageValue kept) = kept.request
+storage_request other = None
+
 -- where a process asks for its slot's bytes: its request, of either kind, is all that it keeps
 abbrev pub storages : RequestKind StorageRequest
 storages = record {
   driver = storage;
-  told = λ words. (storage_of words).request;
-  words_with = λ request words. storage_words (record { request = request });
+  told = storage_request;
+  with_request = λ request value. StorageValue (record { request = request });
   line = Stores;
 }
 

@@ -9,15 +9,14 @@ pub(crate) struct Begin<R> {
 }
 
 impl<R: Request + Drop> Visit<R::Value> for Begin<R> {
-    ghost use Rattle.std.specs.Prelude.{◌≡◌, ℕ, List, Some};
+    ghost use Rattle.std.specs.Prelude.{◌≡◌, Some};
 
     type Answer = ();
 
     ghost asks = { λ begin value seen. Unit {0} };
 
     ghost leaves = { λ begin value seen answer value' own.
-        ((words : List ℕ) → value ≡ R.Value.value words
-        → R.Value.words value' ≡ R.request_kind.words_with (Some begin.request) words)
+        (R.Value.kept value' ≡ R.request_kind.with_request (Some begin.request) (R.Value.kept value))
         × (own ≡ seen.own) };
 
     fn run(self, value: &mut R::Value, _entered: &mut Entered<'_>) {

@@ -1,5 +1,5 @@
 //! What a driver keeps of a request.
-ghost use Rattle.std.specs.Prelude.{◌≡◌, ◌<◌, ℕ, List, Some, is_some, length};
+ghost use Rattle.std.specs.Prelude.{◌≡◌, ◌<◌, Some, is_some, length};
 ghost use Rattle.grant_enter.specs.Homes.{own_of};
 ghost use Rattle.driver_model.specs.Requests.{waiting_of};
 
@@ -20,13 +20,12 @@ pub trait Request: Copy {
 
     /// The request that waits in what the driver keeps, if one does.
     fn waiting_in(value: &Self::Value) -> Option<Self>
-        ensures { (kept : List ℕ) → value.now ≡ Self.Value.value kept
-            → result ≡ request_kind.told kept };
+        ensures { result ≡ request_kind.told (Self.Value.kept value.now) };
 
     /// Has the request wait there. All else stays.
     fn wait_in(self, value: &mut Self::Value)
-        ensures { (kept : List ℕ) → value.old ≡ Self.Value.value kept
-            → Self.Value.words value.new ≡ request_kind.words_with (Some self) kept };
+        ensures { Self.Value.kept value.new
+            ≡ request_kind.with_request (Some self) (Self.Value.kept value.old) };
 }
 
 /// Whether the process of an id is there, and a request of it waits.

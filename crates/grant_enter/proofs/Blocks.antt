@@ -8,11 +8,11 @@ use Rattle.tk_base.specs.declared.access.TheConstants.{RAM_START}
 use Rattle.process_layout.specs.LayoutView.{LayoutView}
 use Rattle.board_memory.specs.Memory.{MemoryBytes, ram_between, with_run}
 use Rattle.tk_base.specs.Bytes.{over}
-use Rattle.grant_enter.specs.declared.handing.Handover.{Handover}
+use Rattle.swap_tables.specs.declared.handover.Handover.{Handover}
 use Rattle.grant_model.specs.Grants.{Grant, grant_of}
 use Rattle.grant_model.specs.Encoding.{EncodesGrants, Tells, decode_grants}
 use Rattle.process_layout.specs.Ordered.{IsOrdered}
-use Rattle.grant_region.specs.Region.{AreParts, Leaves, below, above, roomed}
+use Rattle.grant_region.specs.Region.{AreParts, Leaves, Parts, below, above, roomed}
 use Rattle.swap_tables.specs.Swaps.{Swaps, held_pair, swapped}
 use Rattle.grant_enter.specs.Homes.{FitsMemory}
 use Rattle.grant_enter.specs.Windows.{SameOutside}
@@ -43,6 +43,12 @@ pub roomed_ends : (driver : ℕ) (e : LayoutView) (g : Option Grant) → SameEnd
 roomed_ends driver e None = record { start = refl; end = refl; lower = omega arith }
 roomed_ends driver e (Some g) = record { start = refl; end = refl; lower = omega arith }
 
+-- the two parts of the block in memory where a layout says
+pub record AreLent (m : MemoryBytes) (e : LayoutView) (parts : Parts) : Type 0 where
+  pub layout : parts.layout ≡ e
+  pub app : parts.app ≡ take (e.kernel_break - e.start) (ram_between m.ram e.start e.end)
+  pub kernel : parts.kernel ≡ drop (e.kernel_break - e.start) (ram_between m.ram e.start e.end)
+
 module _ (m : MemoryBytes) (e : LayoutView) (s : FitsMemory (length m.flash) (length m.ram) e) where
   differ : e.kernel_break - RAM_START - (e.start - RAM_START) ≡ e.kernel_break - e.start
   differ = omega (arith, s.from, s.ordered.block, s.ordered.grants)
@@ -71,18 +77,15 @@ module _ (m : MemoryBytes) (e : LayoutView) (s : FitsMemory (length m.flash) (le
   length_block = length_window m.ram (e.start - RAM_START) (e.end - RAM_START) (omega (arith, s.to, s.from))
       ∙ omega (arith, s.from, s.ordered.block, s.ordered.grants)
 
-  pub lent_parts : (app kernel : List ℕ) → app ≡ take (e.kernel_break - e.start) (ram_between m.ram e.start e.end)
-      → kernel ≡ drop (e.kernel_break - e.start) (ram_between m.ram e.start e.end) → IsKept e (kernel_in m.ram e)
-      → AreParts e app kernel
-  lent_parts app kernel a k kept = record {
-    size = ap length (a ∙ lent_app) ∙ length_app;
-    laid = subst EncodesGrants (sym (k ∙ lent_kernel)) kept.laid;
-  }
-
-  pub kernel_fits : (kernel : List ℕ) → kernel ≡ drop (e.kernel_break - e.start) (ram_between m.ram e.start e.end)
-      → length kernel < 2 ^ 32
-  kernel_fits kernel k = let n : length kernel ≡ e.end - e.kernel_break = ap length (k ∙ lent_kernel) ∙ length_kernel in
-      omega (arith, s.fits)
+  pub lent_parts : (parts : Parts) → AreLent m e parts → IsKept e (kernel_in m.ram e) → AreParts parts
+  lent_parts parts lent kept =
+      let n : length parts.kernel ≡ e.end - e.kernel_break = ap length (lent.kernel ∙ lent_kernel) ∙ length_kernel in
+      record {
+        size = ap length (lent.app ∙ lent_app) ∙ length_app
+            ∙ ap (λ (x : LayoutView). x.kernel_break - x.start) (sym lent.layout);
+        laid = subst EncodesGrants (sym (lent.kernel ∙ lent_kernel)) kept.laid;
+        small = omega (arith, s.fits);
+      }
 
   -- what stands in memory once as many bytes were written over the block
   module _ (bytes : List ℕ) (size : length bytes ≡ e.end - e.start) where
@@ -136,42 +139,45 @@ module _ (m : MemoryBytes) (e : LayoutView) (s : FitsMemory (length m.flash) (le
         ∙ back_all bytes (f.kernel_break - f.start) (f.end - e.start) (omega arith) (omega (arith, size))
 
   -- two parts that were left as a block of another layout
-  leaves_block : (f : LayoutView) (app app' kernel kernel' : List ℕ) (gs : List Grant)
-      → app ≡ take (e.kernel_break - e.start) (ram_between m.ram e.start e.end)
-      → kernel ≡ drop (e.kernel_break - e.start) (ram_between m.ram e.start e.end) → length kernel' ≡ length kernel
-      → SameEnds e f → IsOrdered f → Leaves f app app' kernel' gs
-      → Regrants m e (with_run m e.start (app' ++ kernel')) f gs
-  leaves_block f app app' kernel kernel' gs a k long ends o left =
-      let app_long : length app ≡ e.kernel_break - e.start = ap length (a ∙ lent_app) ∙ length_app in
-      let kernel_long : length kernel ≡ e.end - e.kernel_break = ap length (k ∙ lent_kernel) ∙ length_kernel in
-      let size : length (app' ++ kernel') ≡ e.end - e.start =
-      length-append app' kernel' ∙ omega (arith, left.size, s.ordered.block, s.ordered.grants, s.ordered.end) in
+  leaves_block : (before after : Parts) (gs : List Grant) → AreLent m e before
+      → length after.kernel ≡ length before.kernel
+      → SameEnds e after.layout → IsOrdered after.layout → Leaves before after gs
+      → Regrants m e (with_run m e.start (after.app ++ after.kernel)) after.layout gs
+  leaves_block before after gs lent long ends o left =
+      let f = after.layout in
+      let bytes = after.app ++ after.kernel in
+      let app_long : length before.app ≡ e.kernel_break - e.start = ap length (lent.app ∙ lent_app) ∙ length_app in
+      let kernel_long : length before.kernel ≡ e.end - e.kernel_break =
+      ap length (lent.kernel ∙ lent_kernel) ∙ length_kernel in
+      let size : length bytes ≡ e.end - e.start =
+      length-append after.app after.kernel ∙ omega (arith, left.size, s.ordered.block, s.ordered.grants, s.ordered.end) in
       let low : e.start ≤ f.kernel_break = omega (arith, ends.start, o.block, o.grants) in
       let high : f.kernel_break ≤ e.end = omega (arith, ends.lower, s.ordered.end) in
       record {
         ordered = o;
         flash = refl;
-        elsewhere = run_elsewhere (app' ++ kernel') size;
-        app = run_app (app' ++ kernel') size f ends.start high ∙ left.own ∙ ap (below f) (a ∙ lent_app);
-        tells = subst (λ (xs : List ℕ). Tells xs gs)
-            (sym (run_kernel (app' ++ kernel') size f ends.start ends.end low high)) left.tells;
+        elsewhere = run_elsewhere bytes size;
+        app = run_app bytes size f ends.start high ∙ left.own ∙ ap (below f) (lent.app ∙ lent_app);
+        tells = subst (λ (xs : List ℕ). Tells xs gs) (sym (run_kernel bytes size f ends.start ends.end low high))
+            left.tells;
       }
 
   -- two parts that were left as a block with room for a driver's grant
-  module _ (driver : ℕ) (f : LayoutView) (app app' kernel kernel' : List ℕ)
-      (a : app ≡ take (e.kernel_break - e.start) (ram_between m.ram e.start e.end))
-      (k : kernel ≡ drop (e.kernel_break - e.start) (ram_between m.ram e.start e.end))
-      (layout : f ≡ roomed driver e (grant_of driver (decode_grants kernel))) where
-    pub room_in : f ≡ roomed driver e (grant_of driver (decode_grants (kernel_in m.ram e)))
-    room_in = layout ∙ ap (λ (xs : List ℕ). roomed driver e (grant_of driver (decode_grants xs))) (k ∙ lent_kernel)
+  module _ (driver : ℕ) (before after : Parts) (lent : AreLent m e before)
+      (layout : after.layout ≡ roomed driver e (grant_of driver (decode_grants before.kernel))) where
+    pub room_in : after.layout ≡ roomed driver e (grant_of driver (decode_grants (kernel_in m.ram e)))
+    room_in =
+        layout ∙ ap (λ (xs : List ℕ). roomed driver e (grant_of driver (decode_grants xs))) (lent.kernel ∙ lent_kernel)
 
-    pub regrants_in : (grants : List ℕ → List Grant) → length kernel' ≡ length kernel → IsOrdered f
-        → Leaves f app app' kernel' (grants kernel)
-        → Regrants m e (with_run m e.start (app' ++ kernel')) f (grants (kernel_in m.ram e))
+    pub regrants_in : (grants : List Grant → List Grant) → length after.kernel ≡ length before.kernel
+        → IsOrdered after.layout → Leaves before after (grants (decode_grants before.kernel))
+        → Regrants m e (with_run m e.start (after.app ++ after.kernel)) after.layout
+        (grants (decode_grants (kernel_in m.ram e)))
     regrants_in grants long o left =
-        subst (λ (xs : List ℕ). Regrants m e (with_run m e.start (app' ++ kernel')) f (grants xs)) (k ∙ lent_kernel)
-        (leaves_block f app app' kernel kernel' (grants kernel) a k long
-        (subst (SameEnds e) (sym layout) (roomed_ends driver e (grant_of driver (decode_grants kernel)))) o left)
+        subst (λ (xs : List ℕ). Regrants m e (with_run m e.start (after.app ++ after.kernel)) after.layout
+        (grants (decode_grants xs))) (lent.kernel ∙ lent_kernel)
+        (leaves_block before after (grants (decode_grants before.kernel)) lent long
+        (subst (SameEnds e) (sym layout) (roomed_ends driver e (grant_of driver (decode_grants before.kernel)))) o left)
 
 pub if_ok : {A E : Type 0} {P Q : A → Type 0} (r : Result A E) → ((a : A) → P a → Q a) → IfOk r P → IfOk r Q
 if_ok (Ok a) f p = f a p
@@ -179,14 +185,16 @@ if_ok (Err e) f p = tt
 
 -- a swap in the two parts of a block is one in memory
 pub swaps_in : (m : MemoryBytes) (e : LayoutView) → FitsMemory (length m.flash) (length m.ram) e
-    → (h : Handover) (f : LayoutView) (app app' kernel kernel' : List ℕ)
-    → app ≡ take (e.kernel_break - e.start) (ram_between m.ram e.start e.end)
-    → kernel ≡ drop (e.kernel_break - e.start) (ram_between m.ram e.start e.end) → length kernel' ≡ length kernel
-    → IsOrdered f → (answer : ℕ × ℕ) → Swaps h.kind h.driver h.number h.pair e f app app' kernel kernel' answer
-    → SwapsIn h m e (with_run m e.start (app' ++ kernel')) f answer
-swaps_in m e s h f app app' kernel kernel' a k long o answer sw = record {
-  former = sw.former ∙ ap (λ (xs : List ℕ). held_pair h.kind h.driver h.number xs) (k ∙ lent_kernel m e s);
-  layout = room_in m e s h.driver f app app' kernel kernel' a k sw.layout;
-  grants = regrants_in m e s h.driver f app app' kernel kernel' a k sw.layout (swapped h.kind h.driver h.number h.pair)
-      long o sw.grants;
-}
+    → (h : Handover) (before after : Parts) → AreLent m e before → length after.kernel ≡ length before.kernel
+    → IsOrdered after.layout → (answer : ℕ × ℕ) → Swaps h before after answer
+    → SwapsIn h m e (with_run m e.start (after.app ++ after.kernel)) after.layout answer
+swaps_in m e s h before after lent long o answer sw =
+    let layout : after.layout ≡ roomed h.driver e (grant_of h.driver (decode_grants before.kernel)) =
+    sw.layout
+    ∙ ap (λ (x : LayoutView). roomed h.driver x (grant_of h.driver (decode_grants before.kernel))) lent.layout in
+    record {
+      former = sw.former
+          ∙ ap (λ (xs : List ℕ). held_pair h.kind h.driver h.number xs) (lent.kernel ∙ lent_kernel m e s);
+      layout = room_in m e s h.driver before after lent layout;
+      grants = regrants_in m e s h.driver before after lent layout (swapped h) long o sw.grants;
+    }

@@ -42,12 +42,12 @@ pair_at P (p ∷ ps) (suc n) none all = pair_at P ps n none all.1
 rw_by : (e : LayoutView) (n : ℕ) (o : Option Grant) → ((g : Grant) → o ≡ Some g → Holds e g)
     → LiesBelowMark e (pair_of ReadWrite n o)
 rw_by e n None holds = λ some. absurd (omega arith)
-rw_by e n (Some g) holds = pair_at (LiesBelowMark e) g.rw n (λ some. absurd (omega arith)) (holds g refl).rw
+rw_by e n (Some g) holds = (holds g refl).each ReadWrite n
 
 ro_by : (e : LayoutView) (n : ℕ) (o : Option Grant) → ((g : Grant) → o ≡ Some g → Holds e g)
     → MayBeRead e (pair_of ReadOnly n o)
 ro_by e n None holds = λ some. absurd (omega arith)
-ro_by e n (Some g) holds = pair_at (MayBeRead e) g.ro n (λ some. absurd (omega arith)) (holds g refl).ro
+ro_by e n (Some g) holds = (holds g refl).each ReadOnly n
 
 module _ (m : MemoryBytes) (seat : Seat) (t : SitsIn m seat) (driver n : ℕ) where
   pub rw_lies : LiesBelowMark seat.layout (held ReadWrite driver n (own_in m.ram seat))

@@ -7,7 +7,8 @@ use Rattle.process_layout.specs.LayoutView.{LayoutView}
 use Rattle.process_layout.specs.Ordered.{IsOrdered}
 use Rattle.grant_model.specs.Grants.{Grant, grant_of, entering, entered, fresh}
 use Rattle.grant_model.specs.Encoding.{decode_grants}
-use Rattle.grant_region.specs.Region.{Leaves, below, roomed}
+use Rattle.grant_model.specs.Laws.{PairsStandByKind}
+use Rattle.grant_region.specs.Region.{Leaves, Parts, below, roomed}
 use Rattle.board_memory.specs.Memory.{MemoryBytes, ram_between, with_run}
 use Rattle.process_model.specs.Own.{Own}
 use Rattle.process_model.specs.Handed.{own_entering as own_entering}
@@ -15,7 +16,7 @@ use Rattle.process_model.specs.Served.{kept}
 use Rattle.grant_enter.specs.declared.seat.Seat.{Seat}
 use Rattle.grant_enter.specs.Homes.{FitsMemory}
 use Rattle.grant_enter.specs.Seats.{Holds, MakesRoom, Reseats, SitsIn, kernel_in, own_in}
-use Rattle.grant_enter.proofs.Blocks.{regrants_in, room_in}
+use Rattle.grant_enter.proofs.Blocks.{AreLent, regrants_in, room_in}
 use Rattle.grant_enter.proofs.Holding.{entering_holds}
 use Rattle.grant_enter.proofs.Regranted.{regranted}
 
@@ -25,16 +26,13 @@ on_both (Err e) f p q = tt
 
 -- room that is made in the two parts of a block is made in memory
 pub makes_room : (m : MemoryBytes) (e : LayoutView) → FitsMemory (length m.flash) (length m.ram) e
-    → (driver : ℕ) (f : LayoutView) (app app' kernel : List ℕ)
-    → app ≡ take (e.kernel_break - e.start) (ram_between m.ram e.start e.end)
-    → kernel ≡ drop (e.kernel_break - e.start) (ram_between m.ram e.start e.end) → IsOrdered f
-    → f ≡ roomed driver e (grant_of driver (decode_grants kernel))
-    → Leaves f app app' kernel (entered driver (decode_grants kernel))
-    → MakesRoom driver m e (with_run m e.start (app' ++ kernel)) f
-makes_room m e s driver f app app' kernel a k o layout left = record {
-  layout = room_in m e s driver f app app' kernel kernel a k layout;
-  grants = regrants_in m e s driver f app app' kernel kernel a k layout (λ xs. entered driver (decode_grants xs)) refl o
-      left;
+    → (driver : ℕ) (before after : Parts) → AreLent m e before → after.kernel ≡ before.kernel → IsOrdered after.layout
+    → after.layout ≡ roomed driver e (grant_of driver (decode_grants before.kernel))
+    → Leaves before after (entered driver (decode_grants before.kernel))
+    → MakesRoom driver m e (with_run m e.start (after.app ++ after.kernel)) after.layout
+makes_room m e s driver before after lent same o layout left = record {
+  layout = room_in m e s driver before after lent layout;
+  grants = regrants_in m e s driver before after lent layout (entered driver) (ap length same) o left;
 }
 
 -- a driver that was entered has a grant
@@ -63,11 +61,11 @@ module _ (driver : ℕ) (m : MemoryBytes) (seat : Seat) (m' : MemoryBytes) (f : 
       r.layout
 
   -- it is a seat as before
-  pub entered_reseats : SitsIn m seat → Reseats m seat m' (record seat { layout = f })
-  entered_reseats t =
+  pub entered_reseats : PairsStandByKind → SitsIn m seat → Reseats m seat m' (record seat { layout = f })
+  entered_reseats law t =
       let gs = decode_grants (kernel_in m.ram seat.layout) in
       let held : AllByRecursion (Holds f) (entered driver gs) =
       subst (λ (x : LayoutView). AllByRecursion (Holds x) (entered driver gs)) (sym r.layout)
-      (entering_holds seat.layout driver gs (grant_of driver gs) t.seated.kept.held) in
+      (entering_holds law seat.layout driver gs (grant_of driver gs) t.seated.kept.held) in
       regranted m seat t driver m' f (entered driver gs) r.layout r.grants f.mark seat.pending r.grants.ordered.buffers
       held

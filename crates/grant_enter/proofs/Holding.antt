@@ -1,17 +1,23 @@
 -- The buffers of grants lie where they may, also once others were handed.
-use Rattle.std.proofs.Common.{◌≡◌, ℕ, zero, suc, ◌+◌, ◌≤◌, ◌==◌, ◌||◌, nat_le, IsTrue, Bool, true, false, cond, List}
-use Rattle.std.proofs.Common.{[], ◌∷◌, replicate, Option, None, Some, refl, sym, subst, arith}
-use Rattle.std.specs.Prelude.{slice_set, max}
+use Rattle.std.proofs.Common.{◌≡◌, ◌⊎◌, inl, inr, ℕ, ◌+◌, ◌≤◌, ◌<◌, ◌==◌, ◌||◌, nat_le, IsTrue, Bool, true, false, cond}
+use Rattle.std.proofs.Common.{List, [], ◌∷◌, Option, None, Some, refl, sym, subst, arith, eqb-true}
+use Rattle.std.specs.Prelude.{max}
 use Rattle.std.specs.List.{AllByRecursion}
 use Rattle.std.proofs.lemmas.Bool.Decides.{nat_tests}
-use Rattle.process_layout.specs.LayoutView.{LayoutView}
-use Rattle.process_layout.specs.Interval.{lies_within}
 use Rattle.tk_base.specs.declared.kinds.PairKind.{PairKind}
 use Rattle.tk_base.specs.declared.kinds.PairKind.TheVariants.{Upcall, ReadOnly, ReadWrite}
-use Rattle.grant_model.specs.Grants.{Grant, grant_of, with_grant, with_pair, entering, entered, fresh}
+use Rattle.tk_base.specs.Kinds.{count_of}
+use Rattle.process_layout.specs.LayoutView.{LayoutView}
+use Rattle.process_layout.specs.Interval.{lies_within}
+use Rattle.grant_model.specs.Grants.{Grant, HasPairs, grant_of, pair_of, shape_of, with_grant, with_pair, entering}
+use Rattle.grant_model.specs.Grants.{entered, fresh}
+use Rattle.grant_model.specs.Encoding.{IsSound}
+use Rattle.grant_model.specs.Laws.{PairsStandByKind}
 use Rattle.grant_region.specs.Region.{roomed}
+use Rattle.swap_tables.specs.declared.handover.Handover.{Handover}
+use Rattle.swap_tables.specs.Swaps.{swapped}
 use Rattle.process_model.specs.Handed.{lies_in_ram, lies_in_flash, may_share, marked}
-use Rattle.grant_enter.specs.Seats.{Holds, LiesBelowMark, MayBeRead}
+use Rattle.grant_enter.specs.Seats.{Holds, LiesBelowMark, LiesInPlace, MayBeRead}
 
 -- a layout with another mark
 abbrev pub with_mark : ℕ → LayoutView → LayoutView
@@ -56,131 +62,159 @@ mark_below ReadOnly pair e h = raised_below pair e (pair.1 == 0) (lies_in_ram e 
 mark_below ReadWrite pair e h = raised_below pair e (pair.1 == 0) (lies_in_ram e pair.0 pair.1) refl h
 
 -- a buffer that was handed lies where it may
-lies_handed : (pair : ℕ × ℕ) (e : LayoutView) (a b : Bool) → pair.1 == 0 ≡ a → lies_in_ram e pair.0 pair.1 ≡ b
+rw_handed : (pair : ℕ × ℕ) (e : LayoutView) (a b : Bool) → pair.1 == 0 ≡ a → lies_in_ram e pair.0 pair.1 ≡ b
     → IsTrue (a || b) → let mark = (cond a e (cond b (with_mark (max e.mark (pair.0 + pair.1)) e) e)).mark in
     LiesBelowMark (with_mark mark e) pair
-lies_handed pair e true b none is may some = absurd (grind (arith, nat_tests))
-lies_handed pair e false true none is may some = (grind (arith, nat_tests), omega arith)
-lies_handed pair e false false none is may some = absurd (grind (arith, nat_tests, may))
+rw_handed pair e true b none is may some = absurd (grind (arith, nat_tests))
+rw_handed pair e false true none is may some = (grind (arith, nat_tests), omega arith)
+rw_handed pair e false false none is may some = absurd (grind (arith, nat_tests, may))
 
-read_handed : (pair : ℕ × ℕ) (e : LayoutView) (a b c : Bool) → pair.1 == 0 ≡ a → lies_in_ram e pair.0 pair.1 ≡ b
+ro_handed : (pair : ℕ × ℕ) (e : LayoutView) (a b c : Bool) → pair.1 == 0 ≡ a → lies_in_ram e pair.0 pair.1 ≡ b
     → lies_in_flash e pair.0 pair.1 ≡ c → IsTrue (a || b || c)
     → let mark = (cond a e (cond b (with_mark (max e.mark (pair.0 + pair.1)) e) e)).mark in
     MayBeRead (with_mark mark e) pair
-read_handed pair e true b c none is at may some = absurd (grind (arith, nat_tests))
-read_handed pair e false true c none is at may some = by_ram (grind (arith, nat_tests))
+ro_handed pair e true b c none is at may some = absurd (grind (arith, nat_tests))
+ro_handed pair e false true c none is at may some = by_ram (grind (arith, nat_tests))
   where
     by_ram : e.start ≤ pair.0
         → IsTrue (lies_within e.start (max e.mark (pair.0 + pair.1)) pair.0 pair.1 || lies_in_flash e pair.0 pair.1)
     by_ram low = let l : nat_le e.start pair.0 ≡ true = grind (arith, nat_tests) in
         let h : nat_le (pair.0 + pair.1) (max e.mark (pair.0 + pair.1)) ≡ true = grind (arith, nat_tests) in
         grind (arith, nat_tests)
-read_handed pair e false false true none is at may some = grind (arith, nat_tests)
-read_handed pair e false false false none is at may some = absurd (grind (arith, nat_tests, may))
+ro_handed pair e false false true none is at may some = grind (arith, nat_tests)
+ro_handed pair e false false false none is at may some = absurd (grind (arith, nat_tests, may))
 
--- a mark that rose, or more grants, leave each buffer where it may be
-lies_on : (e : LayoutView) (mark : ℕ) (pair : ℕ × ℕ) → e.mark ≤ mark → LiesBelowMark e pair
-    → LiesBelowMark (with_mark mark e) pair
-lies_on e mark pair up lies some = let l = lies some in (l.0, omega (arith, l.1))
+lies_handed : (kind : PairKind) (pair : ℕ × ℕ) (e : LayoutView) → IsTrue (may_share kind e pair)
+    → LiesInPlace kind (with_mark (marked kind pair e).mark e) pair
+lies_handed Upcall pair e may = tt
+lies_handed ReadOnly pair e may =
+    ro_handed pair e (pair.1 == 0) (lies_in_ram e pair.0 pair.1) (lies_in_flash e pair.0 pair.1) refl refl refl may
+lies_handed ReadWrite pair e may =
+    rw_handed pair e (pair.1 == 0) (lies_in_ram e pair.0 pair.1) refl refl may
+
+-- one without bytes lies anywhere
+lies_zero : (kind : PairKind) (e : LayoutView) → LiesInPlace kind e (0, 0)
+lies_zero Upcall e = tt
+lies_zero ReadOnly e = λ some. absurd (omega arith)
+lies_zero ReadWrite e = λ some. absurd (omega arith)
+
+-- a layout of the same block and the same flash, whose mark is no lower
+pub record Marks (e f : LayoutView) : Type 0 where
+  pub start : f.start ≡ e.start
+  pub mark : e.mark ≤ f.mark
+  pub flash_start : f.flash_start ≡ e.flash_start
+  pub flash_end : f.flash_end ≡ e.flash_end
 
 pub wider : (a b c at size : ℕ) (f : Bool) → b ≤ c → IsTrue (lies_within a b at size || f)
     → IsTrue (lies_within a c at size || f)
 wider a b c at size true h t = grind (arith, nat_tests)
 wider a b c at size false h t = grind (arith, nat_tests)
 
-read_on : (e : LayoutView) (mark : ℕ) (pair : ℕ × ℕ) → e.mark ≤ mark → MayBeRead e pair
-    → MayBeRead (with_mark mark e) pair
-read_on e mark pair up may some = wider e.start e.mark mark pair.0 pair.1 (lies_in_flash e pair.0 pair.1) up (may some)
+-- under it a pair lies where it may, as before
+lies_on : (kind : PairKind) (e f : LayoutView) (pair : ℕ × ℕ) → Marks e f → LiesInPlace kind e pair
+    → LiesInPlace kind f pair
+lies_on Upcall e f pair m lies = tt
+lies_on ReadOnly e f pair m may = λ some.
+    subst (λ (n : ℕ). IsTrue (lies_within n f.mark pair.0 pair.1 || lies_within f.flash_start f.flash_end pair.0 pair.1))
+    (sym m.start)
+    (subst (λ (n : ℕ). IsTrue (lies_within e.start f.mark pair.0 pair.1 || lies_within n f.flash_end pair.0 pair.1))
+    (sym m.flash_start)
+    (subst (λ (n : ℕ). IsTrue (lies_within e.start f.mark pair.0 pair.1 || lies_within e.flash_start n pair.0 pair.1))
+    (sym m.flash_end) (wider e.start e.mark f.mark pair.0 pair.1 (lies_in_flash e pair.0 pair.1) m.mark (may some))))
+lies_on ReadWrite e f pair m lies = λ some.
+    let l = lies some in (omega (arith, l.0, m.start), omega (arith, l.1, m.mark))
 
-all_on : {P Q : ℕ × ℕ → Type 0} (xs : List (ℕ × ℕ)) → ((x : ℕ × ℕ) → P x → Q x) → AllByRecursion P xs
-    → AllByRecursion Q xs
-all_on [] f all = tt
-all_on (x ∷ xs) f all = (f x all.0, all_on xs f all.1)
+pub holds_on : (e f : LayoutView) (g : Grant) → Marks e f → Holds e g → Holds f g
+holds_on e f g m h = record { each = λ kind n. lies_on kind e f (pair_of kind n (Some g)) m (h.each kind n) }
 
-holds_on : (e : LayoutView) (mark : ℕ) (g : Grant) → e.mark ≤ mark → Holds e g → Holds (with_mark mark e) g
-holds_on e mark g up h =
-    record { rw = all_on g.rw (λ x. lies_on e mark x up) h.rw; ro = all_on g.ro (λ x. read_on e mark x up) h.ro }
+-- the layout once a pair was handed
+abbrev noted : PairKind → ℕ × ℕ → LayoutView → LayoutView
+noted kind pair e = with_mark (marked kind pair e).mark e
 
-all_zero : (P : ℕ × ℕ → Type 0) (n : ℕ) → P (0, 0) → AllByRecursion P (replicate n (0, 0))
-all_zero P zero p = tt
-all_zero P (suc n) p = (p, all_zero P n p)
+rises : (kind : PairKind) (pair : ℕ × ℕ) (e : LayoutView) → Marks e (noted kind pair e)
+rises kind pair e = record { start = refl; mark = mark_rises kind pair e; flash_start = refl; flash_end = refl }
 
 -- a fresh grant has no buffers
-holds_fresh : (e : LayoutView) (driver : ℕ) → Holds e (fresh driver)
-holds_fresh e driver =
-    record {
-      rw = all_zero (LiesBelowMark e) _ (λ some. absurd (omega arith));
-      ro =
-          all_zero (MayBeRead e) _ (λ some. absurd (omega arith));
-    }
-
-all_put : (P : ℕ × ℕ → Type 0) (xs : List (ℕ × ℕ)) (n : ℕ) (x : ℕ × ℕ) → P x → AllByRecursion P xs
-    → AllByRecursion P (slice_set xs n x)
-all_put P [] n x p all = tt
-all_put P (y ∷ ys) zero x p all = (p, all.1)
-all_put P (y ∷ ys) (suc n) x p all = (all.0, all_put P ys n x p all.1)
+holds_fresh : PairsStandByKind → (e : LayoutView) (driver : ℕ) → Holds e (fresh driver)
+holds_fresh law e driver =
+    record { each = λ kind n. subst (LiesInPlace kind e) (sym (law.none kind driver n)) (lies_zero kind e) }
 
 -- a pair that may be handed
-pair_holds : (kind : PairKind) (number : ℕ) (pair : ℕ × ℕ) (e : LayoutView) (g : Grant) → IsTrue (may_share kind e pair)
-    → Holds e g → Holds (with_mark (marked kind pair e).mark e) (with_pair kind number pair g)
-pair_holds Upcall number pair e g may h = record { rw = h.rw; ro = h.ro }
-pair_holds ReadOnly number pair e g may h =
-    let on = holds_on e (marked ReadOnly pair e).mark g (mark_rises ReadOnly pair e) h in
-    record {
-      rw = on.rw;
-      ro =
-          all_put (MayBeRead (with_mark (marked ReadOnly pair e).mark e)) g.ro number pair
-          (read_handed pair e (pair.1 == 0) (lies_in_ram e pair.0 pair.1) (lies_in_flash e pair.0 pair.1) refl refl refl
-          may) on.ro;
-    }
-pair_holds ReadWrite number pair e g may h =
-    let on = holds_on e (marked ReadWrite pair e).mark g (mark_rises ReadWrite pair e) h in
-    record {
-      rw = all_put (LiesBelowMark (with_mark (marked ReadWrite pair e).mark e)) g.rw number pair
-          (lies_handed pair e (pair.1 == 0) (lies_in_ram e pair.0 pair.1) refl refl may) on.rw;
-      ro = on.ro;
-    }
-
-all_cases : (P : Grant → Type 0) (b : Bool) (xs ys : List Grant) → AllByRecursion P xs → AllByRecursion P ys
-    → AllByRecursion P (cond b xs ys)
-all_cases P true xs ys p q = p
-all_cases P false xs ys p q = q
+pair_holds : PairsStandByKind → (kind : PairKind) (number : ℕ) (pair : ℕ × ℕ) (e : LayoutView) (g : Grant) → HasPairs g
+    → number < count_of kind (shape_of g.driver) → IsTrue (may_share kind e pair) → Holds e g
+    → Holds (noted kind pair e) (with_pair kind number pair g)
+pair_holds law kind number pair e g has small may h =
+    record { each = λ other n. by_place other n (law.either kind other number n pair g has small) }
+  where
+    by_place : (other : PairKind) (n : ℕ)
+        → ((other ≡ kind) × (pair_of other n (Some (with_pair kind number pair g)) ≡ pair))
+        ⊎ (pair_of other n (Some (with_pair kind number pair g)) ≡ pair_of other n (Some g))
+        → LiesInPlace other (noted kind pair e) (pair_of other n (Some (with_pair kind number pair g)))
+    by_place other n (inl put) =
+        subst (LiesInPlace other (noted kind pair e)) (sym put.1)
+        (subst (λ (k : PairKind). LiesInPlace k (noted kind pair e) pair) (sym put.0) (lies_handed kind pair e may))
+    by_place other n (inr same) =
+        subst (LiesInPlace other (noted kind pair e)) (sym same) ((holds_on e (noted kind pair e) g (rises kind pair e) h).each other n)
 
 all_grants : (P Q : Grant → Type 0) (gs : List Grant) → ((g : Grant) → P g → Q g) → AllByRecursion P gs
     → AllByRecursion Q gs
 all_grants P Q [] on all = tt
 all_grants P Q (g ∷ gs) on all = (on g all.0, all_grants P Q gs on all.1)
 
--- what holds of each grant holds of each once one was changed
+-- what holds of each grant holds of each once a driver's was changed
 pub all_with : (P Q : Grant → Type 0) (driver : ℕ) (change : Grant → Grant) (gs : List Grant)
-    → ((g : Grant) → P g → Q g) → ((g : Grant) → P g → Q (change g)) → AllByRecursion P gs
+    → ((g : Grant) → P g → Q g) → ((g : Grant) → g.driver ≡ driver → P g → Q (change g)) → AllByRecursion P gs
     → AllByRecursion Q (with_grant driver change gs)
 all_with P Q driver change [] on changed all = tt
 all_with P Q driver change (g ∷ gs) on changed all =
-    all_cases Q (g.driver == driver) (change g ∷ gs) (g ∷ with_grant driver change gs)
-    (changed g all.0, all_grants P Q gs on all.1) (on g all.0, all_with P Q driver change gs on changed all.1)
+    by_test (g.driver == driver) refl (all_with P Q driver change gs on changed all.1)
+  where
+    by_test : (b : Bool) → (g.driver == driver) ≡ b → AllByRecursion Q (with_grant driver change gs)
+        → AllByRecursion Q (cond b (change g ∷ gs) (g ∷ with_grant driver change gs))
+    by_test true e later = (changed g (eqb-true g.driver driver e) all.0, all_grants P Q gs on all.1)
+    by_test false e later = (on g all.0, later)
+
+all_both : (P Q : Grant → Type 0) (gs : List Grant) → AllByRecursion P gs → AllByRecursion Q gs
+    → AllByRecursion (λ g. P g × Q g) gs
+all_both P Q [] p q = tt
+all_both P Q (g ∷ gs) p q = ((p.0, q.0), all_both P Q gs p.1 q.1)
+
+roomed_marks : (driver : ℕ) (e : LayoutView) → Marks e (roomed driver e None)
+roomed_marks driver e = record { start = refl; mark = omega arith; flash_start = refl; flash_end = refl }
 
 -- grants of a driver that was entered
-pub entering_holds : (e : LayoutView) (driver : ℕ) (gs : List Grant) (g : Option Grant) → AllByRecursion (Holds e) gs
-    → AllByRecursion (Holds (roomed driver e g)) (entering driver gs g)
-entering_holds e driver gs None all = (
-  holds_fresh (roomed driver e None) driver,
-  all_grants (Holds e) (Holds (roomed driver e None)) gs (λ g h. record { rw = h.rw; ro = h.ro }) all,
+pub entering_holds : PairsStandByKind → (e : LayoutView) (driver : ℕ) (gs : List Grant) (g : Option Grant)
+    → AllByRecursion (Holds e) gs → AllByRecursion (Holds (roomed driver e g)) (entering driver gs g)
+entering_holds law e driver gs None all = (
+  holds_fresh law (roomed driver e None) driver,
+  all_grants (Holds e) (Holds (roomed driver e None)) gs (λ g. holds_on e (roomed driver e None) g (roomed_marks driver e))
+      all,
 )
-entering_holds e driver gs (Some g) all = all
+entering_holds law e driver gs (Some g) all = all
+
+entering_pairs : PairsStandByKind → (driver : ℕ) (gs : List Grant) (g : Option Grant) → AllByRecursion IsSound gs
+    → AllByRecursion HasPairs (entering driver gs g)
+entering_pairs law driver gs None all = (law.made driver, all_grants IsSound HasPairs gs (λ g s. s.pairs) all)
+entering_pairs law driver gs (Some g) all = all_grants IsSound HasPairs gs (λ g s. s.pairs) all
 
 -- all buffers lie where they may once a pair was handed
-pub handed_holds : (kind : PairKind) (driver number : ℕ) (pair : ℕ × ℕ) (e f : LayoutView) (gs : List Grant)
-    → f ≡ roomed driver e (grant_of driver gs) → IsTrue (may_share kind f pair) → AllByRecursion (Holds e) gs
-    → AllByRecursion (Holds (marked kind pair f)) (with_grant driver (with_pair kind number pair) (entered driver gs))
-handed_holds kind driver number pair e f gs is may all =
-    subst (λ (x : LayoutView). AllByRecursion (Holds x)
-    (with_grant driver (with_pair kind number pair) (entered driver gs))) (sym (only_mark kind pair f))
-    (all_with (Holds f) (Holds (with_mark (marked kind pair f).mark f)) driver (with_pair kind number pair)
-    (entered driver gs) (λ g h. holds_on f (marked kind pair f).mark g (mark_rises kind pair f) h)
-    (λ g h. pair_holds kind number pair f g may h)
-    (subst (λ (x : LayoutView). AllByRecursion (Holds x) (entered driver gs)) (sym is)
-    (entering_holds e driver gs (grant_of driver gs) all)))
+pub handed_holds : PairsStandByKind → (h : Handover) (e f : LayoutView) (gs : List Grant) → AllByRecursion IsSound gs
+    → h.number < count_of h.kind (shape_of h.driver) → f ≡ roomed h.driver e (grant_of h.driver gs)
+    → IsTrue (may_share h.kind f h.pair) → AllByRecursion (Holds e) gs
+    → AllByRecursion (Holds (marked h.kind h.pair f)) (swapped h gs)
+handed_holds law h e f gs sound small is may all =
+    let change = with_pair h.kind h.number h.pair in
+    let mark = (marked h.kind h.pair f).mark in
+    let in_place : AllByRecursion (Holds f) (entered h.driver gs) =
+    subst (λ (x : LayoutView). AllByRecursion (Holds x) (entered h.driver gs)) (sym is)
+    (entering_holds law e h.driver gs (grant_of h.driver gs) all) in
+    subst (λ (x : LayoutView). AllByRecursion (Holds x) (swapped h gs)) (sym (only_mark h.kind h.pair f))
+    (all_with (λ g. HasPairs g × Holds f g) (Holds (with_mark mark f)) h.driver change (entered h.driver gs)
+    (λ g p. holds_on f (with_mark mark f) g (rises h.kind h.pair f) p.1)
+    (λ g same p. pair_holds law h.kind h.number h.pair f g p.0
+    (subst (λ (d : ℕ). h.number < count_of h.kind (shape_of d)) (sym same) small) may p.1)
+    (all_both HasPairs (Holds f) (entered h.driver gs)
+    (entering_pairs law h.driver gs (grant_of h.driver gs) sound) in_place))
 
 may_roomed : (kind : PairKind) (driver : ℕ) (pair : ℕ × ℕ) (e : LayoutView) (g : Option Grant)
     → IsTrue (may_share kind e pair) → IsTrue (may_share kind (roomed driver e g) pair)

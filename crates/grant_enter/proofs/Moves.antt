@@ -28,6 +28,7 @@ use Rattle.std.proofs.lemmas.Grind.{same_number_lists}
 use Rattle.grant_enter.proofs.Windows.{windows_same, over_outside, over_window, short, zeros, length_zeros}
 use Rattle.grant_enter.proofs.Tables.{any_default, one_changed, read_at, own_at, settled_at, apart_at, layouts_set}
 use Rattle.grant_enter.proofs.Tables.{all_changed}
+use Rattle.grant_enter.proofs.Holding.{holds_on}
 
 -- a seat's layout lies in memory
 pub placed_of : (m : MemoryBytes) (e : LayoutView) → FitsMemory (length m.flash) (length m.ram) e → IsPlaced e m
@@ -369,7 +370,11 @@ kept_with_break e brk kernel k = record { laid = k.laid; held = all_held (decode
   where
     all_held : (gs : List Grant) → AllByRecursion (Holds e) gs → AllByRecursion (Holds (record e { brk = brk })) gs
     all_held [] all = tt
-    all_held (g ∷ gs) all = (record { rw = all.0.rw; ro = all.0.ro }, all_held gs all.1)
+    all_held (g ∷ gs) all = (
+      holds_on e (record e { brk = brk }) g
+          (record { start = refl; mark = omega arith; flash_start = refl; flash_end = refl }) all.0,
+      all_held gs all.1,
+    )
 
 -- a break that was moved, or refused, leaves a seat
 pub break_reseats : (m : MemoryBytes) (seat : Seat) (new : ℕ) (e : LayoutView) (moved : Bool) → SitsIn m seat

@@ -1,5 +1,5 @@
 -- What a driver has changed of a process in its seat, and what it has left.
-use Rattle.std.proofs.Common.{◌≡◌, ℕ, zero, suc, ◌+◌, ◌-◌, ◌<◌, ◌≤◌, ◌⊎◌, inl, inr, ◌==◌, Bool, true, false, List, []}
+use Rattle.std.proofs.Common.{get_or, ◌≡◌, ℕ, zero, suc, ◌+◌, ◌-◌, ◌<◌, ◌≤◌, ◌⊎◌, inl, inr, ◌==◌, Bool, true, false, List, []}
 use Rattle.std.proofs.Common.{◌∷◌, length, slice_index, Option, None, Some, refl, sym, ap, subst, ◌∙◌, arith}
 use Rattle.std.specs.Prelude.{slice_range}
 use Rattle.std.specs.List.{AllByRecursion}
@@ -9,7 +9,8 @@ use Rattle.std.proofs.lemmas.List.{places}
 use Rattle.tk_base.specs.declared.access.TheConstants.{RAM_START}
 use Rattle.tk_base.specs.declared.upcall.Counts.{Counts}
 use Rattle.process_layout.specs.LayoutView.{LayoutView}
-use Rattle.grant_model.specs.Grants.{Grant, grant_of}
+use Rattle.tk_base.specs.declared.kinds.PairKind.TheVariants.{ReadWrite}
+use Rattle.grant_model.specs.Grants.{Grant, grant_of, pairs_of}
 use Rattle.board_memory.specs.Memory.{MemoryBytes}
 use Rattle.process_model.specs.Flash.{HasObject}
 use Rattle.process_model.specs.Own.{Own}
@@ -33,11 +34,15 @@ side_of (suc x) (suc y) = later (side_of x y)
     later (inl l) = inl (omega arith)
     later (inr l) = inr (omega arith)
 
+all_at : (P : ℕ × ℕ → Type 0) (ps : List (ℕ × ℕ)) → ((n : ℕ) → P (get_or ps n (0, 0))) → AllByRecursion P ps
+all_at P [] each = tt
+all_at P (p ∷ ps) each = (each 0, all_at P ps (λ n. each (suc n)))
+
 -- all read-write buffers of the driver lie below the mark
 all_below : (e : LayoutView) (o : Option Grant) → ((g : Grant) → o ≡ Some g → Holds e g)
     → AllByRecursion (LiesBelowMark e) (rw_of o)
 all_below e None holds = tt
-all_below e (Some g) holds = (holds g refl).rw
+all_below e (Some g) holds = all_at (LiesBelowMark e) (pairs_of ReadWrite g) ((holds g refl).each ReadWrite)
 
 -- an address outside of a layout's own part lies in none of them
 outside : (e : LayoutView) (a : ℕ) (buffers : List (ℕ × ℕ)) → e.mark ≤ e.kernel_break

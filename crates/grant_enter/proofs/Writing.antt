@@ -9,7 +9,7 @@ use Rattle.std.proofs.lemmas.List.{places, take_all, take-append-le, take-append
 use Rattle.tk_base.specs.declared.access.TheConstants.{RAM_START}
 use Rattle.tk_base.specs.declared.upcall.Counts.{Counts}
 use Rattle.tk_base.specs.declared.kinds.PairKind.TheVariants.{ReadWrite}
-use Rattle.grant_model.specs.Grants.{Grant, grant_of, pair_of}
+use Rattle.grant_model.specs.Grants.{Grant, grant_of, pair_of, pairs_of}
 use Rattle.board_memory.specs.Memory.{MemoryBytes, with_run}
 use Rattle.tk_base.specs.Bytes.{over}
 use Rattle.process_model.specs.Handed.{held}
@@ -53,7 +53,8 @@ length_over xs ys at fits = (over_outside xs ys at fits).long
 outside_at : (o : Option Grant) (n a : ℕ) → LiesOutside a (rw_of o) → let b = pair_of ReadWrite n o in
     (a < b.0) ⊎ (b.0 + b.1 ≤ a)
 outside_at None n a out = inr (omega arith)
-outside_at (Some g) n a out = pair_at (λ (b : ℕ × ℕ). (a < b.0) ⊎ (b.0 + b.1 ≤ a)) g.rw n (inr (omega arith)) out
+outside_at (Some g) n a out =
+    pair_at (λ (b : ℕ × ℕ). (a < b.0) ⊎ (b.0 + b.1 ≤ a)) (pairs_of ReadWrite g) n (inr (omega arith)) out
 
 -- bytes were written into a process's read-write buffer, from an offset in it on, as many as fit
 pub record Wrote (driver n offset : ℕ) (bs : List ℕ) (m : MemoryBytes) (seat : Seat) (m' : MemoryBytes) : Type 0 where

@@ -1,7 +1,7 @@
 -- How the one RAM holds the blocks. A home shows `homes_of`; the rest is for proofs alone. The two parts of a block are
 -- those of Levy et al., SOSP 2017, section 4.
 use Rattle.std.specs.Prelude.{ℕ, ◌≡◌, ◌<◌, ◌≤◌, ◌+◌, ◌-◌, ◌==◌, ◌||◌, Bool, IsTrue, true, if◌then◌else◌, List, [], ◌∷◌}
-use Rattle.std.specs.Prelude.{◌++◌, length, map, take, drop, slice_range, All, AllPairs}
+use Rattle.std.specs.Prelude.{◌++◌, length, map, take, drop, slice_range, All, AllPairs, Some}
 use Rattle.std.specs.List.{AllByRecursion}
 use Rattle.tk_base.specs.declared.access.TheConstants.{FLASH_START, RAM_START}
 use Rattle.tk_base.specs.declared.limits.TheConstants.{FLASH_LIMIT}
@@ -10,10 +10,14 @@ use Rattle.upcall_queue.specs.Pending.{has_room}
 use Rattle.process_layout.specs.LayoutView.{LayoutView}
 use Rattle.process_layout.specs.Interval.{lies_within}
 use Rattle.process_layout.specs.Ordered.{IsOrdered}
+use Rattle.tk_base.specs.declared.kinds.PairKind.{PairKind}
+use Rattle.tk_base.specs.declared.kinds.PairKind.TheVariants.{Upcall as Subscribed, ReadOnly, ReadWrite}
 use Rattle.grant_values.specs.Words.{bytes_of_words}
-use Rattle.grant_model.specs.Grants.{Grant, grant_of, entered}
+use Rattle.grant_values.specs.Values.{KeptValue, value_words}
+use Rattle.grant_model.specs.Grants.{Grant, grant_of, entered, pair_of}
 use Rattle.grant_model.specs.Encoding.{EncodesGrants, Tells, decode_grants}
 use Rattle.grant_region.specs.Region.{below, fits, roomed}
+use Rattle.swap_tables.specs.declared.handover.Handover.{Handover}
 use Rattle.swap_tables.specs.Swaps.{held_pair, swapped}
 use Rattle.process_model.specs.declared.place.Footprint.{Footprint}
 use Rattle.process_model.specs.Own.{Own}
@@ -22,7 +26,6 @@ use Rattle.process_model.specs.Flash.{HasObject}
 use Rattle.board_memory.specs.Memory.{MemoryBytes, ram_between, with_run}
 use Rattle.grant_enter.specs.Homes.{Homes, FitsMemory, EndsBefore}
 use Rattle.grant_enter.specs.Windows.{SameOutside}
-use Rattle.grant_enter.specs.declared.handing.Handover.{Handover}
 use Rattle.grant_enter.specs.declared.seat.Pending.{Pending}
 use Rattle.grant_enter.specs.declared.seat.Seat.{Seat}
 use Rattle.grant_enter.specs.declared.home.Home.TheInside.{Inside}
@@ -87,10 +90,15 @@ MayBeRead e pair =
     0 < pair.1 → IsTrue (lies_within e.start e.mark pair.0 pair.1
     || lies_within e.flash_start e.flash_end pair.0 pair.1)
 
--- the buffers of a grant lie where they may
+-- a pair of a kind lies where it may; of an upcall nothing is asked
+abbrev pub LiesInPlace : PairKind → LayoutView → ℕ × ℕ → Type 0
+LiesInPlace Subscribed e pair = Unit
+LiesInPlace ReadOnly e pair = MayBeRead e pair
+LiesInPlace ReadWrite e pair = LiesBelowMark e pair
+
+-- the pairs of a grant lie where they may
 pub record Holds (e : LayoutView) (g : Grant) : Type 0 where
-  pub rw : AllByRecursion (LiesBelowMark e) g.rw
-  pub ro : AllByRecursion (MayBeRead e) g.ro
+  pub each : (kind : PairKind) (n : ℕ) → LiesInPlace kind e (pair_of kind n (Some g))
 
 -- the bytes from the kernel break on are the areas of grants, whose buffers lie where they may
 pub record IsKept (e : LayoutView) (kernel : List ℕ) : Type 0 where
@@ -142,7 +150,7 @@ pub record SwapsIn (h : Handover) (m : MemoryBytes) (e : LayoutView) (m' : Memor
     (answer : ℕ × ℕ) : Type 0 where
   pub former : answer ≡ held_pair h.kind h.driver h.number (kernel_in m.ram e)
   pub layout : e' ≡ roomed h.driver e (grant_of h.driver (decode_grants (kernel_in m.ram e)))
-  pub grants : Regrants m e m' e' (swapped h.kind h.driver h.number h.pair (kernel_in m.ram e))
+  pub grants : Regrants m e m' e' (swapped h (decode_grants (kernel_in m.ram e)))
 
 -- whether a driver is entered by the process of a block in RAM, or its grant fits
 abbrev pub fits_in : ℕ → List ℕ → LayoutView → Bool
@@ -167,10 +175,10 @@ readable m e buffer =
     else (if lies_in_ram e buffer.0 buffer.1 then ram_between m.ram buffer.0 (buffer.0 + buffer.1)
     else slice_range m.flash (buffer.0 - FLASH_START) (buffer.0 + buffer.1 - FLASH_START))
 
--- the kernel's bytes of a block in which a value of so many bytes has other words, at a place from the kernel break on
-abbrev pub value_put : List ℕ → ℕ → ℕ → List ℕ → List ℕ
-value_put kernel at size words = take at kernel ++ (bytes_of_words words ++ drop size (drop at kernel))
+-- the kernel's bytes of a block in which a value of so many bytes is another one, at a place from the kernel break on
+abbrev pub value_put : List ℕ → ℕ → ℕ → KeptValue → List ℕ
+value_put kernel at size value = take at kernel ++ (bytes_of_words (value_words value) ++ drop size (drop at kernel))
 
 -- memory in whose block it stands
-abbrev pub with_value_in : MemoryBytes → LayoutView → ℕ → ℕ → List ℕ → MemoryBytes
-with_value_in m e at size words = with_run m e.kernel_break (value_put (kernel_in m.ram e) at size words)
+abbrev pub with_value_in : MemoryBytes → LayoutView → ℕ → ℕ → KeptValue → MemoryBytes
+with_value_in m e at size value = with_run m e.kernel_break (value_put (kernel_in m.ram e) at size value)

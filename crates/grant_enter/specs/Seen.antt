@@ -5,7 +5,8 @@ use Rattle.std.specs.List.{AllByRecursion}
 use Rattle.tk_base.specs.declared.access.TheConstants.{RAM_START}
 use Rattle.tk_base.specs.declared.upcall.Counts.{Counts}
 use Rattle.grant_values.specs.Drivers.{counts_of}
-use Rattle.grant_model.specs.Grants.{Grant, grant_of}
+use Rattle.tk_base.specs.declared.kinds.PairKind.TheVariants.{ReadWrite}
+use Rattle.grant_model.specs.Grants.{Grant, grant_of, pairs_of}
 use Rattle.board_memory.specs.Memory.{MemoryBytes}
 use Rattle.process_model.specs.Own.{Own}
 use Rattle.grant_enter.specs.Seats.{SitsIn, own_in}
@@ -40,7 +41,7 @@ IsLent e = IsLentTo e.driver e.counts e.memory.now e.seat.now
 -- the read-write buffers of a grant
 abbrev pub rw_of : Option Grant → List (ℕ × ℕ)
 rw_of None = []
-rw_of (Some g) = g.rw
+rw_of (Some g) = pairs_of ReadWrite g
 
 -- those that a process has allowed a driver
 abbrev pub rw_buffers : ℕ → Own → List (ℕ × ℕ)
@@ -56,8 +57,7 @@ pub record SameButIn (buffers : List (ℕ × ℕ)) (first : ℕ) (old new : List
   pub each : (k : ℕ) → LiesOutside (first + k) buffers → slice_index new k ≡ slice_index old k
 
 -- a driver has changed of a process's own the bytes in its read-write buffers, what is pending and how many upcalls
--- were
--- dropped, and nothing else
+-- were dropped, and nothing else
 pub record VisitorChanges (driver : ℕ) (old new : Own) : Type 0 where
   pub rest : new ≡ record old { ram = new.ram; pending = new.pending; dropped = new.dropped }
   pub bytes : SameButIn (rw_buffers driver old) old.layout.start old.ram new.ram

@@ -1,13 +1,12 @@
 //! The grants of a driver.
-ghost use Rattle.std.specs.Prelude.{◌≡◌, not, is_ok, IfOk, Some, option_map};
-ghost use Rattle.grant_values.specs.Drivers.{counting, counts_of};
+ghost use Rattle.std.specs.Prelude.{◌≡◌, Some};
+ghost use Rattle.grant_values.specs.Drivers.{counting, counts_of, driver_of};
 ghost use Rattle.process_model.specs.Handed.{own_entering};
-ghost use Rattle.process_model.specs.Served.{kept};
 ghost use Rattle.grant_enter.specs.Homes.{ChangesOnly, own_of};
-ghost use Rattle.grant_enter.specs.Visits.{Asks, Enters, Visits, is_stale};
+ghost use Rattle.grant_enter.specs.Visits.{Asks, Enters, IsCounted, Peeks, Visits, grants_of};
 
 use crate::home::Home;
-use crate::visit::{EnterError, Stale, Visit};
+use crate::visit::{EnterError, Stale, Visit, enter_seat, peek_seat, visit_seat};
 use grant_values::{GrantValue, counts};
 use std::marker::PhantomData;
 use tk_base::{Counts, ProcessId};
@@ -21,13 +20,14 @@ pub struct Grant<T: GrantValue, const UP: usize, const RO: usize, const RW: usiz
     counts: Counts,
     value: PhantomData<T>,
     ghost counts_are: { counts ≡ counting UP RO RW T.SIZE },
-    ghost known: { counts_of driver ≡ Some counts },
+    ghost known: { IsCounted T.driver driver counts T.SIZE },
 }
 
 impl<T: GrantValue, const UP: usize, const RO: usize, const RW: usize> Grant<T, UP, RO, RW> {
-    /// The grants of a driver, whose counts are those of the type.
+    /// The grants of a driver, whose value and whose counts are those of the type.
     pub fn of(driver: u32) -> Grant<T, UP, RO, RW>
-        requires { counts_of driver ≡ Some (counting UP RO RW T.SIZE) }
+        requires value { driver_of driver ≡ Some T.driver }
+        requires counts { counts_of driver ≡ Some (counting UP RO RW T.SIZE) }
         ensures { result.driver ≡ driver }
     {
         match counts(driver) {
@@ -54,14 +54,26 @@ impl<T: GrantValue, const UP: usize, const RO: usize, const RW: usize> Grant<T, 
         id: ProcessId,
         visitor: V,
     ) -> Result<V::Answer, EnterError>
-        requires asks { Asks (V.asks visitor) T.value self.now.driver (counting UP RO RW T.SIZE)
-            home.old.flash (own_entering self.now.driver (own_of home.old id.slot)) }
-        ensures enters { Enters (V.leaves visitor) T.value T.words self.now.driver
-            (counting UP RO RW T.SIZE) id.life home.old.flash
+        requires asks { Asks (grants_of self.now.driver (counting UP RO RW T.SIZE) T.kept)
+            (V.asks visitor) home.old.flash
+            (own_entering self.now.driver (own_of home.old id.slot)) }
+        ensures enters { Enters (grants_of self.now.driver (counting UP RO RW T.SIZE) T.kept)
+            (V.leaves visitor) id.life home.old.flash
             (own_of home.old id.slot) result (own_of home.new id.slot) }
         ensures rest { ChangesOnly id.slot home.old home.new }
     {
-        home.enter::<T, V>(id, self.driver, self.counts, visitor)
+        if !home.is_placed(id.slot) {
+            return Err(EnterError::Stale);
+        }
+        let seat = &mut home.seats[id.slot.index()];
+        enter_seat::<T, V>(
+            &mut home.memory,
+            seat,
+            id.life,
+            self.driver,
+            self.counts,
+            visitor,
+        )
     }
 
     /// Visits the grant that a process keeps for the driver, as [`Grant::enter`], and makes nothing. The
@@ -75,24 +87,38 @@ impl<T: GrantValue, const UP: usize, const RO: usize, const RW: usize> Grant<T, 
         id: ProcessId,
         visitor: V,
     ) -> Result<Option<V::Answer>, Stale>
-        requires asks { Asks (V.asks visitor) T.value self.now.driver (counting UP RO RW T.SIZE)
-            home.old.flash (own_of home.old id.slot) }
-        ensures visits { Visits (V.leaves visitor) T.value T.words self.now.driver
-            (counting UP RO RW T.SIZE) id.life home.old.flash
+        requires asks { Asks (grants_of self.now.driver (counting UP RO RW T.SIZE) T.kept)
+            (V.asks visitor) home.old.flash (own_of home.old id.slot) }
+        ensures visits { Visits (grants_of self.now.driver (counting UP RO RW T.SIZE) T.kept)
+            (V.leaves visitor) id.life home.old.flash
             (own_of home.old id.slot) result (own_of home.new id.slot) }
         ensures rest { ChangesOnly id.slot home.old home.new }
     {
-        home.visit::<T, V>(id, self.driver, self.counts, visitor)
+        if !home.is_placed(id.slot) {
+            return Err(Stale);
+        }
+        let seat = &mut home.seats[id.slot.index()];
+        visit_seat::<T, V>(
+            &mut home.memory,
+            seat,
+            id.life,
+            self.driver,
+            self.counts,
+            visitor,
+        )
     }
 
     /// The value that a process keeps for the driver; None exactly where it has not entered the driver in
     /// this life. It is stale exactly where the process has ended or is in another life, or none was placed in
     /// the slot.
     pub fn peek(&self, home: &Home, id: ProcessId) -> Result<Option<T>, Stale>
-        ensures stale { is_ok result ≡ not (is_stale id.life (own_of home.now id.slot)) }
-        ensures kept { IfOk result
-            (λ value. value ≡ option_map T.value (kept self.now.driver (own_of home.now id.slot))) }
+        ensures { Peeks (grants_of self.now.driver (counting UP RO RW T.SIZE) T.kept) id.life
+            (own_of home.now id.slot) result }
     {
-        home.peek::<T>(id, self.driver, self.counts)
+        if !home.is_placed(id.slot) {
+            return Err(Stale);
+        }
+        let seat = &home.seats[id.slot.index()];
+        peek_seat::<T>(&home.memory, seat, id.life, self.driver, self.counts)
     }
 }

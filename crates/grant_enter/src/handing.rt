@@ -1,33 +1,24 @@
 //! What a process hands to a driver, in its seat.
 ghost use Rattle.std.specs.Prelude.{◌≡◌, IsTrue, is_ok, IfOk, OnOk, OnErr};
-ghost use Rattle.swap_tables.specs.Swaps.{CanSwap, IsPair, SwapOutcome, grant_fits};
+ghost use Rattle.grant_region.specs.Region.{parts_of};
+ghost use Rattle.swap_tables.specs.Swaps.{CanHand, CanSwap, SwapOutcome};
 ghost use Rattle.process_model.specs.Handed.{handing, has_place as has_place_in, held, marked, may_share, raised, still_pending};
 ghost use Rattle.process_layout.specs.Ordered.{IsOrdered};
-ghost use Rattle.grant_enter.specs.Seats.{HasBlock, Reseats, SitsIn, SwapsIn, kernel_in, own_in};
+ghost use Rattle.grant_enter.specs.Seats.{HasBlock, Reseats, SitsIn, SwapsIn, fits_in, own_in};
 
 use crate::seat::{Pending, Seat};
 use board_memory::{Block, Memory, SplitBlock};
+use grant_model::pairs_stand_by_kind;
 use grant_region::NoRoom;
 use process_layout::Layout;
-use swap_tables::{swap_ro, swap_rw, swap_upcall};
-use tk_base::{Counts, PairKind};
+use swap_tables::{Handover, swap_ro, swap_rw, swap_upcall};
+use tk_base::PairKind;
 
 /// The parts of a layout are in their order, as always. This does nothing.
 pub(crate) fn in_order(layout: &Layout)
     ensures { IsOrdered layout.now }
 {
     let _start = layout.start;
-}
-
-/// A pair of a kind and a number that a process hands to a driver with these counts.
-#[derive(Clone, Copy)]
-pub(crate) struct Handover {
-    pub kind: PairKind,
-    pub driver: u32,
-    pub counts: Counts,
-    pub number: u32,
-    /// The function and the application data of an upcall, or the address and the size of a buffer.
-    pub pair: (u32, u32),
 }
 
 /// Swaps the pair in the two parts of a block.
@@ -37,10 +28,9 @@ fn swap(
     app: &mut [u8],
     kernel: &mut [u8],
 ) -> Result<(u32, u32), NoRoom>
-    requires { CanSwap handover.kind handover.driver handover.counts handover.number
-        layout.old app.old kernel.old }
-    ensures { SwapOutcome handover.kind handover.driver handover.number handover.pair
-        layout.old layout.new app.old app.new kernel.old kernel.new result }
+    requires { CanSwap handover (parts_of layout.old app.old kernel.old) }
+    ensures { SwapOutcome handover (parts_of layout.old app.old kernel.old)
+        (parts_of layout.new app.new kernel.new) result }
 {
     let Handover {
         kind,
@@ -63,9 +53,8 @@ fn swap_in(
     handover: Handover,
 ) -> Result<(u32, u32), NoRoom>
     requires block { HasBlock memory.old layout.old }
-    requires pair { IsPair handover.kind handover.driver handover.counts handover.number }
-    ensures room { is_ok result
-        ≡ grant_fits layout.old handover.driver (kernel_in memory.old.ram layout.old) }
+    requires pair { CanHand handover }
+    ensures room { is_ok result ≡ fits_in handover.driver memory.old.ram layout.old }
     ensures swapped { IfOk result (SwapsIn handover memory.old layout.old memory.new layout.new) }
     ensures refused { OnErr result ((memory.new ≡ memory.old) × (layout.new ≡ layout.old)) }
 {
@@ -108,7 +97,7 @@ pub(crate) fn hand_at(
     handover: Handover,
 ) -> Result<(u32, u32), NoRoom>
     requires sits { SitsIn memory.old seat.old }
-    requires pair { IsPair handover.kind handover.driver handover.counts handover.number }
+    requires pair { CanHand handover }
     requires may { IsTrue (may_share handover.kind seat.old.layout handover.pair) }
     ensures room { is_ok result ≡ has_place_in handover.driver (own_in memory.old.ram seat.old) }
     ensures former { IfOk result (λ former. former
@@ -120,6 +109,7 @@ pub(crate) fn hand_at(
         (own_in memory.new.ram seat.new ≡ own_in memory.old.ram seat.old) }
     ensures reseats { Reseats memory.old seat.old memory.new seat.new }
 {
+    pairs_stand_by_kind();
     let former = swap_in(memory, &mut seat.layout, handover)?;
     note_handed(&mut seat.layout, &mut seat.pending, handover);
     Ok(former)

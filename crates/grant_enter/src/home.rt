@@ -10,24 +10,23 @@ ghost use Rattle.process_model.specs.Handed.{HoldsInPlace, own_entering, handing
 ghost use Rattle.process_model.specs.Served.{kept};
 ghost use Rattle.swap_tables.specs.Swaps.{IsPair};
 ghost use Rattle.grant_enter.specs.Homes.{own_of, living, ChangesOnly, IsInPlace, IsStopped, CanMoveIn, FootprintBefore, MakesInstruction, MakesAll};
-ghost use Rattle.grant_enter.specs.Visits.{Asks, Enters, IsCounted, Visits, is_stale};
 
 use crate::flag::put_flag_at;
-use crate::handing::{Handover, hand_at};
+use crate::handing::hand_at;
 use crate::instruction::{instruction_laws, turn_in, turns_in};
 use crate::seat::Seat;
-use crate::visit::{EnterError, Stale, Visit, block_at, enter_seat, peek_seat, visit_seat};
+use crate::visit::block_at;
 use board_memory::{Memory, set_process};
 use grant_model::what_is_laid_is_read_back;
 use grant_region::NoRoom;
-use grant_values::GrantValue;
 use pmp_regions::Pmp;
 use process_layout::Layout;
 use process_model::Footprint;
 use rv32_model::{TurnEnd, sees_only_permitted, writes_are_permitted};
 use std::alloc::Global;
 use std::marker::Model;
-use tk_base::{a_store_is_put, Addr, Counts, NoMemory, PairKind, ProcessId, Regs, Slot, Upcall};
+use swap_tables::Handover;
+use tk_base::{Addr, Counts, NoMemory, PairKind, ProcessId, Regs, Slot, Upcall, a_store_is_put};
 
 /// The memory of the processes, and what the kernel keeps of each beside its registers: where its memory
 /// lies, which life it is in, whether it lives, how many upcalls it missed (Levy et al., SOSP 2017).
@@ -36,9 +35,9 @@ use tk_base::{a_store_is_put, Addr, Counts, NoMemory, PairKind, ProcessId, Regs,
 /// is. The blocks lie in one RAM, one after another, and none reaches into another.
 #[derive(Drop)]
 pub struct Home {
-    memory: Memory,
+    pub(crate) memory: Memory,
     /// The processes, slot 0 first.
-    seats: Vec<Seat>,
+    pub(crate) seats: Vec<Seat>,
 }
 
 impl Model for Home {
@@ -213,7 +212,7 @@ impl Home {
     }
 
     /// Whether a process was placed in a slot.
-    fn is_placed(&self, slot: Slot) -> bool
+    pub(crate) fn is_placed(&self, slot: Slot) -> bool
         ensures { result ≡ nat_lt slot (length self.now.owns) }
     {
         slot.index() < self.seats.len()
@@ -257,69 +256,6 @@ impl Home {
         ensures rest { ChangesOnly slot self.old self.new }
     {
         put_flag_at(&mut self.memory, &self.seats[slot.index()], at, flag);
-    }
-
-    /// A driver with these counts enters the process of an id.
-    pub(crate) fn enter<T: GrantValue, V: Visit<T> + Drop>(
-        &mut self,
-        id: ProcessId,
-        driver: u32,
-        counts: Counts,
-        visitor: V,
-    ) -> Result<V::Answer, EnterError>
-        requires counted { IsCounted driver counts T.SIZE }
-        requires asks { Asks (V.asks visitor) T.value driver counts self.old.flash
-            (own_entering driver (own_of self.old id.slot)) }
-        ensures enters { Enters (V.leaves visitor) T.value T.words driver counts id.life
-            self.old.flash (own_of self.old id.slot) result (own_of self.new id.slot) }
-        ensures rest { ChangesOnly id.slot self.old self.new }
-    {
-        if !self.is_placed(id.slot) {
-            return Err(EnterError::Stale);
-        }
-        let seat = &mut self.seats[id.slot.index()];
-        enter_seat::<T, V>(&mut self.memory, seat, id.life, driver, counts, visitor)
-    }
-
-    /// A driver with these counts visits the process of an id.
-    pub(crate) fn visit<T: GrantValue, V: Visit<T> + Drop>(
-        &mut self,
-        id: ProcessId,
-        driver: u32,
-        counts: Counts,
-        visitor: V,
-    ) -> Result<Option<V::Answer>, Stale>
-        requires counted { IsCounted driver counts T.SIZE }
-        requires asks { Asks (V.asks visitor) T.value driver counts self.old.flash
-            (own_of self.old id.slot) }
-        ensures visits { Visits (V.leaves visitor) T.value T.words driver counts id.life
-            self.old.flash (own_of self.old id.slot) result (own_of self.new id.slot) }
-        ensures rest { ChangesOnly id.slot self.old self.new }
-    {
-        if !self.is_placed(id.slot) {
-            return Err(Stale);
-        }
-        let seat = &mut self.seats[id.slot.index()];
-        visit_seat::<T, V>(&mut self.memory, seat, id.life, driver, counts, visitor)
-    }
-
-    /// The value that the process of an id keeps for a driver with these counts.
-    pub(crate) fn peek<T: GrantValue>(
-        &self,
-        id: ProcessId,
-        driver: u32,
-        counts: Counts,
-    ) -> Result<Option<T>, Stale>
-        requires counted { IsCounted driver counts T.SIZE }
-        ensures stale { is_ok result ≡ not (is_stale id.life (own_of self.now id.slot)) }
-        ensures kept { IfOk result
-            (λ value. value ≡ option_map T.value (kept driver (own_of self.now id.slot))) }
-    {
-        if !self.is_placed(id.slot) {
-            return Err(Stale);
-        }
-        let seat = &self.seats[id.slot.index()];
-        peek_seat::<T>(&self.memory, seat, id.life, driver, counts)
     }
 
     /// The bytes of the block of the process in a slot: its own, and those of its grants.

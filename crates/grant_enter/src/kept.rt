@@ -1,8 +1,9 @@
 //! Where a driver's value stands in the areas of a process's grants.
-ghost use Rattle.std.specs.Prelude.{◌≡◌, ◌+◌, ◌<◌, ◌≤◌, ◌^◌, ◌++◌, length, take, drop, Some, None, IfSome, IfNone};
+ghost use Rattle.std.specs.Prelude.{◌≡◌, ◌+◌, ◌<◌, ◌≤◌, ◌^◌, length, take, drop, Some, None, IfSome, IfNone};
 ghost use Rattle.std.specs.List.{AllByRecursion};
 ghost use Rattle.grant_values.specs.Drivers.{counts_of};
-ghost use Rattle.grant_values.specs.Words.{IsWord, bytes_of_words, words_of};
+ghost use Rattle.grant_values.specs.Values.{value_by, value_words};
+ghost use Rattle.grant_values.specs.Words.{IsWord, words_of};
 ghost use Rattle.grant_model.specs.Grants.{grant_of};
 ghost use Rattle.grant_model.specs.Encoding.{EncodesGrants, decode_grants};
 ghost use Rattle.grant_model.specs.Laws.{IsValue, value_bytes};
@@ -29,14 +30,13 @@ pub(crate) fn value_place(kernel: &[u8], driver: u32, counts: &Counts) -> Option
     areas_are_found();
     values_are_found();
     let found = area(kernel, driver)?;
-    let pairs = counts.upcalls as usize + counts.ro as usize + counts.rw as usize;
-    Some(found.offset as usize + 8 + 8 * pairs)
+    Some(found.offset as usize + 8 + 8 * counts.pairs())
 }
 
 /// The value at a place of the areas.
 pub(crate) fn value_at<T: GrantValue>(kernel: &[u8], at: usize) -> T
     requires { at + T.SIZE ≤ length kernel.now }
-    ensures { result ≡ T.value (words_of (take T.SIZE (drop at kernel.now))) }
+    ensures { T.kept result ≡ value_by (words_of (take T.SIZE (drop at kernel.now))) T.driver }
 {
     T::take(kernel.split_at(at).1)
 }
@@ -44,12 +44,10 @@ pub(crate) fn value_at<T: GrantValue>(kernel: &[u8], at: usize) -> T
 /// Puts a value at its place in the areas. All else of them stays.
 fn put_value<T: GrantValue>(kernel: &mut [u8], at: usize, value: &T)
     requires { at + T.SIZE ≤ length kernel.old }
-    ensures bytes { kernel.new
-        ≡ take at kernel.old ++ (bytes_of_words (T.words value.now)
-        ++ drop T.SIZE (drop at kernel.old)) }
-    ensures size { length (T.words value.now) ≡ T.count }
-    ensures fits { AllByRecursion IsWord (T.words value.now) }
-    ensures back { T.value (T.words value.now) ≡ value.now }
+    ensures bytes { kernel.new ≡ value_put kernel.old at T.SIZE (T.kept value.now) }
+    ensures size { length (value_words (T.kept value.now)) ≡ T.count }
+    ensures fits { AllByRecursion IsWord (value_words (T.kept value.now)) }
+    ensures back { value_by (value_words (T.kept value.now)) T.driver ≡ T.kept value.now }
 {
     let (_, rest) = kernel.split_at_mut(at);
     value.put(rest);
@@ -59,13 +57,13 @@ fn put_value<T: GrantValue>(kernel: &mut [u8], at: usize, value: &T)
 pub(crate) fn keep_value<T: GrantValue>(memory: &mut Memory, layout: &Layout, at: usize, value: &T)
     requires settled { FitsMemory (length memory.old.flash) (length memory.old.ram) layout.now }
     requires within { at + T.SIZE ≤ length (kernel_in memory.old.ram layout.now) }
-    ensures kept { memory.new ≡ with_value_in memory.old layout.now at T.SIZE (T.words value.now) }
+    ensures kept { memory.new ≡ with_value_in memory.old layout.now at T.SIZE (T.kept value.now) }
     ensures long { length (value_put (kernel_in memory.old.ram layout.now) at T.SIZE
-        (T.words value.now))
+        (T.kept value.now))
         ≡ length (kernel_in memory.old.ram layout.now) }
-    ensures size { length (T.words value.now) ≡ T.count }
-    ensures fits { AllByRecursion IsWord (T.words value.now) }
-    ensures back { T.value (T.words value.now) ≡ value.now }
+    ensures size { length (value_words (T.kept value.now)) ≡ T.count }
+    ensures fits { AllByRecursion IsWord (value_words (T.kept value.now)) }
+    ensures back { value_by (value_words (T.kept value.now)) T.driver ≡ T.kept value.now }
 {
     let (from, to) = kernel_ends(layout);
     put_value::<T>(memory.part_mut(from, to), at, value);

@@ -10,14 +10,14 @@ ghost use Rattle.process_model.specs.Handed.{own_entering};
 ghost use Rattle.process_model.specs.Served.{kept};
 ghost use Rattle.grant_enter.specs.Seats.{HasBlock, MakesRoom, Reseats, SitsIn, fits_in, own_in};
 ghost use Rattle.grant_enter.specs.Seen.{Seen, Framed, IsLent, IsLentTo, ServesIn, seen, own_entered, seen_of};
-ghost use Rattle.grant_enter.specs.Visits.{Asks, Enters, IsCounted, Visited, Visits, is_stale};
+ghost use Rattle.grant_enter.specs.Visits.{Asks, Enters, IsCounted, Peeks, Visited, Visits, grants_of};
 
 use crate::entered::Entered;
 use crate::handing::in_order;
 use crate::kept::{keep_value, kernel_of, value_at, value_place};
 use crate::seat::Seat;
 use board_memory::{Block, Memory, SplitBlock};
-use grant_model::Area;
+use grant_model::{Area, pairs_stand_by_kind};
 use grant_region::{NoRoom, make_room};
 use grant_values::{GrantValue, cost_of, counts};
 use process_layout::Layout;
@@ -92,11 +92,11 @@ pub(crate) fn visit_at<T: GrantValue, V: Visit<T> + Drop>(
     visitor: V,
 ) -> Option<V::Answer>
     requires sits { SitsIn memory.old seat.old }
-    requires counted { IsCounted driver counts T.SIZE }
-    requires asks { Asks (V.asks visitor) T.value driver counts memory.old.flash
+    requires counted { IsCounted T.driver driver counts T.SIZE }
+    requires asks { Asks (grants_of driver counts T.kept) (V.asks visitor) memory.old.flash
         (own_in memory.old.ram seat.old) }
     ensures visited { IfSome result
-        (λ answer. Visited (V.leaves visitor) T.value T.words driver counts memory.old.flash
+        (λ answer. Visited (grants_of driver counts T.kept) (V.leaves visitor) memory.old.flash
         (own_in memory.old.ram seat.old) answer (own_in memory.new.ram seat.new)) }
     ensures none { IfNone result (kept driver (own_in memory.old.ram seat.old) ≡ None) }
     ensures same { IfNone result ((memory.new ≡ memory.old) × (seat.new ≡ seat.old)) }
@@ -157,16 +157,17 @@ pub(crate) fn enter_seat<T: GrantValue, V: Visit<T> + Drop>(
     visitor: V,
 ) -> Result<V::Answer, EnterError>
     requires sits { SitsIn memory.old seat.old }
-    requires counted { IsCounted driver counts T.SIZE }
-    requires asks { Asks (V.asks visitor) T.value driver counts memory.old.flash
+    requires counted { IsCounted T.driver driver counts T.SIZE }
+    requires asks { Asks (grants_of driver counts T.kept) (V.asks visitor) memory.old.flash
         (own_entering driver (own_in memory.old.ram seat.old)) }
-    ensures enters { Enters (V.leaves visitor) T.value T.words driver counts life
+    ensures enters { Enters (grants_of driver counts T.kept) (V.leaves visitor) life
         memory.old.flash (own_in memory.old.ram seat.old) result (own_in memory.new.ram seat.new) }
     ensures reseats { Reseats memory.old seat.old memory.new seat.new }
 {
     if is_gone(seat, life) {
         return Err(EnterError::Stale);
     }
+    pairs_stand_by_kind();
     let Ok(_) = make_room_in(memory, &mut seat.layout, driver, &counts) else {
         return Err(EnterError::NoRoom);
     };
@@ -186,10 +187,10 @@ pub(crate) fn visit_seat<T: GrantValue, V: Visit<T> + Drop>(
     visitor: V,
 ) -> Result<Option<V::Answer>, Stale>
     requires sits { SitsIn memory.old seat.old }
-    requires counted { IsCounted driver counts T.SIZE }
-    requires asks { Asks (V.asks visitor) T.value driver counts memory.old.flash
+    requires counted { IsCounted T.driver driver counts T.SIZE }
+    requires asks { Asks (grants_of driver counts T.kept) (V.asks visitor) memory.old.flash
         (own_in memory.old.ram seat.old) }
-    ensures visits { Visits (V.leaves visitor) T.value T.words driver counts life
+    ensures visits { Visits (grants_of driver counts T.kept) (V.leaves visitor) life
         memory.old.flash (own_in memory.old.ram seat.old) result (own_in memory.new.ram seat.new) }
     ensures reseats { Reseats memory.old seat.old memory.new seat.new }
 {
@@ -208,10 +209,9 @@ pub(crate) fn peek_seat<T: GrantValue>(
     counts: Counts,
 ) -> Result<Option<T>, Stale>
     requires sits { SitsIn memory.now seat.now }
-    requires counted { IsCounted driver counts T.SIZE }
-    ensures stale { is_ok result ≡ not (is_stale life (own_in memory.now.ram seat.now)) }
-    ensures kept { IfOk result
-        (λ value. value ≡ option_map T.value (kept driver (own_in memory.now.ram seat.now))) }
+    requires counted { IsCounted T.driver driver counts T.SIZE }
+    ensures peeks { Peeks (grants_of driver counts T.kept) life (own_in memory.now.ram seat.now)
+        result }
 {
     if is_gone(seat, life) {
         return Err(Stale);
@@ -223,9 +223,9 @@ pub(crate) fn peek_seat<T: GrantValue>(
 fn kept_in<T: GrantValue>(kernel: &[u8], driver: u32, counts: &Counts) -> Option<T>
     requires laid { EncodesGrants kernel.now }
     requires small { length kernel.now < 2 ^ 32 }
-    requires counted { IsCounted driver counts.now T.SIZE }
-    ensures { result
-        ≡ option_map (λ g. T.value g.value) (grant_of driver (decode_grants kernel.now)) }
+    requires counted { IsCounted T.driver driver counts.now T.SIZE }
+    ensures { option_map T.kept result
+        ≡ option_map (λ g. g.value) (grant_of driver (decode_grants kernel.now)) }
 {
     let at = value_place(kernel, driver, counts)?;
     Some(value_at::<T>(kernel, at))

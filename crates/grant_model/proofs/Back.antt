@@ -4,11 +4,12 @@ use Rattle.std.proofs.Common.{◌++◌, length, take, drop, replicate, length-ap
 use Rattle.std.specs.List.{AllByRecursion}
 use Rattle.std.proofs.lemmas.List.{take_at, drop_at, length-replicate}
 use Rattle.tk_base.specs.declared.upcall.Counts.{Counts}
+use Rattle.tk_base.specs.Kinds.{pair_count}
 use Rattle.grant_values.specs.Words.{IsWord, WordsInBytes, words_of}
 use Rattle.grant_values.specs.Drivers.{cost_of}
-use Rattle.tk_base.specs.declared.kinds.PairKind.TheVariants.{Upcall, ReadOnly, ReadWrite}
+use Rattle.grant_values.specs.Values.{KeptValue, value_told, value_words}
 use Rattle.grant_model.specs.Grants.{Grant, shape_of}
-use Rattle.grant_model.specs.Encoding.{body_size, padding_of, pair_words, value_words, body_words, areas, encode_grants}
+use Rattle.grant_model.specs.Encoding.{body_size, padding_of, pair_words, padded_words, body_words, areas, encode_grants}
 use Rattle.grant_model.specs.Encoding.{pairs_at_front, grant_in, grants_in, decode_grants, IsSound, EncodesGrants}
 use Rattle.grant_model.specs.Encoding.{Tells}
 use Rattle.grant_model.specs.Laws.{IsReadBack}
@@ -17,7 +18,7 @@ use Rattle.grant_model.specs.Laws.{IsReadBack}
 pub cost-words : (c : Counts) → cost_of c ≡ 4 * (2 + body_size c)
 cost-words c = omega arith
 
-pub body-parts : (c : Counts) → body_size c ≡ 2 * (c.upcalls + c.ro + c.rw) + (c.value / 4 + padding_of c)
+pub body-parts : (c : Counts) → body_size c ≡ 2 * pair_count c + (c.value / 4 + padding_of c)
 body-parts c = omega arith
 
 pub length-pairs : (ps : List (ℕ × ℕ)) → length (pair_words ps) ≡ 2 * length ps
@@ -31,69 +32,44 @@ pairs-back (p ∷ ps) ws = ap (λ z. p ∷ z) (pairs-back ps ws)
 pub drop-pairs : (ps : List (ℕ × ℕ)) (ws : List ℕ) (n : ℕ) → length ps ≡ n → drop (2 * n) (pair_words ps ++ ws) ≡ ws
 drop-pairs ps ws n e = drop_at (pair_words ps) ws (2 * n) (let h = length-pairs ps in omega arith)
 
-grant_back : (g : Grant) (k : Counts) (rest : List ℕ) → length g.upcalls ≡ k.upcalls → length g.ro ≡ k.ro
-    → length g.rw ≡ k.rw → length g.value ≡ k.value / 4 → grant_in g.driver k (body_words g ++ rest) ≡ g
-grant_back g k rest u o w v =
-    let pad = replicate (padding_of (shape_of g.driver)) 0 in
-    let three = pair_words g.rw ++ value_words g in
-    let two = pair_words g.ro ++ three in
+grant_back : (g : Grant) (rest : List ℕ) → IsSound g → grant_in g.driver (shape_of g.driver) (body_words g ++ rest) ≡ g
+grant_back g rest s =
+    let k = shape_of g.driver in
+    let n = pair_count k in
+    let pad = replicate (padding_of k) 0 in
     let words = body_words g ++ rest in
-    let d0 = drop (2 * k.upcalls) words in
-    let d1 = drop (2 * k.ro) d0 in
-    let whole : words ≡ pair_words g.upcalls ++ (two ++ rest) = append_assoc (pair_words g.upcalls) two rest in
-    let second : d0 ≡ pair_words g.ro ++ (three ++ rest) =
-    ap (drop (2 * k.upcalls)) whole ∙ drop-pairs g.upcalls (two ++ rest) k.upcalls u
-    ∙ append_assoc (pair_words g.ro) three rest in
-    let third : d1 ≡ pair_words g.rw ++ (value_words g ++ rest) =
-    ap (drop (2 * k.ro)) second ∙ drop-pairs g.ro (three ++ rest) k.ro o
-    ∙ append_assoc (pair_words g.rw) (value_words g) rest in
-    let last : drop (2 * k.rw) d1 ≡ g.value ++ (pad ++ rest) =
-    ap (drop (2 * k.rw)) third ∙ drop-pairs g.rw (value_words g ++ rest) k.rw w ∙ append_assoc g.value pad rest in
-    let ups : pairs_at_front k.upcalls words ≡ g.upcalls =
-    ap (pairs_at_front k.upcalls) whole ∙ ap (λ n. pairs_at_front n (pair_words g.upcalls ++ (two ++ rest))) (sym u)
-    ∙ pairs-back g.upcalls (two ++ rest) in
-    let ros : pairs_at_front k.ro d0 ≡ g.ro =
-    ap (pairs_at_front k.ro) second ∙ ap (λ n. pairs_at_front n (pair_words g.ro ++ (three ++ rest))) (sym o)
-    ∙ pairs-back g.ro (three ++ rest) in
-    let rws : pairs_at_front k.rw d1 ≡ g.rw =
-    ap (pairs_at_front k.rw) third ∙ ap (λ n. pairs_at_front n (pair_words g.rw ++ (value_words g ++ rest))) (sym w)
-    ∙ pairs-back g.rw (value_words g ++ rest) in
-    let val : take (k.value / 4) (drop (2 * k.rw) d1) ≡ g.value =
-    ap (take (k.value / 4)) last ∙ take_at g.value (pad ++ rest) (k.value / 4) v in
-    let made : List (ℕ × ℕ) → List (ℕ × ℕ) → List (ℕ × ℕ) → List ℕ
-    → Grant = λ a b c d. record { driver = g.driver; upcalls = a; ro = b; rw = c; value = d } in
-    ap (λ z. made z (pairs_at_front k.ro d0) (pairs_at_front k.rw d1) (take (k.value / 4) (drop (2 * k.rw) d1))) ups
-    ∙ ap (λ z. made g.upcalls z (pairs_at_front k.rw d1) (take (k.value / 4) (drop (2 * k.rw) d1))) ros
-    ∙ ap (λ z. made g.upcalls g.ro z (take (k.value / 4) (drop (2 * k.rw) d1))) rws
-    ∙ ap (λ z. made g.upcalls g.ro g.rw z) val
+    let kept = take (k.value / 4) (drop (2 * n) words) in
+    let whole : words ≡ pair_words g.pairs ++ (padded_words g ++ rest) =
+    append_assoc (pair_words g.pairs) (padded_words g) rest in
+    let pairs : pairs_at_front n words ≡ g.pairs =
+    ap (pairs_at_front n) whole ∙ ap (λ m. pairs_at_front m (pair_words g.pairs ++ (padded_words g ++ rest))) (sym s.pairs)
+    ∙ pairs-back g.pairs (padded_words g ++ rest) in
+    let last : drop (2 * n) words ≡ value_words g.value ++ (pad ++ rest) =
+    ap (drop (2 * n)) whole ∙ drop-pairs g.pairs (padded_words g ++ rest) n s.pairs
+    ∙ append_assoc (value_words g.value) pad rest in
+    let value : value_told g.driver kept ≡ g.value =
+    ap (λ ws. value_told g.driver (take (k.value / 4) ws)) last
+    ∙ ap (value_told g.driver) (take_at (value_words g.value) (pad ++ rest) (k.value / 4) s.value.count)
+    ∙ s.value.told in
+    let made : List (ℕ × ℕ) → KeptValue → Grant = λ ps v. record { driver = g.driver; pairs = ps; value = v } in
+    ap (λ ps. made ps (value_told g.driver kept)) pairs ∙ ap (made g.pairs) value
 
-pub length-value : (g : Grant) → IsSound g
-    → length (value_words g) ≡ (shape_of g.driver).value / 4 + padding_of (shape_of g.driver)
-length-value g s =
+length_padded : (g : Grant) → IsSound g
+    → length (padded_words g) ≡ (shape_of g.driver).value / 4 + padding_of (shape_of g.driver)
+length_padded g s =
     let n = padding_of (shape_of g.driver) in
     let zeros : List ℕ = replicate n 0 in
-    length-append g.value zeros ∙ ap (λ k. k + length zeros) s.value
+    length-append (value_words g.value) zeros ∙ ap (λ k. k + length zeros) s.value.count
     ∙ ap (λ k. (shape_of g.driver).value / 4 + k) (length-replicate n 0)
 
 pub length-body : (g : Grant) → IsSound g → length (body_words g) ≡ body_size (shape_of g.driver)
 length-body g s =
     let k = shape_of g.driver in
-    let three = pair_words g.rw ++ value_words g in
-    let two = pair_words g.ro ++ three in
-    let u : length g.upcalls ≡ k.upcalls = s.pairs Upcall in
-    let o : length g.ro ≡ k.ro = s.pairs ReadOnly in
-    let w : length g.rw ≡ k.rw = s.pairs ReadWrite in
-    let parts : length (body_words g) ≡ 2 * (k.upcalls + k.ro + k.rw) + length (value_words g) =
-    omega (
-      arith,
-      length-append (pair_words g.upcalls) two,
-      length-append (pair_words g.ro) three,
-      length-append (pair_words g.rw) (value_words g),
-      length-pairs g.upcalls,
-      length-pairs g.ro,
-      length-pairs g.rw,
-    ) in
-    parts ∙ ap (λ n. 2 * (k.upcalls + k.ro + k.rw) + n) (length-value g s) ∙ sym (body-parts k)
+    let parts : length (body_words g) ≡ 2 * length g.pairs + length (padded_words g) =
+    length-append (pair_words g.pairs) (padded_words g)
+    ∙ ap (λ n. n + length (padded_words g)) (length-pairs g.pairs) in
+    parts ∙ ap (λ n. 2 * n + length (padded_words g)) s.pairs
+    ∙ ap (λ n. 2 * pair_count k + n) (length_padded g s) ∙ sym (body-parts k)
 
 grants_back : (gs : List Grant) (n : ℕ) → AllByRecursion IsSound gs → length gs ≤ n → grants_in n (areas gs) ≡ gs
 grants_back [] zero all h = refl
@@ -103,21 +79,31 @@ grants_back (g ∷ gs) (suc n) all h =
     let s = all.0 in
     let k = shape_of g.driver in
     let first : grant_in g.driver k (body_words g ++ areas gs) ≡ g =
-    grant_back g k (areas gs) (s.pairs Upcall) (s.pairs ReadOnly) (s.pairs ReadWrite) s.value in
+    grant_back g (areas gs) s in
     let rest : drop (body_size k) (body_words g ++ areas gs) ≡ areas gs =
     drop_at (body_words g) (areas gs) (body_size k) (length-body g s) in
     let back : grants_in n (areas gs) ≡ gs = grants_back gs n all.1 (omega arith) in
     ap (λ z. z ∷ grants_in n (drop (body_size k) (body_words g ++ areas gs))) first ∙ ap (λ z. g ∷ grants_in n z) rest
     ∙ ap (λ z. g ∷ z) back
 
-all_append : (xs ys : List ℕ) → AllByRecursion IsWord xs → AllByRecursion IsWord ys → AllByRecursion IsWord (xs ++ ys)
-all_append [] ys a b = b
-all_append (x ∷ xs) ys a b = (a.0, all_append xs ys a.1 b)
+pub all-append : (xs ys : List ℕ) → AllByRecursion IsWord xs → AllByRecursion IsWord ys → AllByRecursion IsWord (xs ++ ys)
+all-append [] ys a b = b
+all-append (x ∷ xs) ys a b = (a.0, all-append xs ys a.1 b)
+
+pub zero-words : (n : ℕ) → AllByRecursion IsWord (replicate n 0)
+zero-words zero = tt
+zero-words (suc n) = (omega arith, zero-words n)
+
+pub words-body : (g : Grant) → IsSound g → AllByRecursion IsWord (body_words g)
+words-body g s =
+    let n = padding_of (shape_of g.driver) in
+    all-append (pair_words g.pairs) (padded_words g) s.words
+    (all-append (value_words g.value) (replicate n 0) s.value.words (zero-words n))
 
 areas_words : (gs : List Grant) → AllByRecursion IsSound gs → AllByRecursion IsWord (areas gs)
 areas_words [] all = tt
 areas_words (g ∷ gs) all =
-    (all.0.driver, (all.0.cost, all_append (body_words g) (areas gs) all.0.body (areas_words gs all.1)))
+    (all.0.driver, (all.0.cost, all-append (body_words g) (areas gs) (words-body g all.0) (areas_words gs all.1)))
 
 length_areas : (gs : List Grant) → length gs ≤ length (areas gs)
 length_areas [] = omega arith

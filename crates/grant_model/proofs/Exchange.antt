@@ -4,7 +4,7 @@ use Rattle.std.proofs.Common.{get_or, set, length-append, Some}
 use Rattle.grant_values.specs.Words.{WordsInBytes, bytes_of_words, words_of}
 use Rattle.tk_base.specs.declared.kinds.PairKind.{PairKind}
 use Rattle.grant_model.specs.declared.places.Area.{Area}
-use Rattle.tk_base.specs.Kinds.{count_of, pairs_before}
+use Rattle.tk_base.specs.Kinds.{count_of, pair_place}
 use Rattle.grant_model.specs.Grants.{shape_of, grant_of, with_grant, pairs_of, pair_of, with_pair}
 use Rattle.grant_model.specs.Encoding.{body_words, areas, EncodesGrants, Tells, area_of, decode_grants}
 use Rattle.grant_model.specs.Laws.{ArePair, PairsAreFound, word_of_pair}
@@ -41,7 +41,7 @@ at_spot law kind place driver n i j kernel is s st e =
           ap (λ k. set (set (words_of kernel) i p.0) k p.1) one ∙ ap (λ ws. put2 ws i p) words
           ∙ put2-right s.before (body ++ s.after) (length s.before) i j p refl here
           ∙ ap (λ z. s.before ++ z) (put2-left body s.after j p st.within ∙ ap (λ z. z ++ s.after) (st.put p))
-          ∙ sym (s.changed (with_pair kind n p) (st.driver p)) in
+          ∙ sym (s.changed (with_pair kind n p) refl) in
           subst (λ ws. Tells (bytes_of_words ws) gs') (sym put)
           (tells law gs' (s.kept (with_pair kind n p) (st.sound p a b)));
     }
@@ -60,10 +60,10 @@ at_area law kind driver n kernel area is e small =
     let s = spot 0 p.place driver (decode_grants kernel) is.sound p.at in
     let k : shape_of s.grant.driver ≡ shape_of driver = ap shape_of s.driver_is in
     let st = stands kind n s.grant s.sound (subst (λ c. n < count_of kind c) (sym k) small) in
-    let j = 2 * (pairs_before kind (shape_of s.grant.driver) + n) in
+    let j = 2 * pair_place kind n (shape_of s.grant.driver) in
     let at : word_of_pair kind driver n area ≡ p.place + 2 + j =
-    ap (λ o. o / 4 + 2 + 2 * (pairs_before kind (shape_of driver) + n)) p.offset
-    ∙ ap (λ c. 4 * p.place / 4 + 2 + 2 * (pairs_before kind c + n)) (sym k) ∙ quarter p.place j in
+    ap (λ o. o / 4 + 2 + 2 * pair_place kind n (shape_of driver)) p.offset
+    ∙ ap (λ c. 4 * p.place / 4 + 2 + 2 * pair_place kind n c) (sym k) ∙ quarter p.place j in
     at_spot law kind p.place driver n (word_of_pair kind driver n area) j kernel is s st at
   where
     quarter : (place j : ℕ) → 4 * place / 4 + 2 + j ≡ place + 2 + j

@@ -5,13 +5,12 @@ use Rattle.std.specs.List.{AllByRecursion}
 use Rattle.std.proofs.lemmas.List.{set-append_left, set-append_right, get_or_append_left, get_or-append_right}
 use Rattle.std.proofs.lemmas.List.{length-set}
 use Rattle.grant_values.specs.Words.{IsWord}
-use Rattle.grant_values.specs.Drivers.{counts_of, cost_of}
 use Rattle.tk_base.specs.declared.kinds.PairKind.{PairKind}
-use Rattle.tk_base.specs.declared.kinds.PairKind.TheVariants.{Upcall, ReadOnly, ReadWrite}
-use Rattle.tk_base.specs.Kinds.{count_of, pairs_before}
+use Rattle.tk_base.specs.Kinds.{count_of, pair_count, pair_place, pairs_before}
 use Rattle.grant_model.specs.Grants.{Grant, shape_of, pairs_of, with_pair}
-use Rattle.grant_model.specs.Encoding.{pair_words, value_words, body_words, IsSound}
+use Rattle.grant_model.specs.Encoding.{pair_words, padded_words, body_words, IsSound}
 use Rattle.grant_model.proofs.Back.{length-pairs}
+use Rattle.grant_model.proofs.Windows.{get-window, place-within}
 
 -- two words put side by side, and two read
 abbrev pub put2 : List ℕ → ℕ → ℕ × ℕ → List ℕ
@@ -79,119 +78,44 @@ all_set [] i v all h = tt
 all_set (w ∷ ws) zero v all h = (h, all.1)
 all_set (w ∷ ws) (suc i) v all h = (all.0, all_set ws i v all.1 h)
 
--- the words of a grant before the pairs of a kind, and those after them
-abbrev front : PairKind → Grant → List ℕ
-front Upcall g = []
-front ReadOnly g = pair_words g.upcalls
-front ReadWrite g = pair_words g.upcalls ++ pair_words g.ro
-
-abbrev back : PairKind → Grant → List ℕ
-back Upcall g = pair_words g.ro ++ (pair_words g.rw ++ value_words g)
-back ReadOnly g = pair_words g.rw ++ value_words g
-back ReadWrite g = value_words g
-
-cut : (kind : PairKind) (g : Grant) → body_words g ≡ front kind g ++ (pair_words (pairs_of kind g) ++ back kind g)
-cut Upcall g = refl
-cut ReadOnly g = refl
-cut ReadWrite g = sym (append_assoc (pair_words g.upcalls) (pair_words g.ro) (pair_words g.rw ++ value_words g))
-
-length_front : (kind : PairKind) (g : Grant) → IsSound g
-    → length (front kind g) ≡ 2 * pairs_before kind (shape_of g.driver)
-length_front Upcall g s = refl
-length_front ReadOnly g s = length-pairs g.upcalls ∙ ap (λ n. 2 * n) (s.pairs Upcall)
-length_front ReadWrite g s =
-    let u : length g.upcalls ≡ (shape_of g.driver).upcalls = s.pairs Upcall in
-    let o : length g.ro ≡ (shape_of g.driver).ro = s.pairs ReadOnly in
-    omega (arith, length-append (pair_words g.upcalls) (pair_words g.ro), length-pairs g.upcalls, length-pairs g.ro)
-
--- another pair stands where the pair stood
-cut_changed : (kind : PairKind) (n : ℕ) (p : ℕ × ℕ) (g : Grant)
-    → body_words (with_pair kind n p g) ≡ front kind g ++ (pair_words (set (pairs_of kind g) n p) ++ back kind g)
-cut_changed Upcall n p g = refl
-cut_changed ReadOnly n p g = refl
-cut_changed ReadWrite n p g =
-    sym (append_assoc (pair_words g.upcalls) (pair_words g.ro) (pair_words (set g.rw n p) ++ value_words g))
-
-same_driver : (kind : PairKind) (n : ℕ) (p : ℕ × ℕ) (g : Grant) → (with_pair kind n p g).driver ≡ g.driver
-same_driver Upcall n p g = refl
-same_driver ReadOnly n p g = refl
-same_driver ReadWrite n p g = refl
-
-same_value : (kind : PairKind) (n : ℕ) (p : ℕ × ℕ) (g : Grant) → (with_pair kind n p g).value ≡ g.value
-same_value Upcall n p g = refl
-same_value ReadOnly n p g = refl
-same_value ReadWrite n p g = refl
-
-same_count : (kind other : PairKind) (n : ℕ) (p : ℕ × ℕ) (g : Grant)
-    → length (pairs_of other (with_pair kind n p g)) ≡ length (pairs_of other g)
-same_count Upcall Upcall n p g = length-set g.upcalls n p
-same_count Upcall ReadOnly n p g = refl
-same_count Upcall ReadWrite n p g = refl
-same_count ReadOnly Upcall n p g = refl
-same_count ReadOnly ReadOnly n p g = length-set g.ro n p
-same_count ReadOnly ReadWrite n p g = refl
-same_count ReadWrite Upcall n p g = refl
-same_count ReadWrite ReadOnly n p g = refl
-same_count ReadWrite ReadWrite n p g = length-set g.rw n p
-
--- a grant of the same driver whose lists are as long, of words, is as sound
-pub changed_sound : (g h : Grant) → IsSound g → h.driver ≡ g.driver
-    → ((kind : PairKind) → length (pairs_of kind h) ≡ length (pairs_of kind g)) → length h.value ≡ length g.value
-    → AllByRecursion IsWord (body_words h) → IsSound h
-changed_sound g h s d pairs value body = record {
-  known = ap counts_of d ∙ s.known ∙ ap (λ n. Some (shape_of n)) (sym d);
-  driver = subst (λ n. n < 2 ^ 32) (sym d) s.driver;
-  pairs = λ kind. pairs kind ∙ s.pairs kind ∙ ap (λ n. count_of kind (shape_of n)) (sym d);
-  value = value ∙ s.value ∙ ap (λ n. (shape_of n).value / 4) (sym d);
-  cost = subst (λ n. cost_of (shape_of n) < 2 ^ 32) (sym d) s.cost;
-  body = body;
-}
-
 -- pair n of a kind stands in the grant's words at place j, and put there another is the pair of the grant
 pub record Stands (kind : PairKind) (n j : ℕ) (g : Grant) : Type 0 where
   pub within : suc j < length (body_words g)
   pub read : get2 (body_words g) j ≡ get_or (pairs_of kind g) n (0, 0)
   pub put : (p : ℕ × ℕ) → put2 (body_words g) j p ≡ body_words (with_pair kind n p g)
-  pub driver : (p : ℕ × ℕ) → (with_pair kind n p g).driver ≡ g.driver
   pub sound : (p : ℕ × ℕ) → p.0 < 2 ^ 32 → p.1 < 2 ^ 32 → IsSound (with_pair kind n p g)
 
 pub stands : (kind : PairKind) (n : ℕ) (g : Grant) → IsSound g → n < count_of kind (shape_of g.driver)
-    → Stands kind n (2 * (pairs_before kind (shape_of g.driver) + n)) g
+    → Stands kind n (2 * pair_place kind n (shape_of g.driver)) g
 stands kind n g s small =
-    let ps = pairs_of kind g in
-    let b = pairs_before kind (shape_of g.driver) in
-    let j = 2 * (b + n) in
-    let count : length ps ≡ count_of kind (shape_of g.driver) = s.pairs kind in
-    let l : length (front kind g) ≡ 2 * b = length_front kind g s in
-    let at : j ≡ 2 * b + 2 * n = omega arith in
-    let inside : suc (2 * n) < length (pair_words ps) =
-    room n (count_of kind (shape_of g.driver)) (length ps) (length (pair_words ps)) small count (length-pairs ps) in
-    let long : length (body_words g) ≡ length (front kind g) + (length (pair_words ps) + length (back kind g)) =
-    ap length (cut kind g) ∙ length-append (front kind g) (pair_words ps ++ back kind g)
-    ∙ ap (λ k. length (front kind g) + k) (length-append (pair_words ps) (back kind g)) in
-    let put : (p : ℕ × ℕ) → put2 (body_words g) j p ≡ body_words (with_pair kind n p g) = λ p.
-    ap (λ ws. put2 ws j p) (cut kind g)
-    ∙ put2-right (front kind g) (pair_words ps ++ back kind g) (2 * b) j (2 * n) p l at
-    ∙ ap (λ z. front kind g ++ z) (put2-left (pair_words ps) (back kind g) (2 * n) p inside
-    ∙ ap (λ z. z ++ back kind g) (put2-pairs ps n p))
-    ∙ sym (cut_changed kind n p g) in
+    let counts = shape_of g.driver in
+    let place = pair_place kind n counts in
+    let j = 2 * place in
+    let inside : suc j < length (pair_words g.pairs) =
+    room place (pair_count counts) (length g.pairs) (length (pair_words g.pairs)) (place-within kind n counts small)
+    s.pairs (length-pairs g.pairs) in
+    let put : (p : ℕ × ℕ) → put2 (pair_words g.pairs) j p ≡ pair_words (set g.pairs place p) =
+    λ p. put2-pairs g.pairs place p in
     record {
-      within = deep j (2 * b) (2 * n) (length (front kind g)) (length (pair_words ps)) (length (back kind g))
-          (length (body_words g)) at l inside long;
-      read = ap (λ ws. get2 ws j) (cut kind g)
-          ∙ get2-right (front kind g) (pair_words ps ++ back kind g) (2 * b) j (2 * n) l at
-          ∙ get2-left (pair_words ps) (back kind g) (2 * n) inside ∙ get2-pairs ps n;
-      put = put;
-      driver = λ p. same_driver kind n p g;
-      sound = λ p a c.
-          let d : (with_pair kind n p g).driver ≡ g.driver = same_driver kind n p g in
-          changed_sound g (with_pair kind n p g) s d (λ other. same_count kind other n p g)
-          (ap length (same_value kind n p g)) (subst (AllByRecursion IsWord) (put p)
-          (all_set (set (body_words g) j p.0) (suc j) p.1 (all_set (body_words g) j p.0 s.body a) c));
+      within = deep j (length (pair_words g.pairs)) (length (padded_words g)) (length (body_words g)) inside
+          (length-append (pair_words g.pairs) (padded_words g));
+      read = get2-left (pair_words g.pairs) (padded_words g) j inside ∙ get2-pairs g.pairs place
+          ∙ sym (get-window g.pairs (pairs_before kind counts) (count_of kind counts) n small);
+      put = λ p. put2-left (pair_words g.pairs) (padded_words g) j p inside ∙ ap (λ z. z ++ padded_words g) (put p);
+      sound = λ p a c. record {
+        known = s.known;
+        driver = s.driver;
+        pairs = length-set g.pairs place p ∙ s.pairs;
+        words =
+            subst (AllByRecursion IsWord) (put p)
+            (all_set (set (pair_words g.pairs) j p.0) (suc j) p.1 (all_set (pair_words g.pairs) j p.0 s.words a) c);
+        value = s.value;
+        cost = s.cost;
+      };
     }
   where
-    room : (n c l w : ℕ) → n < c → l ≡ c → w ≡ 2 * l → suc (2 * n) < w
-    room n c l w h e f = omega arith
+    room : (place count l w : ℕ) → place < count → l ≡ count → w ≡ 2 * l → suc (2 * place) < w
+    room place count l w h e f = omega arith
 
-    deep : (j b m f w r l : ℕ) → j ≡ b + m → f ≡ b → suc m < w → l ≡ f + (w + r) → suc j < l
-    deep j b m f w r l e h i k = omega arith
+    deep : (j w r l : ℕ) → suc j < w → l ≡ w + r → suc j < l
+    deep j w r l h e = omega arith

@@ -4,31 +4,31 @@ use Rattle.std.specs.Prelude.{ℕ, zero, suc, ◌≡◌, ◌+◌, ◌-◌, ◌*�
 use Rattle.std.specs.Prelude.{length, take, drop, replicate, Option, None, Some, option_map}
 use Rattle.std.specs.List.{AllByRecursion}
 use Rattle.tk_base.specs.declared.upcall.Counts.{Counts}
+use Rattle.tk_base.specs.Kinds.{pair_count}
 use Rattle.grant_values.specs.Words.{IsWord, bytes_of_words, words_of}
 use Rattle.grant_values.specs.Drivers.{counts_of, cost_of}
-use Rattle.tk_base.specs.declared.kinds.PairKind.{PairKind}
+use Rattle.grant_values.specs.Values.{KeptValue, value_told, value_words}
 use Rattle.grant_model.specs.declared.places.Area.{Area}
-use Rattle.tk_base.specs.Kinds.{count_of}
-use Rattle.grant_model.specs.Grants.{Grant, shape_of, pairs_of}
+use Rattle.grant_model.specs.Grants.{Grant, HasPairs, shape_of}
 
 -- how many words of a grant follow its driver and its cost, and how many of them are padding
 abbrev pub body_size : Counts → ℕ
 body_size counts = cost_of counts / 4 - 2
 
 abbrev pub padding_of : Counts → ℕ
-padding_of counts = body_size counts - (2 * (counts.upcalls + counts.ro + counts.rw) + counts.value / 4)
+padding_of counts = body_size counts - (2 * pair_count counts + counts.value / 4)
 
 -- pairs as words, and a value with its padding of zeros
 abbrev pub pair_words : List (ℕ × ℕ) → List ℕ
 pair_words [] = []
 pair_words (pair ∷ pairs) = pair.0 ∷ pair.1 ∷ pair_words pairs
 
-abbrev pub value_words : Grant → List ℕ
-value_words g = g.value ++ replicate (padding_of (shape_of g.driver)) 0
+abbrev pub padded_words : Grant → List ℕ
+padded_words g = value_words g.value ++ replicate (padding_of (shape_of g.driver)) 0
 
--- the words of a grant: upcalls, read-only buffers, read-write buffers, value
+-- the words of a grant: the pairs, kind by kind, and the value
 abbrev pub body_words : Grant → List ℕ
-body_words g = pair_words g.upcalls ++ (pair_words g.ro ++ (pair_words g.rw ++ value_words g))
+body_words g = pair_words g.pairs ++ padded_words g
 
 -- an area: driver, cost, and the words of the grant
 abbrev pub area_words : Grant → List ℕ
@@ -42,14 +42,20 @@ areas (g ∷ gs) = area_words g ++ areas gs
 abbrev pub encode_grants : List Grant → List ℕ
 encode_grants gs = bytes_of_words (areas gs)
 
+-- a value that a driver can keep: it has the driver's number of words, which tell it
+pub record CanBeKept (driver : ℕ) (value : KeptValue) : Type 0 where
+  pub count : length (value_words value) ≡ (shape_of driver).value / 4
+  pub words : AllByRecursion IsWord (value_words value)
+  pub told : value_told driver (value_words value) ≡ value
+
 -- a grant as the table of drivers has it
 pub record IsSound (g : Grant) : Type 0 where
   pub known : counts_of g.driver ≡ Some (shape_of g.driver)
   pub driver : g.driver < 2 ^ 32
-  pub pairs : (kind : PairKind) → length (pairs_of kind g) ≡ count_of kind (shape_of g.driver)
-  pub value : length g.value ≡ (shape_of g.driver).value / 4
+  pub pairs : HasPairs g
+  pub words : AllByRecursion IsWord (pair_words g.pairs)
+  pub value : CanBeKept g.driver g.value
   pub cost : cost_of (shape_of g.driver) < 2 ^ 32
-  pub body : AllByRecursion IsWord (body_words g)
 
 -- the pairs at the front of words
 abbrev pub pairs_at_front : ℕ → List ℕ → List (ℕ × ℕ)
@@ -62,10 +68,8 @@ pairs_at_front (suc n) [] = []
 abbrev pub grant_in : ℕ → Counts → List ℕ → Grant
 grant_in driver counts words = record {
   driver = driver;
-  upcalls = pairs_at_front counts.upcalls words;
-  ro = pairs_at_front counts.ro (drop (2 * counts.upcalls) words);
-  rw = pairs_at_front counts.rw (drop (2 * counts.ro) (drop (2 * counts.upcalls) words));
-  value = take (counts.value / 4) (drop (2 * counts.rw) (drop (2 * counts.ro) (drop (2 * counts.upcalls) words)));
+  pairs = pairs_at_front (pair_count counts) words;
+  value = value_told driver (take (counts.value / 4) (drop (2 * pair_count counts) words));
 }
 
 -- the grants that words tell, so many at most

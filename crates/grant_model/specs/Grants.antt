@@ -1,20 +1,19 @@
 -- What a process keeps for each driver that it has entered (Levy et al., SOSP 2017, section 4), and the pairs that it
 -- swaps (TRD 104, "Subscribe", "Read-Only Allow", "Read-Write Allow").
-use Rattle.std.specs.Prelude.{ℕ, ◌/◌, ◌==◌, if◌then◌else◌, List, [], ◌∷◌, replicate, slice_index_or, slice_set, Option}
-use Rattle.std.specs.Prelude.{None, Some}
+use Rattle.std.specs.Prelude.{ℕ, ◌≡◌, ◌==◌, if◌then◌else◌, List, [], ◌∷◌, length, take, drop, replicate}
+use Rattle.std.specs.Prelude.{slice_index_or, slice_set, Option, None, Some}
 use Rattle.tk_base.specs.declared.upcall.Counts.{Counts}
 use Rattle.tk_base.specs.declared.kinds.PairKind.{PairKind}
-use Rattle.tk_base.specs.declared.kinds.PairKind.TheVariants.{Upcall, ReadOnly, ReadWrite}
+use Rattle.tk_base.specs.Kinds.{count_of, pair_count, pair_place, pairs_before}
 use Rattle.grant_values.specs.Drivers.{counting, counts_of}
+use Rattle.grant_values.specs.Values.{KeptValue, fresh_value}
 
--- A grant: its driver, the pairs of function and data of its upcalls, those of address and size of its buffers, and
--- the words of its value. A process's grants are a list, the last entered first.
+-- A grant: its driver, the pairs of function and data of its upcalls and those of address and size of its buffers, kind
+-- by kind, and what the driver keeps. A process's grants are a list, the last entered first.
 pub record Grant : Type 0 where
   pub driver : ℕ
-  pub upcalls : List (ℕ × ℕ)
-  pub ro : List (ℕ × ℕ)
-  pub rw : List (ℕ × ℕ)
-  pub value : List ℕ
+  pub pairs : List (ℕ × ℕ)
+  pub value : KeptValue
 
 -- the counts of a driver's grant; all 0 where there is no such driver
 abbrev pub counts_or_none : Option Counts → Counts
@@ -24,6 +23,10 @@ counts_or_none (Some counts) = counts
 -- how many pairs and bytes the grant of a driver has; none of any where there is no such driver
 unfoldable pub shape_of : ℕ → Counts
 shape_of driver = counts_or_none (counts_of driver)
+
+-- a grant has as many pairs as its driver
+abbrev pub HasPairs : Grant → Type 0
+HasPairs g = length g.pairs ≡ pair_count (shape_of g.driver)
 
 -- the grant of a driver, where it has been entered
 abbrev pub grant_of : ℕ → List Grant → Option Grant
@@ -37,38 +40,28 @@ with_grant driver change (g ∷ gs) = if g.driver == driver then change g ∷ gs
 
 -- the pairs of a kind
 abbrev pub pairs_of : PairKind → Grant → List (ℕ × ℕ)
-pairs_of Upcall g = g.upcalls
-pairs_of ReadOnly g = g.ro
-pairs_of ReadWrite g = g.rw
+pairs_of kind g = take (count_of kind (shape_of g.driver)) (drop (pairs_before kind (shape_of g.driver)) g.pairs)
 
 -- pair n of a kind; (0, 0) where the driver has not been entered
 abbrev pub pair_of : PairKind → ℕ → Option Grant → ℕ × ℕ
 pair_of kind n None = (0, 0)
 pair_of kind n (Some g) = slice_index_or (pairs_of kind g) n (0, 0)
 
--- a grant with another pair, or another value
+-- a grant with another pair n of a kind
 abbrev pub with_pair : PairKind → ℕ → ℕ × ℕ → Grant → Grant
-with_pair Upcall n pair g = record g { upcalls = slice_set g.upcalls n pair }
-with_pair ReadOnly n pair g = record g { ro = slice_set g.ro n pair }
-with_pair ReadWrite n pair g = record g { rw = slice_set g.rw n pair }
+with_pair kind n pair g = record g { pairs = slice_set g.pairs (pair_place kind n (shape_of g.driver)) pair }
 
 -- a grant with another value
-abbrev pub with_value : List ℕ → Grant → Grant
-with_value words g = record g { value = words }
+abbrev pub with_value : KeptValue → Grant → Grant
+with_value value g = record g { value = value }
 
--- a grant as it is made: all pairs and the value are zero
-abbrev pub fresh_of : ℕ → Counts → Grant
-fresh_of driver counts = record {
-  driver = driver;
-  upcalls = replicate counts.upcalls (0, 0);
-  ro = replicate counts.ro (0, 0);
-  rw = replicate counts.rw (0, 0);
-  value = replicate (counts.value / 4) 0;
-}
-
--- the grant of a driver as it is made
+-- the grant of a driver as it is made: all pairs are (0, 0), and nothing waits
 abbrev pub fresh : ℕ → Grant
-fresh driver = fresh_of driver (shape_of driver)
+fresh driver = record {
+  driver = driver;
+  pairs = replicate (pair_count (shape_of driver)) (0, 0);
+  value = fresh_value driver;
+}
 
 -- the grants once a driver has been entered: its own is made, and is the first, where there is none
 abbrev pub entering : ℕ → List Grant → Option Grant → List Grant

@@ -1,7 +1,19 @@
 //! Laws of the definitions. The functions do nothing.
-ghost use Rattle.grant_model.specs.Laws.{IsReadBack, AreasAreFound, PairsAreFound, ValuesAreFound};
+ghost use Rattle.grant_model.specs.Laws.{
+  IsReadBack,
+  AreasAreFound,
+  PairsAreFound,
+  PairsStandByKind,
+  ValuesAreFound,
+};
 
 use grant_values::words_in_bytes;
+
+/// Another pair of a grant is that pair, and the others stay: each has a place of its own, by its
+/// kind and its number.
+pub fn pairs_stand_by_kind()
+    ensures { PairsStandByKind }
+{}
 
 /// Grants that were laid as bytes are read back from them.
 pub fn what_is_laid_is_read_back()

@@ -5,7 +5,10 @@
 mod laws;
 mod places;
 
-pub use laws::{areas_are_found, pairs_are_found, values_are_found, what_is_laid_is_read_back};
+pub use laws::{
+    areas_are_found, pairs_are_found, pairs_stand_by_kind, values_are_found,
+    what_is_laid_is_read_back,
+};
 pub use places::Area;
 
 #[cfg(test)]

@@ -12,7 +12,7 @@ use Rattle.grant_model.specs.Encoding.{body_size, area_words, areas, encode_gran
 use Rattle.grant_model.specs.Encoding.{area_place, area_at, area_of, decode_grants}
 use Rattle.grant_model.specs.Laws.{IsReadBack}
 use Rattle.grant_region.specs.Laws.{PartsJoin}
-use Rattle.grant_region.specs.Region.{LeavesArea, Leaves, above}
+use Rattle.grant_region.specs.Region.{LeavesArea, Leaves, Parts, above, parts_of}
 
 bytes-append : (xs ys : List ℕ) → bytes_of_words (xs ++ ys) ≡ bytes_of_words xs ++ bytes_of_words ys
 bytes-append [] ys = refl
@@ -31,28 +31,29 @@ below_others law area kernel g new is =
     subst (λ bytes. Tells bytes (g ∷ decode_grants kernel)) (sym lay)
     (law.back (g ∷ decode_grants kernel) (sound.0, is.sound))
 
-kept : (e : LayoutView) (app kernel : List ℕ) (gs : List Grant) → length app ≡ e.kernel_break - e.start
-    → Tells kernel gs → Leaves e app app kernel gs
-kept e app kernel gs size tells =
-    let n = e.kernel_break - e.start in
-    let back : drop n (app ++ kernel) ≡ kernel = drop_at app kernel n size in
+kept : (parts : Parts) (gs : List Grant) → length parts.app ≡ parts.layout.kernel_break - parts.layout.start
+    → Tells parts.kernel gs → Leaves parts parts gs
+kept parts gs size tells =
+    let n = parts.layout.kernel_break - parts.layout.start in
+    let back : drop n (parts.app ++ parts.kernel) ≡ parts.kernel = drop_at parts.app parts.kernel n size in
     record {
       size = refl;
-      own = take-append-le n app kernel (omega (arith, size));
+      own = take-append-le n parts.app parts.kernel (omega (arith, size));
       tells = subst (λ bytes. Tells bytes gs) (sym back) tells;
     }
 
-made : IsReadBack → (e : LayoutView) (app app' kernel : List ℕ) (g : Grant) → EncodesGrants kernel
-    → LeavesArea e app app' g → Leaves e app app' kernel (g ∷ decode_grants kernel)
-made law e app app' kernel g is l =
+made : IsReadBack → (before : Parts) (e : LayoutView) (app : List ℕ) (g : Grant) → EncodesGrants before.kernel
+    → LeavesArea e before.app app g → Leaves before (parts_of e app before.kernel) (g ∷ decode_grants before.kernel)
+made law before e app g is l =
     let n = e.kernel_break - e.start in
-    let long : n ≤ length app' = omega (arith, l.size, l.within) in
-    let back : above e app' ++ kernel ≡ above e (app' ++ kernel) = sym (drop-append-le n app' kernel long) in
+    let long : n ≤ length app = omega (arith, l.size, l.within) in
+    let back : above e app ++ before.kernel ≡ above e (app ++ before.kernel) =
+    sym (drop-append-le n app before.kernel long) in
     record {
       size = l.size;
-      own = take-append-le n app' kernel long ∙ l.own;
-      tells = subst (λ bytes. Tells bytes (g ∷ decode_grants kernel)) back
-          (below_others law (above e app') kernel g l.tells is);
+      own = take-append-le n app before.kernel long ∙ l.own;
+      tells = subst (λ bytes. Tells bytes (g ∷ decode_grants before.kernel)) back
+          (below_others law (above e app) before.kernel g l.tells is);
     }
 
 pub parts-join : IsReadBack → PartsJoin

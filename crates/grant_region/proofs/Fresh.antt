@@ -1,16 +1,19 @@
 -- A fresh area.
 use Rattle.std.proofs.Common.{arith, refl, ap, sym, subst, ◌∙◌, ◌≡◌, ◌<◌, ◌^◌, ℕ, zero, suc, ◌+◌, ◌*◌, ◌/◌, List, []}
-use Rattle.std.proofs.Common.{◌∷◌, ◌++◌, length, set, replicate}
+use Rattle.std.proofs.Common.{◌∷◌, ◌++◌, length, set, replicate, Option, None, Some}
+use Rattle.std.specs.Prelude.{option_map}
 use Rattle.std.specs.List.{AllByRecursion}
 use Rattle.std.proofs.lemmas.List.{replicate-append-replicate, length-replicate, append-nil}
 use Rattle.tk_base.specs.declared.upcall.Counts.{Counts}
+use Rattle.tk_base.specs.Kinds.{pair_count}
+use Rattle.grant_values.specs.declared.drivers.Driver.{Driver}
+use Rattle.grant_values.specs.declared.drivers.Driver.TheVariants as of
 use Rattle.grant_values.specs.Words.{IsWord, bytes_of_words}
-use Rattle.grant_values.specs.Drivers.{cost_of}
-use Rattle.tk_base.specs.declared.kinds.PairKind.{PairKind}
-use Rattle.tk_base.specs.declared.kinds.PairKind.TheVariants.{Upcall, ReadOnly, ReadWrite}
-use Rattle.tk_base.specs.Kinds.{count_of}
-use Rattle.grant_model.specs.Grants.{shape_of, pairs_of, fresh_of, fresh}
-use Rattle.grant_model.specs.Encoding.{body_size, padding_of, pair_words, value_words, body_words, IsSound, Tells}
+use Rattle.grant_values.specs.Drivers.{cost_of, counts_by, counts_of, driver_of}
+use Rattle.grant_values.specs.Values.{KeptValue, fresh_by, fresh_value, value_by, value_or_none, value_words}
+use Rattle.grant_model.specs.Grants.{counts_or_none, shape_of, fresh}
+use Rattle.grant_model.specs.Encoding.{CanBeKept, body_size, padding_of, pair_words, padded_words, body_words, IsSound}
+use Rattle.grant_model.specs.Encoding.{Tells}
 use Rattle.grant_model.specs.Laws.{IsReadBack}
 use Rattle.grant_region.specs.Region.{Costs}
 use Rattle.grant_region.proofs.Costs.{known}
@@ -22,26 +25,51 @@ zero_pairs (suc n) =
     let e : 2 * suc n ≡ suc (suc (2 * n)) = omega arith in
     ap (λ z. 0 ∷ 0 ∷ z) (zero_pairs n) ∙ ap (λ m. replicate m 0) (sym e)
 
-fresh_body : (driver : ℕ) → body_words (fresh driver) ≡ replicate (body_size (shape_of driver)) 0
-fresh_body driver =
-    let k = shape_of driver in
-    let v = k.value / 4 + padding_of k in
-    let e : 2 * k.upcalls + (2 * k.ro + (2 * k.rw + v)) ≡ body_size k = omega arith in
-    ap (λ z. z ++ (pair_words (replicate k.ro (0, 0))
-    ++ (pair_words (replicate k.rw (0, 0)) ++ value_words (fresh driver)))) (zero_pairs k.upcalls)
-    ∙ ap (λ z. replicate (2 * k.upcalls) 0 ++ z)
-    (ap (λ z. z ++ (pair_words (replicate k.rw (0, 0)) ++ value_words (fresh driver))) (zero_pairs k.ro)
-    ∙ ap (λ z. replicate (2 * k.ro) 0 ++ z)
-    (ap (λ z. z ++ value_words (fresh driver)) (zero_pairs k.rw)
-    ∙ ap (λ z. replicate (2 * k.rw) 0 ++ z) (replicate-append-replicate (k.value / 4) (padding_of k) 0)
-    ∙ replicate-append-replicate (2 * k.rw) v 0)
-    ∙ replicate-append-replicate (2 * k.ro) (2 * k.rw + v) 0)
-    ∙ replicate-append-replicate (2 * k.upcalls) (2 * k.ro + (2 * k.rw + v)) 0
-    ∙ ap (λ m. replicate m 0) e
-
 zero_words : (n : ℕ) → AllByRecursion IsWord (replicate n 0)
 zero_words zero = tt
 zero_words (suc n) = (omega arith, zero_words n)
+
+-- what a driver keeps at first has words of zeros, and can be kept
+zero_value : (driver : ℕ) → value_words (fresh_value driver) ≡ replicate ((shape_of driver).value / 4) 0
+unfolding shape_of counts_of
+zero_value driver = by_driver (driver_of driver)
+  where
+    by_driver : (found : Option Driver)
+        → value_words (value_or_none fresh_by found)
+        ≡ replicate ((counts_or_none (option_map counts_by found)).value / 4) 0
+    by_driver None = refl
+    by_driver (Some of.Alarm) = refl
+    by_driver (Some of.Console) = refl
+    by_driver (Some of.Leds) = refl
+    by_driver (Some of.Random) = refl
+    by_driver (Some of.Storage) = refl
+
+value_back : (found : Option Driver)
+    → value_or_none (value_by (value_words (value_or_none fresh_by found))) found ≡ value_or_none fresh_by found
+value_back None = refl
+value_back (Some of.Alarm) = refl
+value_back (Some of.Console) = refl
+value_back (Some of.Leds) = refl
+value_back (Some of.Random) = refl
+value_back (Some of.Storage) = refl
+
+fresh_kept : (driver : ℕ) → CanBeKept driver (fresh_value driver)
+fresh_kept driver = record {
+  count = ap length (zero_value driver) ∙ length-replicate ((shape_of driver).value / 4) 0;
+  words = subst (AllByRecursion IsWord) (sym (zero_value driver)) (zero_words ((shape_of driver).value / 4));
+  told = value_back (driver_of driver);
+}
+
+fresh_body : (driver : ℕ) → body_words (fresh driver) ≡ replicate (body_size (shape_of driver)) 0
+fresh_body driver =
+    let k = shape_of driver in
+    let n = 2 * pair_count k in
+    let v = k.value / 4 in
+    let e : n + (v + padding_of k) ≡ body_size k = omega arith in
+    ap (λ z. z ++ padded_words (fresh driver)) (zero_pairs (pair_count k))
+    ∙ ap (λ z. replicate n 0 ++ (z ++ replicate (padding_of k) 0)) (zero_value driver)
+    ∙ ap (λ z. replicate n 0 ++ z) (replicate-append-replicate v (padding_of k) 0)
+    ∙ replicate-append-replicate n (v + padding_of k) 0 ∙ ap (λ m. replicate m 0) e
 
 zero_bytes : (n : ℕ) → replicate (4 * n) 0 ≡ bytes_of_words (replicate n 0)
 zero_bytes zero = refl
@@ -49,21 +77,17 @@ zero_bytes (suc n) =
     let e : 4 * suc n ≡ suc (suc (suc (suc (4 * n)))) = omega arith in
     ap (λ m. replicate m 0) e ∙ ap (λ z. 0 ∷ 0 ∷ 0 ∷ 0 ∷ z) (zero_bytes n)
 
-fresh_pairs : (kind : PairKind) (driver : ℕ) (k : Counts) → length (pairs_of kind (fresh_of driver k)) ≡ count_of kind k
-fresh_pairs Upcall driver k = length-replicate k.upcalls (0, 0)
-fresh_pairs ReadOnly driver k = length-replicate k.ro (0, 0)
-fresh_pairs ReadWrite driver k = length-replicate k.rw (0, 0)
-
 fresh_sound : (driver cost : ℕ) → Costs driver cost → driver < 2 ^ 32 → cost < 2 ^ 32 → IsSound (fresh driver)
 fresh_sound driver cost is small fit =
     let k = known driver cost is in
+    let n = pair_count (shape_of driver) in
     record {
       known = k.known;
       driver = small;
-      pairs = λ kind. fresh_pairs kind driver (shape_of driver);
-      value = length-replicate ((shape_of driver).value / 4) 0;
+      pairs = length-replicate n (0, 0);
+      words = subst (AllByRecursion IsWord) (sym (zero_pairs n)) (zero_words (2 * n));
+      value = fresh_kept driver;
       cost = subst (λ c. c < 2 ^ 32) k.cost_is fit;
-      body = subst (AllByRecursion IsWord) (sym (fresh_body driver)) (zero_words (body_size (shape_of driver)));
     }
 
 -- zero bytes with driver and cost put in front are a fresh area

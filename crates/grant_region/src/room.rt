@@ -3,7 +3,7 @@ ghost use Rattle.std.specs.Prelude.{◌≡◌, ◌-◌, ◌<◌, ◌^◌, length
 ghost use Rattle.grant_model.specs.Grants.{fresh, entered, grant_of};
 ghost use Rattle.grant_model.specs.Encoding.{decode_grants, area_of, Tells};
 ghost use Rattle.grant_region.specs.Region.{Costs, AreParts, has_space, with_room, fits, roomed};
-ghost use Rattle.grant_region.specs.Region.{Leaves, LeavesArea, Refuses};
+ghost use Rattle.grant_region.specs.Region.{Leaves, LeavesArea, Refuses, parts_of};
 
 use crate::laws::parts_join;
 use crate::region::area;
@@ -36,15 +36,15 @@ pub fn make_room(
     driver: u32,
     cost: u32,
 ) -> Result<Area, NoRoom>
-    requires parts { AreParts layout.old app.old kernel.now }
-    requires small { length kernel.now < 2 ^ 32 }
+    requires parts { AreParts (parts_of layout.old app.old kernel.now) }
     requires cost { Costs driver cost }
     ensures room { is_ok result
         ≡ fits layout.old driver (grant_of driver (decode_grants kernel.now)) }
     ensures layout { OnOk result
         (layout.new ≡ roomed driver layout.old (grant_of driver (decode_grants kernel.now))) }
     ensures made { OnOk result
-        (Leaves layout.new app.old app.new kernel.now (entered driver (decode_grants kernel.now))) }
+        (Leaves (parts_of layout.old app.old kernel.now) (parts_of layout.new app.new kernel.now)
+        (entered driver (decode_grants kernel.now))) }
     ensures area { IfOk result
         (λ a. Some a ≡ area_of driver (entered driver (decode_grants kernel.now))) }
     ensures refused { IfErr result (Refuses layout.old layout.new app.old app.new) }

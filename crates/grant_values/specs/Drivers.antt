@@ -2,6 +2,7 @@
 -- numbers are those of Tock's list of drivers).
 use Rattle.std.specs.Prelude.{ℕ, ◌+◌, ◌*◌, ◌/◌, ◌==◌, List, [], ◌∷◌, find, Option, option_map}
 use Rattle.tk_base.specs.declared.upcall.Counts.{Counts}
+use Rattle.tk_base.specs.Kinds.{pair_count}
 use Rattle.grant_values.specs.declared.drivers.Driver.{Driver}
 use Rattle.grant_values.specs.declared.drivers.Driver.TheVariants.{Alarm, Console, Leds, Random, Storage}
 
@@ -41,6 +42,6 @@ counts_of number = option_map counts_by (driver_of number)
 abbrev pub rounded_to_8 : ℕ → ℕ
 rounded_to_8 bytes = (bytes + 7) / 8 * 8
 
--- how many bytes a grant takes: the driver's number and the cost, two words for each upcall and buffer, the value
+-- how many bytes a grant takes: the driver's number and the cost, two words for each pair, the value
 abbrev pub cost_of : Counts → ℕ
-cost_of counts = rounded_to_8 (8 + 8 * (counts.upcalls + counts.ro + counts.rw) + counts.value)
+cost_of counts = rounded_to_8 (8 + 8 * pair_count counts + counts.value)

@@ -5,3 +5,4 @@ pub mod Console
 pub mod Random
 pub mod Storage
 pub mod Drivers
+pub mod Values

@@ -22,7 +22,8 @@ pub struct Alarm {
 
 impl GrantValue for Alarm {
     ghost use Rattle.std.specs.Prelude.{refl};
-    ghost use Rattle.grant_values.specs.Alarm.{alarm_words, alarm_of};
+    ghost use Rattle.grant_values.specs.declared.drivers.Driver.TheVariants as of;
+    ghost use Rattle.grant_values.specs.Values.{AlarmValue};
 
     const SIZE: u32 = 24;
 
@@ -30,9 +31,9 @@ impl GrantValue for Alarm {
 
     ghost count = { 6 };
 
-    ghost words = { alarm_words };
+    ghost driver = { of.Alarm };
 
-    ghost value = { alarm_of };
+    ghost kept = { AlarmValue };
 
     #[tactic(auto, unfolding(crate::specs::Words::words_of))]
     fn fresh() -> Self {

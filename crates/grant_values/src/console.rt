@@ -29,7 +29,8 @@ pub struct Console {
 
 impl GrantValue for Console {
     ghost use Rattle.std.specs.Prelude.{refl};
-    ghost use Rattle.grant_values.specs.Console.{console_words, console_of};
+    ghost use Rattle.grant_values.specs.declared.drivers.Driver.TheVariants as of;
+    ghost use Rattle.grant_values.specs.Values.{ConsoleValue};
 
     const SIZE: u32 = 32;
 
@@ -37,9 +38,9 @@ impl GrantValue for Console {
 
     ghost count = { 8 };
 
-    ghost words = { console_words };
+    ghost driver = { of.Console };
 
-    ghost value = { console_of };
+    ghost kept = { ConsoleValue };
 
     #[tactic(auto, unfolding(crate::specs::Words::words_of))]
     fn fresh() -> Self {

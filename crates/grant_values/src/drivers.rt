@@ -110,12 +110,11 @@ fn counting(upcalls: u32, ro: u32, rw: u32, value: u32) -> Counts
 }
 
 /// How many bytes of a process's block the grant of a driver with these counts takes (Levy et al.,
-/// SOSP 2017, section 4): the driver's number and this cost, two words for each upcall and buffer,
+/// SOSP 2017, section 4): the driver's number and this cost, two words for each pair,
 /// and the value, rounded up to a multiple of 8. The LEDs have no grant, so nobody asks for theirs.
 pub fn cost_of(counts: &Counts) -> u32
     requires { cost_of counts.now < 2 ^ 32 }
     ensures { result ≡ cost_of counts.now }
 {
-    let pairs = u64::from(counts.upcalls) + u64::from(counts.ro) + u64::from(counts.rw);
-    (8 + 8 * pairs + u64::from(counts.value)).next_multiple_of(8) as u32
+    (8 + 8 * counts.pairs() as u64 + u64::from(counts.value)).next_multiple_of(8) as u32
 }

@@ -21,7 +21,8 @@ pub struct Random {
 
 impl GrantValue for Random {
     ghost use Rattle.std.specs.Prelude.{refl};
-    ghost use Rattle.grant_values.specs.Random.{random_words, random_of};
+    ghost use Rattle.grant_values.specs.declared.drivers.Driver.TheVariants as of;
+    ghost use Rattle.grant_values.specs.Values.{RandomValue};
 
     const SIZE: u32 = 24;
 
@@ -29,9 +30,9 @@ impl GrantValue for Random {
 
     ghost count = { 6 };
 
-    ghost words = { random_words };
+    ghost driver = { of.Random };
 
-    ghost value = { random_of };
+    ghost kept = { RandomValue };
 
     #[tactic(auto, unfolding(crate::specs::Words::words_of))]
     fn fresh() -> Self {

@@ -55,7 +55,8 @@ pub struct Storage {
 
 impl GrantValue for Storage {
     ghost use Rattle.std.specs.Prelude.{refl};
-    ghost use Rattle.grant_values.specs.Storage.{storage_words, storage_of};
+    ghost use Rattle.grant_values.specs.declared.drivers.Driver.TheVariants as of;
+    ghost use Rattle.grant_values.specs.Values.{StorageValue};
 
     const SIZE: u32 = 24;
 
@@ -63,9 +64,9 @@ impl GrantValue for Storage {
 
     ghost count = { 6 };
 
-    ghost words = { storage_words };
+    ghost driver = { of.Storage };
 
-    ghost value = { storage_of };
+    ghost kept = { StorageValue };
 
     #[tactic(auto, unfolding(crate::specs::Words::words_of))]
     fn fresh() -> Self {

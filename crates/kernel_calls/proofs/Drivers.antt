@@ -3,7 +3,9 @@ use Rattle.std.proofs.Common.{◌≡◌, ℕ, Bool, true, false, ◌&&◌, if◌
 use Rattle.std.proofs.Common.{refl, sym, ap, ◌∙◌}
 use Rattle.tk_base.specs.declared.call.CallRule.TheVariants.{NoDriver, Permission}
 use Rattle.syscall_abi.specs.declared.call.Call.{Call}
-use Rattle.syscall_abi.specs.declared.call.Call.TheVariants.{Command}
+use Rattle.syscall_abi.specs.declared.form.CallForm.{CallForm}
+use Rattle.syscall_abi.specs.declared.form.CallForm.TheVariants.{Command}
+use Rattle.syscall_abi.specs.Call.{form_of}
 use Rattle.syscall_abi.specs.declared.reply.Reply.{Reply}
 use Rattle.process_record.specs.declared.outcome.Outcome.{Outcome}
 use Rattle.process_record.specs.declared.outcome.Outcome.TheVariants.{Replied, ToDriver, Waits, Delivered, GoesOn}
@@ -12,20 +14,20 @@ use Rattle.process_record.specs.declared.process.Process.{Process}
 use Rattle.driver_model.specs.Drivers.{CommandContext, CommandHandler, handler_of}
 use Rattle.grant_enter.specs.Homes.{Homes, own_of}
 use Rattle.kernel_model.specs.Record.{Record, with_process}
-use Rattle.kernel_model.specs.Calls.{Served, by_class, failure_of, object_permits, refused, refused_with, served}
+use Rattle.kernel_model.specs.Calls.{Served, by_form, failure_of, object_permits, refused, refused_with, served}
 use Rattle.kernel_model.specs.Calls.{taken_by}
 use Rattle.kernel_model.specs.Laws.{NoneIsLeft}
 use Rattle.kernel_calls.specs.Own.{object_in}
-use Rattle.kernel_calls.specs.Outcomes.{acts_for, ServingComesTo, ServesAt, is_for_driver, is_driver_command}
+use Rattle.kernel_calls.specs.Outcomes.{acts_for, ServingComesTo, ServesAt, is_for_driver, is_driver_command, is_taken}
 use Rattle.kernel_calls.specs.Outcomes.{record_of_slot}
 use Rattle.kernel_calls.proofs.Starts.{of_object}
 
 -- a command that no driver takes
-pub no_driver : (around : CommandContext) (r : Record) (call : Call) (driver number a2 a3 : ℕ)
-    → call ≡ Command driver number a2 a3 → is_driver_command call ≡ false → by_class around r call ≡ refused r NoDriver
-unfolding by_class
-no_driver around r call driver number a2 a3 is free =
-    ap (by_class around r) is ∙ by_taker (handler_of driver) (ap is_driver_command (sym is) ∙ free)
+pub no_driver : (around : CommandContext) (r : Record) (form : CallForm) (driver number a2 a3 : ℕ)
+    → form ≡ Command driver number a2 a3 → is_taken form ≡ false → by_form around r form ≡ refused r NoDriver
+unfolding by_form
+no_driver around r form driver number a2 a3 is free =
+    ap (by_form around r) is ∙ by_taker (handler_of driver) (ap is_taken (sym is) ∙ free)
   where
     by_taker : (o : Option CommandHandler) → is_some o ≡ false → taken_by around number a2 a3 r o ≡ refused r NoDriver
     by_taker None free = refl
@@ -62,24 +64,27 @@ unfolding served
 not_permitted law slot home p q call o failure forbidden is same refuses =
     comes_so law slot home home p q call o (ap (λ (b : Bool). b && is_driver_command call) forbidden)
     (λ around storage. let r = record_of_slot home slot p storage in
-    ap (λ (b : Bool). if b then by_class around r call else refused_with r Permission (failure_of call Permission))
-    forbidden
+    ap (λ (b : Bool). if b then by_form around r (form_of call)
+    else refused_with r Permission (failure_of call Permission)) forbidden
     ∙ ap (refused_with r Permission) (sym is)
     ∙ refuses r
     ∙ ap (λ (s : Record). record { after = s; outcome = o; acts = acts_for o })
     (of_object home.flash p q (own_of home slot) storage same))
 
--- one that is, and that is for no driver to answer
-pub permitted_so : (law : NoneIsLeft) (slot : ℕ) (home home_after : Homes) (p q : Process) (call : Call) (o : Outcome)
-    → object_permits (object_in home.flash p.object) call ≡ true → is_driver_command call ≡ false
+-- one that is, of a form that is for no driver to answer
+pub permitted_so : (law : NoneIsLeft) (slot : ℕ) (home home_after : Homes) (p q : Process) (call : Call)
+    (form : CallForm) (o : Outcome) → form ≡ form_of call
+    → object_permits (object_in home.flash p.object) call ≡ true → is_taken form ≡ false
     → ((around : CommandContext) (storage : List ℕ)
-    → ServingComesTo (by_class around (record_of_slot home slot p storage) call)
+    → ServingComesTo (by_form around (record_of_slot home slot p storage) form)
     (record_of_slot home_after slot q storage) o)
     → ServesAt slot home p call home_after q o
 unfolding served
-permitted_so law slot home home_after p q call o permitted free comes =
-    comes_so law slot home home_after p q call o (ap (λ (b : Bool). b && is_driver_command call) permitted ∙ free)
+permitted_so law slot home home_after p q call form o is permitted free comes =
+    comes_so law slot home home_after p q call o
+    (ap (λ (b : Bool). b && is_driver_command call) permitted ∙ ap is_taken (sym is) ∙ free)
     (λ around storage. let r = record_of_slot home slot p storage in
-    ap (λ (b : Bool). if b then by_class around r call else refused_with r Permission (failure_of call Permission))
-    permitted
+    ap (λ (b : Bool). if b then by_form around r (form_of call)
+    else refused_with r Permission (failure_of call Permission)) permitted
+    ∙ ap (by_form around r) (sym is)
     ∙ comes around storage)

@@ -3,7 +3,9 @@ use Rattle.std.specs.Prelude.{◌≡◌, ℕ, ◌+◌, ◌<◌, ◌≤◌, ◌^�
 use Rattle.std.specs.Prelude.{length, Option, None, Some, Result, Ok, Err}
 use Rattle.tk_base.specs.declared.call.CallRule.{CallRule}
 use Rattle.syscall_abi.specs.declared.call.Call.{Call}
-use Rattle.syscall_abi.specs.declared.call.Call.TheVariants.{Yield, Subscribe, Command, AllowRw, AllowRo, Memop, Exit}
+use Rattle.syscall_abi.specs.declared.form.CallForm.{CallForm}
+use Rattle.syscall_abi.specs.declared.form.CallForm.TheVariants.{Yield, Swap, Command, Memop, Exit}
+use Rattle.syscall_abi.specs.Call.{form_of}
 use Rattle.process_model.specs.Own.{Own}
 use Rattle.process_record.specs.declared.outcome.Outcome.{Outcome}
 use Rattle.process_record.specs.declared.outcome.Outcome.TheVariants.{Replied, ToDriver, Waits, Delivered, GoesOn}
@@ -35,15 +37,17 @@ ServingComesTo served s outcome = served ≡ record { after = s; outcome = outco
 abbrev pub record_of_slot : Homes → ℕ → Process → List ℕ → Record
 record_of_slot home slot process storage = record_in home.flash process (own_of home slot) storage
 
+-- whether a form of calls is a command to a driver that takes commands
+abbrev pub is_taken : CallForm → Bool
+is_taken (Yield number a1 a2) = false
+is_taken (Swap swap) = false
+is_taken (Command driver command a2 a3) = takes_commands driver
+is_taken (Memop operation argument) = false
+is_taken (Exit kind code) = false
+
 -- whether a call is a command to a driver that takes commands
 abbrev pub is_driver_command : Call → Bool
-is_driver_command (Yield number a1 a2) = false
-is_driver_command (Subscribe driver number function app) = false
-is_driver_command (Command driver command a2 a3) = takes_commands driver
-is_driver_command (AllowRw driver number address size) = false
-is_driver_command (AllowRo driver number address size) = false
-is_driver_command (Memop operation argument) = false
-is_driver_command (Exit kind code) = false
+is_driver_command call = is_taken (form_of call)
 
 -- whether a call of a process with that object is for its driver to answer: it is permitted, too
 abbrev pub is_for_driver : List ℕ → Call → Bool

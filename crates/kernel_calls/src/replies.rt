@@ -1,27 +1,25 @@
 //! What a process gets back for a system call.
 ghost use Rattle.std.specs.Prelude.{◌≡◌, []};
 ghost use Rattle.kernel_model.specs.Record.{Record, with_process};
-ghost use Rattle.kernel_model.specs.Calls.{driver_answered, failed_swap, failure_of, refused_with};
+ghost use Rattle.kernel_model.specs.Calls.{driver_answered, failed_swap, failure_by, refused_with};
 ghost use Rattle.kernel_calls.specs.Given.{given};
 ghost use Rattle.kernel_calls.specs.Outcomes.{acts_for, ServingComesTo};
 
 use process_record::{Outcome, Process};
-use syscall_abi::{Call, Reply};
+use syscall_abi::{CallForm, Reply};
 use tk_base::CallRule;
 
-/// The failure with which a call is refused that breaks a rule (TRD 104, "Return Values"): a subscribe and an
-/// allow get back the pair that they passed.
-pub(crate) fn failure(call: &Call, rule: CallRule) -> Reply
-    ensures { result ≡ failure_of call.now rule }
+/// The failure with which a call of a form is refused that breaks a rule (TRD 104, "Return Values"): a subscribe and
+/// an allow get back the pair that they passed.
+pub(crate) fn failure(form: &CallForm, rule: CallRule) -> Reply
+    ensures { result ≡ failure_by form.now rule }
 {
-    match *call {
-        Call::Subscribe { function, app, .. } => failed_swap((function, app), rule),
-        Call::AllowRw { address, size, .. } | Call::AllowRo { address, size, .. } => {
-            failed_swap((address, size), rule)
-        }
-        Call::Yield { .. } | Call::Command { .. } | Call::Memop { .. } | Call::Exit { .. } => {
-            Reply::Failure(rule.error())
-        }
+    match *form {
+        CallForm::Swap(swap) => failed_swap(swap.pair, rule),
+        CallForm::Yield { .. }
+        | CallForm::Command { .. }
+        | CallForm::Memop { .. }
+        | CallForm::Exit { .. } => Reply::Failure(rule.error()),
     }
 }
 

@@ -2,29 +2,29 @@
 ghost use Rattle.std.specs.Prelude.{◌≡◌, ◌+◌, ◌<◌, ◌^◌, length, false, true};
 ghost use Rattle.driver_model.specs.Drivers.{CommandContext};
 ghost use Rattle.grant_enter.specs.Homes.{own_of, ChangesOnly};
-ghost use Rattle.kernel_model.specs.Calls.{by_class, memop};
+ghost use Rattle.kernel_model.specs.Calls.{by_form, memop};
 ghost use Rattle.kernel_calls.specs.Own.{IsOwn};
-ghost use Rattle.kernel_calls.specs.Outcomes.{is_driver_command, ComesAt, IsOfSlot, KeepsSlot, LivesOn, ServesAt, KeepsObject};
+ghost use Rattle.kernel_calls.specs.Outcomes.{is_taken, ComesAt, IsOfSlot, KeepsSlot, LivesOn, ServesAt, KeepsObject};
 
 use crate::exits::exit_call;
 use crate::memops::memop_call;
 use crate::permissions::is_permitted;
 use crate::replies::{failure, give, refuse};
-use crate::swaps::swap;
+use crate::swaps::serve_swap;
 use crate::yields::yield_call;
 use driver_model::takes_commands;
 use grant_enter::Home;
 use kernel_model::no_call_is_left;
 use process_record::{Outcome, Process};
-use syscall_abi::Call;
-use tk_base::{CallRule, PairKind, Slot};
+use syscall_abi::{Call, CallForm};
+use tk_base::{CallRule, Slot};
 
-/// Whether a call is a command to a driver that takes commands.
-fn is_taken(call: &Call) -> bool
-    ensures { result ≡ is_driver_command call.now }
+/// Whether a form of calls is a command to a driver that takes commands.
+fn is_taken(form: &CallForm) -> bool
+    ensures { result ≡ is_taken form.now }
 {
-    match *call {
-        Call::Command { driver, .. } => takes_commands(driver),
+    match *form {
+        CallForm::Command { driver, .. } => takes_commands(driver),
         _ => false,
     }
 }
@@ -47,52 +47,26 @@ fn serve_memop(
 }
 
 /// Serves a call that is permitted and that no driver is to answer; a command that no driver takes is refused.
-#[tactic(auto, unfolding(kernel_model::specs::Calls::by_class))]
-fn serve(home: &mut Home, process: &mut Process, slot: Slot, call: &Call) -> Outcome
+#[tactic(auto, unfolding(kernel_model::specs::Calls::by_form))]
+fn serve(home: &mut Home, process: &mut Process, slot: Slot, form: &CallForm) -> Outcome
     requires at { IsOfSlot slot home.old process.old }
     requires lives { (own_of home.old slot).lives ≡ true }
     requires count { process.old.restarts + 1 < 2 ^ 32 }
     requires life { (own_of home.old slot).life + 1 < 2 ^ 32 }
-    requires call { is_driver_command call.now ≡ false }
+    requires form { is_taken form.now ≡ false }
     ensures serves { (around : CommandContext) → ComesAt slot home.old process.old
-        (λ r. by_class around r call.now) home.new process.new result }
+        (λ r. by_form around r form.now) home.new process.new result }
     ensures keeps { KeepsSlot slot home.old process.old home.new process.new }
 {
-    match *call {
-        Call::Yield { number, a1, .. } => yield_call(home, process, slot, number, a1),
-        Call::Subscribe {
-            driver,
-            number,
-            function,
-            app,
-        } => {
-            let (kind, pair) = (PairKind::Upcall, (function, app));
-            swap(home, process, slot, kind, driver, number, pair)
-        }
-        Call::Command { .. } => give(process, Err(CallRule::NoDriver)),
-        Call::AllowRw {
-            driver,
-            number,
-            address,
-            size,
-        } => {
-            let (kind, pair) = (PairKind::ReadWrite, (address, size));
-            swap(home, process, slot, kind, driver, number, pair)
-        }
-        Call::AllowRo {
-            driver,
-            number,
-            address,
-            size,
-        } => {
-            let (kind, pair) = (PairKind::ReadOnly, (address, size));
-            swap(home, process, slot, kind, driver, number, pair)
-        }
-        Call::Memop {
+    match *form {
+        CallForm::Yield { number, a1, .. } => yield_call(home, process, slot, number, a1),
+        CallForm::Swap(swap) => serve_swap(home, process, slot, swap),
+        CallForm::Command { .. } => give(process, Err(CallRule::NoDriver)),
+        CallForm::Memop {
             operation,
             argument,
         } => serve_memop(home, process, slot, operation, argument),
-        Call::Exit { kind, code } => exit_call(home, process, slot, kind, code),
+        CallForm::Exit { kind, code } => exit_call(home, process, slot, kind, code),
     }
 }
 
@@ -142,12 +116,13 @@ pub fn kernel_call(home: &mut Home, process: &mut Process, slot: Slot, call: &Ca
     ensures rest { ChangesOnly slot home.old home.new }
 {
     no_call_is_left();
+    let form = call.form();
     if !is_permitted(home.flash(), &process.object, call) {
-        let failure = failure(call, CallRule::Permission);
+        let failure = failure(&form, CallRule::Permission);
         return refuse(process, CallRule::Permission, failure);
     }
-    if is_taken(call) {
+    if is_taken(&form) {
         return Outcome::ToDriver;
     }
-    serve(home, process, slot, call)
+    serve(home, process, slot, &form)
 }

@@ -3,6 +3,7 @@ use Rattle.std.proofs.Common.{◌≡◌, ◌⊎◌, inl, inr, ℕ, ◌+◌, ◌=
 use Rattle.std.proofs.Common.{None, Some, Result, Ok, Err, refl, ap, ◌∙◌}
 use Rattle.std.specs.Prelude.{IsTrue}
 use Rattle.std.specs.List.{list_any}
+use Rattle.std.specs.Option.{option_map}
 use Rattle.tk_base.specs.declared.access.Denial.{Denial}
 use Rattle.tk_base.specs.declared.call.CallRule.{CallRule}
 use Rattle.tk_base.specs.declared.upcall.Upcall.{Upcall as Scheduled}
@@ -12,17 +13,17 @@ use Rattle.fault_policy.specs.Policy.{decision}
 use Rattle.tbf_headers.specs.declared.fault.HeaderFault.{HeaderFault}
 use Rattle.tbf_headers.specs.declared.program.Main.{Main}
 use Rattle.tbf_headers.specs.Meaning.{Meaning, header_reading}
-use Rattle.tk_base.specs.declared.kinds.PairKind.{PairKind}
-use Rattle.tk_base.specs.declared.kinds.PairKind.TheVariants.{Upcall, ReadOnly, ReadWrite}
 use Rattle.rv32_model.specs.declared.turn_end.TurnEnd.{TurnEnd}
 use Rattle.rv32_model.specs.declared.turn_end.TurnEnd.TheVariants as ends
 use Rattle.rv32_model.specs.Laws.{stores_at}
 use Rattle.rv32_model.specs.UserTurn.{MemoryAccess, UserTurn}
 use Rattle.syscall_abi.specs.declared.call.Call.{Call as SystemCall}
-use Rattle.syscall_abi.specs.declared.call.Call.TheVariants.{Yield, Subscribe, Command, AllowRw, AllowRo, Memop, Exit}
+use Rattle.syscall_abi.specs.declared.form.CallForm.{CallForm}
+use Rattle.syscall_abi.specs.declared.form.CallForm.TheVariants as forms
+use Rattle.syscall_abi.specs.declared.form.Swap.{Swap}
 use Rattle.syscall_abi.specs.declared.reply.Reply.{Reply}
 use Rattle.tk_base.specs.Regs.{Registers}
-use Rattle.syscall_abi.specs.Call.{call_of, class}
+use Rattle.syscall_abi.specs.Call.{call_of, class, form_of}
 use Rattle.process_model.specs.Changes.{ChangesAt, KeepsBytes, OnlyWritesChangeBytes, own_byte}
 use Rattle.process_model.specs.Flag.{flag_place}
 use Rattle.driver_model.specs.Bytes.{CommandsKeepBytes}
@@ -35,10 +36,11 @@ use Rattle.process_record.specs.declared.process.State.TheVariants.{Running, Yie
 use Rattle.process_record.specs.Process.{after_call, after_fault, waiting}
 use Rattle.kernel_model.specs.Record.{Record, byte_at, instruction, with_effect, record_with_own, with_process}
 use Rattle.kernel_model.specs.declared.settings.Settings.{Settings}
-use Rattle.kernel_model.specs.Calls.{Served, driver_answered, by_class, exit, memop, object_permits, restart}
+use Rattle.kernel_model.specs.Calls.{Served, driver_answered, by_form, exit, memop, object_permits, restart}
 use Rattle.kernel_model.specs.Calls.{restarted_by, restarted_main, served, swap_by, swap_refusal, taken_by, yield_now}
 use Rattle.kernel_model.specs.Calls.{yielding}
-use Rattle.kernel_model.specs.Turn.{Turned, calls, turn_counted, delivery, at_turn_end, faulted, yield_flag_of, idle}
+use Rattle.kernel_model.specs.Turn.{Turned, calls, turn_counted, delivery, at_turn_end, faulted, flag_by, idle}
+use Rattle.kernel_model.specs.Turn.{yield_flag_of}
 use Rattle.kernel_model.specs.Turn.{instructed, made, settled, surroundings, turned, turn_in, unknown_call}
 use Rattle.kernel_model.specs.Histories.{ends_life, is_exit}
 use Rattle.kernel_model.specs.Causes.{IsDoneByTurn, TurnHasCauses, TurnsHaveCauses}
@@ -76,12 +78,16 @@ restarts_so r flag ends is = by_reading (header_reading r.object)
     by_reading (Ok h) = by_main h h.main
     by_reading (Err fault) = kept r r flag (λ at before after. refl) refl
 
+-- the form of the call that registers make
+abbrev form_in : Registers → Option CallForm
+form_in regs = option_map form_of (call_of regs)
+
 -- registers that make an exit have its class
-exit_class : (regs : Registers) (kind code : ℕ) → call_of regs ≡ Some (Exit kind code) → class regs ≡ 6
+exit_class : (regs : Registers) (kind code : ℕ) → form_in regs ≡ Some (forms.Exit kind code) → class regs ≡ 6
 exit_class regs kind code =
-    of_registers (λ (o : Option SystemCall). o ≡ Some (Exit kind code) → class regs ≡ 6) regs
-    (λ is e. absurd (cc)) (λ is e. absurd (cc)) (λ is e. absurd (cc)) (λ is e. absurd (cc)) (λ is e. absurd (cc))
-    (λ is e. absurd (cc)) (λ is e. is) (λ e. absurd (cc))
+    of_registers (λ (o : Option SystemCall). option_map form_of o ≡ Some (forms.Exit kind code) → class regs ≡ 6) regs
+    (λ is e. absurd (cc)) (λ swapped call is swaps e. absurd (cc)) (λ is e. absurd (cc)) (λ is e. absurd (cc))
+    (λ is e. is) (λ e. absurd (cc))
 
 at_flag : {A B C : Type 0} → A ⊎ B → A ⊎ (B ⊎ C)
 at_flag (inl same) = inl same
@@ -111,10 +117,9 @@ module _ (law : OnlyWritesChangeBytes) (commands : CommandsKeepBytes) (around : 
       by_number true = of_yield_now at r.own.pending
       by_number false = by_one (number == 1)
 
-  of_swap : (kind : PairKind) (driver number : ℕ) (pair : ℕ × ℕ) (o : Option CallRule)
-      → Leaves r None (swap_by r kind driver number pair o)
-  of_swap kind driver number pair None = kept r _ None (law.handing kind driver number pair r.own) refl
-  of_swap kind driver number pair (Some rule) = same_own r None _
+  of_swap : (swap : Swap) (o : Option CallRule) → Leaves r None (swap_by r swap o)
+  of_swap swap None = kept r _ None (law.handing swap.kind swap.driver swap.number swap.pair r.own) refl
+  of_swap swap (Some rule) = same_own r None _
 
   of_answer : (c : Commanded) (answer : Result Reply CallRule) → KeepsBytes r.own c.own
       → Leaves r None (driver_answered (record_with_own r c.own) answer)
@@ -140,25 +145,20 @@ module _ (law : OnlyWritesChangeBytes) (commands : CommandsKeepBytes) (around : 
       (by_test (Leaves r None) (kind == 1) _ _ (restarts_so r None _ (ap (λ (n : ℕ). n == 6 && true) six))
       (same_own r None _))
 
-  of_class : (call : SystemCall) → call_of r.process.regs ≡ Some call
-      → Leaves r (yield_flag_of r call) (by_class around r call)
-  unfolding by_class
-  of_class (Yield number a1 a2) is = of_yield number a1
-  of_class (Subscribe driver number function app) is =
-      of_swap Upcall driver number (function, app) (swap_refusal Upcall driver number (function, app) r.own)
-  of_class (Command driver number a2 a3) is = of_taken driver number a2 a3 (handler_of driver) refl
-  of_class (AllowRw driver number address size) is =
-      of_swap ReadWrite driver number (address, size) (swap_refusal ReadWrite driver number (address, size) r.own)
-  of_class (AllowRo driver number address size) is =
-      of_swap ReadOnly driver number (address, size) (swap_refusal ReadOnly driver number (address, size) r.own)
-  of_class (Memop operation argument) is = of_memop operation argument
-  of_class (Exit kind code) is = of_exit kind code (exit_class r.process.regs kind code is)
+  of_form : (form : CallForm) → form_in r.process.regs ≡ Some form → Leaves r (flag_by r form) (by_form around r form)
+  unfolding by_form
+  of_form (forms.Yield number a1 a2) is = of_yield number a1
+  of_form (forms.Swap swap) is = of_swap swap (swap_refusal swap r.own)
+  of_form (forms.Command driver number a2 a3) is = of_taken driver number a2 a3 (handler_of driver) refl
+  of_form (forms.Memop operation argument) is = of_memop operation argument
+  of_form (forms.Exit kind code) is = of_exit kind code (exit_class r.process.regs kind code is)
 
   of_served : (call : SystemCall) → call_of r.process.regs ≡ Some call
       → Leaves r (yield_flag_of r call) (served around r call)
   unfolding served
   of_served call is =
-      by_test (Leaves r (yield_flag_of r call)) (object_permits r.object call) _ _ (of_class call is) (same_own r _ _)
+      by_test (Leaves r (yield_flag_of r call)) (object_permits r.object call) _ _
+      (of_form (form_of call) (ap (option_map form_of) is)) (same_own r _ _)
 
 of_fault : (settings : Settings) (r : Record) (denial : Denial) → Changes r None true (faulted settings r denial).after
 of_fault settings r denial = by_action (decision settings.policy r.process.restarts)

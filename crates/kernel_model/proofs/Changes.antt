@@ -12,12 +12,9 @@ use Rattle.tk_base.specs.Regs.{Registers}
 use Rattle.fault_policy.specs.declared.Action.{Action}
 use Rattle.fault_policy.specs.declared.Action.TheVariants.{Stop, Restart}
 use Rattle.fault_policy.specs.Policy.{decision}
-use Rattle.tk_base.specs.declared.kinds.PairKind.{PairKind}
-use Rattle.tk_base.specs.declared.kinds.PairKind.TheVariants.{Upcall, ReadOnly, ReadWrite}
 use Rattle.process_layout.specs.LayoutView.{permits_break}
 use Rattle.process_model.specs.Own.{Own, own_ended as ended_own}
 use Rattle.process_model.specs.Flag.{with_flag}
-use Rattle.process_model.specs.Handed.{handing, held}
 use Rattle.driver_model.specs.Commands.{Commanded}
 use Rattle.driver_model.specs.Drivers.{CommandContext, CommandHandler, handler_of}
 use Rattle.driver_model.specs.Services.{OfEachService}
@@ -25,13 +22,15 @@ use Rattle.rv32_model.specs.declared.turn_end.TurnEnd.{TurnEnd}
 use Rattle.rv32_model.specs.declared.turn_end.TurnEnd.TheVariants as ends
 use Rattle.rv32_model.specs.UserTurn.{MemoryAccess}
 use Rattle.syscall_abi.specs.declared.call.Call.{Call as SystemCall}
-use Rattle.syscall_abi.specs.declared.call.Call.TheVariants.{Yield, Subscribe, Command, AllowRw, AllowRo, Memop, Exit}
+use Rattle.syscall_abi.specs.declared.form.CallForm.{CallForm}
+use Rattle.syscall_abi.specs.declared.form.CallForm.TheVariants as forms
+use Rattle.syscall_abi.specs.declared.form.Swap.{Swap}
 use Rattle.syscall_abi.specs.declared.reply.Reply.{Reply}
 use Rattle.syscall_abi.specs.declared.reply.Reply.TheVariants.{Failure, FailureU32U32, Success, SuccessU32}
 use Rattle.syscall_abi.specs.declared.reply.Reply.TheVariants.{SuccessU32U32}
 use Rattle.tk_base.specs.Call.{error_of}
 use Rattle.tbf_headers.specs.Meaning.{header_reading, region_count}
-use Rattle.syscall_abi.specs.Call.{call_of}
+use Rattle.syscall_abi.specs.Call.{call_of, form_of}
 use Rattle.process_record.specs.declared.process.RecordedRefusal.{RecordedRefusal}
 use Rattle.process_record.specs.declared.process.State.{State}
 use Rattle.process_record.specs.declared.process.State.TheVariants.{Running, Yielded, Faulted, Terminated}
@@ -39,10 +38,10 @@ use Rattle.process_record.specs.Process.{after_call as after_call_of, after_exit
 use Rattle.process_record.specs.Process.{after_reply, past_call, waiting}
 use Rattle.kernel_model.specs.Record.{Record, instruction, with_effect, record_with_own, with_process}
 use Rattle.kernel_model.specs.declared.settings.Settings.{Settings}
-use Rattle.kernel_model.specs.Calls.{Served, driver_answered, break_moved, by_class, deliver_by, exit, failure_of}
-use Rattle.kernel_model.specs.Calls.{flag_written, memop, memops, moved_by, or_refused, object_permits, refused}
-use Rattle.kernel_model.specs.Calls.{refused_with, region, region_end, regions_named, replied, restart, served, swap_by}
-use Rattle.kernel_model.specs.Calls.{swap_refusal, taken_by, with_break_at, yield_now, yielding}
+use Rattle.kernel_model.specs.Calls.{Served, driver_answered, break_moved, by_form, deliver_by, exit, failure_of, former_pair}
+use Rattle.kernel_model.specs.Calls.{flag_written, memop, memops, moved_by, or_refused, object_permits, own_swapped}
+use Rattle.kernel_model.specs.Calls.{refused, refused_with, region, region_end, regions_named, replied, restart, served}
+use Rattle.kernel_model.specs.Calls.{swap_by, swap_refusal, taken_by, with_break_at, yield_now, yielding}
 use Rattle.kernel_model.specs.Turn.{Event, apply, calls, turn_counted, delivery, at_turn_end, faulted, has_turn}
 use Rattle.kernel_model.specs.Turn.{is_pending, settled, surroundings, turned, turn_in}
 use Rattle.kernel_model.specs.World.{World, after}
@@ -60,9 +59,8 @@ pub record IsKept (R : Own → Own → Type 0) (I J : Record → Type 0) : Type 
   pub regs : (r : Record) (regs : Registers) (refusal : Option RecordedRefusal) → I r → I (with_regs r regs refusal)
   pub waits : (r : Record) → is_alive r.process.state ≡ true → I r → I (with_process r (waiting r.process))
   pub serves : (r : Record) (o : Own) (storage : List ℕ) → R r.own o → I r → I (record r { own = o; storage = storage })
-  pub hands : (r : Record) (kind : PairKind) (driver number : ℕ) (pair : ℕ × ℕ)
-      → swap_refusal kind driver number pair r.own ≡ None → I r
-      → I (record_with_own r (handing kind driver number pair r.own))
+  pub hands : (r : Record) (swap : Swap) → swap_refusal swap r.own ≡ None → I r
+      → I (record_with_own r (own_swapped swap r.own))
   pub moves : (r : Record) (new : ℕ) → permits_break r.own.layout new ≡ true → I r → I (with_break_at r new)
   pub flags : (r : Record) (at byte : ℕ) → I r → I (record_with_own r (with_flag at byte r.own))
   pub delivers : (r : Record) (upcall : Scheduled) (more : List Scheduled) → is_alive r.process.state ≡ true → I r
@@ -183,13 +181,14 @@ module _ (R : Own → Own → Type 0) (services : OfEachService R) (I J : Record
       by_test (number == 0) _ _ (λ now. by_yield_now r alive h at r.own.pending)
       (λ later. by_test (number == 1) _ _ (λ waits. k.done _ (k.waits r alive h)) (λ on. by_past r h))
 
-  by_swap : (r : Record) → I r → (kind : PairKind) (driver number : ℕ) (pair : ℕ × ℕ) (o : Option CallRule)
-      → swap_refusal kind driver number pair r.own ≡ o → Q (swap_by r kind driver number pair o)
-  by_swap r h kind driver number pair None is =
-      let former = held kind driver number r.own in
-      by_replied (record_with_own r (handing kind driver number pair r.own)) (k.hands r kind driver number pair is h)
+  by_swap : (r : Record) → I r → (swap : Swap) (o : Option CallRule) → swap_refusal swap r.own ≡ o
+      → Q (swap_by r swap o)
+  by_swap r h swap None is =
+      let former = former_pair swap r.own in
+      by_replied (record_with_own r (own_swapped swap r.own)) (k.hands r swap is h)
       (SuccessU32U32 former.0 former.1)
-  by_swap r h kind driver number pair (Some rule) is = by_refused r h rule (FailureU32U32 (error_of rule) pair.0 pair.1)
+  by_swap r h swap (Some rule) is =
+      by_refused r h rule (FailureU32U32 (error_of rule) swap.pair.0 swap.pair.1)
 
   by_answer : (r : Record) (c : Commanded) → I (record_with_own r c.own) → (answer : Result Reply CallRule)
       → J (driver_answered (record_with_own r c.own) answer).after
@@ -205,26 +204,21 @@ module _ (R : Own → Own → Type 0) (services : OfEachService R) (I J : Record
       let c = taker around number a2 a3 r.own in
       by_answer r c (k.serves r c.own r.storage (services.command driver taker is around number a2 a3 r.own) h) c.answer
 
-  by_call : (around : CommandContext) (r : Record) → is_alive r.process.state ≡ true → I r → (call : SystemCall)
-      → Q (by_class around r call)
-  unfolding by_class
-  by_call around r alive h (Yield number a1 a2) = by_yield r alive h number a1
-  by_call around r alive h (Subscribe driver number function app) =
-      by_swap r h Upcall driver number (function, app) _ refl
-  by_call around r alive h (Command driver number a2 a3) =
+  of_form : (around : CommandContext) (r : Record) → is_alive r.process.state ≡ true → I r → (form : CallForm)
+      → Q (by_form around r form)
+  unfolding by_form
+  of_form around r alive h (forms.Yield number a1 a2) = by_yield r alive h number a1
+  of_form around r alive h (forms.Swap swap) = by_swap r h swap _ refl
+  of_form around r alive h (forms.Command driver number a2 a3) =
       by_command around r h driver number a2 a3 (handler_of driver) refl
-  by_call around r alive h (AllowRw driver number address size) =
-      by_swap r h ReadWrite driver number (address, size) _ refl
-  by_call around r alive h (AllowRo driver number address size) =
-      by_swap r h ReadOnly driver number (address, size) _ refl
-  by_call around r alive h (Memop operation argument) = by_memop r h operation argument
-  by_call around r alive h (Exit kind code) = by_exit r alive h kind code
+  of_form around r alive h (forms.Memop operation argument) = by_memop r h operation argument
+  of_form around r alive h (forms.Exit kind code) = by_exit r alive h kind code
 
   after_call : (around : CommandContext) (r : Record) → is_alive r.process.state ≡ true → I r → (call : SystemCall)
       → J (served around r call).after
   unfolding Q served
   after_call around r alive h call =
-      by_test (object_permits r.object call) _ _ (λ may. by_call around r alive h call)
+      by_test (object_permits r.object call) _ _ (λ may. of_form around r alive h (form_of call))
       (λ may_not. by_refused r h Permission (failure_of call Permission))
 
   after_denial : (settings : Settings) (r : Record) → is_alive r.process.state ≡ true → I r → (denial : Denial)

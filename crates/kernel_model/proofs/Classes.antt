@@ -2,25 +2,21 @@
 use Rattle.std.proofs.Common.{◌≡◌, ℕ, ◌==◌, Bool, true, false, cond, Option, None, Some, refl, sym, eqb-true}
 use Rattle.std.specs.Option.{option_map}
 use Rattle.tk_base.specs.Regs.{Registers}
+use Rattle.tk_base.specs.declared.kinds.PairKind.{PairKind}
+use Rattle.tk_base.specs.declared.kinds.PairKind.TheVariants.{Upcall, ReadOnly, ReadWrite}
 use Rattle.syscall_abi.specs.declared.call.Call.{Call as SystemCall}
-use Rattle.syscall_abi.specs.declared.call.Call.TheVariants.{Yield, Subscribe, Command, AllowRw, AllowRo, Memop, Exit}
-use Rattle.syscall_abi.specs.Call.{a0, a1, a2, a3, call_of, class, class_table}
+use Rattle.syscall_abi.specs.declared.call.Call.TheVariants.{Yield, Command, Memop, Exit}
+use Rattle.syscall_abi.specs.declared.form.CallForm.TheVariants as forms
+use Rattle.syscall_abi.specs.declared.form.Swap.{Swap}
+use Rattle.syscall_abi.specs.Call.{a0, a1, a2, a3, call_of, class, class_table, form_of}
+use Rattle.kernel_model.specs.Histories.{class_of}
 
 -- the calls that registers make
 abbrev pub yield_in : Registers → SystemCall
 yield_in regs = Yield (a0 regs) (a1 regs) (a2 regs)
 
-abbrev pub subscribe_in : Registers → SystemCall
-subscribe_in regs = Subscribe (a0 regs) (a1 regs) (a2 regs) (a3 regs)
-
 abbrev pub command_in : Registers → SystemCall
 command_in regs = Command (a0 regs) (a1 regs) (a2 regs) (a3 regs)
-
-abbrev pub allow_rw_in : Registers → SystemCall
-allow_rw_in regs = AllowRw (a0 regs) (a1 regs) (a2 regs) (a3 regs)
-
-abbrev pub allow_ro_in : Registers → SystemCall
-allow_ro_in regs = AllowRo (a0 regs) (a1 regs) (a2 regs) (a3 regs)
 
 abbrev pub memop_in : Registers → SystemCall
 memop_in regs = Memop (a0 regs) (a1 regs)
@@ -28,7 +24,11 @@ memop_in regs = Memop (a0 regs) (a1 regs)
 abbrev pub exit_in : Registers → SystemCall
 exit_in regs = Exit (a0 regs) (a1 regs)
 
--- what the registers ask for, by their class
+-- the swap of a kind that registers make
+abbrev pub swap_in : PairKind → Registers → Swap
+swap_in kind regs = record { kind = kind; driver = a0 regs; number = a1 regs; pair = (a2 regs, a3 regs) }
+
+-- what the registers ask for, by their class: a call that is a swap is known by its form
 module _ (P : Option SystemCall → Type 0) (regs : Registers) where
   row : (n : ℕ) (call : SystemCall) (rest : Option (ℕ × SystemCall)) → (class regs ≡ n → P (Some call))
       → P (option_map (λ (r : ℕ × SystemCall). r.1) rest)
@@ -40,12 +40,13 @@ module _ (P : Option SystemCall → Type 0) (regs : Registers) where
       by_class true e = here (sym (eqb-true n (class regs) e))
       by_class false e = later
 
-  pub of_registers : (class regs ≡ 0 → P (Some (yield_in regs))) → (class regs ≡ 1 → P (Some (subscribe_in regs)))
-      → (class regs ≡ 2 → P (Some (command_in regs)))
-      → (class regs ≡ 3 → P (Some (allow_rw_in regs))) → (class regs ≡ 4 → P (Some (allow_ro_in regs)))
-      → (class regs ≡ 5 → P (Some (memop_in regs))) → (class regs ≡ 6 → P (Some (exit_in regs))) → P None
-      → P (call_of regs)
+  pub of_registers : (class regs ≡ 0 → P (Some (yield_in regs)))
+      → ((kind : PairKind) (call : SystemCall) → class regs ≡ class_of kind
+      → form_of call ≡ forms.Swap (swap_in kind regs) → P (Some call))
+      → (class regs ≡ 2 → P (Some (command_in regs))) → (class regs ≡ 5 → P (Some (memop_in regs)))
+      → (class regs ≡ 6 → P (Some (exit_in regs))) → P None → P (call_of regs)
   unfolding call_of class_table
-  of_registers yields subscribes commands allows_rw allows_ro memops exits none =
-      row 0 _ _ yields (row 1 _ _ subscribes
-      (row 2 _ _ commands (row 3 _ _ allows_rw (row 4 _ _ allows_ro (row 5 _ _ memops (row 6 _ _ exits none))))))
+  of_registers yields swaps commands memops exits none =
+      row 0 _ _ yields (row 1 _ _ (λ is. swaps Upcall _ is refl)
+      (row 2 _ _ commands (row 3 _ _ (λ is. swaps ReadWrite _ is refl) (row 4 _ _ (λ is. swaps ReadOnly _ is refl)
+      (row 5 _ _ memops (row 6 _ _ exits none))))))

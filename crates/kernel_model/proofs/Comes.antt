@@ -11,8 +11,6 @@ use Rattle.tk_base.specs.Call.{error_of}
 use Rattle.tbf_headers.specs.declared.fault.HeaderFault.{HeaderFault}
 use Rattle.tbf_headers.specs.declared.program.Main.{Main}
 use Rattle.tbf_headers.specs.Meaning.{Meaning, header_reading}
-use Rattle.tk_base.specs.declared.kinds.PairKind.{PairKind}
-use Rattle.tk_base.specs.declared.kinds.PairKind.TheVariants.{Upcall, ReadOnly, ReadWrite}
 use Rattle.process_model.specs.Own.{Own, without_first}
 use Rattle.process_model.specs.Flag.{with_flag}
 use Rattle.process_model.specs.Handed.{lies_in_ram}
@@ -20,13 +18,16 @@ use Rattle.driver_model.specs.Commands.{Commanded, refusing as refused_by_driver
 use Rattle.driver_model.specs.Drivers.{CommandContext, CommandHandler, handler_of}
 use Rattle.driver_model.specs.Laws.{IsAtMostOneMore}
 use Rattle.syscall_abi.specs.declared.call.Call.{Call as SystemCall}
-use Rattle.syscall_abi.specs.declared.call.Call.TheVariants.{Yield, Subscribe, Command, AllowRw, AllowRo, Memop, Exit}
+use Rattle.syscall_abi.specs.declared.form.CallForm.{CallForm}
+use Rattle.syscall_abi.specs.declared.form.CallForm.TheVariants as forms
+use Rattle.syscall_abi.specs.declared.form.Swap.{Swap}
+use Rattle.syscall_abi.specs.Call.{form_of}
 use Rattle.syscall_abi.specs.declared.reply.Reply.{Reply}
 use Rattle.syscall_abi.specs.declared.reply.Reply.TheVariants.{Failure, FailureU32U32}
 use Rattle.process_record.specs.declared.outcome.Outcome.TheVariants.{ToDriver}
 use Rattle.kernel_model.specs.Record.{Record, record_with_own}
 use Rattle.kernel_model.specs.Turn.{rule_shown}
-use Rattle.kernel_model.specs.Calls.{failed_swap, Served, driver_answered, by_class, commanded, exit, failure_of, memop}
+use Rattle.kernel_model.specs.Calls.{failed_swap, Served, driver_answered, by_form, commanded, exit, failure_by, failure_of, memop}
 use Rattle.kernel_model.specs.Calls.{object_permits, refused_with, replied, restart, restarted_by, restarted_main}
 use Rattle.kernel_model.specs.Calls.{served, swap_by, swap_refusal, taken_by, yield_now, yielding}
 use Rattle.kernel_model.specs.Laws.{CanStartAgain, DriversPromise, KeepsLines}
@@ -140,18 +141,17 @@ of_yield P around r number at both =
     (by_test P (number == 1) _ _ (both.served _ (served_so around r _ refl (all_same r.own) (λ e. cc) refl))
     (both.served _ (served_so around r _ refl (all_same r.own) (λ e. cc) refl)))
 
-of_swap : (P : Served → Type 0) (promise : DriversPromise) (around : CommandContext) (r : Record) (kind : PairKind)
-    (driver number : ℕ) (pair : ℕ × ℕ) (o : Option CallRule) → OfBoth P around r (failed_swap pair)
-    → P (swap_by r kind driver number pair o)
-of_swap P promise around r kind driver number pair None both =
+of_swap : (P : Served → Type 0) (promise : DriversPromise) (around : CommandContext) (r : Record) (swap : Swap)
+    (o : Option CallRule) → OfBoth P around r (failed_swap swap.pair) → P (swap_by r swap o)
+of_swap P promise around r swap None both =
     both.served _ (record {
       no_rule = refl;
       dropped = no_more r.own.dropped;
       room = λ few. refl;
       done = λ e. cc;
-      lines = λ lives can. keeps_handed promise.alone around.storage kind driver number pair r.own;
+      lines = λ lives can. keeps_handed promise.alone around.storage swap r.own;
     })
-of_swap P promise around r kind driver number pair (Some rule) both = both.refused rule
+of_swap P promise around r swap (Some rule) both = both.refused rule
 
 of_commanded : (P : Served → Type 0) (around : CommandContext) (r : Record) (c : Commanded)
     (answer : Result Reply CallRule) → c.answer ≡ answer
@@ -181,27 +181,19 @@ of_taken P promise around driver number a2 a3 r (Some taker) is both =
     (promise.limit.command driver taker is around number a2 a3 r.own).room
     (λ lives. keeps_commanded around r.own (taker around number a2 a3 r.own) lives follows stays) both
 
-of_class : (P : Served → Type 0) (promise : DriversPromise) (around : CommandContext) (r : Record) (call : SystemCall)
-    → OfBoth P around r (failure_of call) → P (by_class around r call)
-unfolding by_class
-of_class P promise around r (Memop operation argument) both = of_memop P around r operation argument both
-of_class P promise around r (Exit kind code) both = of_exit P around r kind code both
-of_class P promise around r (Yield number a1 a2) both = of_yield P around r number a1 both
-of_class P promise around r (Subscribe driver number function app) both =
-    of_swap P promise around r Upcall driver number (function, app)
-    (swap_refusal Upcall driver number (function, app) r.own) both
-of_class P promise around r (Command driver number a2 a3) both =
+of_form : (P : Served → Type 0) (promise : DriversPromise) (around : CommandContext) (r : Record) (form : CallForm)
+    → OfBoth P around r (failure_by form) → P (by_form around r form)
+unfolding by_form
+of_form P promise around r (forms.Yield number a1 a2) both = of_yield P around r number a1 both
+of_form P promise around r (forms.Swap swap) both = of_swap P promise around r swap (swap_refusal swap r.own) both
+of_form P promise around r (forms.Command driver number a2 a3) both =
     of_taken P promise around driver number a2 a3 r (handler_of driver) refl both
-of_class P promise around r (AllowRw driver number address size) both =
-    of_swap P promise around r ReadWrite driver number (address, size)
-    (swap_refusal ReadWrite driver number (address, size) r.own) both
-of_class P promise around r (AllowRo driver number address size) both =
-    of_swap P promise around r ReadOnly driver number (address, size)
-    (swap_refusal ReadOnly driver number (address, size) r.own) both
+of_form P promise around r (forms.Memop operation argument) both = of_memop P around r operation argument both
+of_form P promise around r (forms.Exit kind code) both = of_exit P around r kind code both
 
 -- what holds of a call that is refused and of one that is served holds of every call
 pub of_call : (P : Served → Type 0) (promise : DriversPromise) (around : CommandContext) (r : Record)
     (call : SystemCall) → OfBoth P around r (failure_of call) → P (served around r call)
 unfolding served
 of_call P promise around r call both =
-    by_test P (object_permits r.object call) _ _ (of_class P promise around r call both) (both.refused Permission)
+    by_test P (object_permits r.object call) _ _ (of_form P promise around r (form_of call) both) (both.refused Permission)

@@ -24,14 +24,15 @@ use Rattle.process_record.specs.declared.process.State.TheVariants.{Running, Yie
 use Rattle.process_record.specs.Process.{after_call, after_turn, delivered, waiting}
 use Rattle.kernel_model.specs.Record.{Record, byte_at, instruction, with_effect, with_process}
 use Rattle.kernel_model.specs.declared.settings.Settings.{Settings}
-use Rattle.kernel_model.specs.Calls.{Served, by_class, failure_of, object_permits, refused_with, served, yield_now}
+use Rattle.kernel_model.specs.Calls.{Served, by_form, failure_of, object_permits, refused_with, served, yield_now}
 use Rattle.kernel_model.specs.Calls.{yielding}
 use Rattle.kernel_model.specs.Turn.{TurnTrace, Turned, calls, turn_counted, delivery, at_turn_end, made, surroundings}
 use Rattle.kernel_model.specs.Turn.{turn_in, turned}
 use Rattle.kernel_model.specs.World.{World, after}
 use Rattle.kernel_model.specs.Deliveries.{before_delivery, delivers, is_yield_now, is_yielded, told_in}
-use Rattle.kernel_model.proofs.Classes.{allow_ro_in, allow_rw_in, command_in, exit_in, memop_in, of_registers}
-use Rattle.kernel_model.proofs.Classes.{subscribe_in, yield_in}
+use Rattle.kernel_model.specs.Histories.{class_of}
+use Rattle.kernel_model.proofs.Classes.{command_in, exit_in, memop_in, of_registers, yield_in}
+use Rattle.kernel_model.proofs.Swaps.{no_swap}
 use Rattle.kernel_model.proofs.Memops.{by_test}
 use Rattle.kernel_model.proofs.Refused.{only_counts}
 use Rattle.kernel_model.proofs.Steps.{of_step}
@@ -83,7 +84,7 @@ module _ (settings : Settings) (time : ℕ) (u : Scheduled) (more : List Schedul
 
   of_served : (around : CommandContext) (r : Record) → r.own.pending ≡ u ∷ more
       → ByCall r (served around r (yield_in r.process.regs))
-  unfolding served by_class
+  unfolding served by_form
   of_served around r pending =
       let call = yield_in r.process.regs in
       by_test (ByCall r) (object_permits r.object call) _ _ (of_yield r pending)
@@ -94,9 +95,9 @@ module _ (settings : Settings) (time : ℕ) (u : Scheduled) (more : List Schedul
       → Delivers false r (calls settings time (turn_counted r) accesses (call_of r.process.regs))
   of_calls r accesses pending =
       of_registers (λ (o : Option SystemCall). Delivers false r (calls settings time (turn_counted r) accesses o)) regs
-      (λ is. of_served around (turn_counted r) pending) (other 1 (subscribe_in regs) refl)
-      (other 2 (command_in regs) refl) (other 3 (allow_rw_in regs) refl)
-      (other 4 (allow_ro_in regs) refl) (other 5 (memop_in regs) refl) (other 6 (exit_in regs) refl)
+      (λ is. of_served around (turn_counted r) pending)
+      (λ kind call is swaps. other (class_of kind) call (no_swap 0 refl kind) is) (other 2 (command_in regs) refl)
+      (other 5 (memop_in regs) refl) (other 6 (exit_in regs) refl)
       (λ e. absurd (false≢true e))
     where
       regs : Registers

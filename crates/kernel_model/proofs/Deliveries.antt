@@ -24,8 +24,10 @@ use Rattle.rv32_model.specs.declared.turn_end.TurnEnd.{TurnEnd}
 use Rattle.rv32_model.specs.declared.turn_end.TurnEnd.TheVariants as ends
 use Rattle.rv32_model.specs.UserTurn.{MemoryAccess}
 use Rattle.syscall_abi.specs.declared.call.Call.{Call as SystemCall}
+use Rattle.syscall_abi.specs.declared.form.CallForm.{CallForm}
+use Rattle.syscall_abi.specs.declared.form.Swap.{Swap}
 use Rattle.syscall_abi.specs.declared.reply.Reply.{Reply}
-use Rattle.syscall_abi.specs.Call.{call_of, class, a0, a1, a2, a3}
+use Rattle.syscall_abi.specs.Call.{call_of, class, form_of, a0, a1, a2, a3}
 use Rattle.upcall_queue.specs.Pending.{is_of}
 use Rattle.process_model.specs.Own.{Own, own_ended as ended_own}
 use Rattle.process_model.specs.Flag.{with_flag}
@@ -44,20 +46,21 @@ use Rattle.process_record.specs.declared.process.State.TheVariants.{Running, Yie
 use Rattle.process_record.specs.Process.{after_call, after_fault, waiting}
 use Rattle.kernel_model.specs.Record.{Record, instruction, with_effect, record_with_own, with_process}
 use Rattle.kernel_model.specs.declared.settings.Settings.{Settings}
-use Rattle.kernel_model.specs.Calls.{failed_swap, Served, driver_answered, by_class, exit, failure_of, memop}
-use Rattle.kernel_model.specs.Calls.{object_permits}
-use Rattle.kernel_model.specs.Calls.{refused_with, restart, restarted_with, served, swap, swap_by, swap_refusal}
+use Rattle.kernel_model.specs.Calls.{failed_swap, Served, driver_answered, by_form, exit, failure_of, memop}
+use Rattle.kernel_model.specs.Calls.{object_permits, own_swapped}
+use Rattle.kernel_model.specs.Calls.{refused_with, restart, restarted_with, served, swap_by, swap_refusal, swapped}
 use Rattle.kernel_model.specs.Calls.{taken_by, yield_now, yielding}
 use Rattle.kernel_model.specs.Turn.{TurnTrace, Turned, calls, turn_counted, delivery, at_turn_end, faulted, idle}
 use Rattle.kernel_model.specs.Turn.{instructed, made, settled, surroundings, turned, turn_in, unknown_call}
 use Rattle.kernel_model.specs.Laws.{CanStartAgain}
 use Rattle.kernel_model.specs.Deliveries.{Scheduling, is_yielded, subscription_key, left_by_turn, takes_away}
-use Rattle.kernel_model.proofs.Classes.{allow_ro_in, allow_rw_in, command_in, exit_in, memop_in, of_registers}
-use Rattle.kernel_model.proofs.Classes.{subscribe_in, yield_in}
+use Rattle.kernel_model.specs.Histories.{class_of}
+use Rattle.kernel_model.proofs.Classes.{command_in, exit_in, memop_in, of_registers, swap_in, yield_in}
 use Rattle.kernel_model.proofs.Comes.{plain}
+use Rattle.kernel_model.proofs.Handed.{is_handed}
 use Rattle.kernel_model.proofs.Memops.{by_test, memop_gives}
 use Rattle.kernel_model.proofs.Restarts.{restarts}
-use Rattle.kernel_model.proofs.Swaps.{in_count, refused_hands_nothing}
+use Rattle.kernel_model.proofs.Swaps.{refused_hands_nothing}
 
 -- what is known of pairs and of what drivers schedule
 pub record Promise : Type 0 where
@@ -308,40 +311,42 @@ module _ (promise : Promise) (around : CommandContext) (r : Record) where
       by_number true e = by_pending e r.own.pending refl
       by_number false e = by_one e (number == 1)
 
-  -- a subscribe
-  of_subscribed : (driver number : ℕ) (pair : ℕ × ℕ) (left : List Scheduling → List Scheduling)
-      → number < count_of Upcall (shape_of driver)
-      → ((waiting : List Scheduling) → left waiting ≡ filter (λ s. not (is_of driver number s.upcall)) waiting)
-      → Leaves r (swap_by r Upcall driver number pair None).after left
-  of_subscribed driver number pair left lt is_left =
-      let o = handing Upcall driver number pair r.own in
+  -- a subscribe that the registers make
+  of_subscribed : (left : List Scheduling → List Scheduling) → let swap = swap_in Upcall r.process.regs in
+      swap.number < count_of Upcall (shape_of swap.driver)
+      → ((waiting : List Scheduling)
+      → left waiting ≡ filter (λ s. not (is_of swap.driver swap.number s.upcall)) waiting)
+      → Leaves r (swap_by r swap None).after left
+  of_subscribed left lt is_left =
+      let swap = swap_in Upcall r.process.regs in
+      let o = own_swapped swap r.own in
       leaves_some law r _ _ refl
-      (λ waiting is. ap (filter (λ u. not (is_of driver number u))) (sym is)
-      ∙ filter_upcalls (λ u. not (is_of driver number u)) waiting ∙ ap upcalls (sym (is_left waiting)))
+      (λ waiting is. ap (filter (λ u. not (is_of swap.driver swap.number u))) (sym is)
+      ∙ filter_upcalls (λ u. not (is_of swap.driver swap.number u)) waiting ∙ ap upcalls (sym (is_left waiting)))
       (λ sound.
-      let one = law.handing Upcall driver number pair r.own sound.shape lt in
+      let one = law.handing Upcall swap.driver swap.number swap.pair r.own sound.shape lt in
       record {
         shape = one.shape;
-        held = each_passing (IsHeld r.own) (IsHeld o) (λ u. not (is_of driver number u)) r.own.pending
+        held = each_passing (IsHeld r.own) (IsHeld o) (λ u. not (is_of swap.driver swap.number u)) r.own.pending
             (λ u h apart. (
               one.others Upcall u.driver u.number
-                  (λ k d n. not_both (u.driver == driver) (u.number == number) apart (eq-eqb u.driver driver d)
-                  (eq-eqb u.number number n)) ∙ h.0,
+                  (λ k d n. not_both (u.driver == swap.driver) (u.number == swap.number) apart
+                  (eq-eqb u.driver swap.driver d) (eq-eqb u.number swap.number n)) ∙ h.0,
               h.1,
             ))
             sound.held;
       })
 
   -- an allow
-  of_allowed : (kind : PairKind) (driver number : ℕ) (pair : ℕ × ℕ) → Upcall ≢ kind
-      → ((pending : List Scheduled) → still_pending kind driver number pending ≡ pending)
-      → number < count_of kind (shape_of driver)
-      → Leaves r (swap_by r kind driver number pair None).after (λ waiting. filter (λ s. true) waiting)
-  of_allowed kind driver number pair apart still lt =
+  of_allowed : (swap : Swap) → Upcall ≢ swap.kind
+      → ((pending : List Scheduled) → still_pending swap.kind swap.driver swap.number pending ≡ pending)
+      → swap.number < count_of swap.kind (shape_of swap.driver)
+      → Leaves r (swap_by r swap None).after (λ waiting. filter (λ s. true) waiting)
+  of_allowed swap apart still lt =
       leaves_some law r _ _ refl (λ waiting is. still r.own.pending ∙ sym is ∙ ap upcalls (sym (passes_all waiting)))
       (λ sound.
-      let one = law.handing kind driver number pair r.own sound.shape lt in
-      let o = handing kind driver number pair r.own in
+      let one = law.handing swap.kind swap.driver swap.number swap.pair r.own sound.shape lt in
+      let o = own_swapped swap r.own in
       record {
         shape = one.shape;
         held = All-same (IsHeld o) o.pending r.own.pending (still r.own.pending)
@@ -350,33 +355,29 @@ module _ (promise : Promise) (around : CommandContext) (r : Record) where
       })
 
   -- a swap, which is refused or of a number that its driver has
-  of_swap : (n : ℕ) (kind : PairKind) (driver number : ℕ) (pair : ℕ × ℕ)
-      → (number < count_of kind (shape_of driver) → LeavesByCall r n (swap_by r kind driver number pair None))
-      → LeavesByCall r n (swap r kind driver number pair)
-  of_swap n kind driver number pair swapped = by_refusal (swap_refusal kind driver number pair r.own) refl
+  of_swap : (n : ℕ) (swap : Swap)
+      → (swap.number < count_of swap.kind (shape_of swap.driver) → LeavesByCall r n (swap_by r swap None))
+      → LeavesByCall r n (swapped r swap)
+  of_swap n swap handed = by_refusal (swap_refusal swap r.own) refl
     where
-      by_refusal : (o : Option CallRule) → swap_refusal kind driver number pair r.own ≡ o
-          → LeavesByCall r n (swap_by r kind driver number pair o)
-      by_refusal None e = swapped (in_count kind driver number pair r.own e)
-      by_refusal (Some rule) e = of_refused n rule (failed_swap pair rule)
+      by_refusal : (o : Option CallRule) → swap_refusal swap r.own ≡ o → LeavesByCall r n (swap_by r swap o)
+      by_refusal None e = handed (is_handed swap r.own e).counted
+      by_refusal (Some rule) e = of_refused n rule (failed_swap swap.pair rule)
 
-  of_subscribe : (pair : ℕ × ℕ) → LeavesByCall r 1 (swap r Upcall (a0 r.process.regs) (a1 r.process.regs) pair)
-  of_subscribe pair =
-      of_swap 1 Upcall (a0 r.process.regs) (a1 r.process.regs) pair
-      (λ lt. by_leaves r 1 _ (of_subscribed _ _ pair _ lt
+  -- the swap of each kind that the registers make
+  of_kind : (kind : PairKind) → LeavesByCall r (class_of kind) (swapped r (swap_in kind r.process.regs))
+  of_kind Upcall =
+      of_swap 1 (swap_in Upcall r.process.regs)
+      (λ lt. by_leaves r 1 _ (of_subscribed _ lt
       (filter_agree _ _ (λ s.
       ap not (is_subscribed (a0 r.process.regs) (a1 r.process.regs) (a2 r.process.regs, a3 r.process.regs)
       s.upcall)))))
-
-  of_allow_rw : (driver number : ℕ) (pair : ℕ × ℕ) → LeavesByCall r 3 (swap r ReadWrite driver number pair)
-  of_allow_rw driver number pair =
-      of_swap 3 ReadWrite driver number pair
-      (λ lt. by_leaves r 3 _ (of_allowed ReadWrite driver number pair (λ k. cc) (λ pending. refl) lt))
-
-  of_allow_ro : (driver number : ℕ) (pair : ℕ × ℕ) → LeavesByCall r 4 (swap r ReadOnly driver number pair)
-  of_allow_ro driver number pair =
-      of_swap 4 ReadOnly driver number pair
-      (λ lt. by_leaves r 4 _ (of_allowed ReadOnly driver number pair (λ k. cc) (λ pending. refl) lt))
+  of_kind ReadOnly =
+      let swap = swap_in ReadOnly r.process.regs in
+      of_swap 4 swap (λ lt. by_leaves r 4 _ (of_allowed swap (λ k. cc) (λ pending. refl) lt))
+  of_kind ReadWrite =
+      let swap = swap_in ReadWrite r.process.regs in
+      of_swap 3 swap (λ lt. by_leaves r 3 _ (of_allowed swap (λ k. cc) (λ pending. refl) lt))
 
   -- a command
   of_answer : (c : Commanded) (answer : Result Reply CallRule) → HandsTheSame r.own c.own → SchedulesHeld r.own c.own
@@ -420,7 +421,7 @@ module _ (promise : Promise) (around : CommandContext) (r : Record) where
       (of_refused 6 NoOperation (plain NoOperation)))
 
   -- a call that its object permits, or does not
-  of_served : (n : ℕ) (call : SystemCall) → LeavesByCall r n (by_class around r call)
+  of_served : (n : ℕ) (call : SystemCall) → LeavesByCall r n (by_form around r (form_of call))
       → LeavesByCall r n (served around r call)
   unfolding served
   of_served n call leaves =
@@ -459,14 +460,13 @@ module _ (promise : Promise) (settings : Settings) (time : ℕ) where
   -- a call of each class, or none
   of_calls : (r : Record) (accesses : List MemoryAccess) → CanStartAgain r
       → let t = calls settings time r accesses (call_of r.process.regs) in Leaves r t.after (left_by_turn false t.told)
-  unfolding by_class
+  unfolding by_form
   of_calls r accesses can =
-      of_registers Leaving regs
-      (λ is. on 0 (yield_in regs) is (of_yield promise around r))
-      (λ is. on 1 (subscribe_in regs) is (of_subscribe promise around r _))
+      of_registers Leaving regs (λ is. on 0 (yield_in regs) is (of_yield promise around r))
+      (λ kind call is swaps. on (class_of kind) call is
+      (subst (λ (form : CallForm). LeavesByCall r (class_of kind) (by_form around r form)) (sym swaps)
+      (of_kind promise around r kind)))
       (λ is. on 2 (command_in regs) is (of_command promise around r _ _ _ _ _ refl))
-      (λ is. on 3 (allow_rw_in regs) is (of_allow_rw promise around r _ _ _))
-      (λ is. on 4 (allow_ro_in regs) is (of_allow_ro promise around r _ _ _))
       (λ is. on 5 (memop_in regs) is (of_memop promise around r _ _))
       (λ is. on 6 (exit_in regs) is (of_exit promise around r can _ _)) (of_fault r (unknown_call r.process) can)
     where
@@ -480,7 +480,7 @@ module _ (promise : Promise) (settings : Settings) (time : ℕ) where
       Leaving call = Leaves r (calls settings time r accesses call).after
           (left_by_turn false (calls settings time r accesses call).told)
 
-      on : (n : ℕ) (call : SystemCall) → class regs ≡ n → LeavesByCall r n (by_class around r call)
+      on : (n : ℕ) (call : SystemCall) → class regs ≡ n → LeavesByCall r n (by_form around r (form_of call))
           → Leaving (Some call)
       on n call is leaves =
           leaves_by r (class regs) _ (subst (λ (k : ℕ). LeavesByCall r k (served around r call)) (sym is)

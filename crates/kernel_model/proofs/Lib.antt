@@ -8,6 +8,7 @@ mod Comes
 pub mod Refusals
 mod Refused
 pub mod Runs
+mod Handed
 mod Replays
 mod Kept
 mod Accesses

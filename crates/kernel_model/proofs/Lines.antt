@@ -3,10 +3,9 @@ use Rattle.std.proofs.Common.{◌≡◌, ℕ, Bool, true, cond, List, [], Option
 use Rattle.std.proofs.Common.{subst, ◌+◌, ◌≤◌}
 use Rattle.std.specs.Option.{option_and_then, option_map}
 use Rattle.grant_values.specs.declared.storage.StorageRequest.{StorageRequest}
-use Rattle.tk_base.specs.declared.kinds.PairKind.{PairKind}
 use Rattle.grant_model.specs.Grants.{Grant, grant_of}
 use Rattle.process_model.specs.Own.{Own, own_ended}
-use Rattle.process_model.specs.Handed.{handing}
+use Rattle.syscall_abi.specs.declared.form.Swap.{Swap}
 use Rattle.driver_model.specs.Commands.{Commanded, leaving_all}
 use Rattle.driver_model.specs.Drivers.{CommandContext}
 use Rattle.driver_model.specs.Laws.{StaysInPlace}
@@ -16,7 +15,7 @@ use Rattle.driver_model.specs.Console.{console_reads, console_writes}
 use Rattle.driver_model.specs.Random.{randoms}
 use Rattle.driver_model.specs.Storage.{storages}
 use Rattle.kernel_model.specs.Record.{Record}
-use Rattle.kernel_model.specs.Calls.{restart}
+use Rattle.kernel_model.specs.Calls.{own_swapped, restart}
 use Rattle.kernel_model.specs.Laws.{CanStartAgain, KeepsLines}
 use Rattle.kernel_model.proofs.Restarts.{restarts}
 
@@ -82,15 +81,15 @@ keeps_restarted size r can =
     })
 
 -- one that handed a pair to a driver
-pub keeps_handed : OnlyDriversMoveLines → (size : ℕ) (kind : PairKind) (driver number : ℕ) (pair : ℕ × ℕ) (own : Own)
-    → KeepsLines size own (handing kind driver number pair own) []
-keeps_handed law size kind driver number pair own =
-    let same = law.handing kind driver number pair own in
+pub keeps_handed : OnlyDriversMoveLines → (size : ℕ) (swap : Swap) (own : Own)
+    → KeepsLines size own (own_swapped swap own) []
+keeps_handed law size swap own =
+    let same = law.handing swap.kind swap.driver swap.number swap.pair own in
     record {
       lines = same.waiting;
       once = record { writes = refl; reads = refl; randoms = refl; stores = refl };
       life = record { writes = λ e. refl; reads = λ e. refl; randoms = λ e. refl; stores = λ e. refl };
-      within = still_within size own (handing kind driver number pair own) same.requests.stores;
+      within = still_within size own (own_swapped swap own) same.requests.stores;
     }
 
 -- one that gave a command

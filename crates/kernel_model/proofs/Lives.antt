@@ -21,7 +21,7 @@ use Rattle.process_layout.specs.LayoutView.{LayoutView, first_break, permits_bre
 use Rattle.upcall_queue.specs.Pending.{is_of}
 use Rattle.process_model.specs.Own.{Own}
 use Rattle.process_model.specs.Flag.{with_flag}
-use Rattle.process_model.specs.Handed.{handing, has_place, lies_in_ram, may_share, still_pending}
+use Rattle.process_model.specs.Handed.{has_place, lies_in_ram, may_share, still_pending}
 use Rattle.driver_model.specs.Alarm as alarm
 use Rattle.driver_model.specs.Console as console
 use Rattle.driver_model.specs.Console.{console_reads, console_writes}
@@ -35,9 +35,10 @@ use Rattle.driver_model.specs.Keeping.{DriversKeep, IsInOrder, KeepsLimit, Keeps
 use Rattle.driver_model.specs.Services.{OfEachService}
 use Rattle.process_record.specs.declared.process.State.{State}
 use Rattle.process_record.specs.declared.process.State.TheVariants.{Running, Yielded, Faulted, Terminated}
+use Rattle.syscall_abi.specs.declared.form.Swap.{Swap}
 use Rattle.kernel_model.specs.Record.{Record, record_with_own}
 use Rattle.kernel_model.specs.declared.settings.Settings.{Settings}
-use Rattle.kernel_model.specs.Calls.{restart, restarted_by, restarted_main, restarted_with, swap_refusal}
+use Rattle.kernel_model.specs.Calls.{restart, restarted_by, restarted_main, restarted_with, own_swapped, swap_refusal}
 use Rattle.kernel_model.specs.Turn.{Event, Turn, Alarmed, Taken, WriteDone, Input, Word, NoWord, Stored, apply}
 use Rattle.kernel_model.specs.Turn.{flash_of, turned, turn_in, written_over}
 use Rattle.kernel_model.specs.World.{World, after}
@@ -47,7 +48,7 @@ use Rattle.kernel_model.specs.Lives.{AsManyStay, BlocksStayApart, EndedStays, Ha
 use Rattle.kernel_model.specs.Lives.{LivesAsItRuns, PlacesStay, HoldsThroughout, is_alive}
 use Rattle.kernel_model.proofs.Changes.{IsKept, after_answer, after_turn, over_choices}
 use Rattle.kernel_model.proofs.Restarts.{restarts}
-use Rattle.kernel_model.proofs.Runs.{passed_over}
+use Rattle.kernel_model.proofs.Handed.{is_handed}
 use Rattle.kernel_model.proofs.Turns.{step_same}
 use Rattle.kernel_model.proofs.Steps.{IsAnswer, of_step}
 
@@ -102,7 +103,7 @@ lives_kept = record {
         ap (λ (x : Own). x.life) s ∙ h.life;
     application = h.application;
   };
-  hands = λ r kind driver number pair may h. record { lives = h.lives; life = h.life; application = h.application };
+  hands = λ r swap may h. record { lives = h.lives; life = h.life; application = h.application };
   moves = λ r new may h. record { lives = h.lives; life = h.life; application = h.application };
   flags = λ r at byte h.
       record {
@@ -240,9 +241,9 @@ lies_kept law first = record {
   waits = λ r alive h. lies_on first r _ h refl refl refl refl refl refl refl;
   serves = λ r o storage s h. lies_own first r o storage h (ap (λ (x : Own). x.object) s) o.layout.kernel_break
       r.own.layout.mark r.own.layout.brk (ap (λ (x : Own). x.layout) s);
-  hands = λ r kind driver number pair may h.
-      let p = law.handed_places kind driver number pair r.own in
-      let o = handing kind driver number pair r.own in
+  hands = λ r swap may h.
+      let p = law.handed_places swap.kind swap.driver swap.number swap.pair r.own in
+      let o = own_swapped swap r.own in
       lies_own first r o r.storage h (ap (λ (x : Own). x.object) p) o.layout.kernel_break o.layout.mark r.own.layout.brk
       (ap (λ (x : Own). x.layout) p);
   moves = λ r new may h. lies_on first r _ h refl refl refl refl refl refl refl;
@@ -353,26 +354,6 @@ order_moved r new may h =
       end = h.places.end;
     }
 
-not_false : (b : Bool) → not b ≡ false → b ≡ true
-not_false true e = refl
-not_false false e = absurd (false≢true (sym e))
-
-placed : (kind : PairKind) (driver number : ℕ) (pair : ℕ × ℕ) (own : Own)
-    → swap_refusal kind driver number pair own ≡ None → has_place driver own ≡ true
-unfolding swap_refusal
-placed kind driver number pair own none =
-    let room = passed_over (not (has_place driver own)) NoRoom None in
-    let lies = passed_over (not (may_share kind own.layout pair)) Outside
-    (cond (not (has_place driver own)) (Some NoRoom) None) in
-    let numbered = passed_over (not (nat_lt number (count_of kind (shape_of driver)))) NoNumber
-    (cond (not (may_share kind own.layout pair)) (Some Outside)
-    (cond (not (has_place driver own)) (Some NoRoom) None)) in
-    let known = passed_over (is_none (counts_of driver)) NoDriver
-    (cond (not (nat_lt number (count_of kind (shape_of driver)))) (Some NoNumber)
-    (cond (not (may_share kind own.layout pair)) (Some Outside)
-    (cond (not (has_place driver own)) (Some NoRoom) None))) in
-    not_false (has_place driver own) (room (lies (numbered (known none).1).1).1).0
-
 abbrev pub KeepsBoth : Own → Own → Type 0
 KeepsBoth own o = StaysInPlace own o × KeepsOrder own o
 
@@ -398,10 +379,10 @@ order_kept law = record {
   waits = λ r alive h. record { places = h.places; least = h.least };
   serves = λ r o storage s h. order_on r _ h refl (ap (λ (x : Own). x.layout.start) s.0)
       (ap (λ (x : Own). x.layout.end) s.0) (s.1 h.places);
-  hands = λ r kind driver number pair may h.
-      let p = law.handed_places kind driver number pair r.own in
+  hands = λ r swap may h.
+      let p = law.handed_places swap.kind swap.driver swap.number swap.pair r.own in
       order_on r _ h refl (ap (λ (x : Own). x.layout.start) p) (ap (λ (x : Own). x.layout.end) p)
-      (law.handed kind driver number pair r.own (placed kind driver number pair r.own may) h.places);
+      (law.handed swap.kind swap.driver swap.number swap.pair r.own (is_handed swap r.own may).room h.places);
   moves = λ r new may h. order_on r _ h refl refl refl (order_moved r new may h);
   flags = λ r at byte h.
       let f = flag_rest at byte r.own in
@@ -448,7 +429,7 @@ pending_kept = record {
   regs = λ r regs refusal h. h;
   waits = λ r alive h. h;
   serves = λ r o storage s h. s.limit h;
-  hands = λ r kind driver number pair may h. omega (arith, h, fewer kind driver number r.own.pending);
+  hands = λ r swap may h. omega (arith, h, fewer swap.kind swap.driver swap.number r.own.pending);
   moves = λ r new may h. h;
   flags = λ r at byte h. subst (λ (o : Own). length o.pending ≤ PENDING_LIMIT) (sym (flag_rest at byte r.own)) h;
   delivers = λ r upcall more alive h. omega (arith, h, without_one r.own.pending);

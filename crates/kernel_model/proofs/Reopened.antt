@@ -105,7 +105,7 @@ module _ (law : DriversKeep) (first : Record) (at : IsAtFirst first) where
         regs = λ r regs refusal h. (k.regs r regs refusal h.0, h.1);
         waits = λ r alive h. (k.waits r alive h.0, h.1);
         serves = λ r o storage s h. (k.serves r o storage s h.0, h.1);
-        hands = λ r kind driver number pair may h. (k.hands r kind driver number pair may h.0, h.1);
+        hands = λ r swap may h. (k.hands r swap may h.0, h.1);
         moves = λ r new may h. (k.moves r new may h.0, h.1);
         flags = λ r at byte h. (k.flags r at byte h.0, h.1);
         delivers = λ r upcall more alive h. (k.delivers r upcall more alive h.0, h.1);

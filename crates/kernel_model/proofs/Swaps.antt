@@ -1,7 +1,7 @@
 -- What each turn does to the pairs that its process has handed, and what a swap in it gives back.
 use Rattle.std.proofs.Common.{◌≡◌, ◌≢◌, ◌<◌, ◌≤◌, ℕ, ◌==◌, ◌&&◌, nat_lt, not, Bool, true, false, cond, List, [], ◌∷◌}
 use Rattle.std.proofs.Common.{length, slice_set, Option, None, Some, is_none, is_some, unwrap_or, Result, Ok, Err, refl}
-use Rattle.std.proofs.Common.{ap, sym, subst, ◌∙◌, arith, eqb-true, eq-eqb}
+use Rattle.std.proofs.Common.{ap, sym, subst, ◌∙◌, arith, eqb-true, eq-eqb, ne_eqb, ◌||◌}
 use Rattle.std.specs.Prelude.{slice_index}
 use Rattle.std.proofs.Math.Bool.{and-false}
 use Rattle.std.proofs.Math.Seq.{lt-length-set}
@@ -33,7 +33,9 @@ use Rattle.driver_model.specs.Commands.{Commanded, leaving_all}
 use Rattle.driver_model.specs.Drivers.{CommandContext, CommandHandler, handler_of}
 use Rattle.driver_model.specs.Pairs.{DriversLeavePairs}
 use Rattle.syscall_abi.specs.declared.call.Call.{Call as SystemCall}
-use Rattle.syscall_abi.specs.Call.{a0, a1, a2, a3, call_of, class}
+use Rattle.syscall_abi.specs.declared.form.CallForm.{CallForm}
+use Rattle.syscall_abi.specs.declared.form.Swap.{Swap}
+use Rattle.syscall_abi.specs.Call.{a0, a1, a2, a3, call_of, class, form_of}
 use Rattle.syscall_abi.specs.Reply.{put_reply}
 use Rattle.syscall_abi.specs.declared.reply.Reply.{Reply}
 use Rattle.syscall_abi.specs.declared.reply.Reply.TheVariants.{Failure, FailureU32U32, SuccessU32U32}
@@ -45,16 +47,16 @@ use Rattle.process_record.specs.declared.process.State.TheVariants.{Running, Yie
 use Rattle.process_record.specs.Process.{after_exit, after_fault}
 use Rattle.kernel_model.specs.Record.{Record, instruction, with_effect, record_with_own, with_process}
 use Rattle.kernel_model.specs.declared.settings.Settings.{Settings}
-use Rattle.kernel_model.specs.Calls.{Served, driver_answered, by_class, exit, failure_of, memop, object_permits}
-use Rattle.kernel_model.specs.Calls.{refused_with, restart, served, swap, swap_by, swap_refusal, taken_by, yield_now}
-use Rattle.kernel_model.specs.Calls.{yielding}
+use Rattle.kernel_model.specs.Calls.{Served, driver_answered, by_form, exit, failure_of, memop, object_permits}
+use Rattle.kernel_model.specs.Calls.{refused_with, restart, served, swap_by, swap_refusal, swapped, taken_by}
+use Rattle.kernel_model.specs.Calls.{yield_now, yielding}
 use Rattle.kernel_model.specs.Turn.{TurnTrace, Turned, arguments, called, calls, turn_counted, delivery, at_turn_end}
 use Rattle.kernel_model.specs.Turn.{faulted, yield_flag_of, idle, instructed, made, settled, surroundings, turned}
 use Rattle.kernel_model.specs.Turn.{turn_in, unknown_call}
 use Rattle.kernel_model.specs.Laws.{CanStartAgain, main_by}
 use Rattle.kernel_model.specs.Histories.{PairKey, class_of, handed_by, is_exit, is_swap, last_pair, swap_reply}
-use Rattle.kernel_model.proofs.Classes.{allow_ro_in, allow_rw_in, command_in, exit_in, memop_in, of_registers}
-use Rattle.kernel_model.proofs.Classes.{subscribe_in, yield_in}
+use Rattle.kernel_model.proofs.Classes.{command_in, exit_in, memop_in, of_registers, swap_in, yield_in}
+use Rattle.kernel_model.proofs.Handed.{is_handed}
 use Rattle.kernel_model.proofs.Memops.{by_test, memop_gives}
 use Rattle.kernel_model.proofs.Restarts.{restart_forgets, restart_object}
 
@@ -101,29 +103,35 @@ both_true true false a b = b
 both_true false c a b = a
 
 -- kinds are told apart by the classes of their calls
+abbrev kind_of : ℕ → PairKind
+kind_of n = cond (n == 1) Upcall (cond (n == 4) ReadOnly ReadWrite)
+
+kind_of_class : (kind : PairKind) → kind_of (class_of kind) ≡ kind
+kind_of_class Upcall = refl
+kind_of_class ReadOnly = refl
+kind_of_class ReadWrite = refl
+
 same_kind : (a b : PairKind) → (class_of a == class_of b) ≡ true → a ≡ b
-same_kind Upcall Upcall e = refl
-same_kind ReadOnly ReadOnly e = refl
-same_kind ReadWrite ReadWrite e = refl
-same_kind Upcall ReadOnly e = absurd (false≢true e)
-same_kind Upcall ReadWrite e = absurd (false≢true e)
-same_kind ReadOnly Upcall e = absurd (false≢true e)
-same_kind ReadOnly ReadWrite e = absurd (false≢true e)
-same_kind ReadWrite Upcall e = absurd (false≢true e)
-same_kind ReadWrite ReadOnly e = absurd (false≢true e)
+same_kind a b e =
+    sym (kind_of_class a) ∙ ap kind_of (eqb-true (class_of a) (class_of b) e) ∙ kind_of_class b
 
--- classes that are of no swap, the one way round and the other
-another_class : (n : ℕ) → (n == 1) ≡ false → (n == 4) ≡ false → (n == 3) ≡ false → (kind : PairKind)
-    → (n == class_of kind) ≡ false
-another_class n one four three Upcall = one
-another_class n one four three ReadOnly = four
-another_class n one four three ReadWrite = three
+-- whether a class is that of a swap; one that is not, the one way round and the other
+abbrev pub is_of_swaps : ℕ → Bool
+is_of_swaps n = n == 1 || (n == 4 || n == 3)
 
-no_swap : (n : ℕ) → (1 == n) ≡ false → (4 == n) ≡ false → (3 == n) ≡ false → (kind : PairKind)
-    → (class_of kind == n) ≡ false
-no_swap n one four three Upcall = one
-no_swap n one four three ReadOnly = four
-no_swap n one four three ReadWrite = three
+neither : (a b : Bool) → (a || b) ≡ false → (a ≡ false) × (b ≡ false)
+neither true b e = absurd (false≢true (sym e))
+neither false b e = (refl, e)
+
+another_class : (n : ℕ) → is_of_swaps n ≡ false → (kind : PairKind) → (n == class_of kind) ≡ false
+another_class n apart Upcall = (neither (n == 1) (n == 4 || n == 3) apart).0
+another_class n apart ReadOnly = (neither (n == 4) (n == 3) (neither (n == 1) (n == 4 || n == 3) apart).1).0
+another_class n apart ReadWrite = (neither (n == 4) (n == 3) (neither (n == 1) (n == 4 || n == 3) apart).1).1
+
+pub no_swap : (n : ℕ) → is_of_swaps n ≡ false → (kind : PairKind) → (class_of kind == n) ≡ false
+no_swap n apart kind =
+    ne_eqb (class_of kind) n
+    (λ same. false≢true (sym (another_class n apart kind) ∙ eq-eqb n (class_of kind) (sym same)))
 
 -- a call of another class hands nothing, and one of another class than exit ends nothing
 hands_nothing : (m : CallMade) (n : ℕ) → m.class ≡ n → ((kind : PairKind) → (n == class_of kind) ≡ false)
@@ -145,20 +153,6 @@ refused_hands_nothing m rule is key =
 
 refused_ends_nothing : (m : CallMade) (rule : CallRule) → m.rule ≡ Some rule → is_exit m ≡ false
 refused_ends_nothing m rule is = ap (λ (o : Option CallRule). (m.class == 6) && is_none o) is ∙ and-false (m.class == 6)
-
--- a swap that was not refused is of a number that its driver has
-pub in_count : (kind : PairKind) (driver number : ℕ) (pair : ℕ × ℕ) (own : Own)
-    → swap_refusal kind driver number pair own ≡ None → number < count_of kind (shape_of driver)
-unfolding swap_refusal
-in_count kind driver number pair own passes =
-    by_tests (is_none (counts_of driver)) (nat_lt number (count_of kind (shape_of driver))) _ refl passes
-  where
-    by_tests : (none within : Bool) (rest : Option CallRule) → nat_lt number (count_of kind (shape_of driver)) ≡ within
-        → cond none (Some NoDriver) (cond (not within) (Some NoNumber) rest) ≡ None
-        → number < count_of kind (shape_of driver)
-    by_tests true within rest e passes = nothing NoDriver (sym passes)
-    by_tests false false rest e passes = nothing NoNumber (sym passes)
-    by_tests false true rest e passes = grind (arith, nat_tests)
 
 -- a key is that of a swap, or another
 record IsOf (key : PairKey) (of : PairKind) (to at : ℕ) : Type 0 where
@@ -331,10 +325,10 @@ module _ (law : OnlyHandingChangesPairs) (drivers : DriversLeavePairs) where
         plain (refused_with r rule reply) (same_kept r _ refl refl) (refused_hands_nothing m rule refl)
         (refused_ends_nothing m rule refl)
 
-    of_other : (n : ℕ) (s : Served) → class r.process.regs ≡ n → (n == 1) ≡ false → (n == 4) ≡ false → (n == 3) ≡ false
-        → (n == 6) ≡ false → Keeps r s.after → Follows past (called r accesses call s)
-    of_other n s is one four three six keeps =
-        plain s keeps (hands_nothing (made r.process.regs s.outcome) n is (another_class n one four three))
+    of_other : (n : ℕ) (s : Served) → class r.process.regs ≡ n → is_of_swaps n ≡ false → (n == 6) ≡ false
+        → Keeps r s.after → Follows past (called r accesses call s)
+    of_other n s is apart six keeps =
+        plain s keeps (hands_nothing (made r.process.regs s.outcome) n is (another_class n apart))
         (ends_nothing (made r.process.regs s.outcome) n is six)
 
     -- a swap that succeeds
@@ -371,7 +365,7 @@ module _ (law : OnlyHandingChangesPairs) (drivers : DriversLeavePairs) where
       hands = law.handing kind driver number pair r.own k.shape within
 
       not_exit : is_exit (made r.process.regs outcome) ≡ false
-      not_exit = ends_nothing (made r.process.regs outcome) (class_of kind) is (no_swap 6 refl refl refl kind)
+      not_exit = ends_nothing (made r.process.regs outcome) (class_of kind) is (no_swap 6 refl kind)
 
       -- the pair of each key afterwards
       pair_after : (key : PairKey) (b : Bool) → is_of key ≡ b
@@ -396,7 +390,7 @@ module _ (law : OnlyHandingChangesPairs) (drivers : DriversLeavePairs) where
             rule = None;
           }
       shown =
-          let there = class_within r.process.regs (class_of kind) is (no_swap 0 refl refl refl kind) in
+          let there = class_within r.process.regs (class_of kind) is (no_swap 0 refl kind) in
           (λ i. record {
             class = class r.process.regs;
             args = arguments r.process.regs;
@@ -412,7 +406,7 @@ module _ (law : OnlyHandingChangesPairs) (drivers : DriversLeavePairs) where
           (λ i. Some (swap_reply (pair_before key e i) (same i)))
       gives_back key given false e handed = nothing given handed
 
-      succeeds : Follows past (called r accesses call (swap_by r kind driver number pair None))
+      succeeds : Follows past (called r accesses call (swap_by r (swap_in kind r.process.regs) None))
       succeeds = record {
         after = λ goes_on. record {
           shape = hands.shape;
@@ -427,13 +421,16 @@ module _ (law : OnlyHandingChangesPairs) (drivers : DriversLeavePairs) where
             ∙ gives_back key given (is_of key) refl (ap (handed_by key) same ∙ handed);
       }
 
-    swapped : (kind : PairKind) → class r.process.regs ≡ class_of kind
-        → Follows past (called r accesses call (swap r kind driver number pair))
-    swapped kind is = by_refusal (swap_refusal kind driver number pair r.own) refl
+    swap_follows : (kind : PairKind) → class r.process.regs ≡ class_of kind
+        → Follows past (called r accesses call (swapped r (swap_in kind r.process.regs)))
+    swap_follows kind is = by_refusal (swap_refusal swap r.own) refl
       where
-        by_refusal : (o : Option CallRule) → swap_refusal kind driver number pair r.own ≡ o
-            → Follows past (called r accesses call (swap_by r kind driver number pair o))
-        by_refusal None e = succeeds kind is (in_count kind driver number pair r.own e)
+        swap : Swap
+        swap = swap_in kind r.process.regs
+
+        by_refusal : (o : Option CallRule) → swap_refusal swap r.own ≡ o
+            → Follows past (called r accesses call (swap_by r swap o))
+        by_refusal None e = succeeds kind is (is_handed swap r.own e).counted
         by_refusal (Some rule) e = refused_so rule (FailureU32U32 (error_of rule) pair.0 pair.1)
 
     -- an exit that is accepted ends a life; the process has ended, or starts again without grants
@@ -444,7 +441,7 @@ module _ (law : OnlyHandingChangesPairs) (drivers : DriversLeavePairs) where
       after = after;
       reply = λ m key given is_made handed.
           let same : made r.process.regs outcome ≡ m = cc in
-          nothing given (sym (hands_nothing (made r.process.regs outcome) 6 is (another_class 6 refl refl refl) key)
+          nothing given (sym (hands_nothing (made r.process.regs outcome) 6 is (another_class 6 refl) key)
           ∙ ap (handed_by key) same ∙ handed);
     }
 
@@ -468,7 +465,7 @@ module _ (law : OnlyHandingChangesPairs) (drivers : DriversLeavePairs) where
             (unwrap_or (handed_by key (made r.process.regs Again)) (last_pair key past))) ends)
 
     -- a call that its object does not permit is refused
-    permitted : (around : CommandContext) → Follows past (called r accesses call (by_class around r call))
+    permitted : (around : CommandContext) → Follows past (called r accesses call (by_form around r (form_of call)))
         → Follows past (called r accesses call (served around r call))
     unfolding served
     permitted around follows =
@@ -478,17 +475,17 @@ module _ (law : OnlyHandingChangesPairs) (drivers : DriversLeavePairs) where
   -- a call that the registers make, or none that there is
   asks : (past : List TurnTrace) (settings : Settings) (time : ℕ) (r : Record) (accesses : List MemoryAccess)
       → Knows past r → Follows past (calls settings time r accesses (call_of r.process.regs))
-  unfolding by_class
+  unfolding by_form
   asks past settings time r accesses k =
       of_registers (λ call. Follows past (calls settings time r accesses call)) regs
-      (λ is. on (yield_in regs) (of_other past r k accesses (yield_in regs) 0 _ is refl refl refl refl
+      (λ is. on (yield_in regs) (of_other past r k accesses (yield_in regs) 0 _ is refl refl
       (keeps_yield r (a0 regs) (a1 regs))))
-      (λ is. on (subscribe_in regs) (swapped past r k accesses (subscribe_in regs) Upcall is))
-      (λ is. on (command_in regs) (of_other past r k accesses (command_in regs) 2 _ is refl refl refl refl
+      (λ kind call is swaps. on call
+      (subst (λ (form : CallForm). Follows past (called r accesses call (by_form around r form))) (sym swaps)
+      (swap_follows past r k accesses call kind is)))
+      (λ is. on (command_in regs) (of_other past r k accesses (command_in regs) 2 _ is refl refl
       (keeps_taken r around (a0 regs) (a1 regs) (a2 regs) (a3 regs) (handler_of (a0 regs)) refl)))
-      (λ is. on (allow_rw_in regs) (swapped past r k accesses (allow_rw_in regs) ReadWrite is))
-      (λ is. on (allow_ro_in regs) (swapped past r k accesses (allow_ro_in regs) ReadOnly is))
-      (λ is. on (memop_in regs) (of_other past r k accesses (memop_in regs) 5 _ is refl refl refl refl
+      (λ is. on (memop_in regs) (of_other past r k accesses (memop_in regs) 5 _ is refl refl
       (keeps_memop r (a0 regs) (a1 regs))))
       (λ is. on (exit_in regs) (of_exit past r k accesses (exit_in regs) is))
       (denied past settings r (unknown_call r.process) k)
@@ -499,7 +496,7 @@ module _ (law : OnlyHandingChangesPairs) (drivers : DriversLeavePairs) where
       around : CommandContext
       around = surroundings settings time
 
-      on : (call : SystemCall) → Follows past (called r accesses call (by_class around r call))
+      on : (call : SystemCall) → Follows past (called r accesses call (by_form around r (form_of call)))
           → Follows past (calls settings time r accesses (Some call))
       on call follows = permitted past r k accesses call around follows
 

@@ -9,7 +9,6 @@ use Rattle.tk_base.specs.declared.access.Width.TheVariants.{Byte, Half, Word}
 use Rattle.tk_base.specs.declared.call.CallRule.TheVariants.{NoDriver, NoNumber, NoRoom, Outside}
 use Rattle.rv32_model.specs.UserTurn.{Write}
 use Rattle.grant_values.specs.Drivers.{counts_of}
-use Rattle.tk_base.specs.declared.kinds.PairKind.{PairKind}
 use Rattle.tk_base.specs.Kinds.{count_of}
 use Rattle.grant_model.specs.Grants.{Grant, shape_of}
 use Rattle.process_layout.specs.LayoutView.{LayoutView}
@@ -20,6 +19,7 @@ use Rattle.process_model.specs.Instruction.{ram_after}
 use Rattle.process_model.specs.Pairs.{OnlyHandingChangesPairs}
 use Rattle.driver_model.specs.Keeping.{DriversKeep, DriversKeepSettled, IsInOrder, IsSettled, KeepsSettled}
 use Rattle.driver_model.specs.Services.{OfEachService}
+use Rattle.syscall_abi.specs.declared.form.Swap.{Swap}
 use Rattle.kernel_model.specs.Record.{Record, instruction}
 use Rattle.kernel_model.specs.declared.settings.Settings.{Settings}
 use Rattle.kernel_model.specs.Calls.{restart, restarted_with, swap_refusal}
@@ -31,7 +31,7 @@ use Rattle.kernel_model.specs.Wholes.{ChoicesHaveCauses, HasWholeOwn, OwnsStayWh
 use Rattle.kernel_model.proofs.Changes.{IsKept, after_answer, after_turn, over_choices}
 use Rattle.kernel_model.proofs.Lives.{KeepsBoth, keep_both, order_again, order_kept, order_moved, order_on, order_same}
 use Rattle.kernel_model.proofs.Lives.{restart_by}
-use Rattle.kernel_model.proofs.Runs.{passed_over}
+use Rattle.kernel_model.proofs.Handed.{is_handed}
 
 -- a value that is put leaves as many bytes
 put_size : (xs : List ℕ) (at : ℕ) (width : Width) (v : ℕ) → length (put xs at width v) ≡ length xs
@@ -79,43 +79,6 @@ settled_on own o layout grants size h =
       buffers = record { read_only = h.buffers.read_only; read_write = h.buffers.read_write };
       shape = record { counts = h.shape.counts };
     }))
-
-not_false : (b : Bool) → not b ≡ false → b ≡ true
-not_false true e = refl
-not_false false e = cc
-
-below : (n m : ℕ) → nat_lt n m ≡ true → n < m
-below n m e = grind (arith, nat_tests)
-
--- a swap that was not refused: its driver has such a number and a place, and the pair may be handed
-record IsHanded (kind : PairKind) (driver number : ℕ) (pair : ℕ × ℕ) (own : Own) : Type 0 where
-  counted : number < count_of kind (shape_of driver)
-  may : may_share kind own.layout pair ≡ true
-  room : has_place driver own ≡ true
-
-is_handed : (kind : PairKind) (driver number : ℕ) (pair : ℕ × ℕ) (own : Own)
-    → swap_refusal kind driver number pair own ≡ None → IsHanded kind driver number pair own
-unfolding swap_refusal
-is_handed kind driver number pair own none =
-    by_tests (is_none (counts_of driver)) (not (nat_lt number (count_of kind (shape_of driver))))
-    (not (may_share kind own.layout pair)) (not (has_place driver own)) refl refl refl none
-  where
-    by_tests : (a b c d : Bool) → not (nat_lt number (count_of kind (shape_of driver))) ≡ b
-        → not (may_share kind own.layout pair) ≡ c → not (has_place driver own) ≡ d
-        → cond a (Some NoDriver) (cond b (Some NoNumber) (cond c (Some Outside) (cond d (Some NoRoom) None))) ≡ None
-        → IsHanded kind driver number pair own
-    by_tests a b c d numbered may room none =
-        let known = (passed_over a NoDriver (cond b (Some NoNumber) (cond c (Some Outside) (cond d (Some NoRoom) None)))
-        none).1 in
-        let first = passed_over b NoNumber (cond c (Some Outside) (cond d (Some NoRoom) None)) known in
-        let second = passed_over c Outside (cond d (Some NoRoom) None) first.1 in
-        let third = passed_over d NoRoom None second.1 in
-        record {
-          counted = below number (count_of kind (shape_of driver))
-              (not_false (nat_lt number (count_of kind (shape_of driver))) (numbered ∙ first.0));
-          may = not_false (may_share kind own.layout pair) (may ∙ second.0);
-          room = not_false (has_place driver own) (room ∙ third.0);
-        }
 
 module _ (law : DriversKeep) (pairs : OnlyHandingChangesPairs) (settled : DriversKeepSettled) where
   abbrev KeepsAll : Own → Own → Type 0
@@ -165,10 +128,10 @@ module _ (law : DriversKeep) (pairs : OnlyHandingChangesPairs) (settled : Driver
         regs = λ r regs refusal h. (k.regs r regs refusal h.0, h.1);
         waits = λ r alive h. (k.waits r alive h.0, h.1);
         serves = λ r o storage s h. (k.serves r o storage s.0 h.0, s.1 h.1);
-        hands = λ r kind driver number pair may h.
-            let is = is_handed kind driver number pair r.own may in (
-              k.hands r kind driver number pair may h.0,
-              settled.handed kind driver number pair r.own is.room is.may is.counted h.1,
+        hands = λ r swap may h.
+            let is = is_handed swap r.own may in (
+              k.hands r swap may h.0,
+              settled.handed swap.kind swap.driver swap.number swap.pair r.own is.room is.may is.counted h.1,
             );
         moves = λ r new may h. (
           k.moves r new may h.0,

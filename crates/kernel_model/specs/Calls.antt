@@ -13,8 +13,6 @@ use Rattle.syscall_filter.specs.Permission.{permitted}
 use Rattle.process_layout.specs.LayoutView.{first_break, permits_break}
 use Rattle.tk_base.specs.declared.upcall.Upcall.{Upcall as Scheduled}
 use Rattle.grant_values.specs.Drivers.{counts_of}
-use Rattle.tk_base.specs.declared.kinds.PairKind.{PairKind}
-use Rattle.tk_base.specs.declared.kinds.PairKind.TheVariants.{Upcall, ReadOnly, ReadWrite}
 use Rattle.tk_base.specs.Kinds.{count_of}
 use Rattle.grant_model.specs.Grants.{shape_of}
 use Rattle.process_model.specs.Own as own
@@ -24,7 +22,10 @@ use Rattle.process_model.specs.Flag.{with_flag}
 use Rattle.driver_model.specs.Commands.{BoardRequest, Commanded, leaving_all}
 use Rattle.driver_model.specs.Drivers.{CommandContext, CommandHandler, handler_of}
 use Rattle.syscall_abi.specs.declared.call.Call.{Call as SystemCall}
-use Rattle.syscall_abi.specs.declared.call.Call.TheVariants.{Yield, Subscribe, Command, AllowRw, AllowRo, Memop, Exit}
+use Rattle.syscall_abi.specs.declared.form.CallForm.{CallForm}
+use Rattle.syscall_abi.specs.declared.form.CallForm.TheVariants as forms
+use Rattle.syscall_abi.specs.declared.form.Swap.{Swap}
+use Rattle.syscall_abi.specs.Call.{form_of}
 use Rattle.syscall_abi.specs.declared.reply.Reply.{Reply}
 use Rattle.syscall_abi.specs.declared.reply.Reply.TheVariants.{Failure, FailureU32U32, Success, SuccessU32}
 use Rattle.syscall_abi.specs.declared.reply.Reply.TheVariants.{SuccessU32U32}
@@ -63,28 +64,35 @@ refused r rule = refused_with r rule (Failure (error_of rule))
 -- Why a process may not hand a pair to a driver, the first cause first: there is no such driver; the driver has no
 -- upcall or buffer of that number; the bytes do not lie where the process may have them; the driver's grant has no
 -- room.
-unfoldable pub swap_refusal : PairKind → ℕ → ℕ → ℕ × ℕ → Own → Option CallRule
-swap_refusal kind driver number pair o =
-    if is_none (counts_of driver) then Some NoDriver
-    else (if not (nat_lt number (count_of kind (shape_of driver))) then Some NoNumber
-    else (if not (may_share kind o.layout pair) then Some Outside
-    else (if not (has_place driver o) then Some NoRoom
+unfoldable pub swap_refusal : Swap → Own → Option CallRule
+swap_refusal swap o =
+    if is_none (counts_of swap.driver) then Some NoDriver
+    else (if not (nat_lt swap.number (count_of swap.kind (shape_of swap.driver))) then Some NoNumber
+    else (if not (may_share swap.kind o.layout swap.pair) then Some Outside
+    else (if not (has_place swap.driver o) then Some NoRoom
     else None)))
 
 -- a swap that is refused hands back the passed pair
 abbrev pub failed_swap : ℕ × ℕ → CallRule → Reply
 failed_swap pair rule = FailureU32U32 (error_of rule) pair.0 pair.1
 
--- subscribe and the allows give the former pair back; a refusal hands back the passed one
-abbrev pub swap_by : Record → PairKind → ℕ → ℕ → ℕ × ℕ → Option CallRule → Served
-swap_by r kind driver number pair None =
-    let former = held kind driver number r.own in
-    replied (record_with_own r (handing kind driver number pair r.own)) (SuccessU32U32 former.0 former.1)
-swap_by r kind driver number pair (Some rule) = refused_with r rule (failed_swap pair rule)
+-- what a swap leaves of its process, and the pair that it gives back
+abbrev pub own_swapped : Swap → Own → Own
+own_swapped swap o = handing swap.kind swap.driver swap.number swap.pair o
 
--- a subscribe or an allow of a driver and a number: the pair is handed, or refused for the first cause
-abbrev pub swap : Record → PairKind → ℕ → ℕ → ℕ × ℕ → Served
-swap r kind driver number pair = swap_by r kind driver number pair (swap_refusal kind driver number pair r.own)
+abbrev pub former_pair : Swap → Own → ℕ × ℕ
+former_pair swap o = held swap.kind swap.driver swap.number o
+
+-- subscribe and the allows give the former pair back; a refusal hands back the passed one
+abbrev pub swap_by : Record → Swap → Option CallRule → Served
+swap_by r swap None =
+    let former = former_pair swap r.own in
+    replied (record_with_own r (own_swapped swap r.own)) (SuccessU32U32 former.0 former.1)
+swap_by r swap (Some rule) = refused_with r rule (failed_swap swap.pair rule)
+
+-- a subscribe or an allow: the pair is handed, or refused for the first cause
+abbrev pub swapped : Record → Swap → Served
+swapped r swap = swap_by r swap (swap_refusal swap r.own)
 
 -- the first pending upcall of a process is delivered; where none is pending nothing changes
 abbrev pub deliver_by : Record → List Scheduled → Record
@@ -219,25 +227,25 @@ abbrev pub taken_by : CommandContext → ℕ → ℕ → ℕ → Record → Opti
 taken_by around number a2 a3 r None = refused r NoDriver
 taken_by around number a2 a3 r (Some taker) = commanded r (taker around number a2 a3 r.own)
 
--- the calls, by class
-unfoldable pub by_class : CommandContext → Record → SystemCall → Served
-by_class around r (Yield number a1 a2) = yielding r number a1
-by_class around r (Subscribe driver number function app) = swap r Upcall driver number (function, app)
-by_class around r (Command driver number a2 a3) = taken_by around number a2 a3 r (handler_of driver)
-by_class around r (AllowRw driver number address size) = swap r ReadWrite driver number (address, size)
-by_class around r (AllowRo driver number address size) = swap r ReadOnly driver number (address, size)
-by_class around r (Memop operation argument) = memop r operation argument
-by_class around r (Exit kind code) = exit r kind code
+-- the calls, by form
+unfoldable pub by_form : CommandContext → Record → CallForm → Served
+by_form around r (forms.Yield number a1 a2) = yielding r number a1
+by_form around r (forms.Swap swap) = swapped r swap
+by_form around r (forms.Command driver number a2 a3) = taken_by around number a2 a3 r (handler_of driver)
+by_form around r (forms.Memop operation argument) = memop r operation argument
+by_form around r (forms.Exit kind code) = exit r kind code
+
+-- the failure with which a form of calls is refused that breaks a rule
+abbrev pub failure_by : CallForm → CallRule → Reply
+failure_by (forms.Yield number a1 a2) rule = Failure (error_of rule)
+failure_by (forms.Swap swap) rule = failed_swap swap.pair rule
+failure_by (forms.Command driver command a2 a3) rule = Failure (error_of rule)
+failure_by (forms.Memop operation argument) rule = Failure (error_of rule)
+failure_by (forms.Exit kind code) rule = Failure (error_of rule)
 
 -- the failure with which a call is refused that breaks a rule
 abbrev pub failure_of : SystemCall → CallRule → Reply
-failure_of (Yield number a1 a2) rule = Failure (error_of rule)
-failure_of (Subscribe driver number function app) rule = failed_swap (function, app) rule
-failure_of (Command driver command a2 a3) rule = Failure (error_of rule)
-failure_of (AllowRw driver number address size) rule = failed_swap (address, size) rule
-failure_of (AllowRo driver number address size) rule = failed_swap (address, size) rule
-failure_of (Memop operation argument) rule = Failure (error_of rule)
-failure_of (Exit kind code) rule = Failure (error_of rule)
+failure_of call rule = failure_by (form_of call) rule
 
 -- whether a header permits a call (Tock Binary Format, "Permissions"); one that cannot be read permits every call
 abbrev pub permits_by : Result Meaning HeaderFault → SystemCall → Bool
@@ -252,5 +260,5 @@ object_permits object call = permits_by (header_reading object) call
 -- permitted is refused so whatever else would refuse it, and though there is no such driver.
 unfoldable pub served : CommandContext → Record → SystemCall → Served
 served around r call =
-    if object_permits r.object call then by_class around r call
+    if object_permits r.object call then by_form around r (form_of call)
     else refused_with r Permission (failure_of call Permission)

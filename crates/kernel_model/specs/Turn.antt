@@ -14,8 +14,9 @@ use Rattle.fault_policy.specs.declared.Action.TheVariants.{Stop, Restart}
 use Rattle.fault_policy.specs.Policy.{decision}
 use Rattle.tk_base.specs.declared.upcall.Upcall.{Upcall}
 use Rattle.syscall_abi.specs.declared.call.Call.{Call as SystemCall}
-use Rattle.syscall_abi.specs.declared.call.Call.TheVariants.{Yield, Subscribe, Command, AllowRw, AllowRo, Memop, Exit}
-use Rattle.syscall_abi.specs.Call.{call_of, class, a0, a1, a2, a3}
+use Rattle.syscall_abi.specs.declared.form.CallForm.{CallForm}
+use Rattle.syscall_abi.specs.declared.form.CallForm.TheVariants.{Yield, Swap, Command, Memop, Exit}
+use Rattle.syscall_abi.specs.Call.{call_of, class, form_of, a0, a1, a2, a3}
 use Rattle.syscall_abi.specs.Reply.{put_reply}
 use Rattle.process_model.specs.Own.{own_ended as ended_own}
 use Rattle.board_devices.specs.Clock.{clock_at}
@@ -102,15 +103,18 @@ faulted settings r denial = record {
 abbrev pub unknown_call : Process → Denial
 unknown_call p = denied_at Fetch p.regs.pc UnknownClass
 
--- the flag that a call writes: that of a yield which does not wait, where it lies in accessible RAM (TRD 104, "Yield")
+-- the flag that a form of calls writes: that of a yield which does not wait, where it lies in accessible RAM (TRD 104,
+-- "Yield")
+abbrev pub flag_by : Record → CallForm → Option ℕ
+flag_by r (Yield number a1 a2) = if number == 0 then flag_place a1 r.own else None
+flag_by r (Swap swap) = None
+flag_by r (Command driver command a2 a3) = None
+flag_by r (Memop operation argument) = None
+flag_by r (Exit kind code) = None
+
+-- the flag that a call writes
 abbrev pub yield_flag_of : Record → SystemCall → Option ℕ
-yield_flag_of r (Yield number a1 a2) = if number == 0 then flag_place a1 r.own else None
-yield_flag_of r (Subscribe driver number function app) = None
-yield_flag_of r (Command driver command a2 a3) = None
-yield_flag_of r (AllowRw driver number address size) = None
-yield_flag_of r (AllowRo driver number address size) = None
-yield_flag_of r (Memop operation argument) = None
-yield_flag_of r (Exit kind code) = None
+yield_flag_of r call = flag_by r (form_of call)
 
 -- a call that was made, with what came of it
 abbrev pub called : Record → List MemoryAccess → SystemCall → Served → Turned

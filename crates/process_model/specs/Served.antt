@@ -2,12 +2,13 @@
 -- writes
 -- the buffers that the process has allowed (TRD 104, "Read-Only Allow", "Read-Write Allow"), and keeps a value in the
 -- process's grant (Levy et al., SOSP 2017, section 4).
-use Rattle.std.specs.Prelude.{ℕ, ◌+◌, ◌-◌, ◌==◌, Bool, ◌&&◌, not, if◌then◌else◌, List, [], ◌∷◌, ◌++◌, length, take}
-use Rattle.std.specs.Prelude.{drop, slice_range, Option, option_map}
+use Rattle.std.specs.Prelude.{ℕ, ◌+◌, ◌-◌, ◌==◌, Bool, ◌&&◌, not, if◌then◌else◌, List, [], ◌∷◌, ◌++◌, take}
+use Rattle.std.specs.Prelude.{slice_range, Option, option_map}
 use Rattle.tk_base.specs.declared.access.TheConstants.{FLASH_START}
 use Rattle.tk_base.specs.declared.upcall.Upcall.{Upcall as Scheduled}
 use Rattle.upcall_queue.specs.Pending.{has_room}
 use Rattle.tk_base.specs.declared.kinds.PairKind.TheVariants.{Upcall, ReadWrite}
+use Rattle.grant_values.specs.Values.{KeptValue}
 use Rattle.grant_model.specs.Grants.{grant_of, with_grant, with_value}
 use Rattle.process_model.specs.Own.{Own}
 use Rattle.process_model.specs.Handed.{held, lies_in_ram}
@@ -35,13 +36,13 @@ queueing upcall own =
 abbrev pub own_scheduled : ℕ → ℕ → List ℕ → Own → Own
 own_scheduled driver number args own = queueing (upcall_of driver number args own) own
 
--- the words of the value that a process keeps for a driver; none where the driver is not entered
-abbrev pub kept : ℕ → Own → Option (List ℕ)
+-- the value that a process keeps for a driver; none where the driver is not entered
+abbrev pub kept : ℕ → Own → Option KeptValue
 kept driver own = option_map (λ g. g.value) (grant_of driver own.grants)
 
 -- a process that keeps another value for a driver
-abbrev pub with_kept : ℕ → List ℕ → Own → Own
-with_kept driver words own = record own { grants = with_grant driver (with_value words) own.grants }
+abbrev pub with_kept : ℕ → KeptValue → Own → Own
+with_kept driver value own = record own { grants = with_grant driver (with_value value) own.grants }
 
 -- the bytes of a process's own from an address on
 abbrev pub ram_at : Own → ℕ × ℕ → List ℕ

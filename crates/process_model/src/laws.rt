@@ -4,6 +4,7 @@ ghost use Rattle.process_model.specs.Flash.{ReadsOwnFlash};
 ghost use Rattle.process_model.specs.Laws.{RestartForgets};
 ghost use Rattle.process_model.specs.Pairs.{OnlyHandingChangesPairs};
 
+use grant_model::pairs_stand_by_kind;
 use rv32_model::{writes_are_listed, writes_are_permitted};
 
 /// A restart forgets every byte of a process's block, its grants and its pending upcalls, and where the
@@ -23,7 +24,9 @@ pub fn reads_own_flash()
 /// "Read-Write Allow").
 pub fn only_handing_changes_pairs()
     ensures { OnlyHandingChangesPairs }
-{}
+{
+    pairs_stand_by_kind();
+}
 
 /// Of the bytes below a process's kernel break an instruction that goes changes those that a store covers which it
 /// lists, a yield that does not wait its flag, and a driver those inside the read-write buffer that it writes. Entering a

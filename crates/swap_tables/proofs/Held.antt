@@ -6,7 +6,7 @@ use Rattle.grant_values.specs.Words.{WordsInBytes, bytes_of_words, words_of}
 use Rattle.grant_values.specs.Drivers.{counts_of}
 use Rattle.tk_base.specs.declared.kinds.PairKind.{PairKind}
 use Rattle.grant_model.specs.declared.places.Area.{Area}
-use Rattle.tk_base.specs.Kinds.{count_of, pairs_before}
+use Rattle.tk_base.specs.Kinds.{count_of, pair_place}
 use Rattle.grant_model.specs.Grants.{shape_of, counts_or_none, with_grant, with_pair}
 use Rattle.grant_model.specs.Encoding.{EncodesGrants, Tells, area_of, decode_grants}
 use Rattle.grant_model.specs.Laws.{ArePair, PairsAreFound}
@@ -27,12 +27,12 @@ pub record HeldAt (at : ℕ) (kind : PairKind) (driver number : ℕ) (kernel : L
 pub held : WordsInBytes → PairsAreFound
     → (at : ℕ) (kind : PairKind) (driver number : ℕ) (counts : Counts) (kernel : List ℕ) (area : Area)
     → EncodesGrants kernel → Some area ≡ area_of driver (decode_grants kernel) → IsPair kind driver counts number
-    → at ≡ area.offset / 4 + 2 + 2 * (pairs_before kind counts + number) → HeldAt at kind driver number kernel
+    → at ≡ area.offset / 4 + 2 + 2 * pair_place kind number counts → HeldAt at kind driver number kernel
 held words law at kind driver number counts kernel area is found pair e =
     let k = shape-is driver counts pair.counts_are in
     let h = law.at kind driver number kernel area is found (subst (λ c. number < count_of kind c) (sym k) pair.below) in
-    let there : at ≡ area.offset / 4 + 2 + 2 * (pairs_before kind (shape_of driver) + number) =
-    e ∙ ap (λ c. area.offset / 4 + 2 + 2 * (pairs_before kind c + number)) (sym k) in
+    let there : at ≡ area.offset / 4 + 2 + 2 * pair_place kind number (shape_of driver) =
+    e ∙ ap (λ c. area.offset / 4 + 2 + 2 * pair_place kind number c) (sym k) in
     let g = subst (λ i. ArePair kernel i kind driver number) (sym there) h in
     record {
       within = inside at (length (words_of kernel)) (length kernel) g.within (words.count kernel);

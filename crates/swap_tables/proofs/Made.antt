@@ -8,11 +8,11 @@ use Rattle.process_layout.specs.LayoutView.{LayoutView}
 use Rattle.grant_values.specs.declared.drivers.Driver.{Driver}
 use Rattle.grant_values.specs.declared.drivers.Driver.TheVariants.{Alarm, Console, Leds, Random, Storage}
 use Rattle.grant_values.specs.Drivers.{cost_of, counts_by, counts_of, driver_of}
-use Rattle.tk_base.specs.declared.kinds.PairKind.{PairKind}
 use Rattle.grant_model.specs.Grants.{Grant, grant_of, with_grant, entering, fresh, pair_of, with_pair}
 use Rattle.grant_model.specs.Encoding.{EncodesGrants, Tells, decode_grants}
-use Rattle.grant_region.specs.Region.{with_room, roomed, below, above, Leaves, LeavesArea}
+use Rattle.grant_region.specs.Region.{with_room, roomed, below, above, Leaves, LeavesArea, Parts, parts_of}
 use Rattle.grant_region.specs.Laws.{PartsJoin}
+use Rattle.swap_tables.specs.declared.handover.Handover.{Handover}
 use Rattle.swap_tables.specs.Swaps.{Swaps, SwapsHeld, swapped}
 use Rattle.swap_tables.proofs.Held.{shape-is}
 
@@ -44,18 +44,18 @@ fresh_is : (driver : ℕ) → grant_of driver (fresh driver ∷ []) ≡ Some (fr
 fresh_is driver = ap (λ b. cond b (Some (fresh driver)) None) (eq-eqb driver driver refl)
 
 -- its pair is swapped
-there : (kind : PairKind) (driver number : ℕ) (pair : ℕ × ℕ) (area area' : List ℕ) (r : Option (ℕ × ℕ))
-    → decode_grants area ≡ fresh driver ∷ [] → IfSome r (SwapsHeld kind driver number pair area area')
-    → IfNone r (grant_of driver (decode_grants area) ≡ None)
-    → Tells area' (with_pair kind number pair (fresh driver) ∷ [])
-there kind driver number pair area area' (Some former) made some none =
-    let whole : with_grant driver (with_pair kind number pair) (decode_grants area)
-    ≡ with_pair kind number pair (fresh driver) ∷ [] =
-    ap (with_grant driver (with_pair kind number pair)) made ∙ with_fresh driver [] (with_pair kind number pair) in
+there : (h : Handover) (area area' : List ℕ) (r : Option (ℕ × ℕ)) → decode_grants area ≡ fresh h.driver ∷ []
+    → IfSome r (SwapsHeld h area area') → IfNone r (grant_of h.driver (decode_grants area) ≡ None)
+    → Tells area' (with_pair h.kind h.number h.pair (fresh h.driver) ∷ [])
+there h area area' (Some former) made some none =
+    let change = with_pair h.kind h.number h.pair in
+    let whole : with_grant h.driver change (decode_grants area) ≡ change (fresh h.driver) ∷ [] =
+    ap (with_grant h.driver change) made ∙ with_fresh h.driver [] change in
     subst (Tells area') whole some.tells
-there kind driver number pair area area' None made some none =
-    let h : grant_of driver (decode_grants area) ≡ Some (fresh driver) = ap (grant_of driver) made ∙ fresh_is driver in
-    let n : grant_of driver (decode_grants area) ≡ None = none in
+there h area area' None made some none =
+    let is : grant_of h.driver (decode_grants area) ≡ Some (fresh h.driver) =
+    ap (grant_of h.driver) made ∙ fresh_is h.driver in
+    let n : grant_of h.driver (decode_grants area) ≡ None = none in
     absurd (cc)
 
 -- an area, in which a pair was put, is left at the end of a part
@@ -80,30 +80,28 @@ left e app app' front area area' g h l first rest long tells =
     both f b a n l u v w x y = omega arith
 
 -- the driver has not been entered: its area is made, and a pair of it swapped
-pub swaps-made : PartsJoin
-    → (kind : PairKind) (driver number : ℕ) (counts : Counts) (pair : ℕ × ℕ) (r : Option (ℕ × ℕ)) (e e' : LayoutView)
-    (app app' front area area' kernel kernel' : List ℕ)
-    → counts_of driver ≡ Some counts → EncodesGrants kernel → kernel' ≡ kernel
-    → grant_of driver (decode_grants kernel) ≡ None
-    → e' ≡ with_room (cost_of counts) e → LeavesArea e' app app' (fresh driver) → front ≡ below e' app'
-    → area ≡ above e' app' → length area' ≡ length area
-    → IfSome r (SwapsHeld kind driver number pair area area') → IfNone r (grant_of driver (decode_grants area) ≡ None)
-    → Swaps kind driver number pair e e' app (front ++ area') kernel kernel' (0, 0)
-swaps-made law kind driver number counts pair r e e' app app' front area area' kernel kernel' known is same absent
-    layout l first rest long some none =
-    let gs = decode_grants kernel in
-    let change = with_pair kind number pair in
-    let made : decode_grants area ≡ fresh driver ∷ [] = ap decode_grants rest ∙ l.tells.grants in
-    let new : LeavesArea e' app (front ++ area') (change (fresh driver)) =
-    left e' app app' front area area' (fresh driver) (change (fresh driver)) l first rest long
-    (there kind driver number pair area area' r made some none) in
-    let whole : change (fresh driver) ∷ gs ≡ swapped kind driver number pair kernel =
-    sym (with_fresh driver gs change) ∙ ap (with_grant driver change) (sym (ap (entering driver gs) absent)) in
+pub swaps-made : PartsJoin → (h : Handover) (r : Option (ℕ × ℕ)) (before : Parts) (e : LayoutView)
+    (app front area area' kernel : List ℕ)
+    → counts_of h.driver ≡ Some h.counts → EncodesGrants before.kernel → kernel ≡ before.kernel
+    → grant_of h.driver (decode_grants before.kernel) ≡ None
+    → e ≡ with_room (cost_of h.counts) before.layout → LeavesArea e before.app app (fresh h.driver) → front ≡ below e app
+    → area ≡ above e app → length area' ≡ length area
+    → IfSome r (SwapsHeld h area area') → IfNone r (grant_of h.driver (decode_grants area) ≡ None)
+    → Swaps h before (parts_of e (front ++ area') kernel) (0, 0)
+swaps-made law h r before e app front area area' kernel known is same absent layout l first rest long some none =
+    let gs = decode_grants before.kernel in
+    let change = with_pair h.kind h.number h.pair in
+    let made : decode_grants area ≡ fresh h.driver ∷ [] = ap decode_grants rest ∙ l.tells.grants in
+    let new : LeavesArea e before.app (front ++ area') (change (fresh h.driver)) =
+    left e before.app app front area area' (fresh h.driver) (change (fresh h.driver)) l first rest long
+    (there h area area' r made some none) in
+    let whole : change (fresh h.driver) ∷ gs ≡ swapped h gs =
+    sym (with_fresh h.driver gs change) ∙ ap (with_grant h.driver change) (sym (ap (entering h.driver gs) absent)) in
     record {
-      former = sym (ap (pair_of kind number) absent);
-      layout = layout ∙ ap (λ c. with_room (cost_of c) e) (sym (shape-is driver counts known))
-          ∙ sym (ap (roomed driver e) absent);
-      grants = subst (λ k. Leaves e' app (front ++ area') k (swapped kind driver number pair kernel)) (sym same)
-          (subst (Leaves e' app (front ++ area') kernel) whole
-          (law.made e' app (front ++ area') kernel (change (fresh driver)) is new));
+      former = sym (ap (pair_of h.kind h.number) absent);
+      layout = layout ∙ ap (λ c. with_room (cost_of c) before.layout) (sym (shape-is h.driver h.counts known))
+          ∙ sym (ap (roomed h.driver before.layout) absent);
+      grants = subst (λ k. Leaves before (parts_of e (front ++ area') k) (swapped h gs)) (sym same)
+          (subst (Leaves before (parts_of e (front ++ area') before.kernel)) whole
+          (law.made before e (front ++ area') (change (fresh h.driver)) is new));
     }

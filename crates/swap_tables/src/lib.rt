@@ -3,8 +3,10 @@
 //! Allow"; Levy et al., SOSP 2017, section 4).
 #![tactic(auto)]
 
+mod handover;
 mod pairs;
 mod swaps;
 
+pub use handover::Handover;
 pub use pairs::{buffer_ro, buffer_rw, upcall};
 pub use swaps::{swap_ro, swap_rw, swap_upcall};

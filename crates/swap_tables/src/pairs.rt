@@ -2,7 +2,7 @@
 ghost use Rattle.std.specs.Prelude.{◌≡◌, ℕ, ◌+◌, ◌*◌, ◌/◌, ◌≤◌, List, length, slice_index, slice_set};
 ghost use Rattle.grant_values.specs.Words.{bytes_of_words, words_of};
 ghost use Rattle.tk_base.specs.declared.kinds.PairKind.TheVariants.{Upcall, ReadOnly, ReadWrite};
-ghost use Rattle.tk_base.specs.Kinds.{pairs_before};
+ghost use Rattle.tk_base.specs.Kinds.{pair_place};
 ghost use Rattle.swap_tables.specs.Swaps.{CanLookUp, held_pair};
 
 use grant_model::{Area, areas_are_found, pairs_are_found};
@@ -55,7 +55,7 @@ fn pair_held(kernel: &[u8], driver: u32, counts: &Counts, kind: PairKind, number
 
 /// In which word of the kernel's bytes a pair begins.
 pub(crate) fn first_word(area: &Area, counts: &Counts, kind: PairKind, number: u32) -> usize
-    ensures { result ≡ area.now.offset / 4 + 2 + 2 * (pairs_before kind counts.now + number) }
+    ensures { result ≡ area.now.offset / 4 + 2 + 2 * pair_place kind number counts.now }
 {
     area.offset as usize / 4 + 2 + 2 * (kind.pairs_before(counts) + number as usize)
 }

@@ -1,10 +1,12 @@
 //! Swaps of the pairs that a process holds.
-ghost use Rattle.std.specs.Prelude.{◌≡◌, length, IfSome, IfNone, None};
+ghost use Rattle.std.specs.Prelude.{◌≡◌, ◌<◌, ◌^◌, length, IfSome, IfNone, None};
 ghost use Rattle.tk_base.specs.declared.kinds.PairKind.TheVariants.{Upcall, ReadOnly, ReadWrite};
 ghost use Rattle.grant_model.specs.Grants.{grant_of};
-ghost use Rattle.grant_model.specs.Encoding.{decode_grants};
-ghost use Rattle.swap_tables.specs.Swaps.{CanLookUp, CanSwap, SwapOutcome, SwapsHeld};
+ghost use Rattle.grant_model.specs.Encoding.{EncodesGrants, decode_grants};
+ghost use Rattle.grant_region.specs.Region.{parts_of};
+ghost use Rattle.swap_tables.specs.Swaps.{CanHand, CanSwap, SwapOutcome, SwapsHeld, handing_over};
 
+use crate::handover::Handover;
 use crate::pairs::{first_word, pair_at, put_pair};
 use grant_model::{areas_are_found, pairs_are_found};
 use grant_region::{NoRoom, area, make_area, parts_join};
@@ -28,12 +30,19 @@ pub fn swap_ro(
     number: u32,
     pair: (u32, u32),
 ) -> Result<(u32, u32), NoRoom>
-    requires { CanSwap ReadOnly driver counts.now number layout.old app.old kernel.old }
-    ensures { SwapOutcome ReadOnly driver number pair
-        layout.old layout.new app.old app.new kernel.old kernel.new result }
+    requires { CanSwap (handing_over ReadOnly driver counts.now number pair)
+        (parts_of layout.old app.old kernel.old) }
+    ensures { SwapOutcome (handing_over ReadOnly driver counts.now number pair)
+        (parts_of layout.old app.old kernel.old) (parts_of layout.new app.new kernel.new) result }
 {
-    let kind = PairKind::ReadOnly;
-    swap_pair(layout, app, kernel, driver, counts, kind, number, pair)
+    let handover = Handover {
+        kind: PairKind::ReadOnly,
+        driver,
+        counts: *counts,
+        number,
+        pair,
+    };
+    swap_pair(layout, app, kernel, handover)
 }
 
 /// Swaps the read-write buffer of a number that the process has allowed the driver (TRD 104,
@@ -47,12 +56,19 @@ pub fn swap_rw(
     number: u32,
     pair: (u32, u32),
 ) -> Result<(u32, u32), NoRoom>
-    requires { CanSwap ReadWrite driver counts.now number layout.old app.old kernel.old }
-    ensures { SwapOutcome ReadWrite driver number pair
-        layout.old layout.new app.old app.new kernel.old kernel.new result }
+    requires { CanSwap (handing_over ReadWrite driver counts.now number pair)
+        (parts_of layout.old app.old kernel.old) }
+    ensures { SwapOutcome (handing_over ReadWrite driver counts.now number pair)
+        (parts_of layout.old app.old kernel.old) (parts_of layout.new app.new kernel.new) result }
 {
-    let kind = PairKind::ReadWrite;
-    swap_pair(layout, app, kernel, driver, counts, kind, number, pair)
+    let handover = Handover {
+        kind: PairKind::ReadWrite,
+        driver,
+        counts: *counts,
+        number,
+        pair,
+    };
+    swap_pair(layout, app, kernel, handover)
 }
 
 /// Swaps the upcall of a number that the process has subscribed with the driver (TRD 104,
@@ -67,60 +83,66 @@ pub fn swap_upcall(
     number: u32,
     pair: (u32, u32),
 ) -> Result<(u32, u32), NoRoom>
-    requires { CanSwap Upcall driver counts.now number layout.old app.old kernel.old }
-    ensures { SwapOutcome Upcall driver number pair
-        layout.old layout.new app.old app.new kernel.old kernel.new result }
+    requires { CanSwap (handing_over Upcall driver counts.now number pair)
+        (parts_of layout.old app.old kernel.old) }
+    ensures { SwapOutcome (handing_over Upcall driver counts.now number pair)
+        (parts_of layout.old app.old kernel.old) (parts_of layout.new app.new kernel.new) result }
 {
-    let kind = PairKind::Upcall;
-    swap_pair(layout, app, kernel, driver, counts, kind, number, pair)
+    let handover = Handover {
+        kind: PairKind::Upcall,
+        driver,
+        counts: *counts,
+        number,
+        pair,
+    };
+    swap_pair(layout, app, kernel, handover)
 }
 
-/// Swaps the pair of a kind and a number that the process holds with the driver.
+/// Swaps the pair that the process holds with the driver.
 fn swap_pair(
     layout: &mut Layout,
     app: &mut [u8],
     kernel: &mut [u8],
-    driver: u32,
-    counts: &Counts,
-    kind: PairKind,
-    number: u32,
-    pair: (u32, u32),
+    handover: Handover,
 ) -> Result<(u32, u32), NoRoom>
-    requires { CanSwap kind driver counts.now number layout.old app.old kernel.old }
-    ensures { SwapOutcome kind driver number pair
-        layout.old layout.new app.old app.new kernel.old kernel.new result }
+    requires { CanSwap handover (parts_of layout.old app.old kernel.old) }
+    ensures { SwapOutcome handover (parts_of layout.old app.old kernel.old)
+        (parts_of layout.new app.new kernel.new) result }
 {
     parts_join();
-    if let Some(held) = swap_held(kernel, driver, counts, kind, number, pair) {
+    if let Some(held) = swap_held(kernel, handover) {
         return Ok(held);
     }
-    make_area(layout, app, driver, cost_of(counts))?;
+    make_area(layout, app, handover.driver, cost_of(&handover.counts))?;
     let (_, area) = app.split_at_mut((layout.kernel_break - layout.start) as usize);
     // The area is new, and all of its pairs are zero.
-    let _ = swap_held(area, driver, counts, kind, number, pair);
+    let _ = swap_held(area, handover);
     Ok((0, 0))
 }
 
 /// Swaps the pair where the process has entered the driver; where it has not, nothing changes.
-fn swap_held(
-    kernel: &mut [u8],
-    driver: u32,
-    counts: &Counts,
-    kind: PairKind,
-    number: u32,
-    pair: (u32, u32),
-) -> Option<(u32, u32)>
-    requires { CanLookUp kind driver counts.now number kernel.old }
-    ensures some { IfSome result (SwapsHeld kind driver number pair kernel.old kernel.new) }
-    ensures none { IfNone result (grant_of driver (decode_grants kernel.old) ≡ None) }
+fn swap_held(kernel: &mut [u8], handover: Handover) -> Option<(u32, u32)>
+    requires laid { EncodesGrants kernel.old }
+    requires small { length kernel.old < 2 ^ 32 }
+    requires pair { CanHand handover }
+    ensures some { IfSome result (SwapsHeld handover kernel.old kernel.new) }
+    ensures none { IfNone result
+        (grant_of handover.driver (decode_grants kernel.old) ≡ None) }
     ensures unchanged { IfNone result (kernel.new ≡ kernel.old) }
     ensures length { length kernel.new ≡ length kernel.old }
 {
     words_in_bytes();
     areas_are_found();
     pairs_are_found();
+    let Handover {
+        kind,
+        driver,
+        counts,
+        number,
+        pair,
+    } = handover;
     let found = area(kernel, driver)?;
-    let at = first_word(&found, counts, kind, number);
+    let at = first_word(&found, &counts, kind, number);
     let former = pair_at(kernel, at);
     put_pair(kernel, at, pair);
     Some(former)

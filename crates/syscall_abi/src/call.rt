@@ -1,8 +1,10 @@
 //! What a process asks for by `ecall`.
 ghost use Rattle.std.specs.Prelude.{◌≡◌, ◌<◌, ◌↔◌, IsNone};
-ghost use Rattle.syscall_abi.specs.Call.{call_of, class, driver_named};
+ghost use Rattle.syscall_abi.specs.Call.{call_of, class, driver_named, form_of};
+ghost use Rattle.syscall_abi.specs.declared.form.CallForm.TheVariants as forms;
 
-use tk_base::Regs;
+use crate::form::{CallForm, Swap};
+use tk_base::{PairKind, Regs};
 
 /// A system call with its arguments (TRD 104, "System Call API").
 #[derive(Clone, Copy, Debug, PartialEq, Eq)]
@@ -62,12 +64,55 @@ impl Call {
     pub fn driver(&self) -> Option<u32>
         ensures { result ≡ driver_named self.now }
     {
+        match self.form() {
+            CallForm::Swap(Swap { driver, .. }) | CallForm::Command { driver, .. } => Some(driver),
+            CallForm::Yield { .. } | CallForm::Memop { .. } | CallForm::Exit { .. } => None,
+        }
+    }
+
+    /// What the call asks for: a subscribe and the allows have one form, the swap of a pair.
+    pub fn form(&self) -> CallForm
+        ensures { result ≡ form_of self.now }
+    {
         match *self {
-            Call::Subscribe { driver, .. }
-            | Call::Command { driver, .. }
-            | Call::AllowRw { driver, .. }
-            | Call::AllowRo { driver, .. } => Some(driver),
-            Call::Yield { .. } | Call::Memop { .. } | Call::Exit { .. } => None,
+            Call::Yield { number, a1, a2 } => CallForm::Yield { number, a1, a2 },
+            Call::Subscribe {
+                driver,
+                number,
+                function,
+                app,
+            } => swap(PairKind::Upcall, driver, number, (function, app)),
+            Call::Command {
+                driver,
+                command,
+                a2,
+                a3,
+            } => CallForm::Command {
+                driver,
+                command,
+                a2,
+                a3,
+            },
+            Call::AllowRw {
+                driver,
+                number,
+                address,
+                size,
+            } => swap(PairKind::ReadWrite, driver, number, (address, size)),
+            Call::AllowRo {
+                driver,
+                number,
+                address,
+                size,
+            } => swap(PairKind::ReadOnly, driver, number, (address, size)),
+            Call::Memop {
+                operation,
+                argument,
+            } => CallForm::Memop {
+                operation,
+                argument,
+            },
+            Call::Exit { kind, code } => CallForm::Exit { kind, code },
         }
     }
 
@@ -114,4 +159,17 @@ impl Call {
             _ => None,
         }
     }
+}
+
+/// The form of a subscribe or an allow.
+fn swap(kind: PairKind, driver: u32, number: u32, pair: (u32, u32)) -> CallForm
+    ensures { result
+        ≡ forms.Swap (record { kind = kind; driver = driver; number = number; pair = pair }) }
+{
+    CallForm::Swap(Swap {
+        kind,
+        driver,
+        number,
+        pair,
+    })
 }

@@ -3,7 +3,9 @@
 #![tactic(auto)]
 
 mod call;
+mod form;
 mod reply;
 
 pub use call::Call;
+pub use form::{CallForm, Swap};
 pub use reply::Reply;

@@ -6,19 +6,22 @@ use Rattle.tk_base.specs.declared.call.CallRule.TheVariants.{Permission}
 use Rattle.tbf_headers.specs.Meaning.{Meaning}
 use Rattle.tbf_headers.specs.Permissions.{allows, lists}
 use Rattle.syscall_abi.specs.declared.call.Call.{Call}
-use Rattle.syscall_abi.specs.declared.call.Call.TheVariants.{Command}
-use Rattle.syscall_abi.specs.Call.{driver_named}
+use Rattle.syscall_abi.specs.declared.form.CallForm.{CallForm}
+use Rattle.syscall_abi.specs.declared.form.CallForm.TheVariants.{Yield, Swap, Command, Memop, Exit}
+use Rattle.syscall_abi.specs.Call.{form_of}
 
--- what the entries permit of a call that names a driver, if it names one: it needs any entry of that driver
-abbrev pub listed_by : List ℕ → Option ℕ → Bool
-listed_by entries None = true
-listed_by entries (Some driver) = lists entries driver
+-- what the entries of the Permissions TLV permit of a form of calls: a command where an entry of its driver has its
+-- bit; a swap, which is a subscribe or an allow, where any entry is of its driver; every other call
+abbrev pub listed_form : List ℕ → CallForm → Bool
+listed_form entries (Yield number a1 a2) = true
+listed_form entries (Swap swap) = lists entries swap.driver
+listed_form entries (Command driver command a2 a3) = allows entries driver command
+listed_form entries (Memop operation argument) = true
+listed_form entries (Exit kind code) = true
 
--- what the entries of the Permissions TLV permit: a command where an entry of its driver has its bit; a subscribe
--- or an allow where any entry is of its driver; every other call
+-- what they permit of a call
 abbrev pub listed : List ℕ → Call → Bool
-listed entries (Command driver command a2 a3) = allows entries driver command
-listed entries call = listed_by entries (driver_named call)
+listed entries call = listed_form entries (form_of call)
 
 -- without the TLV every call is permitted
 abbrev pub permitted : Option (List ℕ) → Call → Bool

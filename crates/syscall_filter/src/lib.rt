@@ -5,7 +5,7 @@ ghost use Rattle.std.specs.Prelude.{◌≡◌};
 ghost use Rattle.syscall_filter.specs.Permission.{listed, permission};
 ghost use Rattle.tbf_headers.specs.Shown.{permissions_of, shown};
 
-use syscall_abi::Call;
+use syscall_abi::{Call, CallForm};
 use tbf_headers::{Header, Perms};
 use tk_base::CallRule;
 
@@ -26,11 +26,13 @@ pub fn filter(header: &Header<'_>, call: &Call) -> Result<(), CallRule>
 fn lists_call(perms: &Perms<'_>, call: &Call) -> bool
     ensures { result ≡ listed (permissions_of perms.now) call.now }
 {
-    let Some(driver) = call.driver() else {
-        return true;
-    };
-    match *call {
-        Call::Command { command, .. } => perms.allows(driver, command),
-        _ => perms.lists(driver),
+    match call.form() {
+        CallForm::Command {
+            driver,
+            command,
+            ..
+        } => perms.allows(driver, command),
+        CallForm::Swap(swap) => perms.lists(swap.driver),
+        CallForm::Yield { .. } | CallForm::Memop { .. } | CallForm::Exit { .. } => true,
     }
 }

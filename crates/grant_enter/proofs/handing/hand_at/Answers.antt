@@ -17,4 +17,5 @@ returns-clause-reseats c =
     subst (λ (e : LayoutView). Reseats c.args.memory.now c.args.seat.now c.swap_in.new.memory
     (record c.args.seat.now { layout = e; pending = c.note_handed.new.pending })) (sym c.note_handed.ensures.layout)
     (hand_reseats c.args.memory.now c.args.seat.now c.args.handover c.swap_in.new.memory c.swap_in.new.layout
-    c.in_ok-former.former c.in_ok-former.ensures.swapped c.note_handed.new.pending c.requires.sits c.requires.may)
+    c.in_ok-former.former c.in_ok-former.ensures.swapped c.note_handed.new.pending c.pairs_stand_by_kind.ensures
+    c.requires.sits c.requires.pair c.requires.may)

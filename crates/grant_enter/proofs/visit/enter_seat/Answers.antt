@@ -11,7 +11,7 @@ roomed_seat : (g : Over) (c : In-Ok g)
     (record c.args.seat.now { layout = c.make_room_in.new.layout })
 roomed_seat g c =
     entered_reseats c.args.driver c.args.memory.now c.args.seat.now c.make_room_in.new.memory c.make_room_in.new.layout
-    c.in-Ok.ensures.made c.requires.sits
+    c.in-Ok.ensures.made c.pairs_stand_by_kind.ensures c.requires.sits
 
 pub visit_at-requires-clause-sits : goal.visit_at-requires-clause-sits
 visit_at-requires-clause-sits g c = (roomed_seat g (goal.at.visit_at-requires-clause-sits g c).In-Ok).sits

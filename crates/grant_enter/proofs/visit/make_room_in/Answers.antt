@@ -1,15 +1,16 @@
-use Rattle.std.proofs.Common.{◌≡◌, ℕ, List, ap, ◌∙◌, rules}
+use Rattle.std.proofs.Common.{◌≡◌, ℕ, List, ap, ◌∙◌, rules, refl}
 use Rattle.grant_model.specs.Grants.{grant_of}
 use Rattle.grant_model.specs.Encoding.{decode_grants}
-use Rattle.grant_region.specs.Region.{fits}
-use Rattle.grant_enter.proofs.Blocks.{lent_kernel, lent_parts}
+use Rattle.grant_region.specs.Region.{fits, parts_of}
+use Rattle.grant_enter.proofs.Blocks.{AreLent, lent_kernel, lent_parts}
 use Rattle.grant_enter.proofs.Entering.{makes_room, on_both}
 use Rattle.grant_enter.proofs.visit.make_room_in.Goals as goal
 
 pub make_room-made-requires-clause-parts : goal.make_room-made-requires-clause-parts
 make_room-made-requires-clause-parts c =
-    lent_parts c.args.memory.now c.args.layout.now c.requires.block.settled c.of-app.result.app.now
-    c.of-app.result.kernel.now (search rules) (search rules) c.requires.block.kept
+    lent_parts c.args.memory.now c.args.layout.now c.requires.block.settled
+    (parts_of c.args.layout.now c.of-app.result.app.now c.of-app.result.kernel.now)
+    (record { layout = refl; app = search rules; kernel = search rules }) c.requires.block.kept
 
 pub returns-clause-room : goal.returns-clause-room
 returns-clause-room c =
@@ -20,7 +21,10 @@ returns-clause-room c =
 
 pub returns-clause-made : goal.returns-clause-made
 returns-clause-made c =
+    let before = parts_of c.args.layout.now c.of-app.result.app.now c.of-app.result.kernel.now in
+    let after = parts_of c.make_room-made.new.layout c.make_room-made.new.app c.of-app.result.kernel.now in
+    let lent : AreLent c.args.memory.now c.args.layout.now before =
+    record { layout = refl; app = search rules; kernel = search rules } in
     on_both c.make_room-made.result (makes_room c.args.memory.now c.args.layout.now c.requires.block.settled
-    c.args.driver c.make_room-made.new.layout c.of-app.result.app.now c.make_room-made.new.app
-    c.of-app.result.kernel.now (search rules) (search rules) c.in_order.ensures) c.make_room-made.ensures.layout
+    c.args.driver before after lent refl c.in_order.ensures) c.make_room-made.ensures.layout
     c.make_room-made.ensures.made

@@ -1,12 +1,13 @@
-use Rattle.std.proofs.Common.{◌≡◌, ℕ, ◌/◌, List, length, take, drop, sym, ap, subst, ◌∙◌, arith}
+use Rattle.std.proofs.Common.{◌≡◌, ℕ, List, length, take, drop, sym, ap, subst, ◌∙◌, arith}
+use Rattle.grant_values.specs.Values.{value_by, value_told}
 use Rattle.grant_values.specs.Words.{words_of}
-use Rattle.grant_model.specs.Grants.{shape_of}
+use Rattle.grant_model.specs.Encoding.{CanBeKept}
 use Rattle.grant_model.specs.Laws.{IsValue, value_bytes}
 use Rattle.board_memory.specs.Memory.{MemoryBytes}
 use Rattle.grant_enter.specs.Seats.{Reseats, kernel_in, own_in}
 use Rattle.grant_enter.specs.Seen.{IsLentTo}
-use Rattle.grant_enter.specs.Visits.{Visited}
-use Rattle.grant_enter.proofs.Keeping.{asks_by, count_of, size_of, value_again, visited_by, visit_reseats}
+use Rattle.grant_enter.specs.Visits.{GrantsOf, Visited, grants_of}
+use Rattle.grant_enter.proofs.Keeping.{asks_by, can_be_kept, size_of, told_is, value_again, visited_by, visit_reseats}
 use Rattle.grant_enter.proofs.visit.visit_at.Goals as goal
 use Rattle.grant_enter.proofs.visit.visit_at.Given.{Over}
 use Rattle.grant_enter.proofs.visit.visit_at.Goals.{After-kernel_of, After-kernel_of-2, After-value_at-value}
@@ -14,8 +15,8 @@ use Rattle.grant_enter.proofs.visit.visit_at.Goals.{After-keep_value}
 
 pub value_at-value-requires : goal.value_at-value-requires
 value_at-value-requires g c =
-    let size = size_of c.args.driver g.T.GrantValue.SIZE g.T.GrantValue.count c.args.counts c.requires.counted
-    g.met.T.GrantValue.whole in
+    let size = size_of g.T.GrantValue.driver c.args.driver g.T.GrantValue.SIZE g.T.GrantValue.count c.args.counts
+    c.requires.counted g.met.T.GrantValue.whole in
     omega (
       arith,
       c.in_ok-at.ensures.found.within,
@@ -30,22 +31,34 @@ stands : (g : Over) (c : After-kernel_of-2 g)
     → IsValue (kernel_in c.args.memory.now.ram c.args.seat.now.layout) c.in_ok-at.at g.T.GrantValue.SIZE c.args.driver
 stands g c =
     subst (λ (n : ℕ). IsValue (kernel_in c.args.memory.now.ram c.args.seat.now.layout) c.in_ok-at.at n c.args.driver)
-    (size_of c.args.driver g.T.GrantValue.SIZE g.T.GrantValue.count c.args.counts c.requires.counted
-    g.met.T.GrantValue.whole)
+    (size_of g.T.GrantValue.driver c.args.driver g.T.GrantValue.SIZE g.T.GrantValue.count c.args.counts
+    c.requires.counted g.met.T.GrantValue.whole)
     (subst (λ (xs : List ℕ). IsValue xs c.in_ok-at.at (value_bytes c.args.driver) c.args.driver)
     c.kernel_of.ensures.bytes c.in_ok-at.ensures.found)
 
 is : (g : Over) (c : After-value_at-value g)
-    → c.value_at-value.result
-    ≡ g.T.GrantValue.value (words_of (take g.T.GrantValue.SIZE
+    → g.T.GrantValue.kept c.value_at-value.result
+    ≡ value_told c.args.driver (words_of (take g.T.GrantValue.SIZE
     (drop c.in_ok-at.at (kernel_in c.args.memory.now.ram c.args.seat.now.layout))))
-is g c = c.value_at-value.ensures ∙ ap (λ (xs : List ℕ). g.T.GrantValue.value
-    (words_of (take g.T.GrantValue.SIZE (drop c.in_ok-at.at xs)))) c.kernel_of-2.ensures.bytes
+is g c =
+    let words = words_of (take g.T.GrantValue.SIZE
+    (drop c.in_ok-at.at (kernel_in c.args.memory.now.ram c.args.seat.now.layout))) in
+    c.value_at-value.ensures
+    ∙ ap (λ (xs : List ℕ). value_by (words_of (take g.T.GrantValue.SIZE (drop c.in_ok-at.at xs))) g.T.GrantValue.driver)
+    c.kernel_of-2.ensures.bytes
+    ∙ sym (told_is g.T.GrantValue.driver c.args.driver words c.requires.counted.driver_is)
+
+can : (g : Over) (c : After-keep_value g)
+    → CanBeKept c.args.driver (g.T.GrantValue.kept c.run_visit-answer.new.value)
+can g c =
+    let k = c.keep_value.ensures in
+    can_be_kept g.T.GrantValue.driver c.args.driver g.T.GrantValue.SIZE g.T.GrantValue.count c.args.counts
+    c.requires.counted g.met.T.GrantValue.whole (g.T.GrantValue.kept c.run_visit-answer.new.value) k.size k.fits k.back
 
 pub run_visit-answer-requires-clause-asks : goal.run_visit-answer-requires-clause-asks
 run_visit-answer-requires-clause-asks g c =
     let at = goal.at.run_visit-answer-requires-clause-asks g c in
-    asks_by (g.V.Visit.leaves c.args.visitor) g.T.GrantValue.value g.T.GrantValue.words c.args.driver c.args.counts
+    asks_by (grants_of c.args.driver c.args.counts g.T.GrantValue.kept) (g.V.Visit.leaves c.args.visitor)
     c.args.memory.now c.args.seat.now (lent g at.After-kernel_of-2) c.in_ok-at.at g.T.GrantValue.SIZE
     (stands g at.After-kernel_of-2) c.value_at-value.result (is g at.After-value_at-value)
     (g.V.Visit.asks c.args.visitor) c.requires.asks
@@ -57,24 +70,18 @@ keep_value-requires-clause-within g c =
     c.in_ok-at.at g.T.GrantValue.SIZE (stands g at.After-kernel_of-2) c.run_visit-answer.new.memory
     c.run_visit-answer.new.seat c.run_visit-answer.ensures.serves).within
 
-many : (g : Over) (c : After-keep_value g)
-    → length (g.T.GrantValue.words c.run_visit-answer.new.value) ≡ (shape_of c.args.driver).value / 4
-many g c = c.keep_value.ensures.size
-    ∙ count_of c.args.driver g.T.GrantValue.SIZE g.T.GrantValue.count c.args.counts c.requires.counted
-    g.met.T.GrantValue.whole
-
 pub returns-clause-visited : goal.returns-clause-visited
 returns-clause-visited g c =
     let at = goal.at.returns-clause-visited g c in
     let r = c.run_visit-answer in
     let k = c.keep_value.ensures in
-    subst (λ (x : MemoryBytes). Visited (g.V.Visit.leaves c.args.visitor) g.T.GrantValue.value g.T.GrantValue.words
-    c.args.driver c.args.counts c.args.memory.now.flash (own_in c.args.memory.now.ram c.args.seat.now) r.result
-    (own_in x.ram r.new.seat)) (sym k.kept)
-    (visited_by (g.V.Visit.leaves c.args.visitor) g.T.GrantValue.value g.T.GrantValue.words c.args.driver c.args.counts
-    c.args.memory.now c.args.seat.now (lent g at.After-kernel_of-2) c.in_ok-at.at g.T.GrantValue.SIZE
-    (stands g at.After-kernel_of-2) c.value_at-value.result (is g at.After-value_at-value) r.new.memory r.new.seat
-    r.ensures.serves r.new.value (many g at.After-keep_value) k.fits k.long r.result r.ensures.left k.back)
+    let grants = grants_of c.args.driver c.args.counts g.T.GrantValue.kept in
+    subst (λ (x : MemoryBytes). Visited grants (g.V.Visit.leaves c.args.visitor) c.args.memory.now.flash
+    (own_in c.args.memory.now.ram c.args.seat.now) r.result (own_in x.ram r.new.seat)) (sym k.kept)
+    (visited_by grants (g.V.Visit.leaves c.args.visitor) c.args.memory.now c.args.seat.now
+    (lent g at.After-kernel_of-2) c.in_ok-at.at g.T.GrantValue.SIZE (stands g at.After-kernel_of-2)
+    c.value_at-value.result (is g at.After-value_at-value) r.new.memory r.new.seat r.ensures.serves r.new.value
+    (can g at.After-keep_value) k.long r.result r.ensures.left)
 
 pub returns-clause-reseats : goal.returns-clause-reseats
 returns-clause-reseats g c =
@@ -82,7 +89,7 @@ returns-clause-reseats g c =
     let r = c.run_visit-answer in
     let k = c.keep_value.ensures in
     subst (λ (x : MemoryBytes). Reseats c.args.memory.now c.args.seat.now x r.new.seat) (sym k.kept)
-    (visit_reseats (g.V.Visit.leaves c.args.visitor) g.T.GrantValue.value g.T.GrantValue.words c.args.driver
-    c.args.counts c.args.memory.now c.args.seat.now (lent g at.After-kernel_of-2) c.in_ok-at.at g.T.GrantValue.SIZE
+    (visit_reseats (grants_of c.args.driver c.args.counts g.T.GrantValue.kept) (g.V.Visit.leaves c.args.visitor)
+    c.args.memory.now c.args.seat.now (lent g at.After-kernel_of-2) c.in_ok-at.at g.T.GrantValue.SIZE
     (stands g at.After-kernel_of-2) c.value_at-value.result (is g at.After-value_at-value) r.new.memory r.new.seat
-    r.ensures.serves r.new.value (many g at.After-keep_value) k.fits k.long)
+    r.ensures.serves r.new.value (can g at.After-keep_value) k.long)

@@ -3,7 +3,7 @@ use Rattle.std.specs.Prelude.{is_ok}
 use Rattle.grant_model.specs.declared.places.Area.{Area}
 use Rattle.grant_model.specs.Grants.{entered, fresh}
 use Rattle.grant_model.specs.Encoding.{decode_grants, area_of}
-use Rattle.grant_region.specs.Region.{fits, roomed, has_space, with_room, Leaves}
+use Rattle.grant_region.specs.Region.{fits, roomed, has_space, with_room, Leaves, parts_of}
 use Rattle.grant_region.proofs.Costs.{known}
 use Rattle.grant_region.proofs.Below.{area_fresh, entered_known, entered_new}
 use Rattle.grant_region.proofs.room.make_room.Goals as goal
@@ -24,7 +24,7 @@ pub returns-in-Some-clause-made : goal.returns-in-Some-clause-made
 returns-in-Some-clause-made c =
     let h = c.areas_are_found.ensures.found c.args.driver c.args.kernel.now c.in-Some.found c.requires.parts.laid
     c.in-Some.ensures.area in
-    c.parts_join.ensures.kept c.args.layout.now c.args.app.now c.args.kernel.now
+    c.parts_join.ensures.kept (parts_of c.args.layout.now c.args.app.now c.args.kernel.now)
     (entered c.args.driver (decode_grants c.args.kernel.now)) c.requires.parts.size
     (record {
       laid = c.requires.parts.laid;
@@ -60,10 +60,10 @@ pub returns-clause-made : goal.returns-clause-made
 returns-clause-made c =
     let gs = decode_grants c.args.kernel.now in
     let none = c.areas_are_found.ensures.absent c.args.driver gs c.in_default.ensures.area in
-    subst (Leaves c.make_area.new.layout c.args.app.now c.make_area.new.app c.args.kernel.now)
-    (sym (entered_new c.args.driver gs none))
-    (c.parts_join.ensures.made c.make_area.new.layout c.args.app.now c.make_area.new.app c.args.kernel.now
-    (fresh c.args.driver) c.requires.parts.laid c.in_ok-make_area.ensures.made)
+    let before = parts_of c.args.layout.now c.args.app.now c.args.kernel.now in
+    subst (Leaves before (parts_of c.make_area.new.layout c.make_area.new.app c.args.kernel.now)) (sym (entered_new c.args.driver gs none))
+    (c.parts_join.ensures.made before c.make_area.new.layout c.make_area.new.app (fresh c.args.driver)
+    c.requires.parts.laid c.in_ok-make_area.ensures.made)
 
 pub returns-clause-area : goal.returns-clause-area
 returns-clause-area c =
