@@ -4,12 +4,12 @@ use Rattle.std.proofs.Common.{sym, ◌∙◌, subst}
 use Rattle.tk_base.specs.declared.upcall.Counts.{Counts}
 use Rattle.grant_values.specs.declared.alarm.Alarm.{Alarm}
 use Rattle.grant_values.specs.declared.alarm.Armed.{Armed}
-use Rattle.grant_values.specs.Alarm.{alarm_of, alarm_words}
+use Rattle.grant_values.specs.Values.{KeptValue, AlarmValue}
 use Rattle.process_model.specs.Own.{Own}
 use Rattle.process_model.specs.Served.{kept, own_scheduled, with_kept}
 use Rattle.grant_enter.specs.declared.visit.Stale.{Stale}
 use Rattle.grant_enter.specs.Seen.{Seen}
-use Rattle.grant_enter.specs.Visits.{Visits, is_stale}
+use Rattle.grant_enter.specs.Visits.{Visits, grants_of, is_stale}
 use Rattle.driver_model.specs.Alarm.{alarm_driver, answered, armed_in, due_alarm, expiration, fired_if, if_due}
 use Rattle.driver_model.specs.Alarm.{with_alarm}
 
@@ -29,13 +29,13 @@ nothing_due false alarm e = cc
 -- where no value is kept no alarm is due
 none_kept : (now : ℕ) (own : Own) (alarm : Armed) → kept alarm_driver own ≡ None → due_alarm now own ≡ Some alarm → ⊥
 none_kept now own alarm none due =
-    nothing_due own.lives alarm (subst (λ (o : Option (List ℕ)). cond own.lives (if_due now (armed_in o)) None
+    nothing_due own.lives alarm (subst (λ (o : Option KeptValue). cond own.lives (if_due now (armed_in o)) None
     ≡ Some alarm) none due)
 
 pub fires : {A : Type 0} (now expires driver life : ℕ) (counts : Counts) (flash : List ℕ) (alarm : Armed)
     (old new : Own) (leaves : Alarm → Seen → A → Alarm → Own → Type 0) (r : Result (Option A) Stale)
     → Fires now expires leaves → driver ≡ 0 → expires ≡ expiration alarm → is_stale life old ≡ false
-    → due_alarm now old ≡ Some alarm → Visits leaves alarm_of alarm_words driver counts life flash old r new
+    → due_alarm now old ≡ Some alarm → Visits (grants_of driver counts AlarmValue) leaves life flash old r new
     → new ≡ answered now old
 unfolding answered
 fires now expires driver life counts flash alarm old new leaves (Ok (Some answer)) says zero expires_is present due
@@ -43,8 +43,8 @@ fires now expires driver life counts flash alarm old new leaves (Ok (Some answer
     let v = visits.1 in
     let left = says _ _ _ _ _ v.left in
     v.after
-    ∙ ap (λ (d : ℕ). with_kept d (alarm_words v.value) v.own) zero
-    ∙ ap (λ (a : Alarm). with_kept alarm_driver (alarm_words a) v.own) left.0
+    ∙ ap (λ (d : ℕ). with_kept d (AlarmValue v.value) v.own) zero
+    ∙ ap (λ (a : Alarm). with_kept alarm_driver (AlarmValue a) v.own) left.0
     ∙ ap (with_alarm None) (left.1 ∙ ap (λ (d : ℕ). own_scheduled d 0 (now ∷ expires ∷ 0 ∷ []) old) zero
     ∙ ap (λ (e : ℕ). own_scheduled alarm_driver 0 (now ∷ e ∷ 0 ∷ []) old) expires_is)
     ∙ ap (fired_if now old) (sym due)
