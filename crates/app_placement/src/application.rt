@@ -1,7 +1,7 @@
 //! What an application asks for.
 ghost use Rattle.std.specs.Prelude.{◌≡◌, ◌+◌, ◌%◌, ◌≤◌, length, IfSome};
 ghost use Rattle.tbf_headers.specs.Shown.{shown};
-ghost use Rattle.flash_walk.specs.Image.{app_verdict, verdict_of, IsObject};
+ghost use Rattle.flash_walk.specs.Image.{app_verdict, IsObject};
 ghost use Rattle.flash_walk.specs.declared.found.Verdict.TheVariants.{App};
 ghost use Rattle.app_placement.specs.Applications.{application_of, application, fixed_start};
 ghost use Rattle.app_placement.specs.Placement.{IsAccessible};

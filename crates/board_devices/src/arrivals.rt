@@ -1,6 +1,5 @@
 //! Bytes that are still to come in.
 ghost use Rattle.std.specs.Prelude.{◌≡◌, ◌<◌, drop, length};
-ghost use Rattle.std.specs.Option.{option_map};
 ghost use Rattle.board_devices.specs.SerialLine.{with_input};
 ghost use Rattle.board_devices.specs.Arriving.{is_time, first_arrival_time, with_first_arrived};
 

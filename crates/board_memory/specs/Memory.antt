@@ -1,5 +1,5 @@
 -- Flash and RAM, and the places of a process in both (Levy et al., SOSP 2017, section 4).
-use Rattle.std.specs.Prelude.{ℕ, ◌+◌, ◌-◌, ◌≤◌, List, ◌++◌, length, take, drop, replicate, slice_range}
+use Rattle.std.specs.Prelude.{ℕ, ◌+◌, ◌-◌, ◌≤◌, List, length, replicate, slice_range}
 use Rattle.std.specs.List.{refill}
 use Rattle.tk_base.specs.declared.access.TheConstants.{FLASH_START, RAM_START}
 use Rattle.process_layout.specs.LayoutView.{LayoutView}

@@ -1,5 +1,5 @@
 //! The words of the report and of the trace.
-ghost use Rattle.std.specs.Prelude.{◌≡◌, ◌≤◌, length, map};
+ghost use Rattle.std.specs.Prelude.{◌≡◌, ◌≤◌, length};
 ghost use Rattle.board_report.specs.OwnWords.{RulesHaveWordsOfTheirOwn};
 ghost use Rattle.board_report.specs.Words.{access_text, rule_text, call_rule_text, fault_text, glyph, name_text};
 

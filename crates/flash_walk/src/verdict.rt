@@ -1,5 +1,5 @@
 //! What is said of one object.
-ghost use Rattle.std.specs.Prelude.{◌≡◌, ◌+◌};
+ghost use Rattle.std.specs.Prelude.{◌≡◌};
 ghost use Rattle.tbf_headers.specs.Meaning.{header_reading};
 ghost use Rattle.tbf_headers.specs.Shown.{shown};
 ghost use Rattle.flash_walk.specs.Image.{is_bad_binary_end, is_outside_flash, has_bad_entry, is_wrong_flash, app_verdict, verdict_of};

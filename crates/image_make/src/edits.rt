@@ -1,11 +1,11 @@
 //! Edits of one object of a flash image.
-ghost use Rattle.std.specs.Prelude.{◌≡◌, ◌+◌, ◌%◌, ◌<◌, ◌≤◌, length, IfSome, IfOk, MatchResult, Some, None, Ok, false, true};
+ghost use Rattle.std.specs.Prelude.{◌≡◌, ◌+◌, ◌%◌, ◌<◌, ◌≤◌, length, IfSome, Some, None, Ok, false, true};
 ghost use Rattle.std.specs.List.{list_all};
 ghost use Rattle.tk_base.specs.Numbers.{rounded_up};
 ghost use Rattle.tbf_headers.specs.Numbers.{half, word_at};
 ghost use Rattle.tbf_headers.specs.Meaning.{header_reading, meaning_of};
 ghost use Rattle.tbf_headers.specs.Objects.{object_at};
-ghost use Rattle.flash_walk.specs.Image.{objects, IsObject};
+ghost use Rattle.flash_walk.specs.Image.{objects};
 ghost use Rattle.image_make.specs.Edits.{mended, with_flags, with_enabled, padded, renamed};
 ghost use Rattle.image_make.specs.Images.{object_found};
 ghost use Rattle.image_make.specs.Outcomes.{has_fault, sound_found, IsSoundObject, found_bytes, enabled, enabling, is_visible, may_name, place_for, IsNamePlace, with_name, renaming, Edits};

@@ -1,7 +1,6 @@
 -- What a turn is denied for, by cases on what was fetched, the row and the instruction.
 use Rattle.std.proofs.Common.{◌≡◌, inl, inr, ℕ, ◌+◌, ◌%◌, ◌==◌, Bool, true, false, cond, Option, None, Some, Result, Ok}
 use Rattle.std.proofs.Common.{Err, refl, ap, subst, eqb-true}
-use Rattle.tk_base.specs.declared.access.Access.{Access}
 use Rattle.tk_base.specs.declared.access.Access.TheVariants.{Fetch, Load, Store}
 use Rattle.tk_base.specs.declared.access.Width.{Width}
 use Rattle.tk_base.specs.declared.access.Width.TheVariants.{Half}

@@ -1,10 +1,10 @@
 //! The header of an object.
-ghost use Rattle.std.specs.Prelude.{◌≡◌, ◌+◌, ◌*◌, ◌%◌, ◌/◌, ◌<◌, ◌≤◌, length, Err, None, IsSome, IfSome, IfOk, option_map, option_and_then, MatchResult};
+ghost use Rattle.std.specs.Prelude.{◌≡◌, ◌*◌, ◌%◌, ◌<◌, ◌≤◌, length, Err, None, IsSome, IfSome, IfOk, option_map, option_and_then, MatchResult};
 ghost use Rattle.std.specs.Option.{option_copied};
 ghost use Rattle.tbf_headers.specs.Addresses.{entry_of};
-ghost use Rattle.tbf_headers.specs.Numbers.{half, word_at};
+ghost use Rattle.tbf_headers.specs.Numbers.{word_at};
 ghost use Rattle.tbf_headers.specs.Tlv.{first_bad, content};
-ghost use Rattle.tbf_headers.specs.Meaning.{header_reading, meaning_of, unless_bad, header_of, region_in, region_count, program_of, main_of, program_or_main, fixed_of};
+ghost use Rattle.tbf_headers.specs.Meaning.{header_reading, meaning_of, region_in, region_count, program_of, main_of, program_or_main, fixed_of};
 ghost use Rattle.tbf_headers.specs.Shown.{shown, shown_result, permissions_of, regions_of, IsChecked, IsSized};
 
 use crate::app::{AppHeader, sum};

@@ -1,6 +1,6 @@
 //! The files and the standard output of the operating system. What the system does is trusted:
 //! these tell no bytes and call no name sound.
-ghost use Rattle.std.specs.Prelude.{◌≡◌, ◌≤◌, length};
+ghost use Rattle.std.specs.Prelude.{◌≡◌, ◌≤◌};
 
 use crate::failed::Failed;
 use crate::mem_shelf::copy_front;
