@@ -24,8 +24,8 @@ abbrev pub object_byte : Object → List ℕ → ℕ → ℕ
 object_byte object bytes at = slice_index bytes (at - object.address)
 
 -- the bytes of an object in flash
-abbrev pub object_bytes : List ℕ → Object → List ℕ
-object_bytes flash object =
+abbrev pub object_in : List ℕ → Object → List ℕ
+object_in flash object =
     let at = object.address - FLASH_START in slice_range flash at (at + object.size)
 
 -- What is read of a buffer that a process may allow to be read is the process's own: it is the same of the bytes of its
@@ -34,4 +34,4 @@ abbrev pub ReadsOwnFlash : Type 0
 ReadsOwnFlash =
     (flash : List ℕ) (own : Own) (buffer : ℕ × ℕ) → HasObject (length flash) own.object own.layout
     → IsTrue (may_share ReadOnly own.layout buffer)
-    → bytes_at (flash_byte flash) own buffer ≡ bytes_at (object_byte own.object (object_bytes flash own.object)) own buffer
+    → bytes_at (flash_byte flash) own buffer ≡ bytes_at (object_byte own.object (object_in flash own.object)) own buffer

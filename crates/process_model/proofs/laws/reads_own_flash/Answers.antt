@@ -9,7 +9,7 @@ use Rattle.process_model.specs.declared.place.Object.{Object}
 use Rattle.process_model.specs.Own.{Own}
 use Rattle.process_model.specs.Handed.{lies_in_ram, lies_in_flash}
 use Rattle.process_model.specs.Served.{ram_at}
-use Rattle.process_model.specs.Flash.{HasObject, flash_byte, object_byte, object_bytes}
+use Rattle.process_model.specs.Flash.{HasObject, flash_byte, object_byte, object_in}
 use Rattle.process_model.proofs.laws.reads_own_flash.Goals as goal
 
 -- where the same bytes stand at some addresses, they are the same list
@@ -22,14 +22,14 @@ same_bytes f g at (suc n) same =
 
 -- a byte of a part of flash is the byte of flash there
 in_object : (flash : List ℕ) (object : Object) (a : ℕ) → FLASH_START ≤ object.address → object.address ≤ a
-    → a < object.address + object.size → flash_byte flash a ≡ object_byte object (object_bytes flash object) a
+    → a < object.address + object.size → flash_byte flash a ≡ object_byte object (object_in flash object) a
 in_object flash object a from low high =
     let place : object.address - FLASH_START + (a - object.address) ≡ a - FLASH_START = omega (arith, from, low) in
     grind (arith, get_or-take, get_or-drop)
 
 module _ (flash : List ℕ) (own : Own) (buffer : ℕ × ℕ) (o : HasObject (length flash) own.object own.layout) where
   abbrev object : ℕ → ℕ
-  object = object_byte own.object (object_bytes flash own.object)
+  object = object_byte own.object (object_in flash own.object)
 
   by_place : (a b c : Bool) → buffer.1 == 0 ≡ a → lies_in_ram own.layout buffer.0 buffer.1 ≡ b
       → lies_in_flash own.layout buffer.0 buffer.1 ≡ c → IsTrue (a || b || c)
