@@ -17,7 +17,7 @@ use Rattle.turn_scheduler.specs.RoundRobin.{IsNextAhead, choice, next_slot, read
 use Rattle.process_model.specs.Handed.{HoldsInPlace}
 use Rattle.process_model.specs.Own.{Own}
 use Rattle.process_record.specs.Name.{name_of}
-use Rattle.kernel_calls.specs.Own.{object_in}
+use Rattle.process_model.specs.Flash.{object_in}
 use Rattle.process_record.specs.declared.process.Process.{Process}
 use Rattle.process_record.specs.declared.summary.SlotLine.{SlotLine}
 use Rattle.process_record.specs.declared.summary.Summary.{Summary}

@@ -28,7 +28,8 @@ use Rattle.grant_enter.specs.Homes.{Homes, living, nobody, own_of}
 use Rattle.kernel_model.specs.Record.{Record, record_with_own, with_process}
 use Rattle.kernel_model.specs.Calls.{Served, driver_answered, by_form, commanded, failure_of, object_permits}
 use Rattle.kernel_model.specs.Calls.{refused_with, served, taken_by}
-use Rattle.kernel_calls.specs.Own.{IsApplication, IsOwnObject, HasStart, object_in, record_in}
+use Rattle.process_model.specs.Flash.{object_in}
+use Rattle.kernel_calls.specs.Own.{IsApplication, IsOwnObject, HasStart, record_in}
 use Rattle.kernel_model.specs.Lives.{is_alive}
 use Rattle.kernel_calls.specs.Given.{given}
 use Rattle.kernel_calls.specs.Outcomes.{ServingComesTo, IsLeft, IsServed, ServesAt, acts_for, is_for_driver}

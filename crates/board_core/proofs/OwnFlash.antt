@@ -6,7 +6,7 @@ use Rattle.grant_values.specs.declared.console.WaitingWrite.{WaitingWrite}
 use Rattle.grant_values.specs.declared.storage.StorageKind.{StorageKind}
 use Rattle.grant_values.specs.declared.storage.StorageKind.TheVariants.{Read, Write}
 use Rattle.grant_values.specs.declared.storage.StorageRequest.{StorageRequest}
-use Rattle.process_model.specs.Flash.{HasObject, ReadsOwnFlash, only_object}
+use Rattle.process_model.specs.Flash.{HasObject, ReadsOwnFlash, flash_byte, object_byte, object_in}
 use Rattle.process_model.specs.Handed.{HoldsInPlace, held}
 use Rattle.process_model.specs.Own.{Own}
 use Rattle.process_model.specs.Served.{bytes_at}
@@ -19,7 +19,7 @@ use Rattle.driver_model.specs.Storage.{storages, unanswered}
 -- what of a write is printed
 pub sent_of_own : (flash : List ℕ) (life : ℕ) (own : Own) → ReadsOwnFlash
     → HasObject (length flash) own.object own.layout → HoldsInPlace own
-    → sent flash life own ≡ sent (only_object own.object flash) life own
+    → sent (flash_byte flash) life own ≡ sent (object_byte own.object (object_in flash own.object)) life own
 unfolding sent
 sent_of_own flash life own law lies holds =
     ap (λ (bytes : List ℕ). unwrap_or (option_map (λ (write : WaitingWrite).
@@ -29,32 +29,35 @@ sent_of_own flash life own law lies holds =
     (law flash own (held ReadOnly console 1 own) lies (holds.read_only console 1))
 
 -- what is written over its storage
-moved_of_own : (kind : StorageKind) (flash bytes : List ℕ) (request : StorageRequest) (own : Own)
+moved_of_own : (kind : StorageKind) (flash object : ℕ → ℕ) (bytes : List ℕ) (request : StorageRequest) (own : Own)
     → bytes_at flash own (held ReadOnly storage.storage 0 own)
-    ≡ bytes_at (only_object own.object flash) own (held ReadOnly storage.storage 0 own)
-    → moving kind flash bytes request own ≡ moving kind (only_object own.object flash) bytes request own
-moved_of_own Read flash bytes request own same = refl
-moved_of_own Write flash bytes request own same =
+    ≡ bytes_at object own (held ReadOnly storage.storage 0 own)
+    → moving kind flash bytes request own ≡ moving kind object bytes request own
+moved_of_own Read flash object bytes request own same = refl
+moved_of_own Write flash object bytes request own same =
     ap (λ (buffer : List ℕ). let count = min request.length (length buffer) in
     record { own = completing Write count 0 own; written = Some (request.offset, take count buffer) }) same
 
 pub answered_of_own : (fault : Bool) (flash bytes : List ℕ) (life : ℕ) (own : Own) → ReadsOwnFlash
     → HasObject (length flash) own.object own.layout → HoldsInPlace own
-    → answered fault flash bytes life own ≡ answered fault (only_object own.object flash) bytes life own
+    → answered fault (flash_byte flash) bytes life own
+    ≡ answered fault (object_byte own.object (object_in flash own.object)) bytes life own
 unfolding answered
 answered_of_own fault flash bytes life own law lies holds = by_request (waiting_of storages life own)
   where
+    abbrev object : ℕ → ℕ
+    object = object_byte own.object (object_in flash own.object)
+
     same : (request : StorageRequest)
-        → moving request.kind flash bytes request own
-        ≡ moving request.kind (only_object own.object flash) bytes request own
-    same request = moved_of_own request.kind flash bytes request own
+        → moving request.kind (flash_byte flash) bytes request own ≡ moving request.kind object bytes request own
+    same request = moved_of_own request.kind (flash_byte flash) object bytes request own
         (law flash own (held ReadOnly storage.storage 0 own) lies (holds.read_only storage.storage 0))
 
     by_request : (o : Option StorageRequest)
         → unwrap_or (option_map (λ (request : StorageRequest). storage_answer_of
-        (storage_served fault flash bytes request own)) o) (unanswered own)
+        (storage_served fault (flash_byte flash) bytes request own)) o) (unanswered own)
         ≡ unwrap_or (option_map (λ (request : StorageRequest). storage_answer_of
-        (storage_served fault (only_object own.object flash) bytes request own)) o) (unanswered own)
+        (storage_served fault object bytes request own)) o) (unanswered own)
     by_request None = refl
     by_request (Some request) =
         ap (λ (m : StorageServed). storage_answer_of

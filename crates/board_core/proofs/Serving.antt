@@ -21,7 +21,7 @@ use Rattle.board_devices.specs.Clock.{clock_at}
 use Rattle.board_devices.specs.SerialLine.{SerialLine}
 use Rattle.board_devices.specs.Storage.{StoredSlots, is_fault}
 use Rattle.tk_outside.specs.Count.{counted}
-use Rattle.process_model.specs.Flash.{HasObject, ReadsOwnFlash, only_object}
+use Rattle.process_model.specs.Flash.{HasObject, ReadsOwnFlash, flash_byte, object_byte, object_in}
 use Rattle.process_model.specs.Handed.{HoldsInPlace, held}
 use Rattle.process_model.specs.Served.{bytes_at}
 use Rattle.tk_base.specs.declared.kinds.PairKind.TheVariants.{ReadOnly}
@@ -265,13 +265,13 @@ free_soon time ticks free printed few short soon = by_length (length printed == 
     by_length false = omega (arith, sending)
 
 -- one step of a write, which is finished or has bytes left
-abbrev portioned : List ℕ → Own → Bool → WaitingWrite → Sent
+abbrev portioned : (ℕ → ℕ) → Own → Bool → WaitingWrite → Sent
 portioned flash own finished write =
     if finished then record { own = write_done own; printed = []; completed = true }
     else record { own = taken own; printed = next_bytes flash write own; completed = false }
 
 -- it takes so many bytes at most
-sent_few : (flash : List ℕ) (life : ℕ) (own : Own) → length (sent flash life own).printed ≤ PRINT_LIMIT
+sent_few : (flash : ℕ → ℕ) (life : ℕ) (own : Own) → length (sent flash life own).printed ≤ PRINT_LIMIT
 unfolding sent
 sent_few flash life own = by_write (waiting_of console_writes life own)
   where
@@ -316,10 +316,11 @@ serves_sent b h lines events law lent id is_there first =
     let own : Own = own_of b.home id.slot in
     let r : Record = its_record b h id is_there in
     let s : Sent = sent (flash_of r) own.life own in
-    let same : sent b.home.flash id.life own ≡ s =
-    ap (λ (life : ℕ). sent b.home.flash life own) (sym is_there.1)
+    let same : sent (flash_byte b.home.flash) id.life own ≡ s =
+    ap (λ (life : ℕ). sent (flash_byte b.home.flash) life own) (sym is_there.1)
     ∙ sent_of_own b.home.flash own.life own law (its_object b h id is_there) (lent id.slot is_there.0)
-    ∙ ap (λ (o : _). sent (only_object o b.home.flash) own.life own) (its_seat b h id is_there).own.object_is in
+    ∙ ap (λ (o : _). sent (object_byte o (object_in b.home.flash o)) own.life own)
+    (its_seat b h id is_there).own.object_is in
     subst (λ (x : Sent). ServesFirst b h id is_there (sends b)
     (record {
       kind = sent_told kinds x;
@@ -455,13 +456,13 @@ serves_drawn b h lines events id is_there first =
     })
 
 -- the answer to a request, if there is one
-abbrev answer_to : Bool → List ℕ → List ℕ → Own → Option StorageRequest → storage.StorageAnswered
+abbrev answer_to : Bool → (ℕ → ℕ) → List ℕ → Own → Option StorageRequest → storage.StorageAnswered
 answer_to fault flash bytes own o =
     unwrap_or (option_map (λ (request : StorageRequest). storage.storage_answer_of
     (storage.storage_served fault flash bytes request own)) o) (storage.unanswered own)
 
 -- nothing is written for a request that did not complete
-not_written : (fault : Bool) (flash bytes : List ℕ) (life : ℕ) (own : Own)
+not_written : (fault : Bool) (flash : ℕ → ℕ) (bytes : List ℕ) (life : ℕ) (own : Own)
     → let a = storage.answered fault flash bytes life own in a.completed ≡ false → a.written ≡ None
 unfolding storage.answered
 not_written fault flash bytes life own e = by_request (waiting_of storage.storages life own) e
@@ -517,11 +518,12 @@ serves_stored b h lines law lent id is_there first =
     let fails : Bool = is_fault s.faults (s.served + 1) in
     let bytes : List ℕ = bytes_of s.slots id.slot in
     let a : storage.StorageAnswered = storage.answered fails (flash_of r) bytes own.life own in
-    let same : storage.answered (store_fails_next s) b.home.flash bytes id.life own ≡ a =
-    ap (λ (n : ℕ). storage.answered (is_fault s.faults n) b.home.flash bytes id.life own) (counted_next s.served few)
-    ∙ ap (λ (life : ℕ). storage.answered fails b.home.flash bytes life own) (sym is_there.1)
+    let flash : ℕ → ℕ = flash_byte b.home.flash in
+    let same : storage.answered (store_fails_next s) flash bytes id.life own ≡ a =
+    ap (λ (n : ℕ). storage.answered (is_fault s.faults n) flash bytes id.life own) (counted_next s.served few)
+    ∙ ap (λ (life : ℕ). storage.answered fails flash bytes life own) (sym is_there.1)
     ∙ answered_of_own fails b.home.flash bytes own.life own law (its_object b h id is_there) (lent id.slot is_there.0)
-    ∙ ap (λ (o : _). storage.answered fails (only_object o b.home.flash) bytes own.life own)
+    ∙ ap (λ (o : _). storage.answered fails (object_byte o (object_in b.home.flash o)) bytes own.life own)
     (its_seat b h id is_there).own.object_is in
     let s' : StoredSlots = if a.completed then storage_after id.slot a.written (after_count s) else s in
     let kept = kept_beside s id.slot a.completed a.written few in

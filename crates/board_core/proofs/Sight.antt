@@ -16,13 +16,12 @@ in_object : (flash : List ℕ) (from size k : ℕ) → k < size
     → slice_index (object_at flash from size) k ≡ slice_index flash (from + k)
 in_object flash from size k h = grind (arith, get_or-take, get_or-drop)
 
-flash_side : (start n object a x y : ℕ) → a < start → object ≤ a
-    → (if nat_le start a && nat_lt a (start + n) then x else (if nat_le object a then y else 0)) ≡ y
-flash_side start n object a x y below from = grind (arith, nat_tests)
+flash_side : (start n a x y : ℕ) → a < start → (if nat_le start a && nat_lt a (start + n) then x else y) ≡ y
+flash_side start n a x y below = grind (arith, nat_tests)
 
-ram_side : (start n object a x y : ℕ) → start ≤ a → a < start + n
-    → (if nat_le start a && nat_lt a (start + n) then x else (if nat_le object a then y else 0)) ≡ x
-ram_side start n object a x y from below = grind (arith, nat_tests)
+ram_side : (start n a x y : ℕ) → start ≤ a → a < start + n
+    → (if nat_le start a && nat_lt a (start + n) then x else y) ≡ x
+ram_side start n a x y from below = grind (arith, nat_tests)
 
 pub sees_record : (flash : List ℕ) (r : Resident) → IsOwnObject flash r.0.object r.1.layout → IsInPlace r.1
     → Sees flash r.1 (byte_at (record_in flash r.0 r.1 []))
@@ -31,12 +30,11 @@ sees_record flash r own place =
     let object = r.0.object in
     record {
       in_flash = λ a low high.
-          flash_side e.start (length r.1.ram) object.address a _ _ (omega (arith, place.apart))
-          (omega (arith, own.lies.accessible_from))
+          flash_side e.start (length r.1.ram) a _ _ (omega (arith, place.apart))
           ∙ in_object flash (object.address - FLASH_START) object.size (a - object.address)
           (omega (arith, own.lies.accessible_from, own.lies.accessible_to))
           ∙ ap (slice_index flash) (at_place object.address a own.lies.from (omega (arith, own.lies.accessible_from)));
-      in_ram = λ a low high. ram_side e.start (length r.1.ram) object.address a _ _ low
+      in_ram = λ a low high. ram_side e.start (length r.1.ram) a _ _ low
           (omega (arith, place.ram, place.ordered.grants, place.ordered.block));
     }
   where

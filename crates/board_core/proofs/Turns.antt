@@ -18,7 +18,8 @@ use Rattle.rv32_model.specs.UserTurn.{UserTurn}
 use Rattle.process_model.specs.Own.{Own}
 use Rattle.process_record.specs.Process.{after_fault, after_turn}
 use Rattle.grant_enter.specs.Homes.{Homes, ChangesOnly, own_of, with_own}
-use Rattle.kernel_calls.specs.Own.{IsOwn, IsApplication, HasStart, object_in, record_in}
+use Rattle.process_model.specs.Flash.{object_in}
+use Rattle.kernel_calls.specs.Own.{IsOwn, IsApplication, HasStart, record_in}
 use Rattle.kernel_model.specs.Lives.{is_alive}
 use Rattle.kernel_model.specs.Record.{Record, with_process}
 use Rattle.kernel_model.specs.Calls.{deliver, deliver_by, restart, restarted_by, restarted_main}

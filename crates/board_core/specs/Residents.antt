@@ -20,7 +20,8 @@ use Rattle.fault_policy.specs.Policy.{decision}
 use Rattle.fault_policy.specs.declared.Policy.{Policy}
 use Rattle.kernel_model.specs.Record.{Record, instruction}
 use Rattle.kernel_model.specs.Turn.{Turned, calls, settled, surroundings, turned, has_turn, is_pending}
-use Rattle.kernel_calls.specs.Own.{IsOwn, object_in, record_in}
+use Rattle.process_model.specs.Flash.{object_in}
+use Rattle.kernel_calls.specs.Own.{IsOwn, record_in}
 use Rattle.kernel_calls.specs.Outcomes.{record_of_slot}
 use Rattle.kernel_model.specs.Calls.{served}
 use Rattle.syscall_abi.specs.declared.call.Call.{Call}

@@ -8,7 +8,7 @@ ghost use Rattle.turn_scheduler.specs.RoundRobin.{used_after};
 ghost use Rattle.turn_scheduler.specs.Status.{situation_shown as status_situation};
 ghost use Rattle.process_record.specs.Emit.{nothing};
 ghost use Rattle.process_record.specs.Name.{name_of};
-ghost use Rattle.kernel_calls.specs.Own.{object_in};
+ghost use Rattle.process_model.specs.Flash.{object_in};
 ghost use Rattle.kernel_model.specs.World.{is_ready, after, labels};
 ghost use Rattle.kernel_model.specs.Accounts.{IsAccountedFor};
 ghost use Rattle.kernel_model.specs.Causes.{AreWhole};

@@ -3,6 +3,7 @@ use Rattle.std.specs.Prelude.{ℕ, ◌==◌, ◌||◌, nat_lt, Bool, List, drop,
 use Rattle.arrayvec.specs.ArrayVec.{ArrayVec}
 use Rattle.tk_base.specs.declared.process.ProcessId.{ProcessId}
 use Rattle.board_devices.specs.SerialLine.{SerialLine}
+use Rattle.process_model.specs.Flash.{flash_byte}
 use Rattle.grant_enter.specs.Homes.{Homes, own_of}
 use Rattle.driver_model.specs.Console.{free_after, received, sent}
 use Rattle.driver_model.specs.Told.{received_told, sent_told}
@@ -19,7 +20,7 @@ cannot_give ids line = is_none (slice_get ids 0) || length line.ring == 0
 -- the step of the write of the process of an id, with the bytes that are printed
 abbrev pub written_by : Homes → ProcessId → Answered (ArrayVec ℕ)
 written_by home id =
-    let s = sent home.flash id.life (own_of home id.slot) in
+    let s = sent (flash_byte home.flash) id.life (own_of home id.slot) in
     record {
       kind = sent_told kinds s;
       own = s.own;

@@ -18,7 +18,7 @@ told_of write own =
 
 -- what a visit to a process leaves that has a write: the next bytes are printed, and what waits of it still; the read
 -- stays
-abbrev pub Sends : List ℕ → Console → Option WaitingWrite → Own → List ℕ → Console → Own → Type 0
+abbrev pub Sends : (ℕ → ℕ) → Console → Option WaitingWrite → Own → List ℕ → Console → Own → Type 0
 Sends flash value None old printed value' own = Unit {0}
 Sends flash value (Some write) old printed value' own =
     (printed ≡ next_bytes flash write old) × (length printed ≡ portion write old)

@@ -1,6 +1,7 @@
 //! Writes: the UART takes bytes of the one that waits longest.
 ghost use Rattle.std.specs.Prelude.{◌≡◌, ◌==◌, ◌+◌, ◌-◌, ◌*◌, ◌<◌, ◌^◌, min, [], drop, length, take, IfSome, is_some, true};
 ghost use Rattle.tk_base.specs.declared.limits.TheConstants.{PRINT_LIMIT};
+ghost use Rattle.process_model.specs.Flash.{flash_byte};
 ghost use Rattle.grant_enter.specs.Homes.{own_of, ChangesOnly};
 ghost use Rattle.grant_enter.specs.Seen.{Framed, IsLent, own_entered, seen};
 ghost use Rattle.driver_model.specs.Requests.{waiting_of};
@@ -27,6 +28,7 @@ struct Transmit<'a> {
 
 impl<'a> Visit<Console> for Transmit<'a> {
     ghost use Rattle.std.specs.Prelude.{◌≡◌, ◌+◌, ◌<◌, ◌^◌, []};
+    ghost use Rattle.process_model.specs.Flash.{flash_byte};
     ghost use Rattle.console_capsule.specs.Sending.{Sends};
 
     type Answer = &'a mut ArrayVec<u8, PRINT_LIMIT>;
@@ -37,7 +39,7 @@ impl<'a> Visit<Console> for Transmit<'a> {
 
     ghost leaves = { λ transmit value seen printed value' own.
         (printed.ghost_name ≡ transmit.printed.ghost_name)
-        × Sends seen.flash value value.write seen.own printed.now.items value' own };
+        × Sends (flash_byte seen.flash) value value.write seen.own printed.now.items value' own };
 
     fn run(
         self,
@@ -84,7 +86,7 @@ fn take_step(
     requires dropped { (own_entered entered.old).inbox.dropped + 1 < 2 ^ 32 }
     requires empty { printed.old.items ≡ [] }
     ensures printed { printed.new.items
-        ≡ next_bytes (seen entered.old).flash write.now (own_entered entered.old) }
+        ≡ next_bytes (flash_byte (seen entered.old).flash) write.now (own_entered entered.old) }
     ensures count { length printed.new.items ≡ portion write.now (own_entered entered.old) }
     ensures rest { result ≡ still_waiting write.now (own_entered entered.old) }
     ensures own { own_entered entered.new ≡ told_of write.now (own_entered entered.old) }
@@ -113,7 +115,7 @@ fn step_of(home: &mut Home, id: ProcessId, printed: &mut ArrayVec<u8, PRINT_LIMI
     requires empty { printed.old.items ≡ [] }
     ensures step { let own = own_of home.old id.slot in
         IfSome (waiting_of console_writes id.life own)
-        (λ write. let s = sending home.old.flash own write in
+        (λ write. let s = sending (flash_byte home.old.flash) own write in
         (own_of home.new id.slot ≡ s.own) × (printed.new.items ≡ s.printed)
         × ((length printed.new.items == 0) ≡ s.completed)) }
     ensures rest { ChangesOnly id.slot home.old home.new }

@@ -152,7 +152,7 @@ module _ {R : Type 0} (request_kind : RequestKind R) (life : ℕ) (own : Own) (r
 abbrev Sends : Own → Sent → Type 0
 Sends own s = FollowsAnswer (queue_left_by Writes s.completed) own s.own
 
-sends : (flash : List ℕ) (life : ℕ) (own : Own) → Sends own (console.sent flash life own)
+sends : (flash : ℕ → ℕ) (life : ℕ) (own : Own) → Sends own (console.sent flash life own)
 unfolding console.sent
 sends flash life own = by_waiting (waiting_of console_writes life own) refl
   where
@@ -226,7 +226,7 @@ draws words life own = by_waiting (waiting_of randoms life own) refl
         (random.progress (slice_get words 0) request own).rest (asks randoms life own request is)
 
 -- a storage request that is served
-pub serves_served : (fault : Bool) (flash bytes : List ℕ) (request : StorageRequest) (own : Own)
+pub serves_served : (fault : Bool) (flash : ℕ → ℕ) (bytes : List ℕ) (request : StorageRequest) (own : Own)
     → Serves own (storage.storage_served fault flash bytes request own).own
 serves_served fault flash bytes request own = by_fault fault request.kind
   where
@@ -237,7 +237,7 @@ serves_served fault flash bytes request own = by_fault fault request.kind
     by_fault false Read = serves _ _ _ _ own (written_size storage.storage 0 0 _ own)
     by_fault false Write = serves _ _ _ own.ram own (as_before own)
 
-stores : (fault : Bool) (flash bytes : List ℕ) (life : ℕ) (own : Own)
+stores : (fault : Bool) (flash : ℕ → ℕ) (bytes : List ℕ) (life : ℕ) (own : Own)
     → let a = storage.answered fault flash bytes life own in FollowsAnswer (queue_left_by Stores a.completed) own a.own
 unfolding storage.answered
 stores fault flash bytes life own = by_waiting (waiting_of storages life own) refl

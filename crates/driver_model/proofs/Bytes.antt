@@ -107,7 +107,7 @@ module _ (law : OnlyWritesChangeBytes) where
       by_wanted true = keeps_scheduled random.random 0 (0 ∷ request.written ∷ 0 ∷ []) own
       by_wanted false = keeps_scheduled random.random 0 (1 ∷ request.written ∷ 0 ∷ []) own
 
-  moving : (kind : StorageKind) (flash bytes : List ℕ) (request : StorageRequest) (own : Own) → IsWhole own
+  moving : (kind : StorageKind) (flash : ℕ → ℕ) (bytes : List ℕ) (request : StorageRequest) (own : Own) → IsWhole own
       → ChangesAt (IsInside (stored_buffer own)) own (storage.moving kind flash bytes request own).own
   moving Read flash bytes request own whole =
       let count = min request.length (length (ram_at own (stored_buffer own))) in
@@ -118,7 +118,7 @@ module _ (law : OnlyWritesChangeBytes) where
       stays_scheduled (IsInside (stored_buffer own)) storage.storage 1
       (min request.length (length (bytes_at flash own (held ReadOnly storage.storage 0 own))) ∷ 0 ∷ 0 ∷ []) own
 
-  served : (fault : Bool) (flash bytes : List ℕ) (request : StorageRequest) (own : Own) → IsWhole own
+  served : (fault : Bool) (flash : ℕ → ℕ) (bytes : List ℕ) (request : StorageRequest) (own : Own) → IsWhole own
       → ChangesAt (IsInside (stored_buffer own)) own (storage.storage_served fault flash bytes request own).own
   served true flash bytes request own whole =
       stays_scheduled (IsInside (stored_buffer own)) storage.storage (storage.upcall_for request.kind) (0 ∷ 1 ∷ 0 ∷ [])

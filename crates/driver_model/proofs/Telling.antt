@@ -22,7 +22,7 @@ this_life life waiting = ap (λ (b : Bool). cond b waiting None) (eq-eqb life li
 abbrev TellsWrite : Own → Sent → Type 0
 TellsWrite own s = s.own ≡ cond s.completed (console.write_done own) (console.taken own)
 
-writes : (flash : List ℕ) (own : Own) → TellsWrite own (console.sent flash own.life own)
+writes : (flash : ℕ → ℕ) (own : Own) → TellsWrite own (console.sent flash own.life own)
 unfolding console.sent
 writes flash own =
     by_waiting (waiting_of console_writes own.life own) (this_life own.life (waiting_in console_writes own))

@@ -29,13 +29,13 @@ queue_left_by here completed line = is_same here line && completed
 
 -- so it is with each device's answer to a process, whichever of its lives it is for; an alarm that fires leaves no list
 pub record LinesFollowAnswers : Type 0 where
-  pub writes : (flash : List ℕ) (life : ℕ) (own : Own) →
+  pub writes : (flash : ℕ → ℕ) (life : ℕ) (own : Own) →
       let s = console.sent flash life own in FollowsAnswer (queue_left_by Writes s.completed) own s.own
   pub reads : (ring : List ℕ) (life : ℕ) (own : Own) →
       let r = console.received ring life own in FollowsAnswer (queue_left_by Reads r.completed) own r.own
   pub randoms : (words : List ℕ) (life : ℕ) (own : Own) →
       let a = random.answered words life own in FollowsAnswer (queue_left_by Randoms a.completed) own a.own
-  pub stores : (fault : Bool) (flash bytes : List ℕ) (life : ℕ) (own : Own) →
+  pub stores : (fault : Bool) (flash : ℕ → ℕ) (bytes : List ℕ) (life : ℕ) (own : Own) →
       let a = storage.answered fault flash bytes life own in FollowsAnswer (queue_left_by Stores a.completed) own a.own
   pub alarms : (now : ℕ) (own : Own) → FollowsAnswer (λ line. false) own (alarm.answered now own)
 
@@ -47,7 +47,7 @@ drawn_word (word ∷ words) rest = if length rest == length words then word ∷ 
 -- What a process is told makes of it what the device's step did: a write had bytes taken, or completed; bytes came in
 -- for a read; a word was drawn for a request for random bytes, or none, and the others are left.
 pub record EventsTellSteps : Type 0 where
-  pub writes : (flash : List ℕ) (own : Own) →
+  pub writes : (flash : ℕ → ℕ) (own : Own) →
       let s = console.sent flash own.life own in
       s.own ≡ (if s.completed then console.write_done own else console.taken own)
   pub reads : (ring : List ℕ) (own : Own) →

@@ -42,7 +42,7 @@ pub record AnswersWriteInBuffers : Type 0 where
   pub word : (words : List ℕ) (life : ℕ) (own : Own) → IsWhole own →
       ChangesAt (IsInside (word_buffer own)) own (random.answered words life own).own
   pub no_word : (life : ℕ) (own : Own) → KeepsBytes own (random.answered [] life own).own
-  pub stored : (fault : Bool) (flash bytes : List ℕ) (life : ℕ) (own : Own) → IsWhole own →
+  pub stored : (fault : Bool) (flash : ℕ → ℕ) (bytes : List ℕ) (life : ℕ) (own : Own) → IsWhole own →
       ChangesAt (IsInside (stored_buffer own)) own (storage.answered fault flash bytes life own).own
-  pub failed : (flash bytes : List ℕ) (life : ℕ) (own : Own) →
+  pub failed : (flash : ℕ → ℕ) (bytes : List ℕ) (life : ℕ) (own : Own) →
       (storage.answered true flash bytes life own).written ≡ None

@@ -125,18 +125,18 @@ abbrev pub unsent : Own → Sent
 unsent own = record { own = own; printed = []; completed = false }
 
 -- the bytes of a write that come next, in the buffer that is held now
-abbrev pub next_bytes : List ℕ → WaitingWrite → Own → List ℕ
+abbrev pub next_bytes : (ℕ → ℕ) → WaitingWrite → Own → List ℕ
 next_bytes flash write own =
     take (portion write own) (drop write.taken (bytes_at flash own (held ReadOnly console 1 own)))
 
 -- the next bytes of a write are taken and printed; where none is left it completes
-abbrev pub sending : List ℕ → Own → WaitingWrite → Sent
+abbrev pub sending : (ℕ → ℕ) → Own → WaitingWrite → Sent
 sending flash own write =
     if portion write own == 0 then record { own = write_done own; printed = []; completed = true }
     else record { own = taken own; printed = next_bytes flash write own; completed = false }
 
 -- the step for a process of a life; nothing changes where it is not there, or no write of it waits
-unfoldable pub sent : List ℕ → ℕ → Own → Sent
+unfoldable pub sent : (ℕ → ℕ) → ℕ → Own → Sent
 sent flash life own = unwrap_or (option_map (sending flash own) (waiting_of console_writes life own)) (unsent own)
 
 -- the time from which on the UART can send again, after bytes were printed at a time: so many ticks for each

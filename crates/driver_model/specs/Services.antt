@@ -16,5 +16,5 @@ pub record OfEachService (P : Own → Own → Type 0) : Type 0 where
   pub write_done : (own : Own) → P own (console.write_done own)
   pub input : (bytes : List ℕ) (own : Own) → P own (console.input bytes own)
   pub drawn : (words : List ℕ) (life : ℕ) (own : Own) → P own (random.answered words life own).own
-  pub stored : (fault : Bool) (flash bytes : List ℕ) (life : ℕ) (own : Own) →
+  pub stored : (fault : Bool) (flash : ℕ → ℕ) (bytes : List ℕ) (life : ℕ) (own : Own) →
       P own (storage.answered fault flash bytes life own).own

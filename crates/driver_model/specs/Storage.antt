@@ -78,19 +78,19 @@ reading_store bytes request own =
     record { own = completing Read count 0 (with_written storage 0 0 copied own); written = None }
 
 -- bytes from the start of the buffer that is held now, and no more than it has, are to be written over the storage
-abbrev pub writing_store : List ℕ → StorageRequest → Own → StorageServed
+abbrev pub writing_store : (ℕ → ℕ) → StorageRequest → Own → StorageServed
 writing_store flash request own =
     let buffer = bytes_at flash own (held ReadOnly storage 0 own) in
     let count = min request.length (length buffer) in
     record { own = completing Write count 0 own; written = Some (request.offset, take count buffer) }
 
 -- what serving a request moves and tells, by its kind
-abbrev pub moving : StorageKind → List ℕ → List ℕ → StorageRequest → Own → StorageServed
+abbrev pub moving : StorageKind → (ℕ → ℕ) → List ℕ → StorageRequest → Own → StorageServed
 moving Read flash bytes request own = reading_store bytes request own
 moving Write flash bytes request own = writing_store flash request own
 
 -- a request is served, with flash and the bytes of the slot's storage; on a fault it moves nothing
-abbrev pub storage_served : Bool → List ℕ → List ℕ → StorageRequest → Own → StorageServed
+abbrev pub storage_served : Bool → (ℕ → ℕ) → List ℕ → StorageRequest → Own → StorageServed
 storage_served fault flash bytes request own =
     if fault then record { own = completing request.kind 0 1 own; written = None }
     else moving request.kind flash bytes request own
@@ -111,7 +111,7 @@ abbrev pub storage_answer_of : StorageServed → StorageAnswered
 storage_answer_of s = record { own = with_request storages None s.own; written = s.written; completed = true }
 
 -- the answer to a process of a life; nothing changes where it is not there, or has no request
-unfoldable pub answered : Bool → List ℕ → List ℕ → ℕ → Own → StorageAnswered
+unfoldable pub answered : Bool → (ℕ → ℕ) → List ℕ → ℕ → Own → StorageAnswered
 answered fault flash bytes life own =
     let serve = λ (request : StorageRequest). storage_answer_of (storage_served fault flash bytes request own) in
     unwrap_or (option_map serve (waiting_of storages life own)) (unanswered own)

@@ -1,13 +1,14 @@
 -- The buffers that a driver was allowed, in the memory that is lent.
 use Rattle.std.proofs.Common.{◌≡◌, ℕ, zero, suc, ◌+◌, ◌-◌, ◌<◌, ◌≤◌, ◌^◌, ◌==◌, ◌||◌, IsTrue, Bool, true, false, cond}
-use Rattle.std.proofs.Common.{List, [], ◌∷◌, length, take, drop, Option, None, Some, refl, sym, ap, subst, ◌∙◌, rules}
+use Rattle.std.proofs.Common.{List, [], ◌∷◌, length, map, take, drop, Option, None, Some, refl, sym, ap, subst, ◌∙◌, rules}
 use Rattle.std.proofs.Common.{arith}
-use Rattle.std.specs.Prelude.{slice_range, slice_index_or}
-use Rattle.std.specs.List.{AllByRecursion}
+use Rattle.std.specs.Prelude.{slice_range, slice_index, slice_index_or}
+use Rattle.std.specs.List.{AllByRecursion, range_with_len}
 use Rattle.std.proofs.lemmas.Bool.{eqb-true}
 use Rattle.std.proofs.lemmas.Bool.Decides.{nat_tests}
 use Rattle.std.proofs.lemmas.Grind.{same_number_lists}
-use Rattle.std.proofs.lemmas.List.{places}
+use Rattle.std.proofs.lemmas.List.{length-take, length-drop, places}
+use Rattle.std.proofs.lemmas.List.FromFn.{length-map-range_with_len, get_or-map-range_with_len}
 use Rattle.tk_base.specs.declared.access.TheConstants.{FLASH_START, RAM_START}
 use Rattle.process_layout.specs.LayoutView.{LayoutView}
 use Rattle.process_layout.specs.Interval.{lies_within}
@@ -15,6 +16,7 @@ use Rattle.tk_base.specs.declared.kinds.PairKind.TheVariants.{ReadOnly, ReadWrit
 use Rattle.grant_model.specs.Grants.{Grant, grant_of, pair_of}
 use Rattle.board_memory.specs.Memory.{MemoryBytes, ram_between}
 use Rattle.process_model.specs.Handed.{HoldsInPlace, held, may_share, lies_in_ram, lies_in_flash}
+use Rattle.process_model.specs.Flash.{flash_byte}
 use Rattle.process_model.specs.Served.{bytes_at, ram_at}
 use Rattle.grant_enter.specs.declared.seat.Seat.{Seat}
 use Rattle.grant_enter.specs.Buffers.{buffer_start, last_of}
@@ -95,6 +97,24 @@ pub own_window : (ram : List ℕ) (e : LayoutView) (at size : ℕ) → RAM_START
 own_window ram e at size from low high to =
     same_number_lists _ _ (search (rules, places)) (λ k h. grind (arith, places))
 
+-- a part of flash has the bytes by their addresses, where it lies in flash
+flash_window : (flash : List ℕ) (at size : ℕ) → FLASH_START ≤ at → at + size ≤ FLASH_START + length flash
+    → slice_range flash (at - FLASH_START) (at + size - FLASH_START) ≡ map (flash_byte flash) (range_with_len at size)
+flash_window flash at size low high =
+    same_number_lists _ _ (long ∙ sym (length-map-range_with_len (flash_byte flash) at size))
+    (λ k less. let inside : k < size = omega (arith, long, less) in
+    let place : at - FLASH_START + k ≡ at + k - FLASH_START = omega (arith, low) in
+    byte k inside ∙ ap (slice_index flash) place
+    ∙ sym (get_or-map-range_with_len (flash_byte flash) at size k (at + k) 0 inside refl))
+  where
+    long : length (slice_range flash (at - FLASH_START) (at + size - FLASH_START)) ≡ size
+    long = simp (length-take, length-drop) (omega (arith, low, high))
+
+    byte : (k : ℕ) → k < size
+        → slice_index (slice_range flash (at - FLASH_START) (at + size - FLASH_START)) k
+        ≡ slice_index flash (at - FLASH_START + k)
+    byte k inside = grind (arith, places)
+
 -- a buffer in RAM
 module _ (m : MemoryBytes) (seat : Seat) (s : FitsMemory (length m.flash) (length m.ram) seat.layout) where
   pub own_bytes : (buffer : ℕ × ℕ) → seat.layout.start ≤ buffer.0 → buffer.0 + buffer.1 ≤ seat.layout.brk
@@ -103,45 +123,53 @@ module _ (m : MemoryBytes) (seat : Seat) (s : FitsMemory (length m.flash) (lengt
       own_window m.ram seat.layout buffer.0 buffer.1 s.from low (omega (arith, s.ordered.grants))
       (omega (arith, s.to, s.ordered.end))
 
+  -- a buffer that may be read and does not lie in RAM has its bytes in flash
+  in_flash : (buffer : ℕ × ℕ) → lies_in_ram seat.layout buffer.0 buffer.1 ≡ false
+      → IsTrue (lies_within seat.layout.start seat.layout.mark buffer.0 buffer.1
+      || lies_in_flash seat.layout buffer.0 buffer.1)
+      → (FLASH_START ≤ buffer.0) × (buffer.0 + buffer.1 ≤ FLASH_START + length m.flash)
+  in_flash buffer is h =
+      which (lies_within seat.layout.start seat.layout.mark buffer.0 buffer.1)
+      (lies_in_flash seat.layout buffer.0 buffer.1) not_below by_flash h
+    where
+      not_below : lies_within seat.layout.start seat.layout.mark buffer.0 buffer.1 ≡ true → ⊥
+      not_below at =
+          let high : buffer.0 + buffer.1 ≤ seat.layout.mark = grind (arith, nat_tests) in
+          let low : seat.layout.start ≤ buffer.0 = grind (arith, nat_tests) in
+          let to : buffer.0 + buffer.1 ≤ seat.layout.brk = omega (arith, s.ordered.buffers) in
+          grind (arith, nat_tests)
+
+      by_flash : lies_in_flash seat.layout buffer.0 buffer.1 ≡ true
+          → (FLASH_START ≤ buffer.0) × (buffer.0 + buffer.1 ≤ FLASH_START + length m.flash)
+      by_flash at =
+          let low : seat.layout.flash_start ≤ buffer.0 = grind (arith, nat_tests) in
+          let high : buffer.0 + buffer.1 ≤ seat.layout.flash_end = grind (arith, nat_tests) in
+          (omega (arith, low, s.flash_from), omega (arith, high, s.flash_to))
+
+      which : {X : Type 0} (x y : Bool) → (x ≡ true → ⊥) → (y ≡ true → X) → IsTrue (x || y) → X
+      which true y f g h = absurd (f refl)
+      which false true f g h = g refl
+      which false false f g h = absurd (cc)
+
   read_by : (buffer : ℕ × ℕ) (a b : Bool) → buffer.1 == 0 ≡ a → lies_in_ram seat.layout buffer.0 buffer.1 ≡ b
       → MayBeRead seat.layout buffer
       → cond a [] (cond b (ram_between m.ram buffer.0 (buffer.0 + buffer.1))
       (slice_range m.flash (buffer.0 - FLASH_START) (buffer.0 + buffer.1 - FLASH_START)))
-      ≡ cond b (ram_at (own_in m.ram seat) buffer)
-      (slice_range m.flash (buffer.0 - FLASH_START) (buffer.0 - FLASH_START + buffer.1))
+      ≡ cond b (ram_at (own_in m.ram seat) buffer) (map (flash_byte m.flash) (range_with_len buffer.0 buffer.1))
   read_by buffer true true none is may = let z : buffer.1 ≡ 0 = eqb-true buffer.1 0 none in
       sym (no_range (own_in m.ram seat).ram (buffer.0 - seat.layout.start) (buffer.0 - seat.layout.start + buffer.1)
       (omega arith))
-  read_by buffer true false none is may = let z : buffer.1 ≡ 0 = eqb-true buffer.1 0 none in
-      sym (no_range m.flash (buffer.0 - FLASH_START) (buffer.0 - FLASH_START + buffer.1) (omega arith))
+  read_by buffer true false none is may =
+      ap (λ (n : ℕ). map (flash_byte m.flash) (range_with_len buffer.0 n)) (sym (eqb-true buffer.1 0 none))
   read_by buffer false true none is may = own_bytes buffer (grind (arith, nat_tests)) (grind (arith, nat_tests))
   read_by buffer false false none is may =
       let some : 0 < buffer.1 = grind (arith, nat_tests) in
-      let low : FLASH_START ≤ buffer.0 = in_flash (may some) in
-      ap (slice_range m.flash (buffer.0 - FLASH_START)) (omega arith)
-    where
-      not_below : lies_within seat.layout.start seat.layout.mark buffer.0 buffer.1 ≡ true → FLASH_START ≤ buffer.0
-      not_below at = let h : buffer.0 + buffer.1 ≤ seat.layout.mark = grind (arith, nat_tests) in
-          let l : seat.layout.start ≤ buffer.0 = grind (arith, nat_tests) in omega (arith, l, s.from)
-
-      by_flash : lies_in_flash seat.layout buffer.0 buffer.1 ≡ true → FLASH_START ≤ buffer.0
-      by_flash at = let l : seat.layout.flash_start ≤ buffer.0 = grind (arith, nat_tests) in
-          omega (arith, l, s.flash_from)
-
-      which : (x y : Bool) → (x ≡ true → FLASH_START ≤ buffer.0) → (y ≡ true → FLASH_START ≤ buffer.0) → IsTrue (x || y)
-          → FLASH_START ≤ buffer.0
-      which true y f g h = f refl
-      which false true f g h = g refl
-      which false false f g h = absurd (cc)
-
-      in_flash : IsTrue (lies_within seat.layout.start seat.layout.mark buffer.0 buffer.1
-          || lies_in_flash seat.layout buffer.0 buffer.1) → FLASH_START ≤ buffer.0
-      in_flash h = which (lies_within seat.layout.start seat.layout.mark buffer.0 buffer.1)
-          (lies_in_flash seat.layout buffer.0 buffer.1) not_below by_flash h
+      let f = in_flash buffer is (may some) in
+      flash_window m.flash buffer.0 buffer.1 f.0 f.1
 
   -- what is lent to be read
   pub read_is : (buffer : ℕ × ℕ) → MayBeRead seat.layout buffer
-      → readable m seat.layout buffer ≡ bytes_at m.flash (own_in m.ram seat) buffer
+      → readable m seat.layout buffer ≡ bytes_at (flash_byte m.flash) (own_in m.ram seat) buffer
   read_is buffer may = read_by buffer (buffer.1 == 0) (lies_in_ram seat.layout buffer.0 buffer.1) refl refl may
 
   -- where a read-write buffer lies in memory, which has no bytes where its size is 0

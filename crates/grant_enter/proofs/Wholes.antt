@@ -1,20 +1,22 @@
 -- The bytes of the buffers that a process has allowed a driver.
-use Rattle.std.proofs.Common.{◌≡◌, ℕ, zero, suc, ◌+◌, ◌-◌, ◌<◌, ◌≤◌, ◌==◌, ◌||◌, IsTrue, Bool, true, false, cond, List}
-use Rattle.std.proofs.Common.{[], ◌∷◌, ◌++◌, length, take, drop, refl, sym, ap, ◌∙◌, arith}
+use Rattle.std.proofs.Common.{◌≡◌, ℕ, zero, suc, ◌+◌, ◌-◌, ◌<◌, ◌≤◌, ◌==◌, Bool, true, false, cond, List}
+use Rattle.std.proofs.Common.{[], ◌∷◌, ◌++◌, length, map, take, drop, refl, sym, ap, ◌∙◌, arith}
 use Rattle.std.specs.Prelude.{slice_range}
+use Rattle.std.specs.List.{range_with_len}
 use Rattle.std.proofs.lemmas.Bool.{eqb-true}
 use Rattle.std.proofs.lemmas.Bool.Decides.{nat_tests}
 use Rattle.std.proofs.lemmas.List.{length-take, length-drop, take-append-drop}
-use Rattle.tk_base.specs.declared.access.TheConstants.{FLASH_START, RAM_START}
-use Rattle.process_layout.specs.Interval.{lies_within}
+use Rattle.std.proofs.lemmas.List.FromFn.{length-map-range_with_len}
+use Rattle.tk_base.specs.declared.access.TheConstants.{RAM_START}
 use Rattle.board_memory.specs.Memory.{MemoryBytes}
 use Rattle.process_model.specs.Own.{Own}
-use Rattle.process_model.specs.Handed.{lies_in_ram, lies_in_flash}
+use Rattle.process_model.specs.Handed.{lies_in_ram}
+use Rattle.process_model.specs.Flash.{flash_byte}
 use Rattle.process_model.specs.Served.{bytes_at, ram_at, own_written}
 use Rattle.tk_base.specs.Bytes.{over}
 use Rattle.grant_enter.specs.declared.seat.Seat.{Seat}
 use Rattle.grant_enter.specs.Homes.{FitsMemory}
-use Rattle.grant_enter.specs.Seats.{LiesBelowMark, MayBeRead, app_in, own_in}
+use Rattle.grant_enter.specs.Seats.{LiesBelowMark, app_in, own_in}
 use Rattle.grant_enter.proofs.Windows.{length_window}
 
 -- so many bytes from a place on, where there are so many
@@ -46,45 +48,16 @@ module _ (m : MemoryBytes) (seat : Seat) (s : FitsMemory (length m.flash) (lengt
           let l = lies some in
           in_ram buffer l.0 (omega (arith, s.ordered.buffers, l.1))
 
-  read_by : (buffer : ℕ × ℕ) (a b : Bool) → buffer.1 == 0 ≡ a → lies_in_ram seat.layout buffer.0 buffer.1 ≡ b
-      → MayBeRead seat.layout buffer
-      → length (cond b (ram_at (own_in m.ram seat) buffer)
-      (slice_range m.flash (buffer.0 - FLASH_START) (buffer.0 - FLASH_START + buffer.1))) ≡ buffer.1
-  read_by buffer true true none is may =
-      length_none (own_in m.ram seat).ram (buffer.0 - seat.layout.start) buffer.1 (eqb-true buffer.1 0 none)
-  read_by buffer true false none is may =
-      length_none m.flash (buffer.0 - FLASH_START) buffer.1 (eqb-true buffer.1 0 none)
-  read_by buffer false true none is may = in_ram buffer (grind (arith, nat_tests)) (grind (arith, nat_tests))
-  read_by buffer false false none is may =
-      let some : 0 < buffer.1 = grind (arith, nat_tests) in
-      let f = in_flash (may some) in
-      length_range m.flash (buffer.0 - FLASH_START) buffer.1 (omega (arith, f.0, f.1, s.flash_from, s.flash_to))
+  pub ro_whole : (buffer : ℕ × ℕ) → length (bytes_at (flash_byte m.flash) (own_in m.ram seat) buffer) ≡ buffer.1
+  ro_whole buffer = by_place (buffer.1 == 0) (lies_in_ram seat.layout buffer.0 buffer.1) refl refl
     where
-      not_below : lies_within seat.layout.start seat.layout.mark buffer.0 buffer.1 ≡ true → ⊥
-      not_below at =
-          let high : buffer.0 + buffer.1 ≤ seat.layout.mark = grind (arith, nat_tests) in
-          let low : seat.layout.start ≤ buffer.0 = grind (arith, nat_tests) in
-          let to : buffer.0 + buffer.1 ≤ seat.layout.brk = omega (arith, s.ordered.buffers) in
-          grind (arith, nat_tests)
-
-      by_flash : lies_in_flash seat.layout buffer.0 buffer.1 ≡ true
-          → (seat.layout.flash_start ≤ buffer.0) × (buffer.0 + buffer.1 ≤ seat.layout.flash_end)
-      by_flash at = (grind (arith, nat_tests), grind (arith, nat_tests))
-
-      which : (x y : Bool) → (x ≡ true → ⊥) → IsTrue (x || y) → y ≡ true
-      which true y f h = absurd (f refl)
-      which false true f h = refl
-      which false false f h = absurd (cc)
-
-      in_flash : IsTrue (lies_within seat.layout.start seat.layout.mark buffer.0 buffer.1
-          || lies_in_flash seat.layout buffer.0 buffer.1)
-          → (seat.layout.flash_start ≤ buffer.0) × (buffer.0 + buffer.1 ≤ seat.layout.flash_end)
-      in_flash h = by_flash (which (lies_within seat.layout.start seat.layout.mark buffer.0 buffer.1)
-          (lies_in_flash seat.layout buffer.0 buffer.1) not_below h)
-
-  pub ro_whole : (buffer : ℕ × ℕ) → MayBeRead seat.layout buffer
-      → length (bytes_at m.flash (own_in m.ram seat) buffer) ≡ buffer.1
-  ro_whole buffer may = read_by buffer (buffer.1 == 0) (lies_in_ram seat.layout buffer.0 buffer.1) refl refl may
+      by_place : (a b : Bool) → buffer.1 == 0 ≡ a → lies_in_ram seat.layout buffer.0 buffer.1 ≡ b
+          → length (cond b (ram_at (own_in m.ram seat) buffer)
+          (map (flash_byte m.flash) (range_with_len buffer.0 buffer.1))) ≡ buffer.1
+      by_place a false none is = length-map-range_with_len (flash_byte m.flash) buffer.0 buffer.1
+      by_place true true none is =
+          length_none (own_in m.ram seat).ram (buffer.0 - seat.layout.start) buffer.1 (eqb-true buffer.1 0 none)
+      by_place false true none is = in_ram buffer (grind (arith, nat_tests)) (grind (arith, nat_tests))
 
 same_front : (n m : ℕ) (xs : List ℕ) → take n (take m xs) ++ drop (length (take n (take m xs))) xs ≡ xs
 same_front zero m xs = refl

@@ -7,6 +7,7 @@ use Rattle.board_memory.specs.Memory.{with_run}
 use Rattle.tk_base.specs.declared.kinds.PairKind.TheVariants.{ReadOnly, ReadWrite}
 use Rattle.process_model.specs.Own.{Own}
 use Rattle.process_model.specs.Handed.{held}
+use Rattle.process_model.specs.Flash.{flash_byte}
 use Rattle.process_model.specs.Served.{bytes_at, ram_at, with_written, own_written}
 use Rattle.tk_base.specs.Bytes.{over}
 use Rattle.grant_enter.specs.Seen.{Framed, IsLent, own_entered, seen}
@@ -58,7 +59,7 @@ pub record BuffersAreWhole : Type 0 where
   -- there are as many as the process said
   pub read_only : (e : Entered) (n : ℕ) → IsLent e
       → let buffer = ro_buffer e n in
-      length (bytes_at (seen e).flash (own_entered e) buffer) ≡ buffer.1
+      length (bytes_at (flash_byte (seen e).flash) (own_entered e) buffer) ≡ buffer.1
   pub read_write : (e : Entered) (n : ℕ) → IsLent e
       → let buffer = rw_buffer e n in
       length (ram_at (own_entered e) buffer) ≡ buffer.1

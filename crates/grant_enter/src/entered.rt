@@ -6,6 +6,7 @@ ghost use Rattle.board_memory.specs.Memory.{ram_between};
 ghost use Rattle.tk_base.specs.declared.kinds.PairKind.TheVariants.{ReadOnly, ReadWrite};
 ghost use Rattle.process_model.specs.Handed.{held};
 ghost use Rattle.upcall_queue.specs.Pending.{is_queued};
+ghost use Rattle.process_model.specs.Flash.{flash_byte};
 ghost use Rattle.process_model.specs.Served.{bytes_at, ram_at, own_scheduled, upcall_of, with_written};
 ghost use Rattle.tk_base.specs.Bytes.{over};
 ghost use Rattle.grant_enter.specs.Buffers.{LendsBuffer, buffer_start, last_of};
@@ -93,7 +94,7 @@ impl Entered<'_> {
     pub fn read_only(&self, n: u32) -> &[u8]
         requires lent { IsLent self.now }
         requires number { n < (seen self.now).counts.ro }
-        ensures { result.now ≡ bytes_at (seen self.now).flash (own_entered self.now)
+        ensures { result.now ≡ bytes_at (flash_byte (seen self.now).flash) (own_entered self.now)
             (held ReadOnly (seen self.now).driver n (own_entered self.now)) }
     {
         let (at, size) = buffer_ro(

@@ -17,7 +17,7 @@ use Rattle.kernel_model.specs.Record.{Record, with_process}
 use Rattle.kernel_model.specs.Calls.{Served, by_form, failure_of, object_permits, refused, refused_with, served}
 use Rattle.kernel_model.specs.Calls.{taken_by}
 use Rattle.kernel_model.specs.Laws.{NoneIsLeft}
-use Rattle.kernel_calls.specs.Own.{object_in}
+use Rattle.process_model.specs.Flash.{object_in}
 use Rattle.kernel_calls.specs.Outcomes.{acts_for, ServingComesTo, ServesAt, is_for_driver, is_driver_command, is_taken}
 use Rattle.kernel_calls.specs.Outcomes.{record_of_slot}
 use Rattle.kernel_calls.proofs.Starts.{of_object}

@@ -18,7 +18,8 @@ use Rattle.kernel_model.specs.Record.{Record, record_with_own, with_process}
 use Rattle.kernel_model.specs.Calls.{failed_swap, former_pair, own_swapped, refused_with, replied, swap_by}
 use Rattle.kernel_model.specs.Calls.{swap_refusal, swapped}
 use Rattle.kernel_model.specs.Lives.{is_alive}
-use Rattle.kernel_calls.specs.Own.{HasStart, IsApplication, IsOwn, IsOwnObject, object_in, record_in}
+use Rattle.process_model.specs.Flash.{object_in}
+use Rattle.kernel_calls.specs.Own.{HasStart, IsApplication, IsOwn, IsOwnObject, record_in}
 use Rattle.kernel_calls.specs.Outcomes.{acts_for, IsOfSlot, KeepsSlot, ServingComesTo}
 use Rattle.kernel_calls.proofs.Starts.{of_object}
 

@@ -14,7 +14,8 @@ use Rattle.process_record.specs.declared.process.Process.{Process}
 use Rattle.process_record.specs.Process.{restarted}
 use Rattle.kernel_model.specs.Record.{Record, with_process}
 use Rattle.kernel_model.specs.Calls.{driver_answered, refused, exit, restart, restarted_by, restarted_main}
-use Rattle.kernel_calls.specs.Own.{object_in, record_in}
+use Rattle.process_model.specs.Flash.{object_in}
+use Rattle.kernel_calls.specs.Own.{record_in}
 use Rattle.kernel_calls.specs.Outcomes.{acts_for, ServingComesTo}
 
 -- a record that keeps its object

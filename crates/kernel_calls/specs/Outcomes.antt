@@ -16,7 +16,8 @@ use Rattle.driver_model.specs.Drivers.{CommandContext, takes_commands}
 use Rattle.grant_enter.specs.Homes.{ChangesOnly, Homes, own_of}
 use Rattle.kernel_model.specs.Record.{Record}
 use Rattle.kernel_model.specs.Calls.{Served, deliver, object_permits, served}
-use Rattle.kernel_calls.specs.Own.{IsOwn, object_in, record_in}
+use Rattle.process_model.specs.Flash.{object_in}
+use Rattle.kernel_calls.specs.Own.{IsOwn, record_in}
 
 -- what the board is to do for a call that the kernel serves itself, by what comes of it: one whose process ends or
 -- starts again waits in no list any more

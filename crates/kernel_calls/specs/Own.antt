@@ -1,25 +1,20 @@
 -- A process with its own object (Levy et al., SOSP 2017; Tock Binary Format, "Main" and "Program").
-use Rattle.std.specs.Prelude.{◌≡◌, ℕ, ◌+◌, ◌-◌, ◌^◌, ◌<◌, ◌≤◌, Bool, true, false, List, length, Option, None, Some}
+use Rattle.std.specs.Prelude.{◌≡◌, ℕ, ◌+◌, ◌^◌, ◌<◌, ◌≤◌, Bool, true, false, List, length, Option, None, Some}
 use Rattle.std.specs.Prelude.{Result, Ok, Err, IsOk}
 use Rattle.tk_base.specs.declared.access.TheConstants.{FLASH_START}
 use Rattle.tbf_headers.specs.declared.fault.HeaderFault.{HeaderFault}
 use Rattle.tbf_headers.specs.declared.program.Main.{Main}
 use Rattle.tbf_headers.specs.Meaning.{Meaning, header_reading}
 use Rattle.tbf_headers.specs.Addresses.{after_protected, entry_of}
-use Rattle.tbf_headers.specs.Objects.{object_at}
 use Rattle.process_layout.specs.LayoutView.{LayoutView, first_break}
 use Rattle.process_model.specs.Own.{Own}
-use Rattle.process_model.specs.Flash.{HasObject}
+use Rattle.process_model.specs.Flash.{HasObject, object_in}
 use Rattle.process_model.specs.declared.place.Object.{Object}
 use Rattle.process_record.specs.declared.process.Process.{Process}
 use Rattle.process_record.specs.declared.process.State.{State}
 use Rattle.process_record.specs.declared.process.State.TheVariants.{Running, Yielded, Faulted, Terminated}
 use Rattle.kernel_model.specs.Record.{Record}
 use Rattle.kernel_model.specs.Lives.{is_alive}
-
--- the bytes of a process's object in flash
-abbrev pub object_in : List ℕ → Object → List ℕ
-object_in flash object = object_at flash (object.address - FLASH_START) object.size
 
 -- the record that flash, a process, what is its own and its storage show
 abbrev pub record_in : List ℕ → Process → Own → List ℕ → Record

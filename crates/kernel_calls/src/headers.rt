@@ -2,7 +2,8 @@
 ghost use Rattle.std.specs.Prelude.{◌≡◌, Ok};
 ghost use Rattle.tbf_headers.specs.Meaning.{header_reading};
 ghost use Rattle.tbf_headers.specs.Shown.{shown};
-ghost use Rattle.kernel_calls.specs.Own.{object_in, HasHeader};
+ghost use Rattle.process_model.specs.Flash.{object_in};
+ghost use Rattle.kernel_calls.specs.Own.{HasHeader};
 
 use process_model::Object;
 use tbf_headers::{Header, object_at, read_header};

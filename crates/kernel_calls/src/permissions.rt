@@ -1,7 +1,8 @@
 //! Whether the object of a process permits a call (Tock Binary Format, "Permissions").
 ghost use Rattle.std.specs.Prelude.{◌≡◌};
 ghost use Rattle.kernel_model.specs.Calls.{object_permits};
-ghost use Rattle.kernel_calls.specs.Own.{object_in, HasHeader};
+ghost use Rattle.process_model.specs.Flash.{object_in};
+ghost use Rattle.kernel_calls.specs.Own.{HasHeader};
 
 use crate::headers::header_of;
 use process_model::Object;

@@ -1,7 +1,9 @@
 -- The record of one process. It has what the kernel of Levy et al., SOSP 2017, keeps of a process.
-use Rattle.std.specs.Prelude.{ℕ, ◌+◌, ◌-◌, ◌&&◌, nat_le, nat_lt, if◌then◌else◌, List, length, slice_index}
+use Rattle.std.specs.Prelude.{ℕ, ◌+◌, ◌&&◌, nat_le, nat_lt, if◌then◌else◌, List, length}
 use Rattle.rv32_model.specs.UserTurn.{UserTurn}
 use Rattle.process_model.specs.Own.{Own}
+use Rattle.process_model.specs.Changes.{own_byte}
+use Rattle.process_model.specs.Flash.{object_byte}
 use Rattle.process_model.specs.Instruction.{instruction_of, with_write}
 use Rattle.process_record.specs.declared.process.Process.{Process}
 
@@ -15,11 +17,10 @@ pub record Record : Type 0 where
 
 -- the byte at an address: one of the process's RAM, or one of its object
 abbrev pub byte_at : Record → ℕ → ℕ
-byte_at r a =
+byte_at r at =
     let start = r.own.layout.start in
-    let object = r.process.object.address in
-    if nat_le start a && nat_lt a (start + length r.own.ram) then slice_index r.own.ram (a - start)
-    else (if nat_le object a then slice_index r.object (a - object) else 0)
+    if nat_le start at && nat_lt at (start + length r.own.ram) then own_byte r.own at
+    else object_byte r.process.object r.object at
 
 -- a record with other registers, state and counts
 abbrev pub with_process : Record → Process → Record

@@ -28,7 +28,7 @@ use Rattle.driver_model.specs.Storage as storage
 use Rattle.driver_model.specs.Commands.{BoardRequest, leaving_all}
 use Rattle.driver_model.specs.Drivers.{CommandContext}
 use Rattle.process_model.specs.Flag.{flag_place}
-use Rattle.process_model.specs.Flash.{flash_with}
+use Rattle.process_model.specs.Flash.{object_byte}
 use Rattle.process_record.specs.declared.emit.CallMade.{CallMade}
 use Rattle.process_record.specs.declared.outcome.Outcome.{Outcome}
 use Rattle.process_record.specs.declared.outcome.Outcome.TheVariants as outcomes
@@ -187,9 +187,9 @@ pub data Event : Type 0 where
   NoWord : Event
   Stored : (moved : Bool) → Event
 
--- flash as a process knows it: its object in its place, and nothing else
-abbrev pub flash_of : Record → List ℕ
-flash_of r = flash_with r.process.object r.object
+-- flash as a process knows it, by address: its object in its place
+abbrev pub flash_of : Record → ℕ → ℕ
+flash_of r = object_byte r.process.object r.object
 
 -- a storage of which bytes were written over, if any were
 abbrev pub written_over : List ℕ → Option (ℕ × List ℕ) → List ℕ

@@ -1,5 +1,5 @@
 -- What of flash is a process's own: the bytes of its object (Tock Binary Format, "TBF Header Base").
-use Rattle.std.specs.Prelude.{◌≡◌, ◌≤◌, ℕ, ◌+◌, ◌-◌, IsTrue, List, ◌++◌, length, replicate, slice_range}
+use Rattle.std.specs.Prelude.{◌≡◌, ◌≤◌, ℕ, ◌+◌, ◌-◌, IsTrue, List, length, slice_index, slice_range}
 use Rattle.tk_base.specs.declared.access.TheConstants.{FLASH_START}
 use Rattle.process_layout.specs.LayoutView.{LayoutView}
 use Rattle.tk_base.specs.declared.kinds.PairKind.TheVariants.{ReadOnly}
@@ -15,20 +15,23 @@ pub record HasObject (flash : ℕ) (object : Object) (e : LayoutView) : Type 0 w
   pub accessible_from : object.address ≤ e.flash_start
   pub accessible_to : e.flash_end ≤ object.address + object.size
 
--- flash in which the bytes of an object stand in their place, and nothing else
-abbrev pub flash_with : Object → List ℕ → List ℕ
-flash_with object bytes = replicate (object.address - FLASH_START) 0 ++ bytes
+-- the byte of flash at an address
+abbrev pub flash_byte : List ℕ → ℕ → ℕ
+flash_byte flash at = slice_index flash (at - FLASH_START)
 
--- the same, of the bytes that an object has in flash
-abbrev pub only_object : Object → List ℕ → List ℕ
-only_object object flash =
-    let at = object.address - FLASH_START in flash_with object (slice_range flash at (at + object.size))
+-- the byte at an address of an object that has these bytes
+abbrev pub object_byte : Object → List ℕ → ℕ → ℕ
+object_byte object bytes at = slice_index bytes (at - object.address)
 
--- What is read of a buffer that a process may allow to be read is the process's own: it would be the same if nothing
--- but
--- its object stood in flash.
+-- the bytes of an object in flash
+abbrev pub object_in : List ℕ → Object → List ℕ
+object_in flash object =
+    let at = object.address - FLASH_START in slice_range flash at (at + object.size)
+
+-- What is read of a buffer that a process may allow to be read is the process's own: it is the same of the bytes of its
+-- object as of all of flash.
 abbrev pub ReadsOwnFlash : Type 0
 ReadsOwnFlash =
     (flash : List ℕ) (own : Own) (buffer : ℕ × ℕ) → HasObject (length flash) own.object own.layout
     → IsTrue (may_share ReadOnly own.layout buffer)
-    → bytes_at flash own buffer ≡ bytes_at (only_object own.object flash) own buffer
+    → bytes_at (flash_byte flash) own buffer ≡ bytes_at (object_byte own.object (object_in flash own.object)) own buffer

@@ -1,9 +1,9 @@
 -- One instruction of a process, over what it may access (RISC-V unprivileged manual; Levy et al., SOSP 2017).
 use Rattle.std.specs.Prelude.{◌≡◌, ◌≤◌, ◌<◌, ℕ, ◌-◌, List, slice_index, Option, None, Some}
 use Rattle.tk_base.specs.Bus.{put}
-use Rattle.tk_base.specs.declared.access.TheConstants.{FLASH_START}
 use Rattle.tk_base.specs.Regs.{Registers}
 use Rattle.rv32_model.specs.UserTurn.{Write, UserTurn, user_turn}
+use Rattle.process_model.specs.Flash.{flash_byte}
 use Rattle.process_model.specs.Own.{Own}
 use Rattle.process_model.specs.Permission.{denied}
 
@@ -24,5 +24,5 @@ with_write own t = record own { ram = ram_after own.layout.start t.write own.ram
 -- be any.
 pub record Sees (flash : List ℕ) (own : Own) (seen : ℕ → ℕ) : Type 0 where
   pub in_flash : (a : ℕ) → own.layout.flash_start ≤ a → a < own.layout.flash_end
-      → seen a ≡ slice_index flash (a - FLASH_START)
+      → seen a ≡ flash_byte flash a
   pub in_ram : (a : ℕ) → own.layout.start ≤ a → a < own.layout.brk → seen a ≡ slice_index own.ram (a - own.layout.start)

@@ -1,9 +1,9 @@
 -- What a driver does to a process that it serves: it schedules upcalls (TRD 104, "Subscribe", "Yield"), reads and
 -- writes the buffers that the process has allowed (TRD 104, "Read-Only Allow", "Read-Write Allow"), and keeps a value in the
 -- process's grant (Levy et al., SOSP 2017, section 4).
-use Rattle.std.specs.Prelude.{ℕ, ◌+◌, ◌-◌, ◌==◌, Bool, ◌&&◌, not, if◌then◌else◌, List, [], ◌∷◌, ◌++◌, take}
+use Rattle.std.specs.Prelude.{ℕ, ◌+◌, ◌-◌, if◌then◌else◌, List, map, take}
 use Rattle.std.specs.Prelude.{slice_range, Option, option_map}
-use Rattle.tk_base.specs.declared.access.TheConstants.{FLASH_START}
+use Rattle.std.specs.List.{range_with_len}
 use Rattle.tk_base.specs.declared.upcall.Upcall.{Upcall as Scheduled}
 use Rattle.upcall_queue.specs.Pending.{scheduled}
 use Rattle.tk_base.specs.declared.kinds.PairKind.TheVariants.{Upcall, ReadWrite}
@@ -39,11 +39,11 @@ with_kept driver value own = record own { grants = with_grant driver (with_value
 abbrev pub ram_at : Own → ℕ × ℕ → List ℕ
 ram_at own buffer = slice_range own.ram (buffer.0 - own.layout.start) (buffer.0 - own.layout.start + buffer.1)
 
--- the bytes of a buffer that may be read, which lies in accessible RAM or in flash
-abbrev pub bytes_at : List ℕ → Own → ℕ × ℕ → List ℕ
+-- the bytes of a buffer that may be read, which lies in accessible RAM, or in flash with these bytes by address
+abbrev pub bytes_at : (ℕ → ℕ) → Own → ℕ × ℕ → List ℕ
 bytes_at flash own buffer =
     if lies_in_ram own.layout buffer.0 buffer.1 then ram_at own buffer
-    else slice_range flash (buffer.0 - FLASH_START) (buffer.0 - FLASH_START + buffer.1)
+    else map flash (range_with_len buffer.0 buffer.1)
 
 -- those bytes that fit a buffer from an offset in it on
 abbrev pub fitting : ℕ × ℕ → ℕ → List ℕ → List ℕ

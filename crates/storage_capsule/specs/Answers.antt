@@ -2,6 +2,7 @@
 use Rattle.std.specs.Prelude.{if◌then◌else◌}
 use Rattle.tk_base.specs.declared.process.ProcessId.{ProcessId}
 use Rattle.board_devices.specs.Storage.{StoredSlots as Bytes, slot_bytes}
+use Rattle.process_model.specs.Flash.{flash_byte}
 use Rattle.grant_enter.specs.Homes.{Homes, own_of}
 use Rattle.driver_model.specs.Storage.{answered}
 use Rattle.driver_model.specs.Told.{stored_told}
@@ -11,7 +12,7 @@ use Rattle.storage_capsule.specs.Serving.{after_count, store_fails_next, storage
 -- the answer to the process of an id; where a request completed the storage has counted it
 abbrev pub answer_to : Bytes → Homes → ProcessId → Answered Bytes
 answer_to s home id =
-    let a = answered (store_fails_next s) home.flash (slot_bytes s id.slot) id.life (own_of home id.slot) in
+    let a = answered (store_fails_next s) (flash_byte home.flash) (slot_bytes s id.slot) id.life (own_of home id.slot) in
     record {
       kind = stored_told kinds (store_fails_next s);
       own = a.own;

@@ -22,7 +22,7 @@ abbrev pub store_fails_next : StoredSlots → Bool
 store_fails_next s = is_fault s.faults (counted s.served)
 
 -- what a visit to a process leaves that has a request: it is served, and waits no more
-abbrev pub ServesStorage : ℕ → Bool → List ℕ → StoredSlots → Option StorageRequest → Own → StoredSlots → Value → Own
+abbrev pub ServesStorage : ℕ → Bool → (ℕ → ℕ) → StoredSlots → Option StorageRequest → Own → StoredSlots → Value → Own
     → Type 0
 ServesStorage slot fault flash old None own new value own' = Unit {0}
 ServesStorage slot fault flash old (Some request) own new value own' =
@@ -30,7 +30,7 @@ ServesStorage slot fault flash old (Some request) own new value own' =
     (own' ≡ s.own) × (new ≡ storage_after slot s.written old) × (value ≡ record { request = None })
 
 -- what serving a process's request leaves of it, and of the storage, which counts it
-abbrev pub Completes : ℕ → List ℕ → StoredSlots → Own → StoredSlots → Own → StorageRequest → Type 0
+abbrev pub Completes : ℕ → (ℕ → ℕ) → StoredSlots → Own → StoredSlots → Own → StorageRequest → Type 0
 Completes slot flash old own new own' request =
     let s = storage_served (store_fails_next old) flash (slot_bytes old slot) request own in
     (own' ≡ with_request storages None s.own) × (new ≡ storage_after slot s.written (after_count old))

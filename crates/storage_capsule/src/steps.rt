@@ -5,6 +5,7 @@ ghost use Rattle.driver_model.specs.Lines.{IsWithin};
 ghost use Rattle.driver_model.specs.Requests.{waiting_of};
 ghost use Rattle.driver_model.specs.Storage.{storages as request_kind};
 ghost use Rattle.driver_requests.specs.Asking.{MayBeTold};
+ghost use Rattle.process_model.specs.Flash.{flash_byte};
 ghost use Rattle.storage_capsule.specs.Serving.{Completes};
 
 use crate::capsule::StorageCapsule;
@@ -22,7 +23,7 @@ fn count_and_serve(home: &mut Home, id: ProcessId, stores: &mut Stores)
     requires within { IsWithin stores.old.size (own_of home.old id.slot) }
     ensures completes { let own = own_of home.old id.slot in
         IfSome (waiting_of request_kind id.life own)
-        (Completes id.slot home.old.flash stores.old own stores.new (own_of home.new id.slot)) }
+        (Completes id.slot (flash_byte home.old.flash) stores.old own stores.new (own_of home.new id.slot)) }
     ensures rest { ChangesOnly id.slot home.old home.new }
 {
     let fault = stores.count();

@@ -3,6 +3,7 @@ ghost use Rattle.std.specs.Prelude.{◌≡◌, ◌+◌, ◌<◌, ◌≤◌, ◌^
 ghost use Rattle.tk_base.specs.declared.kinds.PairKind.TheVariants.{ReadWrite};
 ghost use Rattle.process_model.specs.Handed.{held};
 ghost use Rattle.board_devices.specs.Storage.{bytes_from, slot_bytes};
+ghost use Rattle.process_model.specs.Flash.{flash_byte};
 ghost use Rattle.process_model.specs.Served.{ram_at, with_written};
 ghost use Rattle.grant_enter.specs.Seen.{Framed, IsLent, own_entered, seen};
 ghost use Rattle.driver_model.specs.Storage.{completing, moving, storage_served, storage};
@@ -39,6 +40,7 @@ pub(crate) struct Transfer<'a> {
 
 impl<'a> Visit<Storage> for Transfer<'a> {
     ghost use Rattle.std.specs.Prelude.{◌≡◌, ◌+◌, ◌<◌, ◌≤◌, ◌^◌, IfSome};
+    ghost use Rattle.process_model.specs.Flash.{flash_byte};
     ghost use Rattle.storage_capsule.specs.Serving.{ServesStorage};
 
     type Answer = &'a mut Stores;
@@ -49,8 +51,8 @@ impl<'a> Visit<Storage> for Transfer<'a> {
         request.offset + request.length ≤ serve.stores.now.size) };
 
     ghost leaves = { λ serve value seen stores value' own. (stores.ghost_name ≡ serve.stores.ghost_name)
-        × ServesStorage serve.slot serve.fault seen.flash serve.stores.now value.request seen.own
-        stores.now value' own };
+        × ServesStorage serve.slot serve.fault (flash_byte seen.flash) serve.stores.now
+        value.request seen.own stores.now value' own };
 
     fn run(self, value: &mut Storage, entered: &mut Entered<'_>) -> &'a mut Stores {
         frames_join();
@@ -99,7 +101,7 @@ fn move_bytes(
     requires read { 0 < (seen entered.old).counts.ro }
     requires write { 0 < (seen entered.old).counts.rw }
     requires within { request.now.offset + request.now.length ≤ stores.old.size }
-    ensures moved { let s = moving request.now.kind (seen entered.old).flash
+    ensures moved { let s = moving request.now.kind (flash_byte (seen entered.old).flash)
         (slot_bytes stores.old slot) request.now (own_entered entered.old) in
         (completing request.now.kind result 0 (own_entered entered.new) ≡ s.own)
         × (stores.new ≡ storage_after slot s.written stores.old) }
@@ -148,7 +150,7 @@ fn serve_request(
     requires write { 0 < (seen entered.old).counts.rw }
     requires dropped { (own_entered entered.old).inbox.dropped + 1 < 2 ^ 32 }
     requires within { request.now.offset + request.now.length ≤ stores.old.size }
-    ensures served { let s = storage_served fault (seen entered.old).flash
+    ensures served { let s = storage_served fault (flash_byte (seen entered.old).flash)
         (slot_bytes stores.old slot) request.now (own_entered entered.old) in
         (own_entered entered.new ≡ s.own) × (stores.new ≡ storage_after slot s.written stores.old) }
     // what a visitor owes

@@ -3,7 +3,7 @@ use Rattle.process_record.specs.declared.process.Process.{Process}
 use Rattle.tk_base.specs.declared.process.ProcessId.{ProcessId}
 use Rattle.driver_model.specs.Drivers.{CommandHandler, handler_of}
 use Rattle.grant_enter.specs.Homes.{ChangesOnly, Homes, own_of}
-use Rattle.kernel_calls.specs.Own.{object_in}
+use Rattle.process_model.specs.Flash.{object_in}
 use Rattle.kernel_calls.specs.Outcomes.{is_driver_command}
 use Rattle.board_core.specs.declared.drivers.Order.{Order}
 use Rattle.board_core.specs.Residents.{id_of}

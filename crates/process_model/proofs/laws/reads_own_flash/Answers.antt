@@ -1,48 +1,50 @@
-use Rattle.std.proofs.Common.{◌≡◌, ℕ, ◌+◌, ◌-◌, ◌≤◌, ◌==◌, ◌||◌, IsTrue, Bool, true, false, cond, List, [], ◌++◌}
-use Rattle.std.proofs.Common.{length, take, drop, replicate, refl, sym, ap, ◌∙◌, rules, arith}
-use Rattle.std.specs.Prelude.{slice_range}
+use Rattle.std.proofs.Common.{◌≡◌, ℕ, zero, suc, ◌+◌, ◌-◌, ◌≤◌, ◌<◌, ◌==◌, ◌||◌, IsTrue, Bool, true, false, cond, List}
+use Rattle.std.proofs.Common.{◌∷◌, length, map, refl, ap₂, arith}
+use Rattle.std.specs.List.{range_with_len}
 use Rattle.std.proofs.lemmas.Bool.{eqb-true}
 use Rattle.std.proofs.lemmas.Bool.Decides.{nat_tests}
-use Rattle.std.proofs.lemmas.Grind.{same_number_lists}
-use Rattle.std.proofs.lemmas.List.{places}
+use Rattle.std.proofs.lemmas.List.{get_or-take, get_or-drop}
 use Rattle.tk_base.specs.declared.access.TheConstants.{FLASH_START}
+use Rattle.process_model.specs.declared.place.Object.{Object}
 use Rattle.process_model.specs.Own.{Own}
 use Rattle.process_model.specs.Handed.{lies_in_ram, lies_in_flash}
 use Rattle.process_model.specs.Served.{ram_at}
-use Rattle.process_model.specs.Flash.{HasObject, only_object}
+use Rattle.process_model.specs.Flash.{HasObject, flash_byte, object_byte, object_in}
 use Rattle.process_model.proofs.laws.reads_own_flash.Goals as goal
 
--- bytes that lie in a part of a list stand there also where all before the part is 0, and nothing follows it
-in_part : (xs : List ℕ) (from size at count : ℕ) → from ≤ at → at + count ≤ from + size → from + size ≤ length xs
-    → slice_range xs at (at + count)
-    ≡ slice_range (replicate from 0 ++ slice_range xs from (from + size)) at (at + count)
-in_part xs from size at count low high within =
-    same_number_lists _ _ (search (rules, places)) (λ k h. grind (arith, places))
+-- where the same bytes stand at some addresses, they are the same list
+same_bytes : (f g : ℕ → ℕ) (at count : ℕ) → ((a : ℕ) → at ≤ a → a < at + count → f a ≡ g a)
+    → map f (range_with_len at count) ≡ map g (range_with_len at count)
+same_bytes f g at zero same = refl
+same_bytes f g at (suc n) same =
+    ap₂ (λ (x : ℕ) (xs : List ℕ). x ∷ xs) (same at (omega arith) (omega arith))
+    (same_bytes f g (at + 1) n (λ a low high. same a (omega (arith, low)) (omega (arith, high))))
 
--- an interval that has no places has no bytes
-no_bytes : (xs : List ℕ) (at count : ℕ) → count ≡ 0 → slice_range xs at (at + count) ≡ []
-no_bytes xs at count none = let z : at + count - at ≡ 0 = omega arith in ap (λ (n : ℕ). take n (drop at xs)) z
+-- a byte of a part of flash is the byte of flash there
+in_object : (flash : List ℕ) (object : Object) (a : ℕ) → FLASH_START ≤ object.address → object.address ≤ a
+    → a < object.address + object.size → flash_byte flash a ≡ object_byte object (object_in flash object) a
+in_object flash object a from low high =
+    let place : object.address - FLASH_START + (a - object.address) ≡ a - FLASH_START = omega (arith, from, low) in
+    grind (arith, get_or-take, get_or-drop)
 
 module _ (flash : List ℕ) (own : Own) (buffer : ℕ × ℕ) (o : HasObject (length flash) own.object own.layout) where
-  abbrev at : ℕ
-  at = buffer.0 - FLASH_START
-
-  abbrev part : List ℕ
-  part = only_object own.object flash
+  abbrev object : ℕ → ℕ
+  object = object_byte own.object (object_in flash own.object)
 
   by_place : (a b c : Bool) → buffer.1 == 0 ≡ a → lies_in_ram own.layout buffer.0 buffer.1 ≡ b
       → lies_in_flash own.layout buffer.0 buffer.1 ≡ c → IsTrue (a || b || c)
-      → cond b (ram_at own buffer) (slice_range flash at (at + buffer.1))
-      ≡ cond b (ram_at own buffer) (slice_range part at (at + buffer.1))
+      → cond b (ram_at own buffer) (map (flash_byte flash) (range_with_len buffer.0 buffer.1))
+      ≡ cond b (ram_at own buffer) (map object (range_with_len buffer.0 buffer.1))
   by_place a true c none ram flash_is may = refl
-  by_place true false c none ram flash_is may = let z : buffer.1 ≡ 0 = eqb-true buffer.1 0 none in
-      no_bytes flash at buffer.1 z ∙ sym (no_bytes part at buffer.1 z)
+  by_place true false c none ram flash_is may =
+      let z : buffer.1 ≡ 0 = eqb-true buffer.1 0 none in
+      same_bytes (flash_byte flash) object buffer.0 buffer.1 (λ a low high. absurd (omega (arith, low, high, z)))
   by_place false false true none ram flash_is may =
       let low : own.layout.flash_start ≤ buffer.0 = grind (arith, nat_tests) in
       let high : buffer.0 + buffer.1 ≤ own.layout.flash_end = grind (arith, nat_tests) in
-      in_part flash (own.object.address - FLASH_START) own.object.size at buffer.1
-      (omega (arith, low, o.from, o.accessible_from))
-      (omega (arith, low, high, o.from, o.accessible_from, o.accessible_to)) (omega (arith, o.from, o.to))
+      same_bytes (flash_byte flash) object buffer.0 buffer.1
+      (λ a from to. in_object flash own.object a o.from (omega (arith, low, from, o.accessible_from))
+      (omega (arith, high, to, o.accessible_to)))
   by_place false false false none ram flash_is may = absurd (cc)
 
 pub returns : goal.returns

@@ -2,6 +2,7 @@ use Rattle.std.proofs.Common.{◌≡◌, ℕ, List, subst, sym, ap, ◌∙◌}
 use Rattle.tk_base.specs.declared.kinds.PairKind.TheVariants.{ReadOnly}
 use Rattle.swap_tables.specs.Swaps.{held_pair}
 use Rattle.process_model.specs.Handed.{held}
+use Rattle.process_model.specs.Flash.{flash_byte}
 use Rattle.process_model.specs.Served.{bytes_at}
 use Rattle.grant_enter.specs.Seats.{MayBeRead, own_in}
 use Rattle.grant_enter.proofs.Buffers.{ro_may, read_is}
@@ -30,5 +31,5 @@ returns c =
     let at = (goal.at.returns c).After-buffer_ro-at in
     c.buffer_at.ensures
     ∙ read_is c.args.self.now.memory.now c.args.self.now.seat.now l.sits.settled c.buffer_ro-at.result (may at)
-    ∙ ap (bytes_at c.args.self.now.memory.now.flash (own_in c.args.self.now.memory.now.ram c.args.self.now.seat.now))
-    (pair_is at)
+    ∙ ap (bytes_at (flash_byte c.args.self.now.memory.now.flash)
+    (own_in c.args.self.now.memory.now.ram c.args.self.now.seat.now)) (pair_is at)
