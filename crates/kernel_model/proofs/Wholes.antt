@@ -1,28 +1,23 @@
 -- That what is a process's own stays whole, by the one walk over what may happen to it.
-use Rattle.std.proofs.Common.{◌≡◌, ◌<◌, ℕ, ◌+◌, ◌-◌, Bool, true, false, cond, not, nat_lt, List, [], ◌∷◌, length}
-use Rattle.std.proofs.Common.{slice_set, is_none, Option, None, Some, IfSome, refl, sym, subst, ◌∙◌, arith}
-use Rattle.std.proofs.lemmas.Bool.Decides.{nat_tests}
+use Rattle.std.proofs.Common.{◌≡◌, ℕ, ◌+◌, ◌-◌, Bool, true, false, cond, List, [], ◌∷◌, length}
+use Rattle.std.proofs.Common.{slice_set, Option, None, Some, IfSome, refl, sym, subst, ◌∙◌}
 use Rattle.std.proofs.lemmas.List.{length-replicate, length-set}
 use Rattle.tk_base.specs.Bus.{byte_of, put}
 use Rattle.tk_base.specs.declared.access.Width.{Width}
 use Rattle.tk_base.specs.declared.access.Width.TheVariants.{Byte, Half, Word}
-use Rattle.tk_base.specs.declared.call.CallRule.TheVariants.{NoDriver, NoNumber, NoRoom, Outside}
 use Rattle.rv32_model.specs.UserTurn.{Write}
-use Rattle.grant_values.specs.Drivers.{counts_of}
-use Rattle.tk_base.specs.Kinds.{count_of}
-use Rattle.grant_model.specs.Grants.{Grant, shape_of}
+use Rattle.grant_model.specs.Grants.{Grant}
 use Rattle.process_layout.specs.LayoutView.{LayoutView}
 use Rattle.process_model.specs.Own.{Own}
 use Rattle.process_model.specs.Flag.{with_flag}
-use Rattle.process_model.specs.Handed.{has_place, lies_in_ram, may_share}
+use Rattle.process_model.specs.Handed.{lies_in_ram}
 use Rattle.process_model.specs.Instruction.{ram_after}
 use Rattle.process_model.specs.Pairs.{OnlyHandingChangesPairs}
 use Rattle.driver_model.specs.Keeping.{DriversKeep, DriversKeepSettled, IsInOrder, IsSettled, KeepsSettled}
 use Rattle.driver_model.specs.Services.{OfEachService}
-use Rattle.syscall_abi.specs.declared.form.Swap.{Swap}
 use Rattle.kernel_model.specs.Record.{Record, instruction}
 use Rattle.kernel_model.specs.declared.settings.Settings.{Settings}
-use Rattle.kernel_model.specs.Calls.{restart, restarted_with, swap_refusal}
+use Rattle.kernel_model.specs.Calls.{restart, restarted_with}
 use Rattle.kernel_model.specs.Turn.{turn_counted as as_counted, turned}
 use Rattle.kernel_model.specs.World.{after}
 use Rattle.kernel_model.specs.Lives.{HoldsThroughout}
@@ -95,9 +90,9 @@ module _ (law : DriversKeep) (pairs : OnlyHandingChangesPairs) (settled : Driver
         taken = λ own. (both.taken own, s.taken own);
         write_done = λ own. (both.write_done own, s.write_done own);
         input = λ bytes own. (both.input bytes own, s.input bytes own);
-        drawn = λ words life own. (both.drawn words life own, s.drawn words life own);
-        stored = λ fault flash bytes life own.
-            (both.stored fault flash bytes life own, s.stored fault flash bytes life own);
+        drawn = λ word own. (both.drawn word own, s.drawn word own);
+        stored = λ fault flash bytes own.
+            (both.stored fault flash bytes own, s.stored fault flash bytes own);
       }
 
   -- a process without grants, its block zeroed
