@@ -11,21 +11,21 @@ use Rattle.process_model.specs.Handed.{HoldsInPlace, held}
 use Rattle.process_model.specs.Own.{Own}
 use Rattle.process_model.specs.Served.{bytes_at}
 use Rattle.driver_model.specs.Console.{console, console_writes, portion, sent, taken, unsent, write_done}
-use Rattle.driver_model.specs.Requests.{waiting_of}
+use Rattle.driver_model.specs.Requests.{waiting_in}
 use Rattle.driver_model.specs.Storage as storage
 use Rattle.driver_model.specs.Storage.{StorageServed, storage_answer_of, answered, completing, moving, storage_served}
 use Rattle.driver_model.specs.Storage.{storages, unanswered}
 
 -- what of a write is printed
-pub sent_of_own : (flash : List ℕ) (life : ℕ) (own : Own) → ReadsOwnFlash
+pub sent_of_own : (flash : List ℕ) (own : Own) → ReadsOwnFlash
     → HasObject (length flash) own.object own.layout → HoldsInPlace own
-    → sent (flash_byte flash) life own ≡ sent (object_byte own.object (object_in flash own.object)) life own
+    → sent (flash_byte flash) own ≡ sent (object_byte own.object (object_in flash own.object)) own
 unfolding sent
-sent_of_own flash life own law lies holds =
+sent_of_own flash own law lies holds =
     ap (λ (bytes : List ℕ). unwrap_or (option_map (λ (write : WaitingWrite).
     if portion write own == 0 then record { own = write_done own; printed = []; completed = true }
     else record { own = taken own; printed = take (portion write own) (drop write.taken bytes); completed = false })
-    (waiting_of console_writes life own)) (unsent own))
+    (waiting_in console_writes own)) (unsent own))
     (law flash own (held ReadOnly console 1 own) lies (holds.read_only console 1))
 
 -- what is written over its storage
@@ -35,15 +35,18 @@ moved_of_own : (kind : StorageKind) (flash object : ℕ → ℕ) (bytes : List �
     → moving kind flash bytes request own ≡ moving kind object bytes request own
 moved_of_own Read flash object bytes request own same = refl
 moved_of_own Write flash object bytes request own same =
-    ap (λ (buffer : List ℕ). let count = min request.length (length buffer) in
-    record { own = completing Write count 0 own; written = Some (request.offset, take count buffer) }) same
+    let count = min request.length (held ReadOnly storage.storage 0 own).1 in
+    ap (λ (bytes : List ℕ). record {
+      own = completing Write count 0 own;
+      written = Some (request.offset, take count bytes);
+    }) same
 
-pub answered_of_own : (fault : Bool) (flash bytes : List ℕ) (life : ℕ) (own : Own) → ReadsOwnFlash
+pub answered_of_own : (fault : Bool) (flash bytes : List ℕ) (own : Own) → ReadsOwnFlash
     → HasObject (length flash) own.object own.layout → HoldsInPlace own
-    → answered fault (flash_byte flash) bytes life own
-    ≡ answered fault (object_byte own.object (object_in flash own.object)) bytes life own
+    → answered fault (flash_byte flash) bytes own
+    ≡ answered fault (object_byte own.object (object_in flash own.object)) bytes own
 unfolding answered
-answered_of_own fault flash bytes life own law lies holds = by_request (waiting_of storages life own)
+answered_of_own fault flash bytes own law lies holds = by_request (waiting_in storages own)
   where
     abbrev object : ℕ → ℕ
     object = object_byte own.object (object_in flash own.object)

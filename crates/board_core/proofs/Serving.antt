@@ -1,8 +1,8 @@
 -- What each device tells the process that it serves, as a step of the board.
 use Rattle.std.proofs.Common.{◌≡◌, ℕ, zero, suc, ◌+◌, ◌*◌, ◌^◌, ◌==◌, ◌<◌, ◌≤◌, Bool, true, false, not, ◌&&◌, nat_le}
 use Rattle.std.proofs.Common.{if◌then◌else◌, List, [], ◌∷◌, drop, take, length, slice_get, slice_set, Option, None}
-use Rattle.std.proofs.Common.{Some, Result, Ok, Err, is_ok, is_none, is_some, OnErr, unwrap_or, refl, sym, ap, ap₂}
-use Rattle.std.proofs.Common.{subst, ◌∙◌, arith}
+use Rattle.std.proofs.Common.{Some, Result, Ok, Err, is_ok, is_some, OnErr, unwrap_or, refl, sym, ap, ap₂}
+use Rattle.std.proofs.Common.{subst, ◌∙◌, arith, eq-eqb}
 use Rattle.std.specs.List.{AllByRecursion}
 use Rattle.std.specs.Option.{option_map}
 use Rattle.std.proofs.lemmas.Bool.{false≢true}
@@ -28,11 +28,11 @@ use Rattle.tk_base.specs.declared.kinds.PairKind.TheVariants.{ReadOnly}
 use Rattle.grant_values.specs.declared.console.WaitingWrite.{WaitingWrite}
 use Rattle.process_model.specs.Own.{Own}
 use Rattle.process_record.specs.declared.process.Process.{Process}
-use Rattle.driver_model.specs.Answers.{EventsTellSteps, drawn_word, LinesFollowAnswers, queue_left_by}
+use Rattle.driver_model.specs.Answers.{EventsTellSteps, LinesFollowAnswers, queue_left_by}
 use Rattle.driver_model.specs.Commands.{QueueName, Writes, Reads, Randoms, Stores}
 use Rattle.driver_model.specs.Console.{Received, Sent, console, console_writes, free_after, input, next_bytes, portion}
-use Rattle.driver_model.specs.Console.{received, sending, sent, taken, unsent, write_done}
-use Rattle.driver_model.specs.Requests.{waiting_of}
+use Rattle.driver_model.specs.Console.{received, sending, sent, taken, unreceived, unsent, write_done}
+use Rattle.driver_model.specs.Requests.{waiting_in}
 use Rattle.driver_model.specs.Told.{drawn_told, received_told, sent_told, stored_told}
 use Rattle.driver_model.specs.Alarm.{answered, due_slot}
 use Rattle.driver_model.specs.Laws.{DueSlotIsThere}
@@ -44,6 +44,7 @@ use Rattle.storage_capsule.specs.Answers.{answer_to as storage_to}
 use Rattle.storage_capsule.specs.Serving.{after_count, store_fails_next, storage_after}
 use Rattle.grant_values.specs.declared.storage.StorageRequest.{StorageRequest}
 use Rattle.driver_requests.specs.Answers.{Answered, AnswersFirst, kinds}
+use Rattle.driver_requests.specs.Asking.{in_life}
 use Rattle.driver_requests.specs.Waiting.{waiting_still}
 use Rattle.console_capsule.specs.Answers.{cannot_give, cannot_send, received_by, sending_at, written_by}
 use Rattle.console_capsule.specs.declared.capsule.ConsoleCapsule.{ConsoleCapsule}
@@ -52,9 +53,9 @@ use Rattle.storage_capsule.specs.declared.capsule.StorageCapsule.{StorageCapsule
 use Rattle.grant_enter.specs.Homes.{Homes, ChangesOnly, nobody, own_of}
 use Rattle.kernel_model.specs.declared.settings.Settings.{Settings}
 use Rattle.kernel_model.specs.Record.{Record, record_with_own}
-use Rattle.kernel_model.specs.Turn.{Event, Alarmed, Taken, WriteDone, Input, Word, NoWord, Stored, apply, flash_of}
+use Rattle.kernel_model.specs.Turn.{Event, Alarmed, Taken, WriteDone, Input, Stored, apply, flash_of}
 use Rattle.kernel_model.specs.Turn.{written_over}
-use Rattle.kernel_model.specs.World.{DeviceStep, Devices, World, alarmed, can_act, random_step, word_event}
+use Rattle.kernel_model.specs.World.{DeviceStep, Devices, World, alarmed, can_act, as_events, random_step}
 use Rattle.kernel_model.specs.World.{first_waiting, is_waited_for, queue_after_answer, owns_in, receive_step, storing}
 use Rattle.kernel_model.specs.World.{transmitting}
 use Rattle.board_core.specs.declared.board.Board.TheInside.{Inside}
@@ -239,6 +240,10 @@ acts_on b h is x before serves (Ok answer) home ids y may answers =
     (is.after (waiting_still a.completed id.slot (ids_waiting_in b.drivers is.here)) z)) (sym answers.3)
     (serves id there answers.0)))
 
+-- a process in the life that it is in
+in_its_life : {X : Type 0} (life : ℕ) (own : Own) (there gone : X) → own.life ≡ life → in_life life own there gone ≡ there
+in_its_life life own there gone is = ap (λ (b : Bool). if b then there else gone) (eq-eqb own.life life is)
+
 -- what a device does that tells a process something
 abbrev telling : ℕ → Event → List ℕ → Devices → DeviceStep
 telling slot event printed devices =
@@ -271,9 +276,9 @@ portioned flash own finished write =
     else record { own = taken own; printed = next_bytes flash write own; completed = false }
 
 -- it takes so many bytes at most
-sent_few : (flash : ℕ → ℕ) (life : ℕ) (own : Own) → length (sent flash life own).printed ≤ PRINT_LIMIT
+sent_few : (flash : ℕ → ℕ) (own : Own) → length (sent flash own).printed ≤ PRINT_LIMIT
 unfolding sent
-sent_few flash life own = by_write (waiting_of console_writes life own)
+sent_few flash own = by_write (waiting_in console_writes own)
   where
     take_few : (n : ℕ) (xs : List ℕ) → length (take n xs) ≤ n
     take_few zero xs = omega arith
@@ -315,12 +320,11 @@ serves_sent : (b : Inside) (h : IsBoard b) → LinesFollowAnswers → EventsTell
 serves_sent b h lines events law lent id is_there first =
     let own : Own = own_of b.home id.slot in
     let r : Record = its_record b h id is_there in
-    let s : Sent = sent (flash_of r) own.life own in
-    let same : sent (flash_byte b.home.flash) id.life own ≡ s =
-    ap (λ (life : ℕ). sent (flash_byte b.home.flash) life own) (sym is_there.1)
-    ∙ sent_of_own b.home.flash own.life own law (its_object b h id is_there) (lent id.slot is_there.0)
-    ∙ ap (λ (o : _). sent (object_byte o (object_in b.home.flash o)) own.life own)
-    (its_seat b h id is_there).own.object_is in
+    let s : Sent = sent (flash_of r) own in
+    let same : in_life id.life own (sent (flash_byte b.home.flash) own) (unsent own) ≡ s =
+    in_its_life id.life own _ (unsent own) is_there.1
+    ∙ sent_of_own b.home.flash own law (its_object b h id is_there) (lent id.slot is_there.0)
+    ∙ ap (λ (o : _). sent (object_byte o (object_in b.home.flash o)) own) (its_seat b h id is_there).own.object_is in
     subst (λ (x : Sent). ServesFirst b h id is_there (sends b)
     (record {
       kind = sent_told kinds x;
@@ -331,14 +335,14 @@ serves_sent b h lines events law lent id is_there first =
     })) (sym same)
     (record {
       left = queue_left_by Writes s.completed;
-      follows = lines.writes (flash_of r) own.life own;
+      follows = lines.writes (flash_of r) own;
       lines = elim [ Writes ↦ refl | Reads ↦ refl | Randoms ↦ refl | Stores ↦ refl ];
       leds = refl;
       uart = record {
         ticks = refl;
         free =
             free_soon b.moment.time b.drivers.uart.ticks b.drivers.uart.free s.printed h.driven.ticks
-            (sent_few (flash_of r) own.life own) h.driven.free;
+            (sent_few (flash_of r) own) h.driven.free;
       };
       bytes = bytes_of b.drivers.stores.slots id.slot;
       stores = stores_stay b h id is_there;
@@ -376,19 +380,18 @@ serves_received b h lines events id is_there first =
     let own : Own = own_of b.home id.slot in
     let r : Record = its_record b h id is_there in
     let ring : List ℕ = b.drivers.uart.ring in
-    let s : Received = received ring own.life own in
-    subst (λ (life : ℕ). let x = received ring life own in
-    ServesFirst b h id is_there (receives b)
+    let s : Received = received ring own in
+    subst (λ (x : Received). ServesFirst b h id is_there (receives b)
     (record {
       kind = received_told kinds x;
       own = x.own;
       device =
           record b.drivers.uart { ring = drop (length x.moved) ring };
       completed = x.completed;
-    })) is_there.1
+    })) (sym (in_its_life id.life own s (unreceived own) is_there.1))
     (record {
       left = queue_left_by Reads s.completed;
-      follows = lines.reads ring own.life own;
+      follows = lines.reads ring own;
       lines = elim [ Writes ↦ refl | Reads ↦ refl | Randoms ↦ refl | Stores ↦ refl ];
       leds = refl;
       uart = record { ticks = refl; free = h.driven.free };
@@ -407,17 +410,11 @@ serves_received b h lines events id is_there first =
     })
 
 -- what a process has as its own once a word was drawn for it, or none
-drawn_applied : (settings : Settings) (words rest : List ℕ) (r : Record) (o : Own)
-    → o ≡ (random.answered (drawn_word words rest) r.own.life r.own).own
-    → apply settings (word_event words rest) r ≡ record_with_own r o
+drawn_applied : (settings : Settings) (drawn : Option ℕ) (r : Record) (o : Own)
+    → o ≡ (random.answered drawn r.own).own → apply settings (drawn_told as_events drawn) r ≡ record_with_own r o
 unfolding apply
-drawn_applied settings [] rest r o e = ap (record_with_own r) (sym e)
-drawn_applied settings (word ∷ words) rest r o e = by_length (length rest == length words) e
-  where
-    by_length : (c : Bool) → o ≡ (random.answered (if c then word ∷ [] else []) r.own.life r.own).own
-        → apply settings (if c then Word word else NoWord) r ≡ record_with_own r o
-    by_length true e = ap (record_with_own r) (sym e)
-    by_length false e = ap (record_with_own r) (sym e)
+drawn_applied settings None r o e = ap (record_with_own r) (sym e)
+drawn_applied settings (Some word) r o e = ap (record_with_own r) (sym e)
 
 -- the source of random bytes, as it answers a request
 abbrev draws : Inside → Answering (List ℕ)
@@ -434,25 +431,29 @@ serves_drawn b h lines events id is_there first =
     let own : Own = own_of b.home id.slot in
     let r : Record = its_record b h id is_there in
     let words : List ℕ = b.drivers.words in
-    let s : random.RandomAnswered = random.answered words own.life own in
-    subst (λ (life : ℕ). let x = random.answered words life own in
-    ServesFirst b h id is_there (draws b)
-    (record { kind = drawn_told kinds words x.words; own = x.own; device = x.words; completed = x.completed }))
-    is_there.1
+    let word : Option ℕ = slice_get words 0 in
+    let s : random.RandomAnswered = random.answered word own in
+    subst (λ (x : random.RandomAnswered). ServesFirst b h id is_there (draws b)
+    (record {
+      kind = drawn_told kinds x.drawn;
+      own = x.own;
+      device = random.words_after x.drawn words;
+      completed = x.completed;
+    })) (sym (in_its_life id.life own s (random.unanswered own) is_there.1))
     (record {
       left = queue_left_by Randoms s.completed;
-      follows = lines.randoms words own.life own;
+      follows = lines.randoms word own;
       lines = elim [ Writes ↦ refl | Reads ↦ refl | Randoms ↦ refl | Stores ↦ refl ];
       leds = refl;
       uart = uart_stays b h id is_there;
       bytes = bytes_of b.drivers.stores.slots id.slot;
       stores = stores_stay b h id is_there;
-      event = word_event words s.words;
+      event = drawn_told as_events s.drawn;
       deed = first_deed random_step (world_of b) b.drivers.random.waiting id r s.completed
-          (λ (slots : List ℕ). telling id.slot (word_event words s.words) []
-          (record (devices_of b.drivers) { randoms = slots; words = s.words }))
+          (λ (slots : List ℕ). telling id.slot (drawn_told as_events s.drawn) []
+          (record (devices_of b.drivers) { randoms = slots; words = random.words_after s.drawn words }))
           first (its_record_was b h id is_there) refl;
-      tells = drawn_applied b.moment.settings words s.words r s.own (events.randoms words own);
+      tells = drawn_applied b.moment.settings s.drawn r s.own (events.randoms word own);
     })
 
 -- the answer to a request, if there is one
@@ -462,10 +463,10 @@ answer_to fault flash bytes own o =
     (storage.storage_served fault flash bytes request own)) o) (storage.unanswered own)
 
 -- nothing is written for a request that did not complete
-not_written : (fault : Bool) (flash : ℕ → ℕ) (bytes : List ℕ) (life : ℕ) (own : Own)
-    → let a = storage.answered fault flash bytes life own in a.completed ≡ false → a.written ≡ None
+not_written : (fault : Bool) (flash : ℕ → ℕ) (bytes : List ℕ) (own : Own)
+    → let a = storage.answered fault flash bytes own in a.completed ≡ false → a.written ≡ None
 unfolding storage.answered
-not_written fault flash bytes life own e = by_request (waiting_of storage.storages life own) e
+not_written fault flash bytes own e = by_request (waiting_in storage.storages own) e
   where
     by_request : (o : Option StorageRequest) → (answer_to fault flash bytes own o).completed ≡ false
         → (answer_to fault flash bytes own o).written ≡ None
@@ -492,7 +493,7 @@ kept_beside s slot true (Some written) few = (refl, refl, counted_next s.served 
 kept_beside s slot false written few = (refl, refl, refl)
 
 stored_applied : (settings : Settings) (fails : Bool) (r : Record)
-    → let a = storage.answered fails (flash_of r) r.storage r.own.life r.own in
+    → let a = storage.answered fails (flash_of r) r.storage r.own in
     apply settings (Stored (not fails)) r ≡ record r { own = a.own; storage = written_over r.storage a.written }
 unfolding apply
 stored_applied settings true r = refl
@@ -517,13 +518,14 @@ serves_stored b h lines law lent id is_there first =
     let few : s.served < 2 ^ 32 = omega (arith, h.served, h.steps) in
     let fails : Bool = is_fault s.faults (s.served + 1) in
     let bytes : List ℕ = bytes_of s.slots id.slot in
-    let a : storage.StorageAnswered = storage.answered fails (flash_of r) bytes own.life own in
+    let a : storage.StorageAnswered = storage.answered fails (flash_of r) bytes own in
     let flash : ℕ → ℕ = flash_byte b.home.flash in
-    let same : storage.answered (store_fails_next s) flash bytes id.life own ≡ a =
-    ap (λ (n : ℕ). storage.answered (is_fault s.faults n) flash bytes id.life own) (counted_next s.served few)
-    ∙ ap (λ (life : ℕ). storage.answered fails flash bytes life own) (sym is_there.1)
-    ∙ answered_of_own fails b.home.flash bytes own.life own law (its_object b h id is_there) (lent id.slot is_there.0)
-    ∙ ap (λ (o : _). storage.answered fails (object_byte o (object_in b.home.flash o)) bytes own.life own)
+    let answered = storage.answered (store_fails_next s) flash bytes own in
+    let same : in_life id.life own answered (storage.unanswered own) ≡ a =
+    in_its_life id.life own answered (storage.unanswered own) is_there.1
+    ∙ ap (λ (n : ℕ). storage.answered (is_fault s.faults n) flash bytes own) (counted_next s.served few)
+    ∙ answered_of_own fails b.home.flash bytes own law (its_object b h id is_there) (lent id.slot is_there.0)
+    ∙ ap (λ (o : _). storage.answered fails (object_byte o (object_in b.home.flash o)) bytes own)
     (its_seat b h id is_there).own.object_is in
     let s' : StoredSlots = if a.completed then storage_after id.slot a.written (after_count s) else s in
     let kept = kept_beside s id.slot a.completed a.written few in
@@ -538,7 +540,7 @@ serves_stored b h lines law lent id is_there first =
     (sym same)
     (record {
       left = queue_left_by Stores a.completed;
-      follows = lines.stores fails (flash_of r) bytes own.life own;
+      follows = lines.stores fails (flash_of r) bytes own;
       lines = elim [ Writes ↦ refl | Reads ↦ refl | Randoms ↦ refl | Stores ↦ refl ];
       leds = refl;
       uart = uart_stays b h id is_there;
@@ -547,7 +549,7 @@ serves_stored b h lines law lent id is_there first =
         size = kept.0;
         counts = at_most_one a.completed s.served s'.served kept.2;
         slots =
-            slots_after s id.slot a.completed a.written (not_written fails (flash_of r) bytes own.life own);
+            slots_after s id.slot a.completed a.written (not_written fails (flash_of r) bytes own);
       };
       event = Stored (not fails);
       deed = first_deed storing (world_of b) b.drivers.storage.waiting id r a.completed

@@ -5,9 +5,10 @@ use Rattle.tk_base.specs.declared.process.ProcessId.{ProcessId}
 use Rattle.board_devices.specs.SerialLine.{SerialLine}
 use Rattle.process_model.specs.Flash.{flash_byte}
 use Rattle.grant_enter.specs.Homes.{Homes, own_of}
-use Rattle.driver_model.specs.Console.{free_after, received, sent}
+use Rattle.driver_model.specs.Console.{free_after, received, sent, unreceived, unsent}
 use Rattle.driver_model.specs.Told.{received_told, sent_told}
 use Rattle.driver_requests.specs.Answers.{Answered, kinds}
+use Rattle.driver_requests.specs.Asking.{in_life}
 
 -- whether the UART can take nothing at a time: no write waits, or it is not free yet
 abbrev pub cannot_send : List ProcessId → SerialLine → ℕ → Bool
@@ -17,10 +18,11 @@ cannot_send ids line time = is_none (slice_get ids 0) || nat_lt time line.free
 abbrev pub cannot_give : List ProcessId → SerialLine → Bool
 cannot_give ids line = is_none (slice_get ids 0) || length line.ring == 0
 
--- the step of the write of the process of an id, with the bytes that are printed
+-- the step of the write of the process of an id, with the bytes that are printed; none where it is not in that life
 abbrev pub written_by : Homes → ProcessId → Answered (ArrayVec ℕ)
 written_by home id =
-    let s = sent (flash_byte home.flash) id.life (own_of home id.slot) in
+    let own = own_of home id.slot in
+    let s = in_life id.life own (sent (flash_byte home.flash) own) (unsent own) in
     record {
       kind = sent_told kinds s;
       own = s.own;
@@ -32,10 +34,11 @@ written_by home id =
 abbrev pub sending_at : ℕ → List ℕ → SerialLine → SerialLine
 sending_at time printed line = record line { free = free_after time line.ticks printed line.free }
 
--- the step of the read of the process of an id
+-- the step of the read of the process of an id; none where it is not in that life
 abbrev pub received_by : SerialLine → Homes → ProcessId → Answered SerialLine
 received_by line home id =
-    let r = received line.ring id.life (own_of home id.slot) in
+    let own = own_of home id.slot in
+    let r = in_life id.life own (received line.ring own) (unreceived own) in
     record {
       kind = received_told kinds r;
       own = r.own;

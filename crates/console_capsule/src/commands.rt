@@ -2,9 +2,9 @@
 ghost use Rattle.std.specs.Prelude.{◌≡◌, is_some, true};
 ghost use Rattle.grant_enter.specs.Homes.{own_of, ChangesOnly};
 ghost use Rattle.driver_model.specs.Commands.{Reads};
-ghost use Rattle.driver_model.specs.Requests.{request_in, waiting_of};
+ghost use Rattle.driver_model.specs.Requests.{request_in};
 ghost use Rattle.driver_model.specs.Console.{cancelling, console, console_reads, asking_to_read, without_read};
-ghost use Rattle.driver_requests.specs.Asking.{IsPresent, MayAskAt, MayBeTold, Obeys};
+ghost use Rattle.driver_requests.specs.Asking.{IsPresent, MayAskAt, MayBeTold, Obeys, waiting_of};
 
 use crate::grants::{READ_ONLY, READ_WRITE, UPCALLS, consoles};
 use driver_requests::{RequestQueue, has_request};

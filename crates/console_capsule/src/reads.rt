@@ -4,9 +4,8 @@ ghost use Rattle.tk_base.specs.Call.{code_of};
 ghost use Rattle.grant_enter.specs.Homes.{own_of, ChangesOnly};
 ghost use Rattle.grant_enter.specs.Seen.{Framed, IsLent, own_entered, seen};
 ghost use Rattle.tk_base.specs.Bytes.{over};
-ghost use Rattle.driver_model.specs.Requests.{waiting_of};
 ghost use Rattle.driver_model.specs.Console.{console, console_reads, bytes_moving, read_status, receiving};
-ghost use Rattle.driver_requests.specs.Asking.{MayBeTold};
+ghost use Rattle.driver_requests.specs.Asking.{MayBeTold, waiting_of};
 ghost use Rattle.console_capsule.specs.Receiving.{told_input, written_input};
 
 use crate::capsule::ConsoleCapsule;

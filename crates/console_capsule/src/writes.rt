@@ -4,9 +4,8 @@ ghost use Rattle.tk_base.specs.declared.limits.TheConstants.{PRINT_LIMIT};
 ghost use Rattle.process_model.specs.Flash.{flash_byte};
 ghost use Rattle.grant_enter.specs.Homes.{own_of, ChangesOnly};
 ghost use Rattle.grant_enter.specs.Seen.{Framed, IsLent, own_entered, seen};
-ghost use Rattle.driver_model.specs.Requests.{waiting_of};
 ghost use Rattle.driver_model.specs.Console.{console, console_writes, next_bytes, portion, sending};
-ghost use Rattle.driver_requests.specs.Asking.{MayBeTold};
+ghost use Rattle.driver_requests.specs.Asking.{MayBeTold, waiting_of};
 ghost use Rattle.console_capsule.specs.Answers.{sending_at};
 ghost use Rattle.console_capsule.specs.Sending.{still_waiting, told_of};
 

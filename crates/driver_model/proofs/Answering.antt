@@ -1,5 +1,5 @@
 -- Who waits after an answer.
-use Rattle.std.proofs.Common.{◌≡◌, ℕ, ◌+◌, ◌-◌, ◌==◌, nat_le, Bool, true, false, cond, List, [], slice_get, Option}
+use Rattle.std.proofs.Common.{◌≡◌, ℕ, ◌+◌, ◌-◌, ◌==◌, nat_le, Bool, true, false, cond, List, [], Option}
 use Rattle.std.proofs.Common.{None, Some, is_some, is_none, option_map, unwrap_or, refl, ap, sym, ◌∙◌, subst}
 use Rattle.std.proofs.Math.Bool.{and-false}
 use Rattle.grant_model.specs.Grants.{Grant, grant_of}
@@ -12,7 +12,7 @@ use Rattle.grant_values.specs.declared.storage.StorageKind.TheVariants.{Read, Wr
 use Rattle.grant_values.specs.declared.storage.StorageRequest.{StorageRequest}
 use Rattle.process_model.specs.Own.{Own}
 use Rattle.driver_model.specs.Commands.{is_same, QueueName, Writes, Reads, Randoms, Stores}
-use Rattle.driver_model.specs.Requests.{RequestKind, request_in, waiting_in, waiting_of, with_request}
+use Rattle.driver_model.specs.Requests.{RequestKind, request_in, waiting_in, with_request}
 use Rattle.driver_model.specs.Console as console
 use Rattle.driver_model.specs.Console.{Sent, console_reads, console_writes}
 use Rattle.driver_model.specs.Random as random
@@ -134,64 +134,59 @@ module _ (own o : Own) (served : Serves own o) where
       (stays (asked own.grants))
       (λ size held. held)
 
--- one that waits is there, and keeps the request
-if_so : {R : Type 0} (b : Bool) (waiting : Option R) (request : R) → cond b waiting None ≡ Some request
-    → waiting ≡ Some request
-if_so true waiting request e = e
-if_so false waiting request e = cc
-
-module _ {R : Type 0} (request_kind : RequestKind R) (life : ℕ) (own : Own) (request : R)
-    (is : waiting_of request_kind life own ≡ Some request) where
-  waits : waiting_in request_kind own ≡ Some request
-  waits = if_so (own.life == life) (waiting_in request_kind own) request is
-
-  asks : request_in request_kind own ≡ Some request
-  asks = if_so own.lives (request_in request_kind own) request waits
+-- one that waits keeps the request
+asks : {R : Type 0} (request_kind : RequestKind R) (own : Own) (request : R)
+    → waiting_in request_kind own ≡ Some request → request_in request_kind own ≡ Some request
+asks {R = R} request_kind own request is = if_so own.lives (request_in request_kind own) is
+  where
+    if_so : (b : Bool) (waiting : Option R) → cond b waiting None ≡ Some request → waiting ≡ Some request
+    if_so true waiting e = e
+    if_so false waiting e = cc
 
 -- a step of a write
 abbrev Sends : Own → Sent → Type 0
 Sends own s = FollowsAnswer (queue_left_by Writes s.completed) own s.own
 
-sends : (flash : ℕ → ℕ) (life : ℕ) (own : Own) → Sends own (console.sent flash life own)
+sends : (flash : ℕ → ℕ) (own : Own) → Sends own (console.sent flash own)
 unfolding console.sent
-sends flash life own = by_waiting (waiting_of console_writes life own) refl
+sends flash own = by_waiting (waiting_in console_writes own) refl
   where
-    by_portion : (write : WaitingWrite) (b : Bool) → waiting_of console_writes life own ≡ Some write
+    by_portion : (write : WaitingWrite) (b : Bool) → waiting_in console_writes own ≡ Some write
         → Sends own (cond b (record { own = console.write_done own; printed = []; completed = true })
         (record { own = console.taken own; printed = console.next_bytes flash write own; completed = false }))
     by_portion write true is =
         subst (λ (w : _). FollowsAnswer (queue_left_by Writes true) own
         (unwrap_or (option_map (console.write_completing own) w) own))
-        (sym (waits console_writes life own write is))
-        (put_writes own _ (serves _ _ _ own.ram own (as_before own)) write None (asks console_writes life own write is))
+        (sym is)
+        (put_writes own _ (serves _ _ _ own.ram own (as_before own)) write None (asks console_writes own write is))
     by_portion write false is =
         subst (λ (w : _). FollowsAnswer (queue_left_by Writes false) own
-        (unwrap_or (option_map (console.taking own) w) own)) (sym (waits console_writes life own write is))
+        (unwrap_or (option_map (console.taking own) w) own)) (sym is)
         (put_writes own _ (serves_silently own.ram own (as_before own)) write
         (Some (record write { taken = write.taken + console.portion write own }))
-        (asks console_writes life own write is))
+        (asks console_writes own write is))
 
-    by_waiting : (w : Option WaitingWrite) → waiting_of console_writes life own ≡ w
+    by_waiting : (w : Option WaitingWrite) → waiting_in console_writes own ≡ w
         → Sends own (unwrap_or (option_map (console.sending flash own) w) (console.unsent own))
     by_waiting None is = unmoved _ own (never_left Writes)
     by_waiting (Some write) is = by_portion write (console.portion write own == 0) is
 
-receives : (ring : List ℕ) (life : ℕ) (own : Own) → let r = console.received ring life own in
+receives : (ring : List ℕ) (own : Own) → let r = console.received ring own in
     FollowsAnswer (queue_left_by Reads r.completed) own r.own
 unfolding console.received
-receives ring life own = by_waiting (waiting_of console_reads life own) refl
+receives ring own = by_waiting (waiting_in console_reads own) refl
   where
-    by_waiting : (w : Option WaitingRead) → waiting_of console_reads life own ≡ w
+    by_waiting : (w : Option WaitingRead) → waiting_in console_reads own ≡ w
         → let r = unwrap_or (option_map (console.receiving ring own) w) (console.unreceived own) in
         FollowsAnswer (queue_left_by Reads r.completed) own r.own
     by_waiting None is = unmoved _ own (never_left Reads)
     by_waiting (Some read) is =
         subst (λ (w : _). FollowsAnswer (queue_left_by Reads true) own
         (unwrap_or (option_map (console.reading_in (console.bytes_moving ring read own) own) w) own))
-        (sym (waits console_reads life own read is))
+        (sym is)
         (put_reads own _ (serves _ _ _ _ own
         (written_size console.console 1 0 (console.bytes_moving ring read own) own)) read None
-        (asks console_reads life own read is))
+        (asks console_reads own read is))
 
 -- a step of a request for random bytes
 serves_if : (own : Own) (b : Bool) (p q : Progress) → Serves own p.own → Serves own q.own → Serves own (cond b p q).own
@@ -211,19 +206,19 @@ serves_progress word request own =
     serves_if own (nat_le (random.wanted request own) request.written) _ _ (serves _ _ _ own.ram own (as_before own))
     (serves_drawing (random.wanted request own - request.written) request own word)
 
-draws : (words : List ℕ) (life : ℕ) (own : Own) → let a = random.answered words life own in
+draws : (word : Option ℕ) (own : Own) → let a = random.answered word own in
     FollowsAnswer (queue_left_by Randoms a.completed) own a.own
 unfolding random.answered
-draws words life own = by_waiting (waiting_of randoms life own) refl
+draws word own = by_waiting (waiting_in randoms own) refl
   where
-    by_waiting : (w : Option RandomRequest) → waiting_of randoms life own ≡ w
-        → let a = unwrap_or (option_map (λ (request : RandomRequest). random.advanced words
-        (random.progress (slice_get words 0) request own)) w) (random.unanswered words own) in
+    by_waiting : (w : Option RandomRequest) → waiting_in randoms own ≡ w
+        → let a = unwrap_or (option_map (λ (request : RandomRequest). random.advanced
+        (random.progress word request own)) w) (random.unanswered own) in
         FollowsAnswer (queue_left_by Randoms a.completed) own a.own
     by_waiting None is = unmoved _ own (never_left Randoms)
     by_waiting (Some request) is =
-        put_randoms own _ (serves_progress (slice_get words 0) request own) request
-        (random.progress (slice_get words 0) request own).rest (asks randoms life own request is)
+        put_randoms own _ (serves_progress word request own) request
+        (random.progress word request own).rest (asks randoms own request is)
 
 -- a storage request that is served
 pub serves_served : (fault : Bool) (flash : ℕ → ℕ) (bytes : List ℕ) (request : StorageRequest) (own : Own)
@@ -237,18 +232,18 @@ serves_served fault flash bytes request own = by_fault fault request.kind
     by_fault false Read = serves _ _ _ _ own (written_size storage.storage 0 0 _ own)
     by_fault false Write = serves _ _ _ own.ram own (as_before own)
 
-stores : (fault : Bool) (flash : ℕ → ℕ) (bytes : List ℕ) (life : ℕ) (own : Own)
-    → let a = storage.answered fault flash bytes life own in FollowsAnswer (queue_left_by Stores a.completed) own a.own
+stores : (fault : Bool) (flash : ℕ → ℕ) (bytes : List ℕ) (own : Own)
+    → let a = storage.answered fault flash bytes own in FollowsAnswer (queue_left_by Stores a.completed) own a.own
 unfolding storage.answered
-stores fault flash bytes life own = by_waiting (waiting_of storages life own) refl
+stores fault flash bytes own = by_waiting (waiting_in storages own) refl
   where
-    by_waiting : (w : Option StorageRequest) → waiting_of storages life own ≡ w
+    by_waiting : (w : Option StorageRequest) → waiting_in storages own ≡ w
         → let a = unwrap_or (option_map (λ (request : StorageRequest). storage.storage_answer_of
         (storage.storage_served fault flash bytes request own)) w) (storage.unanswered own) in
         FollowsAnswer (queue_left_by Stores a.completed) own a.own
     by_waiting None is = unmoved _ own (never_left Stores)
     by_waiting (Some request) is =
-        ends_stores own _ (serves_served fault flash bytes request own) request (asks storages life own request is)
+        ends_stores own _ (serves_served fault flash bytes request own) request (asks storages own request is)
 
 fires : (now : ℕ) (own : Own) → FollowsAnswer (λ line. false) own (alarm.answered now own)
 unfolding alarm.answered

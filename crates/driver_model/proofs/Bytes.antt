@@ -1,5 +1,5 @@
 -- The bytes of a process's own after commands and answers.
-use Rattle.std.proofs.Common.{◌≡◌, ◌⊎◌, inl, ℕ, ◌+◌, ◌-◌, Bool, true, false, cond, nat_le, List, [], ◌∷◌, slice_get}
+use Rattle.std.proofs.Common.{◌≡◌, ◌⊎◌, inl, ℕ, ◌+◌, ◌-◌, Bool, true, false, cond, nat_le, List, [], ◌∷◌}
 use Rattle.std.proofs.Common.{length, Option, None, Some, refl, sym, subst}
 use Rattle.std.specs.Prelude.{min, slice_range}
 use Rattle.tk_base.specs.Call.{code_of}
@@ -12,7 +12,7 @@ use Rattle.grant_values.specs.declared.storage.StorageKind.TheVariants.{Read, Wr
 use Rattle.grant_values.specs.declared.storage.StorageRequest.{StorageRequest}
 use Rattle.process_model.specs.Own.{Own}
 use Rattle.process_model.specs.Handed.{held}
-use Rattle.process_model.specs.Served.{bytes_at, ram_at, own_scheduled, with_written}
+use Rattle.process_model.specs.Served.{own_scheduled, with_written}
 use Rattle.process_model.specs.Changes.{ChangesAt, IsInside, IsOwnAddress, IsWhole, KeepsBytes, OnlyWritesChangeBytes}
 use Rattle.process_model.specs.Changes.{own_byte}
 use Rattle.driver_model.specs.Alarm as alarm
@@ -22,7 +22,7 @@ use Rattle.driver_model.specs.Random as random
 use Rattle.driver_model.specs.Random.{Progress, randoms}
 use Rattle.driver_model.specs.Storage as storage
 use Rattle.driver_model.specs.Storage.{storages}
-use Rattle.driver_model.specs.Requests.{waiting_in, waiting_of}
+use Rattle.driver_model.specs.Requests.{waiting_in}
 use Rattle.driver_model.specs.Bytes.{AnswersWriteInBuffers, CommandsKeepBytes, input_buffer, stored_buffer, word_buffer}
 use Rattle.driver_model.proofs.Outcomes.{of_command}
 use Rattle.driver_model.proofs.Scheduled.{schedules}
@@ -81,8 +81,8 @@ module _ (law : OnlyWritesChangeBytes) where
 
       by_left : (b : Bool)
           → ChangesAt (IsInside (word_buffer own)) own
-          (cond b (random.completing true 0 (request.written + left) o)
-          (record { rest = Some (record request { written = request.written + 4 }); own = o; took = true })).own
+          (cond b (random.completing (Some word) 0 (request.written + left) o)
+          (record { rest = Some (record request { written = request.written + 4 }); own = o; drawn = Some word })).own
       by_left true = then_scheduled (IsInside (word_buffer own)) random.random 0 (0 ∷ (request.written + left) ∷ 0 ∷ [])
           own o written
       by_left false = written
@@ -93,7 +93,7 @@ module _ (law : OnlyWritesChangeBytes) where
     where
       by_wanted : (b : Bool)
           → ChangesAt (IsInside (word_buffer own)) own
-          (cond b (random.completing false 0 request.written own)
+          (cond b (random.completing None 0 request.written own)
           (random.drawing (random.wanted request own - request.written) request own word)).own
       by_wanted true = stays_scheduled (IsInside (word_buffer own)) random.random 0 (0 ∷ request.written ∷ 0 ∷ []) own
       by_wanted false = drawing _ request own word whole
@@ -102,7 +102,7 @@ module _ (law : OnlyWritesChangeBytes) where
   no_progress request own = by_wanted (nat_le (random.wanted request own) request.written)
     where
       by_wanted : (b : Bool)
-          → KeepsBytes own (cond b (random.completing false 0 request.written own)
+          → KeepsBytes own (cond b (random.completing None 0 request.written own)
           (random.drawing (random.wanted request own - request.written) request own None)).own
       by_wanted true = keeps_scheduled random.random 0 (0 ∷ request.written ∷ 0 ∷ []) own
       by_wanted false = keeps_scheduled random.random 0 (1 ∷ request.written ∷ 0 ∷ []) own
@@ -110,13 +110,13 @@ module _ (law : OnlyWritesChangeBytes) where
   moving : (kind : StorageKind) (flash : ℕ → ℕ) (bytes : List ℕ) (request : StorageRequest) (own : Own) → IsWhole own
       → ChangesAt (IsInside (stored_buffer own)) own (storage.moving kind flash bytes request own).own
   moving Read flash bytes request own whole =
-      let count = min request.length (length (ram_at own (stored_buffer own))) in
+      let count = min request.length (stored_buffer own).1 in
       let copied = slice_range bytes request.offset (request.offset + count) in
       then_scheduled (IsInside (stored_buffer own)) storage.storage 0 (count ∷ 0 ∷ 0 ∷ []) own
       (with_written storage.storage 0 0 copied own) (law.written storage.storage 0 0 copied own whole)
   moving Write flash bytes request own whole =
       stays_scheduled (IsInside (stored_buffer own)) storage.storage 1
-      (min request.length (length (bytes_at flash own (held ReadOnly storage.storage 0 own))) ∷ 0 ∷ 0 ∷ []) own
+      (min request.length (held ReadOnly storage.storage 0 own).1 ∷ 0 ∷ 0 ∷ []) own
 
   served : (fault : Bool) (flash : ℕ → ℕ) (bytes : List ℕ) (request : StorageRequest) (own : Own) → IsWhole own
       → ChangesAt (IsInside (stored_buffer own)) own (storage.storage_served fault flash bytes request own).own
@@ -140,17 +140,16 @@ module _ (law : OnlyWritesChangeBytes) where
         then_scheduled (IsInside (input_buffer own)) console.console 2 (console.read_status own ∷ length bytes ∷ 0 ∷ [])
         own (with_written console.console 1 0 bytes own)
         (law.written console.console 1 0 bytes own whole));
-    word = λ words life own whole.
+    word = λ word own whole.
         if_waits (λ (a : random.RandomAnswered). ChangesAt (IsInside (word_buffer own)) own a.own) _ _
-        (waiting_of randoms life own) (λ at before after. inl refl)
-        (λ request. progress (slice_get words 0) request own whole);
-    no_word = λ life own.
-        if_waits (λ (a : random.RandomAnswered). KeepsBytes own a.own) _ _ (waiting_of randoms life own)
+        (waiting_in randoms own) (λ at before after. inl refl) (λ request. progress word request own whole);
+    no_word = λ own.
+        if_waits (λ (a : random.RandomAnswered). KeepsBytes own a.own) _ _ (waiting_in randoms own)
         (λ at before after. refl) (λ request. no_progress request own);
-    stored = λ fault flash bytes life own whole.
+    stored = λ fault flash bytes own whole.
         if_waits (λ (a : storage.StorageAnswered). ChangesAt (IsInside (stored_buffer own)) own a.own) _ _
-        (waiting_of storages life own) (λ at before after. inl refl)
+        (waiting_in storages own) (λ at before after. inl refl)
         (λ request. served fault flash bytes request own whole);
-    failed = λ flash bytes life own. if_waits (λ (a : storage.StorageAnswered). a.written ≡ None) _ _
-        (waiting_of storages life own) refl (λ request. refl);
+    failed = λ flash bytes own. if_waits (λ (a : storage.StorageAnswered). a.written ≡ None) _ _
+        (waiting_in storages own) refl (λ request. refl);
   }

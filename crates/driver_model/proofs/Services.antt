@@ -1,5 +1,5 @@
 -- The one walk over all that drivers do to a process.
-use Rattle.std.proofs.Common.{◌≡◌, true, ℕ, slice_get, Option, None, Some, option_map, unwrap_or}
+use Rattle.std.proofs.Common.{◌≡◌, true, ℕ, Option, None, Some, option_map, unwrap_or}
 use Rattle.grant_values.specs.declared.alarm.Armed.{Armed}
 use Rattle.grant_values.specs.Values.{KeptValue}
 use Rattle.process_model.specs.Own.{Own}
@@ -12,7 +12,7 @@ use Rattle.driver_model.specs.Random as random
 use Rattle.driver_model.specs.Random.{randoms}
 use Rattle.driver_model.specs.Storage as storage
 use Rattle.driver_model.specs.Storage.{storages}
-use Rattle.driver_model.specs.Requests.{waiting_in, waiting_of}
+use Rattle.driver_model.specs.Requests.{waiting_in}
 use Rattle.driver_model.specs.Services.{OfEachService}
 use Rattle.driver_model.proofs.Answering.{serves_progress, serves_served}
 use Rattle.driver_model.proofs.Outcomes.{of_command}
@@ -59,11 +59,11 @@ of_services P each = record {
   input = λ bytes own.
       if_waits (P own) (console.reading_in bytes own) own (waiting_in console_reads own) (each.same own)
       (λ read. each.serves _ _ own _ (serves _ _ _ _ own (written_size console.console 1 0 bytes own)));
-  drawn = λ words life own.
-      if_waits (λ (a : random.RandomAnswered). P own a.own) _ _ (waiting_of randoms life own) (each.same own)
-      (λ request. each.serves _ _ own _ (serves_progress (slice_get words 0) request own));
-  stored = λ fault flash bytes life own.
-      if_waits (λ (a : storage.StorageAnswered). P own a.own) _ _ (waiting_of storages life own) (each.same own)
+  drawn = λ word own.
+      if_waits (λ (a : random.RandomAnswered). P own a.own) _ _ (waiting_in randoms own) (each.same own)
+      (λ request. each.serves _ _ own _ (serves_progress word request own));
+  stored = λ fault flash bytes own.
+      if_waits (λ (a : storage.StorageAnswered). P own a.own) _ _ (waiting_in storages own) (each.same own)
       (λ request. each.serves _ _ own _ (serves_served fault flash bytes request own));
 }
   where

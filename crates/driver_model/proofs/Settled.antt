@@ -280,12 +280,12 @@ module _ (law : OnlyHandingChangesPairs) where
               (z.write_done own);
           input = λ bytes own.
               settles own _ (p.input bytes own) (leave.input bytes own) (q.input bytes own) (z.input bytes own);
-          drawn = λ words life own.
-              settles own _ (p.drawn words life own) (leave.drawn words life own) (q.drawn words life own)
-              (z.drawn words life own);
-          stored = λ fault flash bytes life own.
-              settles own _ (p.stored fault flash bytes life own) (leave.stored fault flash bytes life own)
-              (q.stored fault flash bytes life own) (z.stored fault flash bytes life own);
+          drawn = λ word own.
+              settles own _ (p.drawn word own) (leave.drawn word own) (q.drawn word own)
+              (z.drawn word own);
+          stored = λ fault flash bytes own.
+              settles own _ (p.stored fault flash bytes own) (leave.stored fault flash bytes own)
+              (q.stored fault flash bytes own) (z.stored fault flash bytes own);
         };
         handed = handed_settled;
         whole = whole_of;

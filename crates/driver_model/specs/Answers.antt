@@ -1,5 +1,5 @@
 -- What devices' answers leave of a process, and what of it the process is told.
-use Rattle.std.specs.Prelude.{◌≡◌, ℕ, ◌==◌, Bool, false, ◌&&◌, if◌then◌else◌, List, [], ◌∷◌, ◌++◌, length}
+use Rattle.std.specs.Prelude.{◌≡◌, ℕ, Bool, false, ◌&&◌, if◌then◌else◌, List, Option, Some, IfSome}
 use Rattle.process_model.specs.Own.{Own}
 use Rattle.driver_model.specs.Commands.{QueueName, Writes, Reads, Randoms, Stores, is_same}
 use Rattle.driver_model.specs.Alarm as alarm
@@ -27,33 +27,26 @@ pub record FollowsAnswer (left : QueueName → Bool) (own o : Own) : Type 0 wher
 abbrev pub queue_left_by : QueueName → Bool → QueueName → Bool
 queue_left_by here completed line = is_same here line && completed
 
--- so it is with each device's answer to a process, whichever of its lives it is for; an alarm that fires leaves no list
+-- so it is with each device's answer to a process; an alarm that fires leaves no list
 pub record LinesFollowAnswers : Type 0 where
-  pub writes : (flash : ℕ → ℕ) (life : ℕ) (own : Own) →
-      let s = console.sent flash life own in FollowsAnswer (queue_left_by Writes s.completed) own s.own
-  pub reads : (ring : List ℕ) (life : ℕ) (own : Own) →
-      let r = console.received ring life own in FollowsAnswer (queue_left_by Reads r.completed) own r.own
-  pub randoms : (words : List ℕ) (life : ℕ) (own : Own) →
-      let a = random.answered words life own in FollowsAnswer (queue_left_by Randoms a.completed) own a.own
-  pub stores : (fault : Bool) (flash : ℕ → ℕ) (bytes : List ℕ) (life : ℕ) (own : Own) →
-      let a = storage.answered fault flash bytes life own in FollowsAnswer (queue_left_by Stores a.completed) own a.own
+  pub writes : (flash : ℕ → ℕ) (own : Own) →
+      let s = console.sent flash own in FollowsAnswer (queue_left_by Writes s.completed) own s.own
+  pub reads : (ring : List ℕ) (own : Own) →
+      let r = console.received ring own in FollowsAnswer (queue_left_by Reads r.completed) own r.own
+  pub randoms : (word : Option ℕ) (own : Own) →
+      let a = random.answered word own in FollowsAnswer (queue_left_by Randoms a.completed) own a.own
+  pub stores : (fault : Bool) (flash : ℕ → ℕ) (bytes : List ℕ) (own : Own) →
+      let a = storage.answered fault flash bytes own in FollowsAnswer (queue_left_by Stores a.completed) own a.own
   pub alarms : (now : ℕ) (own : Own) → FollowsAnswer (λ line. false) own (alarm.answered now own)
 
--- the word that was drawn, if these are left of some: the first, where they are one fewer
-abbrev pub drawn_word : List ℕ → List ℕ → List ℕ
-drawn_word [] rest = []
-drawn_word (word ∷ words) rest = if length rest == length words then word ∷ [] else []
-
 -- What a process is told makes of it what the device's step did: a write had bytes taken, or completed; bytes came in
--- for a read; a word was drawn for a request for random bytes, or none, and the others are left.
+-- for a read; a word was drawn for a request for random bytes, or none. The word that is drawn is the next one.
 pub record EventsTellSteps : Type 0 where
   pub writes : (flash : ℕ → ℕ) (own : Own) →
-      let s = console.sent flash own.life own in
+      let s = console.sent flash own in
       s.own ≡ (if s.completed then console.write_done own else console.taken own)
   pub reads : (ring : List ℕ) (own : Own) →
-      let r = console.received ring own.life own in r.own ≡ console.input r.moved own
-  pub randoms : (words : List ℕ) (own : Own) →
-      let a = random.answered words own.life own in
-      a.own ≡ (random.answered (drawn_word words a.words) own.life own).own
-  pub words : (words : List ℕ) (life : ℕ) (own : Own) →
-      let a = random.answered words life own in words ≡ drawn_word words a.words ++ a.words
+      let r = console.received ring own in r.own ≡ console.input r.moved own
+  pub randoms : (word : Option ℕ) (own : Own) →
+      let a = random.answered word own in a.own ≡ (random.answered a.drawn own).own
+  pub drawn : (word : Option ℕ) (own : Own) → IfSome (random.answered word own).drawn (λ drawn. word ≡ Some drawn)

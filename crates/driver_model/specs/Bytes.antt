@@ -1,6 +1,6 @@
 -- What drivers write of the bytes that are a process's own: only what it has allowed them (TRD 104, "Read-Write
 -- Allow").
-use Rattle.std.specs.Prelude.{◌≡◌, ℕ, Bool, true, List, [], None, Some}
+use Rattle.std.specs.Prelude.{◌≡◌, ℕ, Bool, true, List, Option, None, Some}
 use Rattle.tk_base.specs.declared.kinds.PairKind.TheVariants.{ReadWrite}
 use Rattle.process_model.specs.Own.{Own}
 use Rattle.process_model.specs.Handed.{held}
@@ -39,10 +39,10 @@ pub record AnswersWriteInBuffers : Type 0 where
   pub write_done : (own : Own) → KeepsBytes own (console.write_done own)
   pub input : (bytes : List ℕ) (own : Own) → IsWhole own →
       ChangesAt (IsInside (input_buffer own)) own (console.input bytes own)
-  pub word : (words : List ℕ) (life : ℕ) (own : Own) → IsWhole own →
-      ChangesAt (IsInside (word_buffer own)) own (random.answered words life own).own
-  pub no_word : (life : ℕ) (own : Own) → KeepsBytes own (random.answered [] life own).own
-  pub stored : (fault : Bool) (flash : ℕ → ℕ) (bytes : List ℕ) (life : ℕ) (own : Own) → IsWhole own →
-      ChangesAt (IsInside (stored_buffer own)) own (storage.answered fault flash bytes life own).own
-  pub failed : (flash : ℕ → ℕ) (bytes : List ℕ) (life : ℕ) (own : Own) →
-      (storage.answered true flash bytes life own).written ≡ None
+  pub word : (word : Option ℕ) (own : Own) → IsWhole own →
+      ChangesAt (IsInside (word_buffer own)) own (random.answered word own).own
+  pub no_word : (own : Own) → KeepsBytes own (random.answered None own).own
+  pub stored : (fault : Bool) (flash : ℕ → ℕ) (bytes : List ℕ) (own : Own) → IsWhole own →
+      ChangesAt (IsInside (stored_buffer own)) own (storage.answered fault flash bytes own).own
+  pub failed : (flash : ℕ → ℕ) (bytes : List ℕ) (own : Own) →
+      (storage.answered true flash bytes own).written ≡ None

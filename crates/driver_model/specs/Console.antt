@@ -18,7 +18,7 @@ use Rattle.process_model.specs.Own.{Own}
 use Rattle.process_model.specs.Handed.{held}
 use Rattle.process_model.specs.Served.{bytes_at, own_scheduled, with_written}
 use Rattle.driver_model.specs.Commands.{Commanded, Leaves, Reads, Writes, accepting, refusing, by_number}
-use Rattle.driver_model.specs.Requests.{RequestKind, asking, request_in, waiting_in, waiting_of, with_request}
+use Rattle.driver_model.specs.Requests.{RequestKind, asking, request_in, waiting_in, with_request}
 
 -- the number of the driver
 abbrev pub console : ℕ
@@ -135,9 +135,9 @@ sending flash own write =
     if portion write own == 0 then record { own = write_done own; printed = []; completed = true }
     else record { own = taken own; printed = next_bytes flash write own; completed = false }
 
--- the step for a process of a life; nothing changes where it is not there, or no write of it waits
-unfoldable pub sent : (ℕ → ℕ) → ℕ → Own → Sent
-sent flash life own = unwrap_or (option_map (sending flash own) (waiting_of console_writes life own)) (unsent own)
+-- the step for a process; nothing changes where no write of it waits
+unfoldable pub sent : (ℕ → ℕ) → Own → Sent
+sent flash own = unwrap_or (option_map (sending flash own) (waiting_in console_writes own)) (unsent own)
 
 -- the time from which on the UART can send again, after bytes were printed at a time: so many ticks for each
 abbrev pub free_after : ℕ → ℕ → List ℕ → ℕ → ℕ
@@ -164,8 +164,6 @@ receiving ring own read =
     let bytes = bytes_moving ring read own in
     record { own = input bytes own; moved = bytes; completed = true }
 
--- the step for a process of a life, with these bytes in the ring; nothing changes where it is not there, or no read of
--- it waits
-unfoldable pub received : List ℕ → ℕ → Own → Received
-received ring life own =
-    unwrap_or (option_map (receiving ring own) (waiting_of console_reads life own)) (unreceived own)
+-- the step for a process, with these bytes in the ring; nothing changes where no read of it waits
+unfoldable pub received : List ℕ → Own → Received
+received ring own = unwrap_or (option_map (receiving ring own) (waiting_in console_reads own)) (unreceived own)

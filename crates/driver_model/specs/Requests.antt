@@ -1,6 +1,6 @@
 -- Requests of processes that a driver serves one after another. A process's request waits in the grant that it keeps
 -- for the driver (Levy et al., SOSP 2017, section 4), and the process waits in a list of the board's.
-use Rattle.std.specs.Prelude.{ℕ, ◌==◌, if◌then◌else◌, [], ◌∷◌, Option, None, Some, option_and_then, unwrap_or, Ok}
+use Rattle.std.specs.Prelude.{ℕ, if◌then◌else◌, [], ◌∷◌, Option, None, Some, option_and_then, unwrap_or, Ok}
 use Rattle.tk_base.specs.declared.call.CallRule.TheVariants.{Busy, NoRoom}
 use Rattle.grant_values.specs.Values.{KeptValue, NoValue}
 use Rattle.syscall_abi.specs.declared.reply.Reply.TheVariants.{Success}
@@ -31,10 +31,6 @@ with_request request_kind request own =
 -- the request of a process that waits, if one does; none of one that has ended
 abbrev pub waiting_in : {R : Type 0} → RequestKind R → Own → Option R
 waiting_in request_kind own = if own.lives then request_in request_kind own else None
-
--- the same of the process in one of its lives
-abbrev pub waiting_of : {R : Type 0} → RequestKind R → ℕ → Own → Option R
-waiting_of request_kind life own = if own.life == life then waiting_in request_kind own else None
 
 -- a request begins to wait, if there is room for the driver's grant
 abbrev pub beginning : {R : Type 0} → RequestKind R → R → Own → Commanded

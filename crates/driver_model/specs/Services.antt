@@ -1,5 +1,5 @@
 -- All that drivers do to a process: by its commands (TRD 104, "Command"), and by what their devices answer it.
-use Rattle.std.specs.Prelude.{◌≡◌, ℕ, Bool, List, Some}
+use Rattle.std.specs.Prelude.{◌≡◌, ℕ, Bool, List, Option, Some}
 use Rattle.process_model.specs.Own.{Own}
 use Rattle.driver_model.specs.Alarm as alarm
 use Rattle.driver_model.specs.Console as console
@@ -15,6 +15,6 @@ pub record OfEachService (P : Own → Own → Type 0) : Type 0 where
   pub taken : (own : Own) → P own (console.taken own)
   pub write_done : (own : Own) → P own (console.write_done own)
   pub input : (bytes : List ℕ) (own : Own) → P own (console.input bytes own)
-  pub drawn : (words : List ℕ) (life : ℕ) (own : Own) → P own (random.answered words life own).own
-  pub stored : (fault : Bool) (flash : ℕ → ℕ) (bytes : List ℕ) (life : ℕ) (own : Own) →
-      P own (storage.answered fault flash bytes life own).own
+  pub drawn : (word : Option ℕ) (own : Own) → P own (random.answered word own).own
+  pub stored : (fault : Bool) (flash : ℕ → ℕ) (bytes : List ℕ) (own : Own) →
+      P own (storage.answered fault flash bytes own).own

@@ -1,7 +1,7 @@
 -- The storage (driver 0x50001 in Tock's list of drivers): each slot has bytes of its own, which outlive its
 -- process. It asks to read some of them into its read-write buffer 0, or to write over some from its read-only
 -- buffer 0.
-use Rattle.std.specs.Prelude.{ℕ, ◌+◌, Bool, true, false, min, nat_le, if◌then◌else◌, List, [], ◌∷◌, length, slice_range}
+use Rattle.std.specs.Prelude.{ℕ, ◌+◌, Bool, true, false, min, nat_le, if◌then◌else◌, List, [], ◌∷◌, slice_range}
 use Rattle.std.specs.Prelude.{take, Option, None, Some, option_map, unwrap_or}
 use Rattle.tk_base.specs.declared.call.CallRule.TheVariants.{Range}
 use Rattle.tk_base.specs.declared.kinds.PairKind.TheVariants.{ReadOnly, ReadWrite}
@@ -14,9 +14,9 @@ use Rattle.grant_values.specs.Drivers.{number_of_driver}
 use Rattle.syscall_abi.specs.declared.reply.Reply.TheVariants.{Success, SuccessU32}
 use Rattle.process_model.specs.Own.{Own}
 use Rattle.process_model.specs.Handed.{held}
-use Rattle.process_model.specs.Served.{bytes_at, ram_at, own_scheduled, with_written}
+use Rattle.process_model.specs.Served.{bytes_at, own_scheduled, with_written}
 use Rattle.driver_model.specs.Commands.{Commanded, Stores, accepting, refusing, by_number}
-use Rattle.driver_model.specs.Requests.{RequestKind, asking, waiting_of, with_request}
+use Rattle.driver_model.specs.Requests.{RequestKind, asking, waiting_in, with_request}
 
 -- the number of the driver
 abbrev pub storage : ℕ
@@ -73,16 +73,19 @@ completing kind count outcome own = own_scheduled storage (upcall_for kind) (cou
 -- bytes of the slot's storage are copied to the start of the buffer that is held now, and no more than it has
 abbrev pub reading_store : List ℕ → StorageRequest → Own → StorageServed
 reading_store bytes request own =
-    let count = min request.length (length (ram_at own (held ReadWrite storage 0 own))) in
+    let count = min request.length (held ReadWrite storage 0 own).1 in
     let copied = slice_range bytes request.offset (request.offset + count) in
     record { own = completing Read count 0 (with_written storage 0 0 copied own); written = None }
 
 -- bytes from the start of the buffer that is held now, and no more than it has, are to be written over the storage
 abbrev pub writing_store : (ℕ → ℕ) → StorageRequest → Own → StorageServed
 writing_store flash request own =
-    let buffer = bytes_at flash own (held ReadOnly storage 0 own) in
-    let count = min request.length (length buffer) in
-    record { own = completing Write count 0 own; written = Some (request.offset, take count buffer) }
+    let buffer = held ReadOnly storage 0 own in
+    let count = min request.length buffer.1 in
+    record {
+      own = completing Write count 0 own;
+      written = Some (request.offset, take count (bytes_at flash own buffer));
+    }
 
 -- what serving a request moves and tells, by its kind
 abbrev pub moving : StorageKind → (ℕ → ℕ) → List ℕ → StorageRequest → Own → StorageServed
@@ -110,8 +113,8 @@ unanswered own = record { own = own; written = None; completed = false }
 abbrev pub storage_answer_of : StorageServed → StorageAnswered
 storage_answer_of s = record { own = with_request storages None s.own; written = s.written; completed = true }
 
--- the answer to a process of a life; nothing changes where it is not there, or has no request
-unfoldable pub answered : Bool → (ℕ → ℕ) → List ℕ → ℕ → Own → StorageAnswered
-answered fault flash bytes life own =
+-- the answer to a process; nothing changes where it has no request
+unfoldable pub answered : Bool → (ℕ → ℕ) → List ℕ → Own → StorageAnswered
+answered fault flash bytes own =
     let serve = λ (request : StorageRequest). storage_answer_of (storage_served fault flash bytes request own) in
-    unwrap_or (option_map serve (waiting_of storages life own)) (unanswered own)
+    unwrap_or (option_map serve (waiting_in storages own)) (unanswered own)

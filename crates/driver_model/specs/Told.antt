@@ -1,5 +1,5 @@
 -- What devices tell the processes that they serve, in the words of whoever speaks of it (Tock's drivers).
-use Rattle.std.specs.Prelude.{ℕ, ◌==◌, Bool, not, if◌then◌else◌, List, [], ◌∷◌, length}
+use Rattle.std.specs.Prelude.{ℕ, Bool, not, if◌then◌else◌, List, Option, None, Some}
 use Rattle.driver_model.specs.Console.{Sent, Received}
 
 -- The words: an alarm fired, when the clock showed a tick; the UART took the next bytes of a write, or has taken all;
@@ -21,11 +21,10 @@ sent_told telling s = if s.completed then telling.write_done else telling.taken
 abbrev pub received_told : {E : Type 0} → Telling E → Received → E
 received_told telling r = telling.input r.moved
 
--- what the source of random bytes tells, by the words that were left before and after: the first of them, where fewer
--- are left
-abbrev pub drawn_told : {E : Type 0} → Telling E → List ℕ → List ℕ → E
-drawn_told telling [] after = telling.no_word
-drawn_told telling (word ∷ words) after = if length after == length words then telling.word word else telling.no_word
+-- what the source of random bytes tells: the word that was drawn, if one was
+abbrev pub drawn_told : {E : Type 0} → Telling E → Option ℕ → E
+drawn_told telling None = telling.no_word
+drawn_told telling (Some word) = telling.word word
 
 -- what the storage tells of a request, which fails or does not
 abbrev pub stored_told : {E : Type 0} → Telling E → Bool → E

@@ -1,16 +1,25 @@
 -- A process gives a command to a driver, and what comes of it.
-use Rattle.std.specs.Prelude.{◌≡◌, ◌<◌, ◌+◌, ◌^◌, false, List, length, Option, None, Result}
+use Rattle.std.specs.Prelude.{◌≡◌, ◌<◌, ℕ, ◌+◌, ◌^◌, ◌==◌, false, if◌then◌else◌, List, length, Option, None}
+use Rattle.std.specs.Prelude.{Result}
 use Rattle.tk_base.specs.declared.call.CallRule.{CallRule}
 use Rattle.tk_base.specs.declared.process.ProcessId.{ProcessId}
 use Rattle.syscall_abi.specs.declared.reply.Reply.{Reply}
 use Rattle.process_model.specs.Own.{Own}
 use Rattle.driver_model.specs.Commands.{Commanded, QueueName}
 use Rattle.driver_model.specs.Replies.{reply_of}
-use Rattle.driver_model.specs.Requests.{RequestKind, request_in}
+use Rattle.driver_model.specs.Requests.{RequestKind, request_in, waiting_in}
 use Rattle.grant_enter.specs.Homes.{Homes, own_of, ChangesOnly}
 use Rattle.grant_enter.specs.Visits.{is_stale}
 use Rattle.driver_requests.specs.Waiting.{queue_after}
 use Rattle.driver_requests.specs.Waiting.{waits as waits_in}
+
+-- what comes of a process in one of its lives; something else where it is not in that life
+abbrev pub in_life : {X : Type 0} → ℕ → Own → X → X → X
+in_life life own there gone = if own.life == life then there else gone
+
+-- the request of a process in one of its lives that waits, if one does
+abbrev pub waiting_of : {R : Type 0} → RequestKind R → ℕ → Own → Option R
+waiting_of request_kind life own = in_life life own (waiting_in request_kind own) None
 
 -- the process of an id is there: its slot is one of the home's, and it lives that life
 pub record IsPresent (home : Homes) (id : ProcessId) : Type 0 where

@@ -1,7 +1,7 @@
 //! What a driver keeps of a request.
 ghost use Rattle.std.specs.Prelude.{◌≡◌, ◌<◌, Some, is_some, length};
 ghost use Rattle.grant_enter.specs.Homes.{own_of};
-ghost use Rattle.driver_model.specs.Requests.{waiting_of};
+ghost use Rattle.driver_requests.specs.Asking.{waiting_of};
 
 use grant_enter::{Grant, Home};
 use grant_values::GrantValue;

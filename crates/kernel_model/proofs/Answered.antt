@@ -49,21 +49,21 @@ answer_has_causes law settings WriteDone r is whole =
 answer_has_causes law settings (Input bytes) r is whole =
     record { own = law.input bytes r.own whole; storage = λ k within. inl refl }
 answer_has_causes law settings (Word word) r is whole =
-    record { own = law.word _ r.own.life r.own whole; storage = λ k within. inl refl }
+    record { own = law.word _ r.own whole; storage = λ k within. inl refl }
 answer_has_causes law settings NoWord r is whole =
     record {
-      own = λ at before after. inl (law.no_word r.own.life r.own at before after);
+      own = λ at before after. inl (law.no_word r.own at before after);
       storage =
           λ k within. inl refl;
     }
 answer_has_causes law settings (Stored true) r is whole = record {
-  own = law.stored false (flash_of r) r.storage r.own.life r.own whole;
+  own = law.stored false (flash_of r) r.storage r.own whole;
   storage = overwrites r.storage (served_write r);
 }
 answer_has_causes law settings (Stored false) r is whole = record {
-  own = law.stored true (flash_of r) r.storage r.own.life r.own whole;
+  own = law.stored true (flash_of r) r.storage r.own whole;
   storage = λ k within. inl (ap (λ (o : Option (ℕ × List ℕ)). slice_index (written_over r.storage o) k)
-      (law.failed (flash_of r) r.storage r.own.life r.own));
+      (law.failed (flash_of r) r.storage r.own));
 }
 
 -- an event that is no turn is an answer

@@ -46,8 +46,8 @@ any_service = record {
   taken = λ own. tt;
   write_done = λ own. tt;
   input = λ bytes own. tt;
-  drawn = λ words life own. tt;
-  stored = λ fault flash bytes life own. tt;
+  drawn = λ word own. tt;
+  stored = λ fault flash bytes own. tt;
 }
 
 abbrev Made : ℕ → Record → Type 0

@@ -1,5 +1,5 @@
 -- Who stands in a waiting list after a step.
-use Rattle.std.proofs.Common.{◌≡◌, ◌≢◌, ℕ, ◌+◌, ◌==◌, Bool, true, false, cond, not, ◌&&◌, List, [], ◌∷◌, ◌++◌, length}
+use Rattle.std.proofs.Common.{◌≡◌, ◌≢◌, ℕ, ◌+◌, ◌==◌, Bool, true, false, cond, not, ◌&&◌, List, [], ◌∷◌, ◌++◌}
 use Rattle.std.proofs.Common.{slice_get, slice_set, Option, None, Some, IfSome, option_map, refl, sym, ap, subst, ◌∙◌}
 use Rattle.std.proofs.Common.{eqb-true, eq-eqb}
 use Rattle.std.proofs.lemmas.Bool.{false≢true}
@@ -18,7 +18,7 @@ use Rattle.driver_model.specs.Random as random
 use Rattle.driver_model.specs.Random.{randoms}
 use Rattle.driver_model.specs.Storage as storage
 use Rattle.driver_model.specs.Storage.{storages}
-use Rattle.driver_model.specs.Answers.{EventsTellSteps, LinesFollowAnswers, drawn_word, queue_left_by}
+use Rattle.driver_model.specs.Answers.{EventsTellSteps, LinesFollowAnswers, queue_left_by}
 use Rattle.driver_model.specs.Commands.{BoardRequest, Waits, Leaves, Lights, QueueName, Switch, Writes, Reads, Randoms}
 use Rattle.driver_model.specs.Commands.{Stores, is_same}
 use Rattle.driver_model.specs.Requests.{RequestKind}
@@ -27,10 +27,11 @@ use Rattle.process_record.specs.declared.process.State.{State}
 use Rattle.process_record.specs.declared.process.State.TheVariants.{Running, Yielded, Faulted, Terminated}
 use Rattle.kernel_model.specs.Record.{Record}
 use Rattle.kernel_model.specs.declared.settings.Settings.{Settings}
-use Rattle.kernel_model.specs.Turn.{Turned, Alarmed, Taken, WriteDone, Input, Word, NoWord, Stored, apply, flash_of}
+use Rattle.kernel_model.specs.Turn.{Turned, Alarmed, Taken, WriteDone, Input, Stored, apply, flash_of}
 use Rattle.kernel_model.specs.Turn.{turned, turn_in}
-use Rattle.kernel_model.specs.World.{Answer, DeviceStep, Devices, Stepped, World, acted, after, alarmed, arrived}
-use Rattle.kernel_model.specs.World.{begin_wait, carried_out, device_step_of, done, random_step, word_event}
+use Rattle.driver_model.specs.Told.{drawn_told}
+use Rattle.kernel_model.specs.World.{as_events, Answer, DeviceStep, Devices, Stepped, World, acted, after, alarmed, arrived}
+use Rattle.kernel_model.specs.World.{begin_wait, carried_out, device_step_of, done, random_step}
 use Rattle.kernel_model.specs.World.{first_waiting, now_in, owns_in, ran, receive_step, records_after, routed}
 use Rattle.kernel_model.specs.World.{stop_wait, storing, told_to, transmitting, queue_without}
 use Rattle.kernel_model.specs.Laws.{TurnsKeepLines}
@@ -365,20 +366,14 @@ unfolding apply
 sent_own settings r o true e = sym e
 sent_own settings r o false e = sym e
 
-drawn_own : (settings : Settings) (r : Record) (words rest : List ℕ)
-    → (apply settings (word_event words rest) r).own ≡ (random.answered (drawn_word words rest) r.own.life r.own).own
+drawn_own : (settings : Settings) (r : Record) (drawn : Option ℕ)
+    → (apply settings (drawn_told as_events drawn) r).own ≡ (random.answered drawn r.own).own
 unfolding apply
-drawn_own settings r [] rest = refl
-drawn_own settings r (word ∷ words) rest = by_length (length rest == length words)
-  where
-    by_length : (b : Bool)
-        → (apply settings (cond b (Word word) NoWord) r).own
-        ≡ (random.answered (cond b (word ∷ []) []) r.own.life r.own).own
-    by_length true = refl
-    by_length false = refl
+drawn_own settings r None = refl
+drawn_own settings r (Some word) = refl
 
 stored_own : (settings : Settings) (r : Record) (fails : Bool)
-    → (apply settings (Stored (not fails)) r).own ≡ (storage.answered fails (flash_of r) r.storage r.own.life r.own).own
+    → (apply settings (Stored (not fails)) r).own ≡ (storage.answered fails (flash_of r) r.storage r.own).own
 unfolding apply
 stored_own settings r true = refl
 stored_own settings r false = refl
@@ -433,16 +428,16 @@ module _ (follow : LinesFollowAnswers) (tell : EventsTellSteps) (w : World) (h :
   sends : (slot : ℕ) (r : Record) → slice_get w.records slot ≡ Some r
       → AreLists (done w (Some (transmitting w slot r))).after
   sends slot r is =
-      let s = console.sent (flash_of r) r.own.life r.own in
+      let s = console.sent (flash_of r) r.own in
       answered_each (transmitting w slot r) (record { slot = slot; event = cond s.completed WriteDone Taken }) r is refl
       (queue_left_by Writes s.completed) lists
       (moved_own (queue_left_by Writes s.completed) r.own s.own _
       (sent_own w.settings r s.own s.completed (tell.writes (flash_of r) r.own))
-      (follow.writes (flash_of r) r.own.life r.own).lines)
+      (follow.writes (flash_of r) r.own).lines)
     where
       lists : (here : QueueName)
           → queue_in here (transmitting w slot r).devices
-          ≡ cond (queue_left_by Writes (console.sent (flash_of r) r.own.life r.own).completed here)
+          ≡ cond (queue_left_by Writes (console.sent (flash_of r) r.own).completed here)
           (queue_without slot (queue_in here w.devices)) (queue_in here w.devices)
       lists Writes = refl
       lists Reads = refl
@@ -452,16 +447,16 @@ module _ (follow : LinesFollowAnswers) (tell : EventsTellSteps) (w : World) (h :
   receives : (slot : ℕ) (r : Record) → slice_get w.records slot ≡ Some r
       → AreLists (done w (Some (receive_step w slot r))).after
   receives slot r is =
-      let s = console.received w.devices.line.ring r.own.life r.own in
+      let s = console.received w.devices.line.ring r.own in
       answered_each (receive_step w slot r) (record { slot = slot; event = Input s.moved }) r is refl
       (queue_left_by Reads s.completed) lists
       (moved_own (queue_left_by Reads s.completed) r.own s.own _
       (input_own w.settings r s.moved ∙ sym (tell.reads w.devices.line.ring r.own))
-      (follow.reads w.devices.line.ring r.own.life r.own).lines)
+      (follow.reads w.devices.line.ring r.own).lines)
     where
       lists : (here : QueueName)
           → queue_in here (receive_step w slot r).devices
-          ≡ cond (queue_left_by Reads (console.received w.devices.line.ring r.own.life r.own).completed here)
+          ≡ cond (queue_left_by Reads (console.received w.devices.line.ring r.own).completed here)
           (queue_without slot (queue_in here w.devices)) (queue_in here w.devices)
       lists Writes = refl
       lists Reads = refl
@@ -471,16 +466,16 @@ module _ (follow : LinesFollowAnswers) (tell : EventsTellSteps) (w : World) (h :
   draws : (slot : ℕ) (r : Record) → slice_get w.records slot ≡ Some r
       → AreLists (done w (Some (random_step w slot r))).after
   draws slot r is =
-      let a = random.answered w.devices.words r.own.life r.own in
-      answered_each (random_step w slot r) (record { slot = slot; event = word_event w.devices.words a.words }) r is
+      let a = random.answered (slice_get w.devices.words 0) r.own in
+      answered_each (random_step w slot r) (record { slot = slot; event = drawn_told as_events a.drawn }) r is
       refl (queue_left_by Randoms a.completed) lists
       (moved_own (queue_left_by Randoms a.completed) r.own a.own _
-      (drawn_own w.settings r w.devices.words a.words ∙ sym (tell.randoms w.devices.words r.own))
-      (follow.randoms w.devices.words r.own.life r.own).lines)
+      (drawn_own w.settings r a.drawn ∙ sym (tell.randoms (slice_get w.devices.words 0) r.own))
+      (follow.randoms (slice_get w.devices.words 0) r.own).lines)
     where
       lists : (here : QueueName)
           → queue_in here (random_step w slot r).devices
-          ≡ cond (queue_left_by Randoms (random.answered w.devices.words r.own.life r.own).completed here)
+          ≡ cond (queue_left_by Randoms (random.answered (slice_get w.devices.words 0) r.own).completed here)
           (queue_without slot (queue_in here w.devices)) (queue_in here w.devices)
       lists Writes = refl
       lists Reads = refl
@@ -491,16 +486,16 @@ module _ (follow : LinesFollowAnswers) (tell : EventsTellSteps) (w : World) (h :
       → AreLists (done w (Some (storing w slot r))).after
   stores slot r is =
       let fails = is_fault w.devices.faults (w.devices.served + 1) in
-      let a = storage.answered fails (flash_of r) r.storage r.own.life r.own in
+      let a = storage.answered fails (flash_of r) r.storage r.own in
       answered_each (storing w slot r) (record { slot = slot; event = Stored (not fails) }) r is refl
       (queue_left_by Stores a.completed) lists
       (moved_own (queue_left_by Stores a.completed) r.own a.own _ (stored_own w.settings r fails)
-      (follow.stores fails (flash_of r) r.storage r.own.life r.own).lines)
+      (follow.stores fails (flash_of r) r.storage r.own).lines)
     where
       lists : (here : QueueName)
           → queue_in here (storing w slot r).devices
           ≡ cond (queue_left_by Stores (storage.answered (is_fault w.devices.faults (w.devices.served + 1)) (flash_of r)
-          r.storage r.own.life r.own).completed here) (queue_without slot (queue_in here w.devices))
+          r.storage r.own).completed here) (queue_without slot (queue_in here w.devices))
           (queue_in here w.devices)
       lists Writes = refl
       lists Reads = refl

@@ -1,5 +1,5 @@
 -- When a process lives, and what stays of it, by the one walk over what may happen to it.
-use Rattle.std.proofs.Common.{◌≡◌, ◌≤◌, ℕ, ◌+◌, ◌-◌, ◌==◌, Bool, true, false, cond, not, ◌&&◌, nat_le, List, []}
+use Rattle.std.proofs.Common.{◌≡◌, ◌≤◌, ℕ, ◌+◌, ◌-◌, Bool, true, false, cond, not, ◌&&◌, nat_le, List, []}
 use Rattle.std.proofs.Common.{◌∷◌, drop, filter, length, slice_get, slice_set, unwrap_or, option_map, Option}
 use Rattle.std.proofs.Common.{None, Some, IfSome, Result, Ok, Err, refl, sym, ap, subst, ◌∙◌, arith}
 use Rattle.std.proofs.lemmas.Bool.{false≢true, leb-true}
@@ -26,7 +26,7 @@ use Rattle.driver_model.specs.Random as random
 use Rattle.driver_model.specs.Random.{randoms}
 use Rattle.driver_model.specs.Storage as storage
 use Rattle.driver_model.specs.Storage.{storages}
-use Rattle.driver_model.specs.Requests.{RequestKind, request_in, waiting_of}
+use Rattle.driver_model.specs.Requests.{RequestKind, request_in, waiting_in}
 use Rattle.driver_model.specs.Laws.{StaysInPlace}
 use Rattle.driver_model.specs.Keeping.{DriversKeep, IsInOrder, KeepsLimit, KeepsOrder}
 use Rattle.driver_model.specs.Services.{OfEachService}
@@ -135,15 +135,9 @@ over_turn settings time r over = by_state r.process.state over
     by_state Faulted e = refl
     by_state (Terminated code) e = refl
 
-none_waits : {R : Type 0} (request_kind : RequestKind R) (life : ℕ) (own : Own) → own.lives ≡ false
-    → waiting_of request_kind life own ≡ None
-none_waits {R = R} request_kind life own over =
-    ap (λ (b : Bool). cond (own.life == life) (cond b (request_in request_kind own) None) None) over
-    ∙ either (own.life == life)
-  where
-    either : (b : Bool) → ◌≡◌ {A = Option R} (cond b None None) None
-    either true = refl
-    either false = refl
+none_waits : {R : Type 0} (request_kind : RequestKind R) (own : Own) → own.lives ≡ false
+    → waiting_in request_kind own ≡ None
+none_waits request_kind own over = ap (λ (b : Bool). cond b (request_in request_kind own) None) over
 
 over_answer : (settings : Settings) (event : Event) (r : Record) → r.own.lives ≡ false → IsAnswer event
     → apply settings event r ≡ r
@@ -163,18 +157,18 @@ over_answer settings (Input bytes) r over is =
     (option_map (console.reading_in bytes r.own) (cond b (request_in console_reads r.own) None)) r.own)) over
 over_answer settings (Word word) r over is =
     ap (λ (w : _). record_with_own r (unwrap_or
-    (option_map (λ request. random.advanced (word ∷ []) (random.progress (slice_get (word ∷ []) 0) request r.own)) w)
-    (random.unanswered (word ∷ []) r.own)).own) (none_waits randoms r.own.life r.own over)
+    (option_map (λ request. random.advanced (random.progress (Some word) request r.own)) w)
+    (random.unanswered r.own)).own) (none_waits randoms r.own over)
 over_answer settings NoWord r over is =
     ap (λ (w : _). record_with_own r (unwrap_or
-    (option_map (λ request. random.advanced [] (random.progress (slice_get [] 0) request r.own)) w)
-    (random.unanswered [] r.own)).own) (none_waits randoms r.own.life r.own over)
+    (option_map (λ request. random.advanced (random.progress None request r.own)) w)
+    (random.unanswered r.own)).own) (none_waits randoms r.own over)
 over_answer settings (Stored moved) r over is =
     ap (λ (w : _). let a =
     unwrap_or (option_map (λ request.
     storage.storage_answer_of (storage.storage_served (not moved) (flash_of r) r.storage request r.own)) w)
     (storage.unanswered r.own) in record r { own = a.own; storage = written_over r.storage a.written })
-    (none_waits storages r.own.life r.own over)
+    (none_waits storages r.own over)
 
 pub same_some : {X : Type 0} (x y : X) → Some x ≡ Some y → x ≡ y
 same_some x y e = cc
@@ -363,9 +357,9 @@ keep_both law = record {
   taken = λ own. (law.places.taken own, law.order.taken own);
   write_done = λ own. (law.places.write_done own, law.order.write_done own);
   input = λ bytes own. (law.places.input bytes own, law.order.input bytes own);
-  drawn = λ words life own. (law.places.drawn words life own, law.order.drawn words life own);
-  stored = λ fault flash bytes life own.
-      (law.places.stored fault flash bytes life own, law.order.stored fault flash bytes life own);
+  drawn = λ word own. (law.places.drawn word own, law.order.drawn word own);
+  stored = λ fault flash bytes own.
+      (law.places.stored fault flash bytes own, law.order.stored fault flash bytes own);
 }
 
 pub order_kept : DriversKeep → IsKept KeepsBoth HasOrder HasOrder

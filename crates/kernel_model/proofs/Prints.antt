@@ -15,7 +15,7 @@ use Rattle.grant_values.specs.declared.console.WaitingWrite.{WaitingWrite}
 use Rattle.driver_model.specs.Alarm.{due_slot}
 use Rattle.driver_model.specs.Console as console
 use Rattle.driver_model.specs.Console.{Sent, console_writes}
-use Rattle.driver_model.specs.Requests.{request_in, waiting_in, waiting_of}
+use Rattle.driver_model.specs.Requests.{request_in, waiting_in}
 use Rattle.kernel_model.specs.Record.{Record}
 use Rattle.kernel_model.specs.Turn.{flash_of}
 use Rattle.kernel_model.specs.World.{Answer, DeviceStep, Printed, Stepped, World, alarmed, arrived, carried_out}
@@ -43,12 +43,12 @@ if_so true o x e = (refl, e)
 if_so false o x e = cc
 
 -- what the UART prints of a process, if it prints anything
-sent_of : (r : Record) → (length (console.sent (flash_of r) r.own.life r.own).printed == 0) ≡ false
-    → AreOfItsBuffer (console.sent (flash_of r) r.own.life r.own).printed r
+sent_of : (r : Record) → (length (console.sent (flash_of r) r.own).printed == 0) ≡ false
+    → AreOfItsBuffer (console.sent (flash_of r) r.own).printed r
 unfolding console.sent
-sent_of r = by_waiting (waiting_of console_writes r.own.life r.own) refl
+sent_of r = by_waiting (waiting_in console_writes r.own) refl
   where
-    by_portion : (write : WaitingWrite) (b : Bool) → waiting_of console_writes r.own.life r.own ≡ Some write
+    by_portion : (write : WaitingWrite) (b : Bool) → waiting_in console_writes r.own ≡ Some write
         → let s : Sent =
         cond b (record { own = console.write_done r.own; printed = []; completed = true })
         (record {
@@ -60,11 +60,10 @@ sent_of r = by_waiting (waiting_of console_writes r.own.life r.own) refl
         (length s.printed == 0) ≡ false → AreOfItsBuffer s.printed r
     by_portion write true is some = absurd (false≢true (sym some))
     by_portion write false is some =
-        let waits = if_so r.own.lives (request_in console_writes r.own) write
-        (if_so (r.own.life == r.own.life) (waiting_in console_writes r.own) write is).1 in
+        let waits = if_so r.own.lives (request_in console_writes r.own) write is in
         record { lives = waits.0; write = write; waits = waits.1; each = next_of write r }
 
-    by_waiting : (o : Option WaitingWrite) → waiting_of console_writes r.own.life r.own ≡ o
+    by_waiting : (o : Option WaitingWrite) → waiting_in console_writes r.own ≡ o
         → let s : Sent = unwrap_or (option_map (console.sending (flash_of r) r.own) o) (console.unsent r.own) in
         (length s.printed == 0) ≡ false → AreOfItsBuffer s.printed r
     by_waiting None is some = absurd (false≢true (sym some))
@@ -103,7 +102,7 @@ module _ (w : World) where
 
   sends : (slot : ℕ) (r : Record) → slice_get w.records slot ≡ Some r → Tells (Some (transmitting w slot r))
   sends slot r is =
-      let bytes = (console.sent (flash_of r) r.own.life r.own).printed in
+      let bytes = (console.sent (flash_of r) r.own).printed in
       All-cons (PrintsItsBuffer w) _ _ tt (printed slot bytes
       (λ some. subst (λ (o : Option Record). (is_some o ≡ true) × IfSome o (AreOfItsBuffer bytes)) (sym is)
       (refl, sent_of r some)))

@@ -1,5 +1,5 @@
 -- What a step does to the process in a slot: nothing, its turn, or what a device tells it.
-use Rattle.std.proofs.Common.{◌≡◌, ℕ, ◌==◌, Bool, true, false, cond, List, [], ◌∷◌, ◌++◌, length, slice_get, Option}
+use Rattle.std.proofs.Common.{◌≡◌, ℕ, ◌==◌, Bool, true, false, cond, List, [], ◌∷◌, ◌++◌, slice_get, Option}
 use Rattle.std.proofs.Common.{None, Some, IfSome, option_and_then, refl, sym, ap, subst, ◌∙◌, eqb-true, eq-eqb}
 use Rattle.std.specs.List.{flat_map}
 use Rattle.std.specs.Option.{option_map}
@@ -16,8 +16,9 @@ use Rattle.kernel_model.specs.declared.settings.Settings.{Settings}
 use Rattle.kernel_model.specs.Record.{Record}
 use Rattle.kernel_model.specs.Turn.{Event, Turn, Alarmed, Taken, WriteDone, Input, Word, NoWord, Stored, TurnTrace}
 use Rattle.kernel_model.specs.Turn.{Turned, apply, turned}
-use Rattle.kernel_model.specs.World.{Answer, DeviceStep, Stepped, World, after, alarmed, arrived, carried_out}
-use Rattle.kernel_model.specs.World.{device_step_of, done, random_step, word_event, first_waiting, is_ready, labels}
+use Rattle.driver_model.specs.Told.{drawn_told}
+use Rattle.kernel_model.specs.World.{as_events, Answer, DeviceStep, Stepped, World, after, alarmed, arrived, carried_out}
+use Rattle.kernel_model.specs.World.{device_step_of, done, random_step, first_waiting, is_ready, labels}
 use Rattle.kernel_model.specs.World.{labels_of, now_in, owns_in, ran, receive_step, records_after, storing}
 use Rattle.kernel_model.specs.World.{transmitting}
 use Rattle.kernel_model.specs.Laws.{answer_told}
@@ -45,9 +46,9 @@ of_answer P each settings (Alarmed now) r is = each.alarmed now r.own
 of_answer P each settings Taken r is = each.taken r.own
 of_answer P each settings WriteDone r is = each.write_done r.own
 of_answer P each settings (Input bytes) r is = each.input bytes r.own
-of_answer P each settings (Word word) r is = each.drawn (word ∷ []) r.own.life r.own
-of_answer P each settings NoWord r is = each.drawn [] r.own.life r.own
-of_answer P each settings (Stored moved) r is = each.stored _ _ _ _ r.own
+of_answer P each settings (Word word) r is = each.drawn (Some word) r.own
+of_answer P each settings NoWord r is = each.drawn None r.own
+of_answer P each settings (Stored moved) r is = each.stored _ _ _ r.own
 
 -- of its record it changes nothing else but the storage
 pub answer_changes : (settings : Settings) (event : Event) (r : Record) → IsAnswer event
@@ -72,14 +73,10 @@ unfolding IsAnswer
 sent_is_answer true = tt
 sent_is_answer false = tt
 
-drawn_is_answer : (words rest : List ℕ) → IsAnswer (word_event words rest)
+drawn_is_answer : (drawn : Option ℕ) → IsAnswer (drawn_told as_events drawn)
 unfolding IsAnswer
-drawn_is_answer [] rest = tt
-drawn_is_answer (word ∷ words) rest = by_length (length rest == length words)
-  where
-    by_length : (b : Bool) → IsAnswer (cond b (Word word) NoWord)
-    by_length true = tt
-    by_length false = tt
+drawn_is_answer None = tt
+drawn_is_answer (Some word) = tt
 
 first_tells : (make : World → ℕ → Record → DeviceStep) (w : World) (line : List ℕ)
     → ((at : ℕ) (r : Record) → TellsNoTurn (Some (make w at r))) → TellsNoTurn (first_waiting make w line)
@@ -105,7 +102,7 @@ deed_tells w dev.Event = arrived_tells w w.devices.arrivals
 deed_tells w dev.Alarm = alarm_tells w (due_slot (now_in w) (owns_in w))
 deed_tells w dev.Uart = first_tells transmitting w w.devices.writes (λ at r. sent_is_answer _)
 deed_tells w dev.Receive = first_tells receive_step w w.devices.reads (λ at r. tt)
-deed_tells w dev.Random = first_tells random_step w w.devices.randoms (λ at r. drawn_is_answer w.devices.words _)
+deed_tells w dev.Random = first_tells random_step w w.devices.randoms (λ at r. drawn_is_answer _)
 deed_tells w dev.Store = first_tells storing w w.devices.stores (λ at r. tt)
 
 answer_tells : (w : World) (device : Dev) → IfSome (answer_told w device) (λ a. IsAnswer a.event)

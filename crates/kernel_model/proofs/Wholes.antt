@@ -90,9 +90,9 @@ module _ (law : DriversKeep) (pairs : OnlyHandingChangesPairs) (settled : Driver
         taken = λ own. (both.taken own, s.taken own);
         write_done = λ own. (both.write_done own, s.write_done own);
         input = λ bytes own. (both.input bytes own, s.input bytes own);
-        drawn = λ words life own. (both.drawn words life own, s.drawn words life own);
-        stored = λ fault flash bytes life own.
-            (both.stored fault flash bytes life own, s.stored fault flash bytes life own);
+        drawn = λ word own. (both.drawn word own, s.drawn word own);
+        stored = λ fault flash bytes own.
+            (both.stored fault flash bytes own, s.stored fault flash bytes own);
       }
 
   -- a process without grants, its block zeroed

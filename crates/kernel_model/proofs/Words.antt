@@ -1,6 +1,6 @@
 -- Which random words the steps tell, and which are left.
 use Rattle.std.proofs.Common.{◌≡◌, ℕ, ◌==◌, Bool, true, false, cond, List, [], ◌∷◌, ◌++◌, length, slice_get, option_map}
-use Rattle.std.proofs.Common.{Option, None, Some, refl, sym, ap, ◌∙◌}
+use Rattle.std.proofs.Common.{IfSome, Option, None, Some, refl, sym, ap, ◌∙◌}
 use Rattle.std.proofs.lemmas.List.{append_assoc, append-nil}
 use Rattle.tk_base.specs.declared.process.Choice.{Choice}
 use Rattle.tk_base.specs.declared.process.Choice.TheVariants.{Run, Device, Pass}
@@ -8,14 +8,15 @@ use Rattle.tk_base.specs.declared.process.Dev.{Dev}
 use Rattle.tk_base.specs.declared.process.Dev.TheVariants as dev
 use Rattle.script_text.specs.Settings.{ScriptEvent as Arrival}
 use Rattle.driver_model.specs.Alarm.{due_slot}
-use Rattle.driver_model.specs.Answers.{EventsTellSteps, drawn_word}
+use Rattle.driver_model.specs.Answers.{EventsTellSteps}
+use Rattle.driver_model.specs.Told.{drawn_told}
 use Rattle.driver_model.specs.Commands.{BoardRequest, Waits, Leaves, Lights, Writes, Reads, Randoms, Stores}
 use Rattle.driver_model.specs.Console as console
 use Rattle.driver_model.specs.Random as random
 use Rattle.kernel_model.specs.Record.{Record}
-use Rattle.kernel_model.specs.Turn.{WriteDone, Taken, Word, NoWord, flash_of, turned}
+use Rattle.kernel_model.specs.Turn.{WriteDone, Taken, flash_of, turned}
 use Rattle.kernel_model.specs.World.{Answer, DeviceStep, Devices, Label, Printed, Stepped, World, acted, after, alarmed}
-use Rattle.kernel_model.specs.World.{arrived, carried_out, device_step_of, done, random_step, word_event, first_waiting}
+use Rattle.kernel_model.specs.World.{arrived, carried_out, device_step_of, done, as_events, random_step, first_waiting}
 use Rattle.kernel_model.specs.World.{labels, labels_of, now_in, owns_in, printing, ran, receive_step, routed, stepped}
 use Rattle.kernel_model.specs.World.{storing, transmitting}
 use Rattle.kernel_model.specs.Choices.{labels_of_all}
@@ -57,13 +58,15 @@ sent_none : (b : Bool) → word_in (cond b WriteDone Taken) ≡ []
 sent_none true = refl
 sent_none false = refl
 
-drawn_is : (words rest : List ℕ) → word_in (word_event words rest) ≡ drawn_word words rest
-drawn_is [] rest = refl
-drawn_is (word ∷ words) rest = by_length (length rest == length words)
+-- where the word that was drawn is the next one it is told, and the others are left
+drawn_is : (words : List ℕ) (drawn : Option ℕ) → IfSome drawn (λ word. slice_get words 0 ≡ Some word)
+    → words ≡ word_in (drawn_told as_events drawn) ++ random.words_after drawn words
+drawn_is words None next = refl
+drawn_is [] (Some word) next = cc
+drawn_is (first ∷ words) (Some word) next = ap (λ (w : ℕ). w ∷ words) (the_one first word next)
   where
-    by_length : (b : Bool) → word_in (cond b (Word word) NoWord) ≡ cond b (word ∷ []) []
-    by_length true = refl
-    by_length false = refl
+    the_one : (x y : ℕ) → Some x ≡ Some y → x ≡ y
+    the_one x y e = cc
 
 module _ (tell : EventsTellSteps) (w : World) where
   -- the words that were left are those that a step tells, and then those that are left
@@ -90,10 +93,11 @@ module _ (tell : EventsTellSteps) (w : World) where
 
   draws : (slot : ℕ) (r : Record) → Draws (Some (random_step w slot r))
   draws slot r =
-      let a = random.answered w.devices.words r.own.life r.own in
-      tell.words w.devices.words r.own.life r.own
-      ∙ ap (λ (words : List ℕ). words ++ a.words)
-      (sym (append-nil (word_in (word_event w.devices.words a.words)) ∙ drawn_is w.devices.words a.words))
+      let word = slice_get w.devices.words 0 in
+      let drawn = (random.answered word r.own).drawn in
+      drawn_is w.devices.words drawn (tell.drawn word r.own)
+      ∙ ap (λ (words : List ℕ). words ++ random.words_after drawn w.devices.words)
+      (sym (append-nil (word_in (drawn_told as_events drawn))))
 
   arrival_draws : (arrivals : List Arrival) → Draws (arrived w.devices arrivals)
   arrival_draws [] = refl
@@ -109,7 +113,7 @@ module _ (tell : EventsTellSteps) (w : World) where
   deed_draws dev.Uart =
       first_draws transmitting w.devices.writes
       (λ slot r. silent (transmitting w slot r) _ refl
-      (sent_none (console.sent (flash_of r) r.own.life r.own).completed) refl)
+      (sent_none (console.sent (flash_of r) r.own).completed) refl)
   deed_draws dev.Receive = first_draws receive_step w.devices.reads (λ slot r. refl)
   deed_draws dev.Random = first_draws random_step w.devices.randoms draws
   deed_draws dev.Store = first_draws storing w.devices.stores (λ slot r. refl)

@@ -41,7 +41,7 @@ buffer_for (Stored moved) own = stored_buffer own
 
 -- what is written over a slot's storage where a request is served: from an offset on, these bytes, if any
 abbrev pub served_write : Record → Option (ℕ × List ℕ)
-served_write r = (storage.answered false (flash_of r) r.storage r.own.life r.own).written
+served_write r = (storage.answered false (flash_of r) r.storage r.own).written
 
 -- a place that a write covers
 abbrev pub Covers : Option (ℕ × List ℕ) → ℕ → Type 0

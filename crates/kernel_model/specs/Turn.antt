@@ -199,7 +199,7 @@ written_over bytes (Some written) = overwritten bytes written.0 written.1
 -- a process whose storage request was served, or failed
 abbrev pub stored : Bool → Record → Record
 stored moved r =
-    let a = storage.answered (not moved) (flash_of r) r.storage r.own.life r.own in
+    let a = storage.answered (not moved) (flash_of r) r.storage r.own in
     record r { own = a.own; storage = written_over r.storage a.written }
 
 -- the record after an event; nothing else changes a record, and it reads no other process, list or device
@@ -209,8 +209,8 @@ apply settings (Alarmed now) r = record_with_own r (alarm.answered now r.own)
 apply settings Taken r = record_with_own r (console.taken r.own)
 apply settings WriteDone r = record_with_own r (console.write_done r.own)
 apply settings (Input bytes) r = record_with_own r (console.input bytes r.own)
-apply settings (Word word) r = record_with_own r (random.answered (word ∷ []) r.own.life r.own).own
-apply settings NoWord r = record_with_own r (random.answered [] r.own.life r.own).own
+apply settings (Word word) r = record_with_own r (random.answered (Some word) r.own).own
+apply settings NoWord r = record_with_own r (random.answered None r.own).own
 apply settings (Stored moved) r = stored moved r
 
 -- whether a process in a state can have a turn: it runs, or it waits and an upcall is pending

@@ -137,7 +137,7 @@ alarmed w slot = record {
 abbrev pub transmitting : World → ℕ → Record → DeviceStep
 transmitting w slot r =
     let d = w.devices in
-    let s = console.sent (flash_of r) r.own.life r.own in
+    let s = console.sent (flash_of r) r.own in
     record {
       told = Some (record { slot = slot; event = sent_told as_events s });
       printed = s.printed;
@@ -151,7 +151,7 @@ transmitting w slot r =
 abbrev pub receive_step : World → ℕ → Record → DeviceStep
 receive_step w slot r =
     let d = w.devices in
-    let s = console.received d.line.ring r.own.life r.own in
+    let s = console.received d.line.ring r.own in
     record {
       told = Some (record { slot = slot; event = received_told as_events s });
       printed = [];
@@ -161,19 +161,18 @@ receive_step w slot r =
       };
     }
 
--- the word that was drawn, where fewer are left
-abbrev pub word_event : List ℕ → List ℕ → Event
-word_event words after = drawn_told as_events words after
-
 -- a word is drawn for the request of the process in a slot, or none
 abbrev pub random_step : World → ℕ → Record → DeviceStep
 random_step w slot r =
     let d = w.devices in
-    let a = random.answered d.words r.own.life r.own in
+    let a = random.answered (slice_get d.words 0) r.own in
     record {
-      told = Some (record { slot = slot; event = word_event d.words a.words });
+      told = Some (record { slot = slot; event = drawn_told as_events a.drawn });
       printed = [];
-      devices = record d { randoms = queue_after_answer a.completed slot d.randoms; words = a.words };
+      devices = record d {
+        randoms = queue_after_answer a.completed slot d.randoms;
+        words = random.words_after a.drawn d.words;
+      };
     }
 
 -- the storage request of the process in a slot is served, or fails, by its number among all that were
@@ -181,7 +180,7 @@ abbrev pub storing : World → ℕ → Record → DeviceStep
 storing w slot r =
     let d = w.devices in
     let fails = is_fault d.faults (d.served + 1) in
-    let a = storage.answered fails (flash_of r) r.storage r.own.life r.own in
+    let a = storage.answered fails (flash_of r) r.storage r.own in
     record {
       told = Some (record { slot = slot; event = stored_told as_events fails });
       printed = [];

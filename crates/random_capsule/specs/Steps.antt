@@ -9,7 +9,7 @@ use Rattle.random_capsule.specs.declared.visits.Step.{Step}
 
 -- what a step answers, and what is then the process's own, as what a request comes to
 abbrev pub step_progress : Step → Own → Progress
-step_progress step own = record { rest = step.rest; own = own; took = step.took }
+step_progress step own = record { rest = step.rest; own = own; drawn = step.drawn }
 
 -- what a visit to a process leaves that has a request: a step of it, and what waits of it still
 abbrev pub Steps : Option ℕ → Option RandomRequest → Own → Step → Random → Own → Type 0
@@ -21,4 +21,4 @@ Steps word (Some request) old step value own =
 abbrev pub Advances : Option ℕ → Own → Step → Own → RandomRequest → Type 0
 Advances word old step new request =
     let p = progress word request old in
-    (step.rest ≡ p.rest) × (step.took ≡ p.took) × (new ≡ with_request randoms p.rest p.own)
+    (step.rest ≡ p.rest) × (step.drawn ≡ p.drawn) × (new ≡ with_request randoms p.rest p.own)

@@ -1,11 +1,10 @@
 //! A step of the request of the process that waits longest.
-ghost use Rattle.std.specs.Prelude.{◌≡◌, ◌<◌, ℕ, true, List, drop, if◌then◌else◌, length, slice_get, is_some, IfSome};
+ghost use Rattle.std.specs.Prelude.{◌≡◌, ◌<◌, true, length, slice_get, is_some, IfSome};
 ghost use Rattle.grant_enter.specs.Homes.{own_of, ChangesOnly};
-ghost use Rattle.driver_model.specs.Requests.{waiting_of};
-ghost use Rattle.driver_model.specs.Random.{randoms as request_kind};
+ghost use Rattle.driver_model.specs.Random.{randoms as request_kind, words_after};
 ghost use Rattle.driver_model.specs.Told.{drawn_told};
 ghost use Rattle.driver_requests.specs.Answers.{kinds};
-ghost use Rattle.driver_requests.specs.Asking.{MayBeTold};
+ghost use Rattle.driver_requests.specs.Asking.{MayBeTold, waiting_of};
 ghost use Rattle.random_capsule.specs.Steps.{Advances};
 
 use crate::capsule::RandomCapsule;
@@ -31,24 +30,23 @@ fn step_of(home: &mut Home, id: ProcessId, word: Option<u32>) -> Step
     }
 }
 
-/// Takes the next word away, where it was taken.
-fn draw_if(words: &mut Words, took: bool)
-    requires { took ≡ true → 0 < length words.old }
-    ensures { words.new ≡ (if took then drop 1 words.old else words.old) }
+/// Takes the next word away, where one was drawn.
+fn take_away(words: &mut Words, drawn: Option<u32>)
+    requires { is_some drawn ≡ true → 0 < length words.old }
+    ensures { words.new ≡ words_after drawn words.old }
 {
-    if took {
+    if drawn.is_some() {
         words.draw();
     }
 }
 
-/// What a process is told, by the next word, and whether it was taken.
-fn told(word: Option<u32>, took: bool) -> Kind
-    ensures { (words : List ℕ) → word ≡ slice_get words 0 →
-        result ≡ drawn_told kinds words (if took then drop 1 words else words) }
+/// What a process is told, by the word that was drawn for it, if one was.
+fn told(drawn: Option<u32>) -> Kind
+    ensures { result ≡ drawn_told kinds drawn }
 {
-    match word {
-        Some(word) if took => Kind::Word(word),
-        _ => Kind::NoWord,
+    match drawn {
+        Some(word) => Kind::Word(word),
+        None => Kind::NoWord,
     }
 }
 
@@ -67,15 +65,15 @@ impl Serve<RandomRequest> for RandomCapsule {
     fn serve(home: &mut Home, id: &ProcessId, words: &mut Words) -> Service {
         if !has_request::<RandomRequest, 1, 0, 1>(&randoms(), home, id) {
             return Service {
-                kind: told(words.peek(), false),
+                kind: Kind::NoWord,
                 completed: false,
             };
         }
         let word = words.peek();
         let step = step_of(home, *id, word);
-        draw_if(words, step.took);
+        take_away(words, step.drawn);
         Service {
-            kind: told(word, step.took),
+            kind: told(step.drawn),
             completed: step.rest.is_none(),
         }
     }

@@ -29,8 +29,8 @@ pub(crate) fn randoms() -> Grant<Random, 1, 0, 1>
 pub(crate) struct Step {
     /// What waits of it still; None where it completed.
     pub rest: Option<RandomRequest>,
-    /// Whether it took a word.
-    pub took: bool,
+    /// The word that was drawn for it, if one was.
+    pub drawn: Option<u32>,
 }
 
 /// Takes a step of the request that waits, with the next word, where one is left.
@@ -56,7 +56,7 @@ impl Visit<Random> for Advance {
         let Some(request) = value.request else {
             return Step {
                 rest: None,
-                took: false,
+                drawn: None,
             };
         };
         let step = take_step(entered, &request, self.word);
@@ -83,19 +83,19 @@ fn wanted(entered: &mut Entered<'_>, request: &RandomRequest) -> u32
 }
 
 /// A request completes.
-fn complete(entered: &mut Entered<'_>, took: bool, outcome: u32, bytes: u32) -> Step
+fn complete(entered: &mut Entered<'_>, drawn: Option<u32>, outcome: u32, bytes: u32) -> Step
     requires lent { IsLent entered.old }
     requires driver { (seen entered.old).driver ≡ random }
     requires upcall { 0 < (seen entered.old).counts.upcalls }
     requires dropped { (own_entered entered.old).inbox.dropped + 1 < 2 ^ 32 }
     ensures step { step_progress result (own_entered entered.new)
-        ≡ completing took outcome bytes (own_entered entered.old) }
+        ≡ completing drawn outcome bytes (own_entered entered.old) }
     // what a visitor owes
     ensures lent { IsLent entered.new }
     ensures framed { Framed entered.old entered.new }
 {
     entered.schedule(0, [outcome, bytes, 0]);
-    Step { rest: None, took }
+    Step { rest: None, drawn }
 }
 
 /// A word is drawn for a request that wants so many bytes more.
@@ -117,14 +117,14 @@ fn draw(entered: &mut Entered<'_>, request: &RandomRequest, left: u32, word: u32
     let (part, _) = bytes.split_at(WORD.min(left) as usize);
     entered.write(0, request.written, part);
     if left <= WORD {
-        return complete(entered, true, WRITTEN, request.written + left);
+        return complete(entered, Some(word), WRITTEN, request.written + left);
     }
     Step {
         rest: Some(RandomRequest {
             count: request.count,
             written: request.written + WORD,
         }),
-        took: true,
+        drawn: Some(word),
     }
 }
 
@@ -144,10 +144,10 @@ fn take_step(entered: &mut Entered<'_>, request: &RandomRequest, word: Option<u3
     frames_join();
     let wanted = wanted(entered, request);
     if wanted <= request.written {
-        return complete(entered, false, WRITTEN, request.written);
+        return complete(entered, None, WRITTEN, request.written);
     }
     match word {
         Some(word) => draw(entered, request, wanted - request.written, word),
-        None => complete(entered, false, NO_WORD, request.written),
+        None => complete(entered, None, NO_WORD, request.written),
     }
 }

@@ -2,9 +2,8 @@
 ghost use Rattle.std.specs.Prelude.{◌≡◌, true, is_some, IfSome};
 ghost use Rattle.grant_enter.specs.Homes.{own_of, ChangesOnly};
 ghost use Rattle.driver_model.specs.Lines.{IsWithin};
-ghost use Rattle.driver_model.specs.Requests.{waiting_of};
 ghost use Rattle.driver_model.specs.Storage.{storages as request_kind};
-ghost use Rattle.driver_requests.specs.Asking.{MayBeTold};
+ghost use Rattle.driver_requests.specs.Asking.{MayBeTold, waiting_of};
 ghost use Rattle.process_model.specs.Flash.{flash_byte};
 ghost use Rattle.storage_capsule.specs.Serving.{Completes};
 

@@ -76,8 +76,7 @@ fn read(entered: &mut Entered<'_>, stores: &Stores, slot: Slot, request: &Storag
     requires buffer { 0 < (seen entered.old).counts.rw }
     requires within { request.now.offset + request.now.length ≤ stores.now.size }
     ensures count { result ≡ min request.now.length
-        (length (ram_at (own_entered entered.old)
-        (held ReadWrite storage 0 (own_entered entered.old)))) }
+        (held ReadWrite storage 0 (own_entered entered.old)).1 }
     ensures own { own_entered entered.new ≡ with_written storage 0 0
         (bytes_from stores.now slot request.now.offset result) (own_entered entered.old) }
     // what a visitor owes
@@ -111,6 +110,7 @@ fn move_bytes(
     ensures framed { Framed entered.old entered.new }
 {
     frames_join();
+    buffers_are_whole();
     match request.kind {
         StorageKind::Read => read(entered, stores, slot, request),
         StorageKind::Write => put(stores, slot, request, entered.read_only(0)),
