@@ -29,39 +29,41 @@ sent_of_own flash own law lies holds =
     (law flash own (held ReadOnly console 1 own) lies (holds.read_only console 1))
 
 -- what is written over its storage
-moved_of_own : (kind : StorageKind) (flash object : ℕ → ℕ) (bytes : List ℕ) (request : StorageRequest) (own : Own)
+moved_alike : (kind : StorageKind) (flash object : ℕ → ℕ) (bytes : List ℕ) (request : StorageRequest) (own : Own)
     → bytes_at flash own (held ReadOnly storage.storage 0 own)
     ≡ bytes_at object own (held ReadOnly storage.storage 0 own)
     → moving kind flash bytes request own ≡ moving kind object bytes request own
-moved_of_own Read flash object bytes request own same = refl
-moved_of_own Write flash object bytes request own same =
+moved_alike Read flash object bytes request own same = refl
+moved_alike Write flash object bytes request own same =
     let count = min request.length (held ReadOnly storage.storage 0 own).1 in
     ap (λ (bytes : List ℕ). record {
       own = completing Write count 0 own;
       written = Some (request.offset, take count bytes);
     }) same
 
-pub answered_of_own : (fault : Bool) (flash bytes : List ℕ) (own : Own) → ReadsOwnFlash
-    → HasObject (length flash) own.object own.layout → HoldsInPlace own
-    → answered fault (flash_byte flash) bytes own
-    ≡ answered fault (object_byte own.object (object_in flash own.object)) bytes own
+-- so what it answers is the same of flash as of the object, where what is written is
+answered_alike : (fault : Bool) (flash object : ℕ → ℕ) (bytes : List ℕ) (own : Own)
+    → bytes_at flash own (held ReadOnly storage.storage 0 own)
+    ≡ bytes_at object own (held ReadOnly storage.storage 0 own)
+    → answered fault flash bytes own ≡ answered fault object bytes own
 unfolding answered
-answered_of_own fault flash bytes own law lies holds = by_request (waiting_in storages own)
+answered_alike fault flash object bytes own same = by_request (waiting_in storages own)
   where
-    abbrev object : ℕ → ℕ
-    object = object_byte own.object (object_in flash own.object)
-
-    same : (request : StorageRequest)
-        → moving request.kind (flash_byte flash) bytes request own ≡ moving request.kind object bytes request own
-    same request = moved_of_own request.kind (flash_byte flash) object bytes request own
-        (law flash own (held ReadOnly storage.storage 0 own) lies (holds.read_only storage.storage 0))
-
     by_request : (o : Option StorageRequest)
         → unwrap_or (option_map (λ (request : StorageRequest). storage_answer_of
-        (storage_served fault (flash_byte flash) bytes request own)) o) (unanswered own)
+        (storage_served fault flash bytes request own)) o) (unanswered own)
         ≡ unwrap_or (option_map (λ (request : StorageRequest). storage_answer_of
         (storage_served fault object bytes request own)) o) (unanswered own)
     by_request None = refl
     by_request (Some request) =
         ap (λ (m : StorageServed). storage_answer_of
-        (if fault then record { own = completing request.kind 0 1 own; written = None } else m)) (same request)
+        (if fault then record { own = completing request.kind 0 1 own; written = None } else m))
+        (moved_alike request.kind flash object bytes request own same)
+
+pub answered_of_own : (fault : Bool) (flash bytes : List ℕ) (own : Own) → ReadsOwnFlash
+    → HasObject (length flash) own.object own.layout → HoldsInPlace own
+    → answered fault (flash_byte flash) bytes own
+    ≡ answered fault (object_byte own.object (object_in flash own.object)) bytes own
+answered_of_own fault flash bytes own law lies holds =
+    answered_alike fault (flash_byte flash) (object_byte own.object (object_in flash own.object)) bytes own
+    (law flash own (held ReadOnly storage.storage 0 own) lies (holds.read_only storage.storage 0))
