@@ -33,7 +33,7 @@ script line 2: leds 4
 script line 2: order: settings come before the first `at`, and times and numbers of faults in order"""),
     ("boot-past-a-bad-checksum",
      "flash: the object at 0 was not run: bad-checksum: its header's checksum is wrong"),
-    ("nine-applications", "flash: the object at 512 was not run: no-slot: all eight slots are taken"),
+    ("seventeen-applications", "flash: the object at 1024 was not run: no-slot: all sixteen slots are taken"),
     ("five-applications-in-4096-bytes", "flash: the object at 256 was not run: no-room: RAM has no room for its memory; "
      "`ram` in the script sets how much there is"),
     ("fixed-ram-start-below-the-last-end", "flash: the object at 128 was not run: fixed-taken: the address of RAM for "

@@ -668,15 +668,19 @@ RANDOMS = [
         ("word", "a word's lowest byte comes first", lw(A1, S1), 0x11223344),
         ("rest", "and nothing else is written", lw(A1, S1, 4), 0)]
 ] + [
-    boot("eleven-upcalls", "ten upcalls may be pending, and one more is dropped",
-         app(mv(S0, A0), li(S1, 11), li(S2, RANDOM), li(A4, 1), mv(A0, S2), li(A1, 0), mv(A2, S0), li(A3, 0), ecall,
+    boot(name, shows,
+         app(mv(S0, A0), li(S1, count), li(S2, RANDOM), li(A4, 1), mv(A0, S2), li(A1, 0), mv(A2, S0), li(A3, 0), ecall,
              li(A4, 2), "again", mv(A0, S2), li(A1, 1), li(A2, 0), ecall, addi(S1, S1, -1), bne(S1, ZERO, "again"),
              li(A4, 6), li(A0, 0), li(A1, 0), ecall), """
         ==
-        slot 0 - terminated 0 turns 81 restarts 0 dropped 1
+        slot 0 - terminated 0 turns %d restarts 0%s
         leds 0000
-        end done steps 92 time 81
-    """),
+        end done steps %d time %d
+    """ % (15 + 6 * count, dropped, 15 + 7 * count, 15 + 6 * count))
+    for name, shows, count, dropped in [
+        ("eleven-upcalls", "eleven upcalls may be pending", 11, ""),
+        ("twenty-upcalls", "so may twenty", 20, ""),
+        ("twenty-one-upcalls", "and one more is dropped", 21, " dropped 1")]
 ]
 
 def storage_reads(places, exit_code):
@@ -807,7 +811,7 @@ SEVERAL = [
         leds 0000
         end done steps 6 time 6
     """),
-    boot("nine-applications", "there are eight slots", EXIT_7 * 9, """
+    boot("nine-applications", "nine applications have each a slot", EXIT_7 * 9, """
         ==
         slot 0 - terminated 7 turns 4 restarts 0
         slot 1 - terminated 7 turns 4 restarts 0
@@ -817,9 +821,31 @@ SEVERAL = [
         slot 5 - terminated 7 turns 4 restarts 0
         slot 6 - terminated 7 turns 4 restarts 0
         slot 7 - terminated 7 turns 4 restarts 0
-        unplaced 512 no-slot
+        slot 8 - terminated 7 turns 4 restarts 0
         leds 0000
-        end done steps 32 time 32
+        end done steps 36 time 36
+    """),
+    boot("seventeen-applications", "there are sixteen slots", EXIT_7 * 17, """
+        ==
+        slot 0 - terminated 7 turns 4 restarts 0
+        slot 1 - terminated 7 turns 4 restarts 0
+        slot 2 - terminated 7 turns 4 restarts 0
+        slot 3 - terminated 7 turns 4 restarts 0
+        slot 4 - terminated 7 turns 4 restarts 0
+        slot 5 - terminated 7 turns 4 restarts 0
+        slot 6 - terminated 7 turns 4 restarts 0
+        slot 7 - terminated 7 turns 4 restarts 0
+        slot 8 - terminated 7 turns 4 restarts 0
+        slot 9 - terminated 7 turns 4 restarts 0
+        slot 10 - terminated 7 turns 4 restarts 0
+        slot 11 - terminated 7 turns 4 restarts 0
+        slot 12 - terminated 7 turns 4 restarts 0
+        slot 13 - terminated 7 turns 4 restarts 0
+        slot 14 - terminated 7 turns 4 restarts 0
+        slot 15 - terminated 7 turns 4 restarts 0
+        unplaced 1024 no-slot
+        leds 0000
+        end done steps 64 time 64
     """),
     boot("five-applications-in-4096-bytes", "four blocks of 1024 bytes fill the least RAM", EXIT_7 * 5,
          script=b"ram 4096\n", text="""

@@ -19,7 +19,7 @@ fn storage_is_made_where_there_is_memory(rt: HostRuntime) -> Result<(), Fail> {
     let mut stores = Stores::new(rt.alloc(), 16, faults)?;
     assert_eq!(rt; stores.size(), 16);
     let mut last = [0; 4];
-    stores.read(Slot::new(7), 12, &mut last);
+    stores.read(Slot::new(15), 12, &mut last);
     assert_eq!(rt; last, [0xFF; 4]);
     assert!(rt; stores.count());
     assert!(rt; !stores.count());

@@ -137,7 +137,7 @@ impl Entered<'_> {
     }
 
     /// Schedules the upcall of a number with three arguments (TRD 104, "Subscribe", "Yield"), and says whether
-    /// it waits now. The null upcall is not scheduled, and not counted; one that finds ten waiting is
+    /// it waits now. The null upcall is not scheduled, and not counted; one that finds no room is
     /// dropped and counted.
     pub fn schedule(&mut self, n: u32, args: [u32; 3]) -> bool
         requires lent { IsLent self.old }

@@ -19,10 +19,10 @@ pub const RAM_LIMIT: u32 = 262_144;
 pub const RAM_UNIT: u32 = 1_024;
 
 /// How many slots there are: a board has so many processes at most.
-pub const SLOT_COUNT: usize = 8;
+pub const SLOT_COUNT: usize = 16;
 
 /// How many upcalls of one process wait to be delivered at most.
-pub const PENDING_LIMIT: usize = 10;
+pub const PENDING_LIMIT: usize = 20;
 
 /// How many objects of a flash image are found at most.
 pub const OBJECT_LIMIT: usize = 64;
