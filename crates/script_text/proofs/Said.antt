@@ -11,9 +11,9 @@ use Rattle.std.specs.Option.{option_map_or}
 use Rattle.std.specs.Str.{bytes_eq}
 use Rattle.fault_policy.specs.declared.Policy.TheVariants as policies
 use Rattle.script_text.specs.declared.table.Line.{Line}
-use Rattle.script_text.specs.declared.table.Line.TheVariants.{Ram, Leds, Slice, Start, Uart, Storage, Stop, Restart}
-use Rattle.script_text.specs.declared.table.Line.TheVariants.{Threshold, FilterOpen, FilterStrict, StorageFault, Random}
-use Rattle.script_text.specs.declared.table.Line.TheVariants.{Input}
+use Rattle.script_text.specs.declared.table.Line.TheVariants.{Ram, Leds, Slice, Start, Uart, Storage}
+use Rattle.script_text.specs.declared.table.Line.TheVariants.{Stop, Restart, Threshold, FilterOpen, FilterStrict}
+use Rattle.script_text.specs.declared.table.Line.TheVariants.{StorageFault, Random, Input}
 use Rattle.script_text.specs.Progress.{with_line, stood_in}
 use Rattle.script_text.specs.Rules.{is_single, skips}
 use Rattle.script_text.specs.Said.{lines_of, stands, settings, number_on, policy_on, policy_by, is_strict_on}
@@ -42,7 +42,7 @@ lines_more line before text =
 -- the settings from the lines of each name
 abbrev assembled : (ram leds slice start uart storage policies filters faults randoms inputs : List (List ℕ))
     → ScriptSettings
-assembled ram leds slice start uart storage policy filter faults randoms inputs = record {
+assembled ram leds slice start uart storage policy filters faults randoms inputs = record {
   ram = slice_index_or (map number_on ram) 0 (row Ram).default;
   leds = slice_index_or (map number_on leds) 0 (row Leds).default;
   slice = slice_index_or (map number_on slice) 0 (row Slice).default;
@@ -50,7 +50,7 @@ assembled ram leds slice start uart storage policy filter faults randoms inputs 
   uart = slice_index_or (map number_on uart) 0 (row Uart).default;
   storage = slice_index_or (map number_on storage) 0 (row Storage).default;
   policy = slice_index_or (map policy_on policy) 0 policies.Stop;
-  strict = slice_index_or (map is_strict_on filter) 0 false;
+  strict = slice_index_or (map is_strict_on filters) 0 false;
   faults = map number_on faults;
   words = flat_map words_on randoms;
   events = map event_on inputs;
@@ -140,6 +140,10 @@ first_said : {X : Type 0} (said : List ℕ → X) (xs : List (List ℕ)) (text :
     → slice_index_or (map said (xs ++ text ∷ [])) 0 d ≡ said text
 first_said said xs text d h = ap (λ ys. slice_index_or (map said (ys ++ text ∷ [])) 0 d) (none_yet xs h)
 
+first_number : (line : Line) (before : List (List ℕ)) (text : List ℕ) → stands line before ≡ false
+    → slice_index_or (map number_on (lines_of line before ++ text ∷ [])) 0 (row line).default ≡ number_on text
+first_number line before text = first_said number_on (lines_of line before) text (row line).default
+
 first_policy : (line : Line) (before : List (List ℕ)) (text : List ℕ) → (row Stop).name ≡ (row line).name
     → stands line before ≡ false → line_of (words text) ≡ Some line
     → slice_index_or (map policy_on (lines_of Stop before ++ text ∷ [])) 0 policies.Stop ≡ policy_by line (words text)
@@ -186,23 +190,22 @@ pub settings_with : (line : Line) (before : List (List ℕ)) (text : List ℕ) �
     → settings (before ++ text ∷ []) ≡ with_line line (words text) (settings before)
 settings_with Ram before text l s =
     by_name Ram before text l
-    ∙ ap (λ n. record (settings before) { ram = n }) (first_said number_on (lines_of Ram before) text (row Ram).default s)
+    ∙ ap (λ n. record (settings before) { ram = n }) (first_number Ram before text s)
 settings_with Leds before text l s =
     by_name Leds before text l
-    ∙ ap (λ n. record (settings before) { leds = n }) (first_said number_on (lines_of Leds before) text (row Leds).default s)
+    ∙ ap (λ n. record (settings before) { leds = n }) (first_number Leds before text s)
 settings_with Slice before text l s =
     by_name Slice before text l
-    ∙ ap (λ n. record (settings before) { slice = n }) (first_said number_on (lines_of Slice before) text (row Slice).default s)
+    ∙ ap (λ n. record (settings before) { slice = n }) (first_number Slice before text s)
 settings_with Start before text l s =
     by_name Start before text l
-    ∙ ap (λ n. record (settings before) { start = n }) (first_said number_on (lines_of Start before) text (row Start).default s)
+    ∙ ap (λ n. record (settings before) { start = n }) (first_number Start before text s)
 settings_with Uart before text l s =
     by_name Uart before text l
-    ∙ ap (λ n. record (settings before) { uart = n }) (first_said number_on (lines_of Uart before) text (row Uart).default s)
+    ∙ ap (λ n. record (settings before) { uart = n }) (first_number Uart before text s)
 settings_with Storage before text l s =
     by_name Storage before text l
-    ∙ ap (λ n. record (settings before) { storage = n })
-    (first_said number_on (lines_of Storage before) text (row Storage).default s)
+    ∙ ap (λ n. record (settings before) { storage = n }) (first_number Storage before text s)
 settings_with Stop before text l s =
     by_name Stop before text l
     ∙ ap (λ p. record (settings before) { policy = p }) (first_policy Stop before text refl s l)

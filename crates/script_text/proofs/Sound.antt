@@ -16,9 +16,9 @@ use Rattle.fault_policy.specs.declared.Policy.{Policy}
 use Rattle.fault_policy.specs.declared.Policy.TheVariants as policies
 use Rattle.decimal_number.specs.Number.{number}
 use Rattle.script_text.specs.declared.table.Line.{Line}
-use Rattle.script_text.specs.declared.table.Line.TheVariants.{Ram, Leds, Slice, Start, Uart, Storage, Stop, Restart}
-use Rattle.script_text.specs.declared.table.Line.TheVariants.{Threshold, FilterOpen, FilterStrict, StorageFault, Random}
-use Rattle.script_text.specs.declared.table.Line.TheVariants.{Input}
+use Rattle.script_text.specs.declared.table.Line.TheVariants.{Ram, Leds, Slice, Start, Uart, Storage}
+use Rattle.script_text.specs.declared.table.Line.TheVariants.{Stop, Restart, Threshold, FilterOpen, FilterStrict}
+use Rattle.script_text.specs.declared.table.Line.TheVariants.{StorageFault, Random, Input}
 use Rattle.script_text.specs.Alone.{IsLine}
 use Rattle.script_text.specs.Progress.{with_line, stood_in}
 use Rattle.script_text.specs.Rules.{disorders, exceeds, is_hex}
@@ -124,19 +124,17 @@ hex_at ws l h =
 -- no start, policy and filter is outside its range
 without_range : (s : ScriptSettings) (start : ℕ) (policy : Policy) (strict : Bool) → AreSound s
     → AreSound (record s { start = start; policy = policy; strict = strict })
-without_range s start policy strict a =
-    record {
-      ram = a.ram;
-      leds = a.leds;
-      slice_least = a.slice_least;
-      slice_most = a.slice_most;
-      uart =
-          a.uart;
-      storage = a.storage;
-      faults = a.faults;
-      words = a.words;
-      events = a.events;
-    }
+without_range s start policy strict a = record {
+  ram = a.ram;
+  leds = a.leds;
+  slice_least = a.slice_least;
+  slice_most = a.slice_most;
+  uart = a.uart;
+  storage = a.storage;
+  faults = a.faults;
+  words = a.words;
+  events = a.events;
+}
 
 -- the settings with a line of the table more
 pub sound_with : (line : Line) (text : List ℕ) (s : ScriptSettings) → IsLine (words text) line
@@ -216,7 +214,8 @@ sound_with Storage text s h d x a =
     }
 sound_with Stop text s h d x a = without_range s s.start policies.Stop s.strict a
 sound_with Restart text s h d x a = without_range s s.start policies.Restart s.strict a
-sound_with Threshold text s h d x a = without_range s s.start (policies.Threshold (number (word (words text) 2))) s.strict a
+sound_with Threshold text s h d x a =
+    without_range s s.start (policies.Threshold (number (word (words text) 2))) s.strict a
 sound_with FilterOpen text s h d x a = without_range s s.start s.policy false a
 sound_with FilterStrict text s h d x a = without_range s s.start s.policy true a
 sound_with StorageFault text s h d x a =

@@ -9,9 +9,9 @@ use Rattle.tk_base.specs.declared.limits.TheConstants.{SLICE_LIMIT, STORAGE_LIMI
 use Rattle.script_text.specs.declared.table.Form.{Form}
 use Rattle.script_text.specs.declared.table.Key.{Key as KeyWord}
 use Rattle.script_text.specs.declared.table.Line.{Line}
-use Rattle.script_text.specs.declared.table.Line.TheVariants.{Ram, Leds, Slice, Start, Uart, Storage, Stop, Restart}
-use Rattle.script_text.specs.declared.table.Line.TheVariants.{Threshold, FilterOpen, FilterStrict, StorageFault, Random}
-use Rattle.script_text.specs.declared.table.Line.TheVariants.{Input}
+use Rattle.script_text.specs.declared.table.Line.TheVariants.{Ram, Leds, Slice, Start, Uart, Storage}
+use Rattle.script_text.specs.declared.table.Line.TheVariants.{Stop, Restart, Threshold, FilterOpen, FilterStrict}
+use Rattle.script_text.specs.declared.table.Line.TheVariants.{StorageFault, Random, Input}
 use Rattle.script_text.specs.declared.table.NumberAt.{NumberAt}
 use Rattle.script_text.specs.declared.table.Range.{Range}
 use Rattle.script_text.specs.Text.{word}

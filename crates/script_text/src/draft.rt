@@ -55,8 +55,8 @@ impl Model for Draft {
 }
 
 impl Line {
-    /// Its place among those that may not repeat. The three of the fault policy have one, and so have the
-    /// two of the filter. None for one that may repeat.
+    /// Its place among those that may not repeat. The lines of the fault policy have one, and so have
+    /// those of the filter. None for one that may repeat.
     fn seat(self) -> Option<usize>
         ensures { result ≡ seat self }
     {
