@@ -1012,6 +1012,8 @@ SCRIPTS = [
          script=b"# c\n\nat 5 input 0g", text="script 3 bad-hex"),
     boot("policy-by-itself", "a policy is named", EXIT_7, status=5,
          script=b"policy", text="script 1 words"),
+    boot("filter-open", "a script may name a filter", EXIT_7, RUN_OF_EXIT_7, script=b"filter open"),
+    boot("filter-strict", "each of the two lets a process exit", EXIT_7, RUN_OF_EXIT_7, script=b"filter strict"),
     boot("slice-of-0", "a slice has one turn at least", EXIT_7, status=5,
          script=b"slice 0", text="script 1 out-of-range"),
     boot("leds-of-a-script", "a script says how many LEDs there are", b"", script=b"leds 6\n", text="""
@@ -1066,6 +1068,9 @@ BAD_SCRIPTS = [
     for name, shows, script, answer in [
         ("input-of-nothing", "an input has bytes", b"at 5 input", "1 words"),
         ("threshold-of-nothing", "a threshold has a number", b"policy threshold", "1 words"),
+        ("filter-of-nothing", "a filter is named", b"filter", "1 words"),
+        ("filter-of-another-name", "it is open or strict", b"filter closed", "1 unknown-word"),
+        ("two-filters", "and set once, whatever it is", b"filter open\nfilter strict", "2 repeated"),
         ("time-of-eleven-digits", "so has a time", b"at 12345678901 input 41", "1 bad-number"),
         ("time-of-33-bits", "which has 32 bits", b"at 4294967296 input 41", "1 out-of-range"),
         ("seven-hex-digits", "a random word has 8 digits", b"random 1234567", "1 bad-hex"),

@@ -11,11 +11,13 @@ use Rattle.std.specs.Option.{option_map_or}
 use Rattle.std.specs.Str.{bytes_eq}
 use Rattle.fault_policy.specs.declared.Policy.TheVariants as policies
 use Rattle.script_text.specs.declared.table.Line.{Line}
-use Rattle.script_text.specs.declared.table.Line.TheVariants.{Ram, Leds, Slice, Start, Uart, Storage, Stop, Restart}
-use Rattle.script_text.specs.declared.table.Line.TheVariants.{Threshold, StorageFault, Random, Input}
+use Rattle.script_text.specs.declared.table.Line.TheVariants.{Ram, Leds, Slice, Start, Uart, Storage}
+use Rattle.script_text.specs.declared.table.Line.TheVariants.{Stop, Restart, Threshold, FilterOpen, FilterStrict}
+use Rattle.script_text.specs.declared.table.Line.TheVariants.{StorageFault, Random, Input}
 use Rattle.script_text.specs.Progress.{with_line, stood_in}
 use Rattle.script_text.specs.Rules.{is_single, skips}
-use Rattle.script_text.specs.Said.{lines_of, stands, settings, number_on, policy_on, policy_by, words_on, event_on}
+use Rattle.script_text.specs.Said.{lines_of, stands, settings, number_on, policy_on, policy_by, is_strict_on}
+use Rattle.script_text.specs.Said.{is_strict_by, words_on, event_on}
 use Rattle.script_text.specs.Seats.{stood_at, stood_after}
 use Rattle.script_text.specs.Settings.{ScriptSettings}
 use Rattle.script_text.specs.Table.{row, line_table, is_key, line_fits, line_of}
@@ -38,8 +40,9 @@ lines_more line before text =
     (filter (λ t. bytes_eq (word (words t) 0) (row line).name) before)
 
 -- the settings from the lines of each name
-abbrev assembled : (ram leds slice start uart storage policies faults randoms inputs : List (List ℕ)) → ScriptSettings
-assembled ram leds slice start uart storage policy faults randoms inputs = record {
+abbrev assembled : (ram leds slice start uart storage policies filters faults randoms inputs : List (List ℕ))
+    → ScriptSettings
+assembled ram leds slice start uart storage policy filters faults randoms inputs = record {
   ram = slice_index_or (map number_on ram) 0 (row Ram).default;
   leds = slice_index_or (map number_on leds) 0 (row Leds).default;
   slice = slice_index_or (map number_on slice) 0 (row Slice).default;
@@ -47,6 +50,7 @@ assembled ram leds slice start uart storage policy faults randoms inputs = recor
   uart = slice_index_or (map number_on uart) 0 (row Uart).default;
   storage = slice_index_or (map number_on storage) 0 (row Storage).default;
   policy = slice_index_or (map policy_on policy) 0 policies.Stop;
+  strict = slice_index_or (map is_strict_on filters) 0 false;
   faults = map number_on faults;
   words = flat_map words_on randoms;
   events = map event_on inputs;
@@ -57,8 +61,9 @@ settings_at before text first =
     assembled (more text first Ram (lines_of Ram before)) (more text first Leds (lines_of Leds before))
     (more text first Slice (lines_of Slice before)) (more text first Start (lines_of Start before))
     (more text first Uart (lines_of Uart before)) (more text first Storage (lines_of Storage before))
-    (more text first Stop (lines_of Stop before)) (more text first StorageFault (lines_of StorageFault before))
-    (more text first Random (lines_of Random before)) (more text first Input (lines_of Input before))
+    (more text first Stop (lines_of Stop before)) (more text first FilterOpen (lines_of FilterOpen before))
+    (more text first StorageFault (lines_of StorageFault before)) (more text first Random (lines_of Random before))
+    (more text first Input (lines_of Input before))
 
 settings_more : (before : List (List ℕ)) (text : List ℕ)
     → settings (before ++ text ∷ []) ≡ settings_at before text (word (words text) 0)
@@ -71,6 +76,7 @@ settings_more before text =
       lines_more Uart before text,
       lines_more Storage before text,
       lines_more Stop before text,
+      lines_more FilterOpen before text,
       lines_more StorageFault before text,
       lines_more Random before text,
       lines_more Input before text,
@@ -85,7 +91,8 @@ stood_from before text first =
     some (more text first Ram (lines_of Ram before)) ∷ some (more text first Leds (lines_of Leds before))
     ∷ some (more text first Slice (lines_of Slice before)) ∷ some (more text first Start (lines_of Start before))
     ∷ some (more text first Uart (lines_of Uart before)) ∷ some (more text first Storage (lines_of Storage before))
-    ∷ some (more text first Stop (lines_of Stop before)) ∷ []
+    ∷ some (more text first Stop (lines_of Stop before))
+    ∷ some (more text first FilterOpen (lines_of FilterOpen before)) ∷ []
 
 stood_more : (before : List (List ℕ)) (text : List ℕ)
     → stood_in (before ++ text ∷ []) ≡ stood_from before text (word (words text) 0)
@@ -98,13 +105,14 @@ stood_more before text =
       lines_more Uart before text,
       lines_more Storage before text,
       lines_more Stop before text,
+      lines_more FilterOpen before text,
     ) refl
 
--- the three lines of the policy have one name
-one_policy : (before : List (List ℕ))
-    → (lines_of Restart before ≡ lines_of Stop before) × (lines_of Threshold before ≡ lines_of Stop before)
+-- the three lines of the policy have one name, and so have the two of the filter
+one_name : (line other : Line) → (row line).name ≡ (row other).name → (before : List (List ℕ))
+    → lines_of line before ≡ lines_of other before
 unfolding lines_of
-one_policy before = (refl, refl)
+one_name line other h before = ap (λ name. filter (λ text. bytes_eq (word (words text) 0) name) before) h
 
 pub stood_is : (line : Line) (before : List (List ℕ))
     → stood_at line (stood_in before) ≡ (is_single line && stands line before)
@@ -115,8 +123,10 @@ stood_is Start before = refl
 stood_is Uart before = refl
 stood_is Storage before = refl
 stood_is Stop before = refl
-stood_is Restart before = ap some (sym (one_policy before).0)
-stood_is Threshold before = ap some (sym (one_policy before).1)
+stood_is Restart before = ap some (one_name Stop Restart refl before)
+stood_is Threshold before = ap some (one_name Stop Threshold refl before)
+stood_is FilterOpen before = refl
+stood_is FilterStrict before = ap some (one_name FilterOpen FilterStrict refl before)
 stood_is StorageFault before = refl
 stood_is Random before = refl
 stood_is Input before = refl
@@ -126,14 +136,27 @@ none_yet : (xs : List (List ℕ)) → some xs ≡ false → xs ≡ []
 none_yet [] h = refl
 none_yet (x ∷ xs) h = absurd (omega (arith, ltb-false 0 (length (x ∷ xs)) h))
 
-first_number : (xs : List (List ℕ)) (text : List ℕ) (d : ℕ) → some xs ≡ false
-    → slice_index_or (map number_on (xs ++ text ∷ [])) 0 d ≡ number_on text
-first_number xs text d h = ap (λ ys. slice_index_or (map number_on (ys ++ text ∷ [])) 0 d) (none_yet xs h)
+first_said : {X : Type 0} (said : List ℕ → X) (xs : List (List ℕ)) (text : List ℕ) (d : X) → some xs ≡ false
+    → slice_index_or (map said (xs ++ text ∷ [])) 0 d ≡ said text
+first_said said xs text d h = ap (λ ys. slice_index_or (map said (ys ++ text ∷ [])) 0 d) (none_yet xs h)
 
-first_policy : (xs : List (List ℕ)) (text : List ℕ) (line : Line) → some xs ≡ false → line_of (words text) ≡ Some line
-    → slice_index_or (map policy_on (xs ++ text ∷ [])) 0 policies.Stop ≡ policy_by line (words text)
-first_policy xs text line h l =
-    ap (λ ys. slice_index_or (map policy_on (ys ++ text ∷ [])) 0 policies.Stop) (none_yet xs h) ∙ rw l refl
+first_number : (line : Line) (before : List (List ℕ)) (text : List ℕ) → stands line before ≡ false
+    → slice_index_or (map number_on (lines_of line before ++ text ∷ [])) 0 (row line).default ≡ number_on text
+first_number line before text = first_said number_on (lines_of line before) text (row line).default
+
+first_policy : (line : Line) (before : List (List ℕ)) (text : List ℕ) → (row Stop).name ≡ (row line).name
+    → stands line before ≡ false → line_of (words text) ≡ Some line
+    → slice_index_or (map policy_on (lines_of Stop before ++ text ∷ [])) 0 policies.Stop ≡ policy_by line (words text)
+first_policy line before text name h l =
+    first_said policy_on (lines_of Stop before) text policies.Stop (ap some (one_name Stop line name before) ∙ h)
+    ∙ rw l refl
+
+first_filter : (line : Line) (before : List (List ℕ)) (text : List ℕ) → (row FilterOpen).name ≡ (row line).name
+    → stands line before ≡ false → line_of (words text) ≡ Some line
+    → slice_index_or (map is_strict_on (lines_of FilterOpen before ++ text ∷ [])) 0 false ≡ is_strict_by line
+first_filter line before text name h l =
+    first_said is_strict_on (lines_of FilterOpen before) text false (ap some (one_name FilterOpen line name before) ∙ h)
+    ∙ rw l refl
 
 stands_now : (xs : List (List ℕ)) (text : List ℕ) → some (xs ++ text ∷ []) ≡ true
 stands_now xs text = lt-ltb 0 (length (xs ++ text ∷ [])) (omega (arith, length-append xs (text ∷ [])))
@@ -167,34 +190,37 @@ pub settings_with : (line : Line) (before : List (List ℕ)) (text : List ℕ) �
     → settings (before ++ text ∷ []) ≡ with_line line (words text) (settings before)
 settings_with Ram before text l s =
     by_name Ram before text l
-    ∙ ap (λ n. record (settings before) { ram = n }) (first_number (lines_of Ram before) text (row Ram).default s)
+    ∙ ap (λ n. record (settings before) { ram = n }) (first_number Ram before text s)
 settings_with Leds before text l s =
     by_name Leds before text l
-    ∙ ap (λ n. record (settings before) { leds = n }) (first_number (lines_of Leds before) text (row Leds).default s)
+    ∙ ap (λ n. record (settings before) { leds = n }) (first_number Leds before text s)
 settings_with Slice before text l s =
     by_name Slice before text l
-    ∙ ap (λ n. record (settings before) { slice = n }) (first_number (lines_of Slice before) text (row Slice).default s)
+    ∙ ap (λ n. record (settings before) { slice = n }) (first_number Slice before text s)
 settings_with Start before text l s =
     by_name Start before text l
-    ∙ ap (λ n. record (settings before) { start = n }) (first_number (lines_of Start before) text (row Start).default s)
+    ∙ ap (λ n. record (settings before) { start = n }) (first_number Start before text s)
 settings_with Uart before text l s =
     by_name Uart before text l
-    ∙ ap (λ n. record (settings before) { uart = n }) (first_number (lines_of Uart before) text (row Uart).default s)
+    ∙ ap (λ n. record (settings before) { uart = n }) (first_number Uart before text s)
 settings_with Storage before text l s =
     by_name Storage before text l
-    ∙ ap (λ n. record (settings before) { storage = n })
-    (first_number (lines_of Storage before) text (row Storage).default s)
+    ∙ ap (λ n. record (settings before) { storage = n }) (first_number Storage before text s)
 settings_with Stop before text l s =
     by_name Stop before text l
-    ∙ ap (λ p. record (settings before) { policy = p }) (first_policy (lines_of Stop before) text Stop s l)
+    ∙ ap (λ p. record (settings before) { policy = p }) (first_policy Stop before text refl s l)
 settings_with Restart before text l s =
     by_name Restart before text l
-    ∙ ap (λ p. record (settings before) { policy = p })
-    (first_policy (lines_of Stop before) text Restart (ap some (sym (one_policy before).0) ∙ s) l)
+    ∙ ap (λ p. record (settings before) { policy = p }) (first_policy Restart before text refl s l)
 settings_with Threshold before text l s =
     by_name Threshold before text l
-    ∙ ap (λ p. record (settings before) { policy = p })
-    (first_policy (lines_of Stop before) text Threshold (ap some (sym (one_policy before).1) ∙ s) l)
+    ∙ ap (λ p. record (settings before) { policy = p }) (first_policy Threshold before text refl s l)
+settings_with FilterOpen before text l s =
+    by_name FilterOpen before text l
+    ∙ ap (λ b. record (settings before) { strict = b }) (first_filter FilterOpen before text refl s l)
+settings_with FilterStrict before text l s =
+    by_name FilterStrict before text l
+    ∙ ap (λ b. record (settings before) { strict = b }) (first_filter FilterStrict before text refl s l)
 settings_with StorageFault before text l s =
     by_name StorageFault before text l
     ∙ ap (λ ks. record (settings before) { faults = ks })
@@ -227,6 +253,10 @@ stood_with Restart before text l =
     stood_by_name Restart before text l ∙ rw (stands_now (lines_of Stop before) text) refl
 stood_with Threshold before text l =
     stood_by_name Threshold before text l ∙ rw (stands_now (lines_of Stop before) text) refl
+stood_with FilterOpen before text l =
+    stood_by_name FilterOpen before text l ∙ rw (stands_now (lines_of FilterOpen before) text) refl
+stood_with FilterStrict before text l =
+    stood_by_name FilterStrict before text l ∙ rw (stands_now (lines_of FilterOpen before) text) refl
 stood_with StorageFault before text l = stood_by_name StorageFault before text l
 stood_with Random before text l = stood_by_name Random before text l
 stood_with Input before text l = stood_by_name Input before text l
@@ -256,6 +286,7 @@ settings_skipped before text h =
       not_named ws Uart (λ b. refl) refl h,
       not_named ws Storage (λ b. refl) refl h,
       not_named ws Stop (λ b. refl) refl h,
+      not_named ws FilterOpen (λ b. refl) refl h,
       not_named ws StorageFault (λ b. refl) refl h,
       not_named ws Random (λ b. refl) refl h,
       not_named ws Input (λ b. refl) refl h,
@@ -274,4 +305,5 @@ stood_skipped before text h =
       not_named ws Uart (λ b. refl) refl h,
       not_named ws Storage (λ b. refl) refl h,
       not_named ws Stop (λ b. refl) refl h,
+      not_named ws FilterOpen (λ b. refl) refl h,
     ) refl

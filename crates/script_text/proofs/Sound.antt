@@ -12,11 +12,13 @@ use Rattle.tk_base.specs.Limits.{IsRamSize}
 use Rattle.tk_base.specs.declared.limits.TheConstants.{BYTE_TICKS_LIMIT, EVENT_LIMIT, FAULT_LIMIT, INPUT_LIMIT}
 use Rattle.tk_base.specs.declared.limits.TheConstants.{LED_LIMIT, RAM_LEAST, RAM_LIMIT, RAM_UNIT, SLICE_LIMIT}
 use Rattle.tk_base.specs.declared.limits.TheConstants.{STORAGE_LIMIT, WORD_LIMIT}
+use Rattle.fault_policy.specs.declared.Policy.{Policy}
 use Rattle.fault_policy.specs.declared.Policy.TheVariants as policies
 use Rattle.decimal_number.specs.Number.{number}
 use Rattle.script_text.specs.declared.table.Line.{Line}
-use Rattle.script_text.specs.declared.table.Line.TheVariants.{Ram, Leds, Slice, Start, Uart, Storage, Stop, Restart}
-use Rattle.script_text.specs.declared.table.Line.TheVariants.{Threshold, StorageFault, Random, Input}
+use Rattle.script_text.specs.declared.table.Line.TheVariants.{Ram, Leds, Slice, Start, Uart, Storage}
+use Rattle.script_text.specs.declared.table.Line.TheVariants.{Stop, Restart, Threshold, FilterOpen, FilterStrict}
+use Rattle.script_text.specs.declared.table.Line.TheVariants.{StorageFault, Random, Input}
 use Rattle.script_text.specs.Alone.{IsLine}
 use Rattle.script_text.specs.Progress.{with_line, stood_in}
 use Rattle.script_text.specs.Rules.{disorders, exceeds, is_hex}
@@ -119,6 +121,21 @@ hex_at ws l h =
     first_hex (is_hex None (word ws 3)) (word ws 3) (find (λ w. not (is_hex None w)) (drop 4 ws))
     (ap (λ xs. is_some (find (λ w. not (is_hex None w)) xs)) (sym (drop_more ws 3 [] (omega arith))) ∙ h)
 
+-- no start, policy and filter is outside its range
+without_range : (s : ScriptSettings) (start : ℕ) (policy : Policy) (strict : Bool) → AreSound s
+    → AreSound (record s { start = start; policy = policy; strict = strict })
+without_range s start policy strict a = record {
+  ram = a.ram;
+  leds = a.leds;
+  slice_least = a.slice_least;
+  slice_most = a.slice_most;
+  uart = a.uart;
+  storage = a.storage;
+  faults = a.faults;
+  words = a.words;
+  events = a.events;
+}
+
 -- the settings with a line of the table more
 pub sound_with : (line : Line) (text : List ℕ) (s : ScriptSettings) → IsLine (words text) line
     → disorders line s (words text) ≡ false → exceeds line s (words text) ≡ false → AreSound s
@@ -166,19 +183,7 @@ sound_with Slice text s h d x a =
       words = a.words;
       events = a.events;
     }
-sound_with Start text s h d x a =
-    record {
-      ram = a.ram;
-      leds = a.leds;
-      slice_least = a.slice_least;
-      slice_most = a.slice_most;
-      uart =
-          a.uart;
-      storage = a.storage;
-      faults = a.faults;
-      words = a.words;
-      events = a.events;
-    }
+sound_with Start text s h d x a = without_range s (number (word (words text) 1)) s.policy s.strict a
 sound_with Uart text s h d x a =
     record {
       ram = a.ram;
@@ -207,45 +212,12 @@ sound_with Storage text s h d x a =
       words = a.words;
       events = a.events;
     }
-sound_with Stop text s h d x a =
-    record {
-      ram = a.ram;
-      leds = a.leds;
-      slice_least = a.slice_least;
-      slice_most = a.slice_most;
-      uart =
-          a.uart;
-      storage = a.storage;
-      faults = a.faults;
-      words = a.words;
-      events = a.events;
-    }
-sound_with Restart text s h d x a =
-    record {
-      ram = a.ram;
-      leds = a.leds;
-      slice_least = a.slice_least;
-      slice_most = a.slice_most;
-      uart =
-          a.uart;
-      storage = a.storage;
-      faults = a.faults;
-      words = a.words;
-      events = a.events;
-    }
+sound_with Stop text s h d x a = without_range s s.start policies.Stop s.strict a
+sound_with Restart text s h d x a = without_range s s.start policies.Restart s.strict a
 sound_with Threshold text s h d x a =
-    record {
-      ram = a.ram;
-      leds = a.leds;
-      slice_least = a.slice_least;
-      slice_most = a.slice_most;
-      uart =
-          a.uart;
-      storage = a.storage;
-      faults = a.faults;
-      words = a.words;
-      events = a.events;
-    }
+    without_range s s.start (policies.Threshold (number (word (words text) 2))) s.strict a
+sound_with FilterOpen text s h d x a = without_range s s.start s.policy false a
+sound_with FilterStrict text s h d x a = without_range s s.start s.policy true a
 sound_with StorageFault text s h d x a =
     let n = number (word (words text) 1) in
     let after = neither (nat_lt 0 (length s.events)) (nat_le n (last s.faults)) d in
@@ -320,6 +292,7 @@ pub said_at_first : (ram leds slice start uart storage : ℕ) (ks ws : List ℕ)
       storage =
           storage;
       policy = policies.Stop;
+      strict = false;
       faults = ks;
       words = ws;
       events = es;
@@ -327,7 +300,7 @@ pub said_at_first : (ram leds slice start uart storage : ℕ) (ks ws : List ℕ)
 unfolding lines_of
 said_at_first ram leds slice start uart storage ks ws es a b c d e f k w v = rw (a, b, c, d, e, f, k, w, v) refl
 
-pub none_at_first : stood_in [] ≡ false ∷ false ∷ false ∷ false ∷ false ∷ false ∷ false ∷ []
+pub none_at_first : stood_in [] ≡ false ∷ false ∷ false ∷ false ∷ false ∷ false ∷ false ∷ false ∷ []
 unfolding lines_of
 none_at_first = refl
 

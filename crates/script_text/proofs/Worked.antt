@@ -1,6 +1,6 @@
 -- Worked cases of the reading, computed from the definitions alone: what scripts say, and for which line and rule they
 -- are refused. What they say was put together by hand from the table of lines at `read_script`.
-use Rattle.std.proofs.Common.{◌≡◌, ℕ, List, [], ◌∷◌, ◌++◌, map, replicate, codes, Result, Ok, Err, refl}
+use Rattle.std.proofs.Common.{◌≡◌, ℕ, true, false, List, [], ◌∷◌, ◌++◌, map, replicate, codes, Result, Ok, Err, refl}
 use Rattle.hex.specs.Hex.{decode_pairs}
 use Rattle.fault_policy.specs.declared.Policy.TheVariants.{Stop, Restart, Threshold}
 use Rattle.script_text.specs.declared.rule.ScriptRule.{ScriptRule}
@@ -23,6 +23,7 @@ nothing = record {
   uart = 1;
   storage = 512;
   policy = Stop;
+  strict = false;
   faults = [];
   words = [];
   events = [];
@@ -40,7 +41,7 @@ blank =
     ∷ (codes "#ram 1\nram 8192\n#ram 2", record nothing { ram = 8192 })
     ∷ []
 
--- the ends of the ranges, and the policies
+-- the ends of the ranges, the policies and the filters
 numbers : List (List ℕ × ScriptSettings)
 numbers =
     (codes "ram 262144\n", record nothing { ram = 262144 })
@@ -51,7 +52,9 @@ numbers =
       record nothing { ram = 4096; leds = 16; slice = 1000000; policy = Threshold 4294967295 },
     )
     ∷ (codes "slice 2\npolicy threshold 2", record nothing { slice = 2; policy = Threshold 2 })
-    ∷ (codes "policy stop", nothing)
+    ∷ (codes "policy stop", nothing) ∷ (codes "filter strict", record nothing { strict = true })
+    ∷ (codes "filter open", nothing)
+    ∷ (codes "filter\tstrict\npolicy restart", record nothing { policy = Restart; strict = true })
     ∷ (
       codes "start 4294967280\nuart 0\nstorage 4096",
       record nothing { start = 4294967280; uart = 0; storage = 4096 },
@@ -82,11 +85,12 @@ refused_for : ScriptRule → List (ℕ × List ℕ)
 refused_for UnknownWord =
     (1, codes "rom 4096") ∷ (1, codes "Ram 4096") ∷ (1, codes "ra") ∷ (1, codes "ram\r4096")
     ∷ (4, codes "\n# x\r\nram 4096\r\nrams 1 2") ∷ (2, codes "ram 4096\n\u{b}\nx") ∷ (1, codes "policy go on now")
-    ∷ (2, codes "leds 4\nat 5 output 00") ∷ []
+    ∷ (2, codes "leds 4\nat 5 output 00") ∷ (1, codes "filter closed") ∷ (1, codes "filter Open")
+    ∷ (1, codes "filter shut now") ∷ []
 refused_for Words =
     (1, codes "ram") ∷ (1, codes "ram 4096 # x") ∷ (2, codes "ram 4096\nram\r\n") ∷ (1, codes "policy")
     ∷ (1, codes "policy threshold") ∷ (1, codes "policy stop 1") ∷ (1, codes "storage-fault 1 2")
-    ∷ (1, codes "random") ∷ (1, codes "at 5 input") ∷ []
+    ∷ (1, codes "random") ∷ (1, codes "at 5 input") ∷ (1, codes "filter") ∷ (1, codes "filter strict # x") ∷ []
 refused_for BadNumber =
     (1, codes "ram +4096") ∷ (1, codes "ram 00000004096") ∷ (1, codes "ram 4096\r\r\n") ∷ (2, codes "ram 4096\nram x")
     ∷ (1, codes "policy threshold -1") ∷ (1, codes "at 12345678901 input 41") ∷ []
@@ -99,10 +103,11 @@ refused_for OutOfRange =
     ∷ (1, codes "storage 4097") ∷ (1, codes "storage-fault 0") ∷ (1, codes "at 4294967296 input 41") ∷ []
 refused_for Repeated =
     (2, codes "ram 8192\nram 8192") ∷ (3, codes "ram 65536\r\n#\r\nram 4096\r\nx")
-    ∷ (2, codes "policy stop\npolicy restart") ∷ (3, codes "slice 1\nleds 4\nslice 1") ∷ []
+    ∷ (2, codes "policy stop\npolicy restart") ∷ (3, codes "slice 1\nleds 4\nslice 1")
+    ∷ (2, codes "filter strict\nfilter strict") ∷ (2, codes "filter open\nfilter strict") ∷ []
 refused_for Order =
     (2, codes "storage-fault 2\nstorage-fault 2") ∷ (2, codes "at 5 input 41\nat 4 input 41")
-    ∷ (2, codes "at 5 input 41\nrandom 11223344") ∷ []
+    ∷ (2, codes "at 5 input 41\nrandom 11223344") ∷ (2, codes "at 5 input 41\nfilter strict") ∷ []
 refused_for TooMany =
     (1, codes "at 5 input " ++ replicate 130 48) ∷ []
 

@@ -1,11 +1,11 @@
 -- Only proofs use this: what is kept of the lines so far.
-use Rattle.std.specs.Prelude.{◌≡◌, ℕ, Bool, List, [], ◌∷◌, ◌++◌, map, drop, Some, None, Result, Ok, Err}
+use Rattle.std.specs.Prelude.{◌≡◌, ℕ, Bool, true, false, List, [], ◌∷◌, ◌++◌, map, drop, Some, None, Result, Ok, Err}
 use Rattle.script_text.specs.declared.draft.Draft.TheInside.{Inside}
 use Rattle.script_text.specs.declared.draft.Trouble.{Trouble}
 use Rattle.script_text.specs.declared.draft.Trouble.TheVariants.{Breaks, Memory}
 use Rattle.script_text.specs.declared.table.Line.{Line}
 use Rattle.script_text.specs.declared.table.Line.TheVariants.{Ram, Leds, Slice, Start, Uart, Storage, Stop}
-use Rattle.script_text.specs.declared.table.Line.TheVariants.{StorageFault, Random, Input}
+use Rattle.script_text.specs.declared.table.Line.TheVariants.{FilterOpen, FilterStrict, StorageFault, Random, Input}
 use Rattle.decimal_number.specs.Number.{number}
 use Rattle.script_text.specs.Settings.{ScriptSettings, AreSound}
 use Rattle.script_text.specs.Text.{word}
@@ -27,6 +27,7 @@ drafted_by d = record {
     uart = d.uart;
     storage = d.storage;
     policy = d.policy;
+    strict = d.strict;
     faults = d.faults.items;
     words = d.words.items;
     events = d.events.items;
@@ -38,7 +39,7 @@ drafted_by d = record {
 abbrev pub stood_in : List (List ℕ) → List Bool
 stood_in all =
     stands Ram all ∷ stands Leds all ∷ stands Slice all ∷ stands Start all ∷ stands Uart all ∷ stands Storage all
-    ∷ stands Stop all ∷ []
+    ∷ stands Stop all ∷ stands FilterOpen all ∷ []
 
 -- a draft has what these lines say
 pub record DraftSays (before : List (List ℕ)) (draft : Drafted) : Type 0 where
@@ -54,6 +55,8 @@ with_line Slice ws said = record said { slice = number (word ws 1) }
 with_line Start ws said = record said { start = number (word ws 1) }
 with_line Uart ws said = record said { uart = number (word ws 1) }
 with_line Storage ws said = record said { storage = number (word ws 1) }
+with_line FilterOpen ws said = record said { strict = false }
+with_line FilterStrict ws said = record said { strict = true }
 with_line StorageFault ws said = record said { faults = said.faults ++ number (word ws 1) ∷ [] }
 with_line Random ws said = record said { words = said.words ++ map hex_word (drop 1 ws) }
 with_line Input ws said = record said {

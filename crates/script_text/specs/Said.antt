@@ -1,6 +1,6 @@
 -- What lines say that have no fault. It is this board's own rule.
-use Rattle.std.specs.Prelude.{ℕ, ◌-◌, Bool, nat_lt, List, [], map, filter, flat_map, length, drop, slice_index}
-use Rattle.std.specs.Prelude.{slice_index_or}
+use Rattle.std.specs.Prelude.{ℕ, ◌-◌, Bool, true, false, nat_lt, List, [], map, filter, flat_map, length, drop}
+use Rattle.std.specs.Prelude.{slice_index, slice_index_or}
 use Rattle.std.specs.Int.{w32, from_be_bytes}
 use Rattle.std.specs.Option.{option_map_or}
 use Rattle.std.specs.Result.{result_unwrap_or}
@@ -10,8 +10,9 @@ use Rattle.decimal_number.specs.Number.{number}
 use Rattle.fault_policy.specs.declared.Policy.{Policy}
 use Rattle.fault_policy.specs.declared.Policy.TheVariants as policies
 use Rattle.script_text.specs.declared.table.Line.{Line}
-use Rattle.script_text.specs.declared.table.Line.TheVariants.{Ram, Leds, Slice, Start, Uart, Storage, Stop, Restart}
-use Rattle.script_text.specs.declared.table.Line.TheVariants.{Threshold, StorageFault, Random, Input}
+use Rattle.script_text.specs.declared.table.Line.TheVariants.{Ram, Leds, Slice, Start, Uart, Storage}
+use Rattle.script_text.specs.declared.table.Line.TheVariants.{Stop, Restart, Threshold, FilterOpen, FilterStrict}
+use Rattle.script_text.specs.declared.table.Line.TheVariants.{StorageFault, Random, Input}
 use Rattle.script_text.specs.Settings.{ScriptSettings, ScriptEvent}
 use Rattle.script_text.specs.Table.{row, line_of}
 use Rattle.script_text.specs.Text.{words, word}
@@ -46,6 +47,15 @@ policy_by line ws = policies.Stop
 abbrev pub policy_on : List ℕ → Policy
 policy_on text = option_map_or (λ line. policy_by line (words text)) (line_of (words text)) policies.Stop
 
+-- the filter that a line names is the strict one
+abbrev pub is_strict_by : Line → Bool
+is_strict_by FilterStrict = true
+is_strict_by line = false
+
+-- the filter that a `filter` line names is the strict one
+abbrev pub is_strict_on : List ℕ → Bool
+is_strict_on text = option_map_or is_strict_by (line_of (words text)) false
+
 -- the bytes that hex digits write, two for each
 unfoldable pub hex_bytes : List ℕ → List ℕ
 hex_bytes w = result_unwrap_or (decode_of w) []
@@ -72,6 +82,7 @@ settings all = record {
   uart = number_said Uart all;
   storage = number_said Storage all;
   policy = slice_index_or (map policy_on (lines_of Stop all)) 0 policies.Stop;
+  strict = slice_index_or (map is_strict_on (lines_of FilterOpen all)) 0 false;
   faults = numbers_of StorageFault all;
   words = flat_map words_on (lines_of Random all);
   events = map event_on (lines_of Input all);

@@ -3,8 +3,9 @@ use Rattle.std.specs.Prelude.{ℕ, true, false, Bool, List, slice_index_or, slic
 use Rattle.std.specs.Option.{option_map_or}
 use Rattle.script_text.specs.declared.table.Form.{Form}
 use Rattle.script_text.specs.declared.table.Line.{Line}
-use Rattle.script_text.specs.declared.table.Line.TheVariants.{Ram, Leds, Slice, Start, Uart, Storage, Stop, Restart}
-use Rattle.script_text.specs.declared.table.Line.TheVariants.{Threshold, StorageFault, Random, Input}
+use Rattle.script_text.specs.declared.table.Line.TheVariants.{Ram, Leds, Slice, Start, Uart, Storage}
+use Rattle.script_text.specs.declared.table.Line.TheVariants.{Stop, Restart, Threshold, FilterOpen, FilterStrict}
+use Rattle.script_text.specs.declared.table.Line.TheVariants.{StorageFault, Random, Input}
 use Rattle.script_text.specs.Table.{row}
 
 -- the place of a line among those that may not repeat
@@ -18,6 +19,8 @@ seat Storage = Some 5
 seat Stop = Some 6
 seat Restart = Some 6
 seat Threshold = Some 6
+seat FilterOpen = Some 7
+seat FilterStrict = Some 7
 seat StorageFault = None
 seat Random = None
 seat Input = None

@@ -1,5 +1,5 @@
 -- What a script says. It is this board's own.
-use Rattle.std.specs.Prelude.{ℕ, ◌+◌, ◌<◌, ◌≤◌, List, length, map, slice_index}
+use Rattle.std.specs.Prelude.{ℕ, ◌+◌, ◌<◌, ◌≤◌, Bool, List, length, map, slice_index}
 use Rattle.std.specs.List.{All}
 use Rattle.tk_base.specs.declared.limits.TheConstants.{BYTE_TICKS_LIMIT, EVENT_LIMIT, FAULT_LIMIT, INPUT_LIMIT}
 use Rattle.tk_base.specs.declared.limits.TheConstants.{LED_LIMIT, SLICE_LIMIT, STORAGE_LIMIT, WORD_LIMIT}
@@ -26,6 +26,8 @@ pub record ScriptSettings : Type 0 where
   -- the bytes of storage of each slot
   pub storage : ℕ
   pub policy : Policy
+  -- whether a process without the Permissions element may give no command, subscribe or allow
+  pub strict : Bool
   -- the numbers of the storage requests that fail, counted from 1
   pub faults : List ℕ
   -- the words that the source of random words gives

@@ -11,6 +11,7 @@ settings_of s = record {
   uart = s.uart;
   storage = s.storage;
   policy = s.policy;
+  strict = s.strict;
   faults = s.faults.items;
   words = s.words;
   events = s.events;

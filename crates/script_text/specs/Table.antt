@@ -9,16 +9,17 @@ use Rattle.tk_base.specs.declared.limits.TheConstants.{SLICE_LIMIT, STORAGE_LIMI
 use Rattle.script_text.specs.declared.table.Form.{Form}
 use Rattle.script_text.specs.declared.table.Key.{Key as KeyWord}
 use Rattle.script_text.specs.declared.table.Line.{Line}
-use Rattle.script_text.specs.declared.table.Line.TheVariants.{Ram, Leds, Slice, Start, Uart, Storage, Stop, Restart}
-use Rattle.script_text.specs.declared.table.Line.TheVariants.{Threshold, StorageFault, Random, Input}
+use Rattle.script_text.specs.declared.table.Line.TheVariants.{Ram, Leds, Slice, Start, Uart, Storage}
+use Rattle.script_text.specs.declared.table.Line.TheVariants.{Stop, Restart, Threshold, FilterOpen, FilterStrict}
+use Rattle.script_text.specs.declared.table.Line.TheVariants.{StorageFault, Random, Input}
 use Rattle.script_text.specs.declared.table.NumberAt.{NumberAt}
 use Rattle.script_text.specs.declared.table.Range.{Range}
 use Rattle.script_text.specs.Text.{word}
 
 -- the lines of the table, in its order
 abbrev pub line_table : List Line
-line_table = Ram ∷ Leds ∷ Slice ∷ Start ∷ Uart ∷ Storage ∷ Stop ∷ Restart ∷ Threshold ∷ StorageFault ∷ Random ∷ Input
-    ∷ []
+line_table = Ram ∷ Leds ∷ Slice ∷ Start ∷ Uart ∷ Storage ∷ Stop ∷ Restart ∷ Threshold ∷ FilterOpen ∷ FilterStrict
+    ∷ StorageFault ∷ Random ∷ Input ∷ []
 
 -- the word that tells a line from others of its name, and its place
 pub record Key : Type 0 where
@@ -45,10 +46,10 @@ numbered name range default = record {
   default = default;
 }
 
--- a line of the fault policy: the policy's word comes second
-abbrev pub policy : List ℕ → ℕ → Option NumberAt → Row
-policy word words number = record {
-  name = codes "policy";
+-- a line whose second word tells it from others of its name
+abbrev pub chosen : List ℕ → List ℕ → ℕ → Option NumberAt → Row
+chosen name word words number = record {
+  name = name;
   key = Some (record { place = 1; word = word });
   form = record { words = words; more = false; number = number; hex = None };
   default = 0;
@@ -62,9 +63,12 @@ row Slice = numbered (codes "slice") (from_to 1 SLICE_LIMIT) 100
 row Start = numbered (codes "start") (from_to 0 4294967295) 0
 row Uart = numbered (codes "uart") (from_to 0 BYTE_TICKS_LIMIT) 1
 row Storage = numbered (codes "storage") (from_to 0 STORAGE_LIMIT) 512
-row Stop = policy (codes "stop") 2 None
-row Restart = policy (codes "restart") 2 None
-row Threshold = policy (codes "threshold") 3 (Some (record { place = 2; range = from_to 0 4294967295 }))
+row Stop = chosen (codes "policy") (codes "stop") 2 None
+row Restart = chosen (codes "policy") (codes "restart") 2 None
+row Threshold =
+    chosen (codes "policy") (codes "threshold") 3 (Some (record { place = 2; range = from_to 0 4294967295 }))
+row FilterOpen = chosen (codes "filter") (codes "open") 2 None
+row FilterStrict = chosen (codes "filter") (codes "strict") 2 None
 row StorageFault = numbered (codes "storage-fault") (from_to 1 4294967295) 0
 row Random = record {
   name = codes "random";

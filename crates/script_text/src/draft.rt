@@ -39,10 +39,11 @@ pub struct Draft {
     uart: u32,
     storage: u32,
     policy: Policy,
+    strict: bool,
     faults: ArrayVec<u32, FAULT_LIMIT>,
     words: Vec<u32>,
     events: Vec<TimedEvent>,
-    stood: [bool; 7],
+    stood: [bool; 8],
 }
 
 impl Model for Draft {
@@ -54,8 +55,8 @@ impl Model for Draft {
 }
 
 impl Line {
-    /// Its place among those that may not repeat. The three of the fault policy have one. None for one
-    /// that may repeat.
+    /// Its place among those that may not repeat. The lines of the fault policy have one, and so have
+    /// those of the filter. None for one that may repeat.
     fn seat(self) -> Option<usize>
         ensures { result ≡ seat self }
     {
@@ -67,6 +68,7 @@ impl Line {
             Line::Uart => Some(4),
             Line::Storage => Some(5),
             Line::Stop | Line::Restart | Line::Threshold => Some(6),
+            Line::FilterOpen | Line::FilterStrict => Some(7),
             Line::StorageFault | Line::Random | Line::Input => None,
         }
     }
@@ -163,10 +165,11 @@ impl Draft {
             uart: Line::Uart.row().default,
             storage: Line::Storage.row().default,
             policy: Policy::Stop,
+            strict: false,
             faults: ArrayVec::new(),
             words: Vec::new(alloc),
             events: Vec::new(alloc),
-            stood: [false; 7],
+            stood: [false; 8],
         }
     }
 
@@ -242,6 +245,8 @@ impl Draft {
             Line::Stop => self.policy = Policy::Stop,
             Line::Restart => self.policy = Policy::Restart,
             Line::Threshold => self.policy = Policy::Threshold(small_at(text, 2)),
+            Line::FilterOpen => self.strict = false,
+            Line::FilterStrict => self.strict = true,
             Line::StorageFault => self.faults.push(small_at(text, 1)),
             Line::Random => add_words(&mut self.words, text)?,
             Line::Input => self.events.push(TimedEvent {
@@ -292,6 +297,7 @@ impl Draft {
             uart: self.uart,
             storage: self.storage,
             policy: self.policy,
+            strict: self.strict,
             faults: self.faults,
             words: WordList::new(self.words),
             events: EventList::new(self.events),

@@ -32,6 +32,7 @@ fn bad(line: u32, rule: ScriptRule) -> ScriptError
 /// | `uart N` | 0 to 1000 | 1 |
 /// | `storage N` | 0 to 4096 | 512 |
 /// | `policy stop`, `policy restart`, `policy threshold N` | 0 to 4294967295 | `stop` |
+/// | `filter open`, `filter strict` | | `open` |
 /// | `storage-fault K`, at most 64, rising | 1 to 4294967295 | none |
 /// | `random W ..`, at most 4096 words of 8 hex digits | | none |
 /// | `at T input H`, at most 4096, with 1 to 64 bytes in hex; T never falls | 0 to 4294967295 | none |

@@ -7,7 +7,7 @@ use thiserror::Error;
 /// A rule that a line of a script may break, in the order in which they count.
 #[derive(Clone, Copy, Debug, PartialEq, Eq)]
 pub enum ScriptRule {
-    /// The first word is not known, or that after `policy`, or the third one after `at`.
+    /// The first word is not known, or that after `policy` or `filter`, or the third one after `at`.
     UnknownWord,
     /// The number of words is wrong.
     Words,

@@ -77,6 +77,8 @@ pub struct Script {
     /// The bytes of storage of each slot.
     pub storage: u32,
     pub policy: Policy,
+    /// Whether a process without the Permissions element may give no command, subscribe or allow.
+    pub strict: bool,
     /// The numbers of the storage requests that fail, counted from 1.
     pub faults: ArrayVec<u32, FAULT_LIMIT>,
     /// The words that the source of random words gives.

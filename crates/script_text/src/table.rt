@@ -1,5 +1,5 @@
 //! The table of lines.
-ghost use Rattle.std.specs.Prelude.{◌≡◌, ◌<◌, false, codes, Some, None, option_map, IfSome};
+ghost use Rattle.std.specs.Prelude.{◌≡◌, ◌<◌, false, Some, None, option_map, IfSome};
 ghost use Rattle.script_text.specs.Table.{row, key_of, line_fits, line_of};
 ghost use Rattle.script_text.specs.Text.{words};
 
@@ -29,6 +29,10 @@ pub enum Line {
     Restart,
     /// `policy threshold N`: it begins again where it had fewer restarts than that.
     Threshold,
+    /// `filter open`: an object without the Permissions element may make every call.
+    FilterOpen,
+    /// `filter strict`: it may give no command, subscribe or allow.
+    FilterStrict,
     /// `storage-fault K`: the K-th storage request fails.
     StorageFault,
     /// `random W ..`: words that the source of random words gives.
@@ -38,7 +42,7 @@ pub enum Line {
 }
 
 /// The lines of the table, in its order.
-const TABLE: [Line; 12] = [
+const TABLE: [Line; 14] = [
     Line::Ram,
     Line::Leds,
     Line::Slice,
@@ -48,6 +52,8 @@ const TABLE: [Line; 12] = [
     Line::Stop,
     Line::Restart,
     Line::Threshold,
+    Line::FilterOpen,
+    Line::FilterStrict,
     Line::StorageFault,
     Line::Random,
     Line::Input,
@@ -152,16 +158,21 @@ const fn numbered(name: &'static [u8], range: Range, default: u32) -> Row
     }
 }
 
-/// A line of the fault policy: the policy's word comes second.
-const fn policy(word: &'static [u8], words: usize, number: Option<NumberAt>) -> Row
-    ensures name { result.name.now ≡ codes "policy" }
+/// A line whose second word tells it from others of its name.
+const fn chosen(
+    name: &'static [u8],
+    word: &'static [u8],
+    words: usize,
+    number: Option<NumberAt>,
+) -> Row
+    ensures name { result.name.now ≡ name.now }
     ensures key { option_map key_of result.key ≡ Some (record { place = 1; word = word.now }) }
     ensures form { result.form
         ≡ record { words = words; more = false; number = number; hex = None } }
     ensures default { result.default ≡ 0 }
 {
     Row {
-        name: b"policy",
+        name,
         key: Some(Key { place: 1, word }),
         form: Form {
             words,
@@ -197,9 +208,10 @@ impl Line {
             Line::Start => numbered(b"start", from_to(0, 4_294_967_295), 0),
             Line::Uart => numbered(b"uart", from_to(0, BYTE_TICKS_LIMIT as u64), 1),
             Line::Storage => numbered(b"storage", from_to(0, STORAGE_LIMIT as u64), 512),
-            Line::Stop => policy(b"stop", 2, None),
-            Line::Restart => policy(b"restart", 2, None),
-            Line::Threshold => policy(
+            Line::Stop => chosen(b"policy", b"stop", 2, None),
+            Line::Restart => chosen(b"policy", b"restart", 2, None),
+            Line::Threshold => chosen(
+                b"policy",
                 b"threshold",
                 3,
                 Some(NumberAt {
@@ -207,6 +219,8 @@ impl Line {
                     range: from_to(0, 4_294_967_295),
                 }),
             ),
+            Line::FilterOpen => chosen(b"filter", b"open", 2, None),
+            Line::FilterStrict => chosen(b"filter", b"strict", 2, None),
             Line::StorageFault => numbered(b"storage-fault", from_to(1, 4_294_967_295), 0),
             Line::Random => Row {
                 name: b"random",
