@@ -46,8 +46,9 @@ both true c e = (refl, e)
 both false c e = cc
 
 -- a call that is left to its driver is one that a driver takes
-pub taken_of : (object : List ℕ) (call : SystemCall) → is_for_driver object call ≡ true → is_driver_command call ≡ true
-taken_of object call for = (both (object_permits object call) (is_driver_command call) for).1
+pub taken_of : (strict : Bool) (object : List ℕ) (call : SystemCall) → is_for_driver strict object call ≡ true
+    → is_driver_command call ≡ true
+taken_of strict object call for = (both (object_permits strict object call) (is_driver_command call) for).1
 
 -- what is there
 pub some_of : {A : Type 0} (o : Option A) → is_some o ≡ true → (a : A) × (o ≡ Some a)
@@ -111,7 +112,7 @@ module _ (m : Moment) (slot : ℕ) (home home' : Homes) (order : Order) (answer 
   pub finishes : (p p' : Process) (call : SystemCall) (o : Outcome) (taker : CommandHandler)
       → handler_of order.driver ≡ Some taker
       → call ≡ Command order.driver order.number order.a2 order.a3
-      → is_for_driver (object_in home.flash p.object) call ≡ true
+      → is_for_driver m.settings.strict (object_in home.flash p.object) call ≡ true
       → Came m slot home home' order answer d d' taker → p'.object ≡ p.object → home'.flash ≡ home.flash
       → ((r : Record) → ServingComesTo (given (with_process r p) answer) (with_process r p') o)
       → Finishes m slot home p call home' p' o d d'
@@ -122,7 +123,7 @@ module _ (m : Moment) (slot : ℕ) (home home' : Homes) (order : Order) (answer 
         let r = record_in home.flash p own storage in
         ap (λ (b : Bool). cond b (by_form around r (form_of call))
         (refused_with r Permission (failure_of (form_of call) Permission)))
-        (both (object_permits (object_in home.flash p.object) call) (is_driver_command call) for).0
+        (both (object_permits m.settings.strict (object_in home.flash p.object) call) (is_driver_command call) for).0
         ∙ ap (λ (c : SystemCall). by_form around r (form_of c)) is
         ∙ ap (taken_by around order.number order.a2 order.a3 r) found
         ∙ ap (commanded r) (sym known)
@@ -156,15 +157,15 @@ module _ (m : Moment) (slot : ℕ) (home home' : Homes) (order : Order) (answer 
       known = λ i. record { answer = c.answer; own = come.1 i; acts = c.acts }
 
 -- what comes of a call that is not left to its driver
-pub is_served : (slot : ℕ) (home home' : Homes) (p p' : Process) (call : SystemCall) (o : Outcome)
-    → ServesAt slot home p call home' p' o → (o ≡ ToDriver → ⊥) → IsServed slot home home' p p' call o
-is_served slot home home' p p' call (Replied reply rule) s n = s
-is_served slot home home' p p' call ToDriver s n = absurd (n refl)
-is_served slot home home' p p' call Waits s n = s
-is_served slot home home' p p' call Delivered s n = s
-is_served slot home home' p p' call GoesOn s n = s
-is_served slot home home' p p' call Ended s n = s
-is_served slot home home' p p' call Again s n = s
+pub is_served : (strict : Bool) (slot : ℕ) (home home' : Homes) (p p' : Process) (call : SystemCall) (o : Outcome)
+    → ServesAt strict slot home p call home' p' o → (o ≡ ToDriver → ⊥) → IsServed strict slot home home' p p' call o
+is_served strict slot home home' p p' call (Replied reply rule) s n = s
+is_served strict slot home home' p p' call ToDriver s n = absurd (n refl)
+is_served strict slot home home' p p' call Waits s n = s
+is_served strict slot home home' p p' call Delivered s n = s
+is_served strict slot home home' p p' call GoesOn s n = s
+is_served strict slot home home' p p' call Ended s n = s
+is_served strict slot home home' p p' call Again s n = s
 
 -- what was left of a call is known by other names
 pub finishes_as : (m : Moment) (slot : ℕ) (home : Homes) (p : Process) (call : SystemCall) (h k : Homes) (q r : Process)
@@ -178,7 +179,7 @@ finishes_as m slot home p call h k q r o u d e f at same out by finish =
 
 -- a call that was left to its driver began as the kernel's
 pub finishes_left : (m : Moment) (slot : ℕ) (home h k : Homes) (p q r : Process) (call : SystemCall) (o : Outcome)
-    (d d' : Drivers) → IsLeft home h p q call
+    (d d' : Drivers) → IsLeft m.settings.strict home h p q call
     → Finishes m slot h q call k r o d d' → Finishes m slot home p call k r o d d'
 finishes_left m slot home h k p q r call o d d' left finish =
     subst (λ (x : Homes). Finishes m slot x p call k r o d d') left.home_stays
@@ -186,7 +187,8 @@ finishes_left m slot home h k p q r call o d d' left finish =
 
 -- a call that the kernel served itself
 pub served_itself : (m : Moment) (slot : ℕ) (home home' : Homes) (p p' : Process) (call : SystemCall) (o : Outcome)
-    (d d' : Drivers) → IsServed slot home home' p p' call o → Drives (id_of slot (own_of home slot)) (acts_for o) d d'
+    (d d' : Drivers) → IsServed m.settings.strict slot home home' p p' call o
+    → Drives (id_of slot (own_of home slot)) (acts_for o) d d'
     → Finishes m slot home p call home' p' o d d'
 served_itself m slot home home' p p' call o d d' is drives =
     record { acts = acts_for o; serves = is.comes (surroundings m.settings m.time); drives = drives }

@@ -109,7 +109,7 @@ pub record Finishes (m : Moment) (slot : ℕ) (home : Homes) (process : Process)
     (process_after : Process) (outcome : Outcome) (d d_after : Drivers) : Type 0 where
   pub acts : List BoardRequest
   pub serves : (storage : List ℕ) →
-      served (surroundings m.settings m.time) (record_of_slot home slot process storage) call
+      served m.settings.strict (surroundings m.settings m.time) (record_of_slot home slot process storage) call
       ≡ record { after = record_of_slot home_after slot process_after storage; outcome = outcome; acts = acts }
   pub drives : Drives (id_of slot (own_of home slot)) acts d d_after
 

@@ -169,6 +169,7 @@ fn settings_of(script: &Script) -> Settings
         start: script.start,
         storage: script.storage,
         policy: script.policy,
+        strict: false,
     }
 }
 

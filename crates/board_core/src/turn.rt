@@ -179,7 +179,8 @@ fn command_driver(
 ) -> Outcome
     requires turn { InTurn moment.now slot home.old process.old }
     requires may { MayServe moment.now drivers.old slot (own_of home.old slot) }
-    requires left { is_for_driver (object_in home.old.flash process.old.object) call.now ≡ true }
+    requires left { is_for_driver moment.now.settings.strict
+        (object_in home.old.flash process.old.object) call.now ≡ true }
     ensures serves { Finishes moment.now slot home.old process.old call.now home.new process.new
         result drivers.old drivers.new }
     ensures leaves { LeavesSlot (moment.now.steps + 1) slot home.old home.new process.new }
@@ -236,7 +237,7 @@ fn serve(
     let layout = home.layout(slot);
     let life = process.restarts;
     let id = ProcessId { slot, life };
-    let outcome = match kernel_call(home, process, slot, call) {
+    let outcome = match kernel_call(home, process, slot, call, moment.settings.strict) {
         Outcome::ToDriver => command_driver(home, process, drivers, slot, call, moment),
         outcome => {
             if is_gone(outcome) {

@@ -34,35 +34,34 @@ no_driver around r form driver number a2 a3 is free =
     by_taker (Some taker) free = absurd (cc)
 
 -- a call that is served is left to no driver
-comes_so : (law : NoneIsLeft) (slot : ℕ) (home home_after : Homes) (p q : Process) (call : Call) (o : Outcome)
-    → is_for_driver (object_in home.flash p.object) call ≡ false
+comes_so : (law : NoneIsLeft) (strict : Bool) (slot : ℕ) (home home_after : Homes) (p q : Process) (call : Call)
+    (o : Outcome) → is_for_driver strict (object_in home.flash p.object) call ≡ false
     → ((around : CommandContext) (storage : List ℕ)
-    → ServingComesTo (served around (record_of_slot home slot p storage) call)
+    → ServingComesTo (served strict around (record_of_slot home slot p storage) call)
     (record_of_slot home_after slot q storage) o)
-    → ServesAt slot home p call home_after q o
-comes_so law slot home home_after p q call ToDriver free comes =
-    absurd (law nothing (record_of_slot home slot p []) call (ap (λ (s : Served). s.outcome) (comes nothing [])))
+    → ServesAt strict slot home p call home_after q o
+comes_so law strict slot home home_after p q call ToDriver free comes =
+    absurd (law strict nothing (record_of_slot home slot p []) call (ap (λ (s : Served). s.outcome) (comes nothing [])))
   where
     nothing : CommandContext
     nothing = record { now = 0; leds = 0; storage = 0 }
-comes_so law slot home home_after p q call (Replied reply rule) free comes =
+comes_so law strict slot home home_after p q call (Replied reply rule) free comes =
     record { not_for_driver = free; comes = comes }
-comes_so law slot home home_after p q call Waits free comes = record { not_for_driver = free; comes = comes }
-comes_so law slot home home_after p q call Delivered free comes = record { not_for_driver = free; comes = comes }
-comes_so law slot home home_after p q call GoesOn free comes = record { not_for_driver = free; comes = comes }
-comes_so law slot home home_after p q call Ended free comes = record { not_for_driver = free; comes = comes }
-comes_so law slot home home_after p q call Again free comes = record { not_for_driver = free; comes = comes }
+comes_so law strict slot home home_after p q call Waits free comes = record { not_for_driver = free; comes = comes }
+comes_so law strict slot home home_after p q call Delivered free comes = record { not_for_driver = free; comes = comes }
+comes_so law strict slot home home_after p q call GoesOn free comes = record { not_for_driver = free; comes = comes }
+comes_so law strict slot home home_after p q call Ended free comes = record { not_for_driver = free; comes = comes }
+comes_so law strict slot home home_after p q call Again free comes = record { not_for_driver = free; comes = comes }
 
 -- a call that is not permitted
-pub not_permitted : (law : NoneIsLeft) (slot : ℕ) (home : Homes) (p q : Process) (call : Call) (o : Outcome)
-    (failure : Reply)
-    → object_permits (object_in home.flash p.object) call ≡ false → failure ≡ failure_of (form_of call) Permission
-    → q.object ≡ p.object
+pub not_permitted : (law : NoneIsLeft) (strict : Bool) (slot : ℕ) (home : Homes) (p q : Process) (call : Call)
+    (o : Outcome) (failure : Reply) → object_permits strict (object_in home.flash p.object) call ≡ false
+    → failure ≡ failure_of (form_of call) Permission → q.object ≡ p.object
     → ((r : Record) → ServingComesTo (refused_with (with_process r p) Permission failure) (with_process r q) o)
-    → ServesAt slot home p call home q o
+    → ServesAt strict slot home p call home q o
 unfolding served
-not_permitted law slot home p q call o failure forbidden is same refuses =
-    comes_so law slot home home p q call o (ap (λ (b : Bool). b && is_driver_command call) forbidden)
+not_permitted law strict slot home p q call o failure forbidden is same refuses =
+    comes_so law strict slot home home p q call o (ap (λ (b : Bool). b && is_driver_command call) forbidden)
     (λ around storage. let r = record_of_slot home slot p storage in
     ap (λ (b : Bool). if b then by_form around r (form_of call)
     else refused_with r Permission (failure_of (form_of call) Permission)) forbidden
@@ -72,16 +71,16 @@ not_permitted law slot home p q call o failure forbidden is same refuses =
     (of_object home.flash p q (own_of home slot) storage same))
 
 -- one that is, of a form that is for no driver to answer
-pub permitted_so : (law : NoneIsLeft) (slot : ℕ) (home home_after : Homes) (p q : Process) (call : Call)
-    (form : CallForm) (o : Outcome) → form ≡ form_of call
-    → object_permits (object_in home.flash p.object) call ≡ true → is_taken form ≡ false
+pub permitted_so : (law : NoneIsLeft) (strict : Bool) (slot : ℕ) (home home_after : Homes) (p q : Process)
+    (call : Call) (form : CallForm) (o : Outcome) → form ≡ form_of call
+    → object_permits strict (object_in home.flash p.object) call ≡ true → is_taken form ≡ false
     → ((around : CommandContext) (storage : List ℕ)
     → ServingComesTo (by_form around (record_of_slot home slot p storage) form)
     (record_of_slot home_after slot q storage) o)
-    → ServesAt slot home p call home_after q o
+    → ServesAt strict slot home p call home_after q o
 unfolding served
-permitted_so law slot home home_after p q call form o is permitted free comes =
-    comes_so law slot home home_after p q call o
+permitted_so law strict slot home home_after p q call form o is permitted free comes =
+    comes_so law strict slot home home_after p q call o
     (ap (λ (b : Bool). b && is_driver_command call) permitted ∙ ap is_taken (sym is) ∙ free)
     (λ around storage. let r = record_of_slot home slot p storage in
     ap (λ (b : Bool). if b then by_form around r (form_of call)

@@ -48,23 +48,23 @@ abbrev pub is_driver_command : Call → Bool
 is_driver_command call = is_taken (form_of call)
 
 -- whether a call of a process with that object is for its driver to answer: it is permitted, too
-abbrev pub is_for_driver : List ℕ → Call → Bool
-is_for_driver object call = object_permits object call && is_driver_command call
+abbrev pub is_for_driver : Bool → List ℕ → Call → Bool
+is_for_driver strict object call = object_permits strict object call && is_driver_command call
 
 -- a call that is left to its driver: nothing has changed
-pub record IsLeft (home home_after : Homes) (process process_after : Process) (call : Call) : Type 0 where
-  pub for_driver : is_for_driver (object_in home.flash process.object) call ≡ true
+pub record IsLeft (strict : Bool) (home home_after : Homes) (process process_after : Process) (call : Call)
+    : Type 0 where
+  pub for_driver : is_for_driver strict (object_in home.flash process.object) call ≡ true
   pub home_stays : home_after ≡ home
   pub process_stays : process_after ≡ process
 
 -- a call of the process in a slot that the kernel serves itself: it comes to what its definition says, whatever a
--- driver
--- would see of the board, and whatever the process's storage is
-pub record IsServed (slot : ℕ) (home home_after : Homes) (process process_after : Process) (call : Call)
-    (outcome : Outcome) : Type 0 where
-  pub not_for_driver : is_for_driver (object_in home.flash process.object) call ≡ false
+-- driver would see of the board, and whatever the process's storage is
+pub record IsServed (strict : Bool) (slot : ℕ) (home home_after : Homes) (process process_after : Process)
+    (call : Call) (outcome : Outcome) : Type 0 where
+  pub not_for_driver : is_for_driver strict (object_in home.flash process.object) call ≡ false
   pub comes : (around : CommandContext) (storage : List ℕ) →
-      ServingComesTo (served around (record_of_slot home slot process storage) call)
+      ServingComesTo (served strict around (record_of_slot home slot process storage) call)
       (record_of_slot home_after slot process_after storage) outcome
 
 -- what holds where a call is left to its driver, and what at every other outcome
@@ -77,11 +77,11 @@ LeftOrServed left served GoesOn = served GoesOn
 LeftOrServed left served Ended = served Ended
 LeftOrServed left served Again = served Again
 
--- what becomes of a call of the process in a slot, by its outcome
-abbrev pub ServesAt : ℕ → Homes → Process → Call → Homes → Process → Outcome → Type 0
-ServesAt slot home process call home_after process_after outcome =
-    LeftOrServed (IsLeft home home_after process process_after call)
-    (IsServed slot home home_after process process_after call) outcome
+-- what becomes of a call of the process in a slot, by its outcome, under a strict filter or an open one
+abbrev pub ServesAt : Bool → ℕ → Homes → Process → Call → Homes → Process → Outcome → Type 0
+ServesAt strict slot home process call home_after process_after outcome =
+    LeftOrServed (IsLeft strict home home_after process process_after call)
+    (IsServed strict slot home home_after process process_after call) outcome
 
 -- no call moves a process's object or is a turn; one may start the process again
 pub record KeepsObject (p q : Process) : Type 0 where

@@ -9,14 +9,14 @@ use process_model::Object;
 use syscall_abi::Call;
 use syscall_filter::filter;
 
-/// Whether an object in flash permits a call to its process. Its header is read only for the calls that it can
-/// forbid: yield, memop and exit are always permitted.
-pub fn is_permitted(flash: &[u8], object: &Object, call: &Call) -> bool
+/// Whether an object in flash permits a call to its process, under a strict filter or an open one. Its header is read
+/// only for the calls that it can forbid: yield, memop and exit are always permitted.
+pub fn is_permitted(flash: &[u8], object: &Object, strict: bool, call: &Call) -> bool
     requires { HasHeader flash.now object.now }
-    ensures { result ≡ object_permits (object_in flash.now object.now) call.now }
+    ensures { result ≡ object_permits strict (object_in flash.now object.now) call.now }
 {
     match call.driver() {
         None => true,
-        Some(_) => filter(&header_of(flash, object), call).is_ok(),
+        Some(_) => filter(&header_of(flash, object), strict, call).is_ok(),
     }
 }

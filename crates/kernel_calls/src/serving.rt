@@ -74,7 +74,8 @@ fn serve(home: &mut Home, process: &mut Process, slot: Slot, form: &CallForm) ->
 /// one that has ended makes no call.
 ///
 /// A call that the header of the process's object does not permit (Tock Binary Format, "Permissions") is
-/// refused with [`Permission`](tk_base::CallRule::Permission), before all else.
+/// refused with [`Permission`](tk_base::CallRule::Permission), before all else. A strict filter permits a process
+/// whose object has no Permissions TLV no command, no subscribe and no allow; an open one permits it every call.
 ///
 /// A command (TRD 104, "Command") to a driver that takes commands is left to that driver: the answer is
 /// [`ToDriver`](Outcome::ToDriver), exactly then, and nothing has changed. The board has the driver's capsule
@@ -103,13 +104,20 @@ fn serve(home: &mut Home, process: &mut Process, slot: Slot, form: &CallForm) ->
 ///
 /// A process that is replied to goes on after the call, and a refusal is recorded. The header of its
 /// object is read from flash where it is needed.
-pub fn kernel_call(home: &mut Home, process: &mut Process, slot: Slot, call: &Call) -> Outcome
+pub fn kernel_call(
+    home: &mut Home,
+    process: &mut Process,
+    slot: Slot,
+    call: &Call,
+    strict: bool,
+) -> Outcome
     requires slot { slot < length home.old.owns }
     requires own { IsOwn home.old.flash process.old (own_of home.old slot) }
     requires lives { (own_of home.old slot).lives ≡ true }
     requires count { process.old.restarts + 1 < 2 ^ 32 }
     requires life { (own_of home.old slot).life + 1 < 2 ^ 32 }
-    ensures serves { ServesAt slot home.old process.old call.now home.new process.new result }
+    ensures serves { ServesAt strict slot home.old process.old call.now home.new process.new
+        result }
     ensures own { IsOwn home.new.flash process.new (own_of home.new slot) }
     ensures stays { KeepsObject process.old process.new }
     ensures lives_on { LivesOn (own_of home.old slot) (own_of home.new slot) }
@@ -117,7 +125,7 @@ pub fn kernel_call(home: &mut Home, process: &mut Process, slot: Slot, call: &Ca
 {
     no_call_is_left();
     let form = call.form();
-    if !is_permitted(home.flash(), &process.object, call) {
+    if !is_permitted(home.flash(), &process.object, strict, call) {
         let failure = failure(&form, CallRule::Permission);
         return refuse(process, CallRule::Permission, failure);
     }

@@ -153,11 +153,11 @@ module _ (law : OnlyWritesChangeBytes) (commands : CommandsKeepBytes) (around : 
   of_form (forms.Memop operation argument) is = of_memop operation argument
   of_form (forms.Exit kind code) is = of_exit kind code (exit_class r.process.regs kind code is)
 
-  of_served : (call : SystemCall) → call_of r.process.regs ≡ Some call
-      → Leaves r (yield_flag_of r (form_of call)) (served around r call)
+  of_served : (strict : Bool) (call : SystemCall) → call_of r.process.regs ≡ Some call
+      → Leaves r (yield_flag_of r (form_of call)) (served strict around r call)
   unfolding served
-  of_served call is =
-      by_test (Leaves r (yield_flag_of r (form_of call))) (object_permits r.object call) _ _
+  of_served strict call is =
+      by_test (Leaves r (yield_flag_of r (form_of call))) (object_permits strict r.object call) _ _
       (of_form (form_of call) (ap (option_map form_of) is)) (same_own r _ _)
 
 of_fault : (settings : Settings) (r : Record) (denial : Denial) → Changes r None true (faulted settings r denial).after
@@ -176,7 +176,7 @@ module _ (law : OnlyWritesChangeBytes) (commands : CommandsKeepBytes) (settings 
   of_calls : (r : Record) (accesses : List MemoryAccess) (call : Option SystemCall) → call_of r.process.regs ≡ call
       → let t = calls settings time r accesses call in Changes r t.told.flag (ends_life t.told) t.after
   of_calls r accesses None is = of_fault settings r (unknown_call r.process)
-  of_calls r accesses (Some call) is = of_served law commands (surroundings settings time) r call is
+  of_calls r accesses (Some call) is = of_served law commands (surroundings settings time) r settings.strict call is
 
   of_end : (r : Record) (accesses : List MemoryAccess) (end : TurnEnd)
       → let t = at_turn_end settings time r accesses end in Changes r t.told.flag (ends_life t.told) t.after

@@ -215,11 +215,11 @@ module _ (R : Own → Own → Type 0) (services : OfEachService R) (I J : Record
   of_form around r alive h (forms.Memop operation argument) = by_memop r h operation argument
   of_form around r alive h (forms.Exit kind code) = by_exit r alive h kind code
 
-  after_call : (around : CommandContext) (r : Record) → is_alive r.process.state ≡ true → I r → (call : SystemCall)
-      → J (served around r call).after
+  after_call : (strict : Bool) (around : CommandContext) (r : Record) → is_alive r.process.state ≡ true → I r
+      → (call : SystemCall) → J (served strict around r call).after
   unfolding Q served
-  after_call around r alive h call =
-      by_test (object_permits r.object call) _ _ (λ may. of_form around r alive h (form_of call))
+  after_call strict around r alive h call =
+      by_test (object_permits strict r.object call) _ _ (λ may. of_form around r alive h (form_of call))
       (λ may_not. by_refused r h Permission (failure_of (form_of call) Permission))
 
   after_denial : (settings : Settings) (r : Record) → is_alive r.process.state ≡ true → I r → (denial : Denial)
@@ -232,7 +232,8 @@ module _ (R : Own → Own → Type 0) (services : OfEachService R) (I J : Record
 
   after_calls : (settings : Settings) (time : ℕ) (r : Record) → is_alive r.process.state ≡ true → I r
       → (accesses : List MemoryAccess) (call : Option SystemCall) → J (calls settings time r accesses call).after
-  after_calls settings time r alive h accesses (Some call) = after_call (surroundings settings time) r alive h call
+  after_calls settings time r alive h accesses (Some call) =
+      after_call settings.strict (surroundings settings time) r alive h call
   after_calls settings time r alive h accesses None = after_denial settings r alive h _
 
   after_end : (settings : Settings) (time : ℕ) (r : Record) → is_alive r.process.state ≡ true → I r

@@ -193,9 +193,9 @@ of_form P promise around r (forms.Memop operation argument) both = of_memop P ar
 of_form P promise around r (forms.Exit kind code) both = of_exit P around r kind code both
 
 -- what holds of a call that is refused and of one that is served holds of every call
-pub of_call : (P : Served → Type 0) (promise : DriversPromise) (around : CommandContext) (r : Record)
-    (call : SystemCall) → OfBoth P around r (failure_of (form_of call)) → P (served around r call)
+pub of_call : (P : Served → Type 0) (promise : DriversPromise) (strict : Bool) (around : CommandContext) (r : Record)
+    (call : SystemCall) → OfBoth P around r (failure_of (form_of call)) → P (served strict around r call)
 unfolding served
-of_call P promise around r call both =
-    by_test P (object_permits r.object call) _ _ (of_form P promise around r (form_of call) both)
+of_call P promise strict around r call both =
+    by_test P (object_permits strict r.object call) _ _ (of_form P promise around r (form_of call) both)
     (both.refused Permission)

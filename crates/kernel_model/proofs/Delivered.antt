@@ -82,13 +82,13 @@ module _ (settings : Settings) (time : ℕ) (u : Scheduled) (more : List Schedul
       by_number true is e = ap (λ (us : List Scheduled). (yield_now r (a1 r.process.regs) us).after.process) pending
       by_number false is e = no_yield r waits (not_of_number (made r.process.regs waits.outcome) is) e
 
-  of_served : (around : CommandContext) (r : Record) → r.own.inbox.pending ≡ u ∷ more
-      → ByCall r (served around r (yield_in r.process.regs))
+  of_served : (strict : Bool) (around : CommandContext) (r : Record) → r.own.inbox.pending ≡ u ∷ more
+      → ByCall r (served strict around r (yield_in r.process.regs))
   unfolding served by_form
-  of_served around r pending =
+  of_served strict around r pending =
       let call = yield_in r.process.regs in
       let failure = failure_of (form_of call) Permission in
-      by_test (ByCall r) (object_permits r.object call) _ _ (of_yield r pending)
+      by_test (ByCall r) (object_permits strict r.object call) _ _ (of_yield r pending)
       (no_yield r (refused_with r Permission failure)
       (not_refused (made r.process.regs (Replied failure (Some Permission))) Permission refl))
 
@@ -96,7 +96,7 @@ module _ (settings : Settings) (time : ℕ) (u : Scheduled) (more : List Schedul
       → Delivers false r (calls settings time (turn_counted r) accesses (call_of r.process.regs))
   of_calls r accesses pending =
       of_registers (λ (o : Option SystemCall). Delivers false r (calls settings time (turn_counted r) accesses o)) regs
-      (λ is. of_served around (turn_counted r) pending)
+      (λ is. of_served settings.strict around (turn_counted r) pending)
       (λ kind call is swaps. other (class_of kind) call (no_swap 0 refl kind) is) (other 2 (command_in regs) refl)
       (other 5 (memop_in regs) refl) (other 6 (exit_in regs) refl)
       (λ e. absurd (false≢true e))
@@ -110,8 +110,8 @@ module _ (settings : Settings) (time : ℕ) (u : Scheduled) (more : List Schedul
       other : (n : ℕ) (call : SystemCall) → (n == 0) ≡ false → class regs ≡ n
           → Delivers false r (calls settings time (turn_counted r) accesses (Some call))
       other n call apart is =
-          no_yield (turn_counted r) (served around (turn_counted r) call)
-          (not_of_class (made regs (served around (turn_counted r) call).outcome) (ap (λ (k : ℕ). k == 0) is ∙ apart))
+          let s = served settings.strict around (turn_counted r) call in
+          no_yield (turn_counted r) s (not_of_class (made regs s.outcome) (ap (λ (k : ℕ). k == 0) is ∙ apart))
 
   of_end : (r s : Record) (accesses : List MemoryAccess) (end : TurnEnd) → r.own.inbox.pending ≡ u ∷ more
       → (end ≡ ends.Call → s ≡ turn_counted r) → Delivers false r (at_turn_end settings time s accesses end)

@@ -421,11 +421,11 @@ module _ (promise : Promise) (around : CommandContext) (r : Record) where
       (of_refused 6 NoOperation (plain NoOperation)))
 
   -- a call that its object permits, or does not
-  of_served : (n : ℕ) (call : SystemCall) → LeavesByCall r n (by_form around r (form_of call))
-      → LeavesByCall r n (served around r call)
+  of_served : (strict : Bool) (n : ℕ) (call : SystemCall) → LeavesByCall r n (by_form around r (form_of call))
+      → LeavesByCall r n (served strict around r call)
   unfolding served
-  of_served n call leaves =
-      by_test (LeavesByCall r n) (object_permits r.object call) _ _ leaves
+  of_served strict n call leaves =
+      by_test (LeavesByCall r n) (object_permits strict r.object call) _ _ leaves
       (of_refused n Permission (failure_of (form_of call) Permission))
 
 -- the same of a turn
@@ -483,8 +483,9 @@ module _ (promise : Promise) (settings : Settings) (time : ℕ) where
       on : (n : ℕ) (call : SystemCall) → class regs ≡ n → LeavesByCall r n (by_form around r (form_of call))
           → Leaving (Some call)
       on n call is leaves =
-          leaves_by r (class regs) _ (subst (λ (k : ℕ). LeavesByCall r k (served around r call)) (sym is)
-          (of_served promise around r n call leaves))
+          leaves_by r (class regs) _
+          (subst (λ (k : ℕ). LeavesByCall r k (served settings.strict around r call)) (sym is)
+          (of_served promise around r settings.strict n call leaves))
 
   of_ended : (r : Record) (accesses : List MemoryAccess) (end : TurnEnd) → CanStartAgain r
       → Leaves r (at_turn_end settings time r accesses end).after

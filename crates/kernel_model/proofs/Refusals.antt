@@ -23,8 +23,8 @@ no_rule : (rule : CallRule) → ◌≡◌ {A = Option CallRule} None (Some rule)
 no_rule rule e = cc
 
 pub refused_changes_nothing_else : DriversPromise → RefusedChangesNothingElse
-refused_changes_nothing_else promise around r call =
-    of_call (IsRefusedBy r (failure_of (form_of call))) promise around r call
+refused_changes_nothing_else promise strict around r call =
+    of_call (IsRefusedBy r (failure_of (form_of call))) promise strict around r call
     (record {
       refused = refused_so r (failure_of (form_of call));
       served =
@@ -32,6 +32,6 @@ refused_changes_nothing_else promise around r call =
     })
 
 pub none_is_left : DriversPromise → NoneIsLeft
-none_is_left promise around r call =
-    of_call (λ s. s.outcome ≢ ToDriver) promise around r call
+none_is_left promise strict around r call =
+    of_call (λ s. s.outcome ≢ ToDriver) promise strict around r call
     (record { refused = λ rule e. cc; served = λ s is. is.done })

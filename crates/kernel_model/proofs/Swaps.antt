@@ -464,11 +464,12 @@ module _ (law : OnlyHandingChangesPairs) (drivers : DriversLeavePairs) where
             (unwrap_or (handed_by key (made r.process.regs Again)) (last_pair key past))) ends)
 
     -- a call that its object does not permit is refused
-    permitted : (around : CommandContext) → Follows past (called r accesses call (by_form around r (form_of call)))
-        → Follows past (called r accesses call (served around r call))
+    permitted : (strict : Bool) (around : CommandContext)
+        → Follows past (called r accesses call (by_form around r (form_of call)))
+        → Follows past (called r accesses call (served strict around r call))
     unfolding served
-    permitted around follows =
-        by_test (λ s. Follows past (called r accesses call s)) (object_permits r.object call) _ _ follows
+    permitted strict around follows =
+        by_test (λ s. Follows past (called r accesses call s)) (object_permits strict r.object call) _ _ follows
         (refused_so Permission (failure_of (form_of call) Permission))
 
   -- a call that the registers make, or none that there is
@@ -497,7 +498,7 @@ module _ (law : OnlyHandingChangesPairs) (drivers : DriversLeavePairs) where
 
       on : (call : SystemCall) → Follows past (called r accesses call (by_form around r (form_of call)))
           → Follows past (calls settings time r accesses (Some call))
-      on call follows = permitted past r k accesses call around follows
+      on call follows = permitted past r k accesses call settings.strict around follows
 
   -- the end of an instruction
   follows_ended : (past : List TurnTrace) (settings : Settings) (time : ℕ) (r : Record) (accesses : List MemoryAccess)

@@ -241,18 +241,20 @@ abbrev pub failure_of : CallForm → CallRule → Reply
 failure_of (forms.Swap swap) rule = failed_swap swap.pair rule
 failure_of form rule = Failure (error_of rule)
 
--- whether a header permits a call (Tock Binary Format, "Permissions"); one that cannot be read permits every call
-abbrev pub permits_by : Result Meaning HeaderFault → SystemCall → Bool
-permits_by (Ok h) call = permitted h.permissions call
-permits_by (Err fault) call = true
+-- the permissions that the header of an object lists (Tock Binary Format, "Permissions"); one that cannot be read has
+-- no such list
+abbrev pub permissions_listed : Result Meaning HeaderFault → Option (List ℕ)
+permissions_listed (Ok h) = h.permissions
+permissions_listed (Err fault) = None
 
--- whether an object permits a call to its process
-abbrev pub object_permits : List ℕ → SystemCall → Bool
-object_permits object call = permits_by (header_reading object) call
+-- whether an object permits a call to its process, under a strict filter or an open one
+abbrev pub object_permits : Bool → List ℕ → SystemCall → Bool
+object_permits strict object call = permitted strict (permissions_listed (header_reading object)) (form_of call)
 
 -- A call is served where the object of its process permits it. Permission comes before all else: a call that is not
--- permitted is refused so whatever else would refuse it, and though there is no such driver.
-unfoldable pub served : CommandContext → Record → SystemCall → Served
-served around r call =
-    if object_permits r.object call then by_form around r (form_of call)
+-- permitted is refused so whatever else would refuse it, and though there is no such driver. Whether the filter is
+-- strict is no part of what a command sees of the board.
+unfoldable pub served : Bool → CommandContext → Record → SystemCall → Served
+served strict around r call =
+    if object_permits strict r.object call then by_form around r (form_of call)
     else refused_with r Permission (failure_of (form_of call) Permission)

@@ -1,6 +1,6 @@
 -- Laws over the definitions alone. The calls are those of TRD 104; what a step reaches is this board's own rule.
-use Rattle.std.specs.Prelude.{◌≡◌, ◌≢◌, ◌<◌, ℕ, true, false, if◌then◌else◌, List, [], Option, None, Some, is_some}
-use Rattle.std.specs.Prelude.{IfSome, IsTrue, option_and_then, Result, Ok, Err, slice_get}
+use Rattle.std.specs.Prelude.{◌≡◌, ◌≢◌, ◌<◌, ℕ, Bool, true, false, if◌then◌else◌, List, [], Option, None, Some}
+use Rattle.std.specs.Prelude.{is_some, IfSome, IsTrue, option_and_then, Result, Ok, Err, slice_get}
 use Rattle.std.specs.Option.{option_map}
 use Rattle.tk_base.specs.declared.limits.TheConstants.{STEP_LIMIT}
 use Rattle.tk_base.specs.declared.process.Choice.{Choice}
@@ -67,13 +67,14 @@ NextLiesAhead = (w : World) → ready_device (ready_devices w) ≡ None → IfSo
 -- Values").
 abbrev pub RefusedChangesNothingElse : Type 0
 RefusedChangesNothingElse =
-    (around : CommandContext) (r : Record) (call : SystemCall) (rule : CallRule)
-    → rule_shown (served around r call).outcome ≡ Some rule
-    → served around r call ≡ refused_with r rule (failure_of (form_of call) rule)
+    (strict : Bool) (around : CommandContext) (r : Record) (call : SystemCall) (rule : CallRule)
+    → rule_shown (served strict around r call).outcome ≡ Some rule
+    → served strict around r call ≡ refused_with r rule (failure_of (form_of call) rule)
 
 -- a call has come to its end once it is served: no driver has it still to answer
 abbrev pub NoneIsLeft : Type 0
-NoneIsLeft = (around : CommandContext) (r : Record) (call : SystemCall) → (served around r call).outcome ≢ ToDriver
+NoneIsLeft = (strict : Bool) (around : CommandContext) (r : Record) (call : SystemCall) →
+    (served strict around r call).outcome ≢ ToDriver
 
 -- What drivers keep of a process changes at its own calls alone, and at what ends its life: a turn without a call and
 -- without a denial leaves its grants as they were, and it lives as before.

@@ -132,7 +132,8 @@ surroundings settings time = record {
 
 -- the call that stands in the registers is served; an unknown class is a fault
 abbrev pub calls : Settings → ℕ → Record → List MemoryAccess → Option SystemCall → Turned
-calls settings time r accesses (Some call) = called r accesses call (served (surroundings settings time) r call)
+calls settings time r accesses (Some call) =
+    called r accesses call (served settings.strict (surroundings settings time) r call)
 calls settings time r accesses None = faulted settings r (unknown_call r.process)
 
 -- what the end of an instruction asks for, once its effect stands; a denied one had none

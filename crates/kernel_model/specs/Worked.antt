@@ -1,6 +1,6 @@
 -- A small board for worked cases: in each slot a process that stands at an `ecall`, and asks for an operation of memop,
 -- or subscribes an upcall (TRD 104, "Memop", "Subscribe").
-use Rattle.std.specs.Prelude.{ℕ, ◌+◌, List, [], ◌∷◌, length, None}
+use Rattle.std.specs.Prelude.{ℕ, ◌+◌, false, List, [], ◌∷◌, length, None}
 use Rattle.tk_base.specs.declared.access.TheConstants.{FLASH_START, RAM_START}
 use Rattle.tk_base.specs.Regs.{Registers}
 use Rattle.tk_base.specs.Regs.{with_register}
@@ -60,7 +60,7 @@ subscribes =
     standing object 64 (with_register (with_register (cleared FLASH_START) 14 1) 13 7)
 
 abbrev pub worked_settings : Settings
-worked_settings = record { leds = 0; start = 0; storage = 0; policy = Stop }
+worked_settings = record { leds = 0; start = 0; storage = 0; policy = Stop; strict = false }
 
 -- the key of its upcall
 abbrev pub alarm_upcall : PairKey

@@ -13,4 +13,7 @@ pub struct Settings {
     pub storage: u32,
     /// What becomes of processes that fault.
     pub policy: Policy,
+    /// Whether an application without a Permissions element is refused what it would need a permission for (Tock
+    /// Binary Format, "Permissions").
+    pub strict: bool,
 }

@@ -10,17 +10,19 @@ use syscall_abi::{Call, CallForm};
 use tbf_headers::{Header, Perms};
 use tk_base::CallRule;
 
-/// Whether the header of an application permits a call, by its Permissions TLV (Tock Binary Format,
-/// "Permissions"). The error is [`CallRule::Permission`], exactly where the header has one and the
-/// call is a command that no entry of its driver allows, or a subscribe or an allow of a driver
-/// that has no entry. All other calls are permitted, and so is every call without the TLV.
-pub fn filter(header: &Header<'_>, call: &Call) -> Result<(), CallRule>
-    ensures { result ≡ permission (shown header.now) call.now }
+/// Whether an application may make a call, by the Permissions TLV of its header (Tock Binary Format, "Permissions").
+/// The error is [`CallRule::Permission`], exactly where the header has one and the call is a command that no entry of
+/// its driver allows, or a subscribe or an allow of a driver that has no entry; or where the header has none, the
+/// filter is strict, and the call is a command, a subscribe or an allow. All other calls are permitted, and so is every
+/// call without the TLV under a filter that is not strict.
+pub fn filter(header: &Header<'_>, strict: bool, call: &Call) -> Result<(), CallRule>
+    ensures { result ≡ permission (shown header.now) strict call.now }
 {
-    match header.perms() {
-        Some(perms) if !lists_call(&perms, call) => Err(CallRule::Permission),
-        _ => Ok(()),
-    }
+    let permitted = match header.perms() {
+        Some(perms) => lists_call(&perms, call),
+        None => !(strict && call.driver().is_some()),
+    };
+    if permitted { Ok(()) } else { Err(CallRule::Permission) }
 }
 
 /// Whether the entries permit a call.

@@ -25,7 +25,8 @@ order c = record {
 taker : (c : After-give_reply) → (t : CommandHandler) × (handler_of c.in-Command.driver ≡ Some t)
 taker c = some_of (handler_of c.in-Command.driver)
     (ap is_driver_command (sym c.in-Command.is)
-    ∙ taken_of (object_in c.args.home.now.flash c.args.process.now.object) c.args.call.now c.requires.left)
+    ∙ taken_of c.args.moment.now.settings.strict (object_in c.args.home.now.flash c.args.process.now.object)
+    c.args.call.now c.requires.left)
 
 -- the id is that of the process
 known : (c : After-give_reply) → c.in-Some.id ≡ id_of c.args.slot (own_of c.args.home.now c.args.slot)

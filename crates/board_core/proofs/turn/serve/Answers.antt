@@ -25,16 +25,16 @@ returns-clause-serves c =
           finishes_as m c.args.slot home process call _ _ _ _ _ _ c.args.drivers.now _ _ w.home-is w.process-is
           w.outcome-is w.drivers-is
           (served_itself m c.args.slot home _ process _ call _ c.args.drivers.now _
-          (is_served c.args.slot home _ process _ call c.kernel_call.result c.kernel_call.ensures.serves
-          w.in_default.not-ToDriver)
+          (is_served m.settings.strict c.args.slot home _ process _ call c.kernel_call.result
+          c.kernel_call.ensures.serves w.in_default.not-ToDriver)
           (subst (λ (acts : List BoardRequest). Drives id acts c.args.drivers.now w.gone.new.self)
           (sym (w.is_gone.ensures.gone w.if-is_gone.true)) (w.gone.ensures id.life)))
       | in_default+else-is_gone w ↦
           finishes_as m c.args.slot home process call _ _ _ _ _ _ c.args.drivers.now _ _ w.home-is w.process-is
           w.outcome-is w.drivers-is
           (served_itself m c.args.slot home _ process _ call _ c.args.drivers.now _
-          (is_served c.args.slot home _ process _ call c.kernel_call.result c.kernel_call.ensures.serves
-          w.in_default.not-ToDriver)
+          (is_served m.settings.strict c.args.slot home _ process _ call c.kernel_call.result
+          c.kernel_call.ensures.serves w.in_default.not-ToDriver)
           (subst (λ (acts : List BoardRequest). Drives id acts c.args.drivers.now c.args.drivers.now)
           (sym (w.is_gone.ensures.none w.if-is_gone.false)) (drives_nothing id c.args.drivers.now)))
     ]
