@@ -24,7 +24,7 @@ written_by home id =
     let s = in_life id.life own (sent home.flash own) (unsent own) in
     record {
       kind = sent_told kinds s;
-      own = s.own;
+      step = s.step;
       device = record { items = s.printed };
       completed = s.completed;
     }
@@ -40,7 +40,7 @@ received_by line home id =
     let r = in_life id.life own (received line.ring own) (unreceived own) in
     record {
       kind = received_told kinds r;
-      own = r.own;
+      step = r.step;
       device = record line { ring = drop (length r.moved) line.ring };
       completed = r.completed;
     }
