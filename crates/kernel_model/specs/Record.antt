@@ -2,6 +2,7 @@
 use Rattle.std.specs.Prelude.{ℕ, ◌+◌, ◌-◌, ◌&&◌, nat_le, nat_lt, if◌then◌else◌, List, length, slice_index}
 use Rattle.rv32_model.specs.UserTurn.{UserTurn}
 use Rattle.process_model.specs.Own.{Own}
+use Rattle.driver_model.specs.Steps.{DriverStep, own_after}
 use Rattle.process_model.specs.Instruction.{instruction_of, with_write}
 use Rattle.process_record.specs.declared.process.Process.{Process}
 
@@ -28,6 +29,10 @@ with_process r p = record r { process = p }
 -- a record of which something else is the process's own
 abbrev pub record_with_own : Record → Own → Record
 record_with_own r own = record r { own = own }
+
+-- a record of which a driver served the process: what it left is the process's own, and what it scheduled is queued
+abbrev pub record_with_step : Record → DriverStep → Record
+record_with_step r step = record_with_own r (own_after step)
 
 -- the instruction at pc, under what the process may access and over its own bytes
 abbrev pub instruction : Record → UserTurn
