@@ -7,10 +7,12 @@ use Rattle.grant_values.specs.declared.alarm.Armed.{Armed}
 use Rattle.grant_values.specs.Values.{KeptValue, AlarmValue}
 use Rattle.process_model.specs.Own.{Own}
 use Rattle.process_model.specs.Served.{kept, own_scheduled, with_kept}
+use Rattle.process_model.proofs.Scheduling.{keeping_commutes}
+use Rattle.driver_model.specs.Steps.{own_after}
 use Rattle.grant_enter.specs.declared.visit.Stale.{Stale}
 use Rattle.grant_enter.specs.Seen.{Seen}
 use Rattle.grant_enter.specs.Visits.{Visits, grants_of, is_stale}
-use Rattle.driver_model.specs.Alarm.{alarm_driver, answered, armed_in, due_alarm, expiration, fired_if, if_due}
+use Rattle.driver_model.specs.Alarm.{alarm_driver, answered, armed_in, due_alarm, expiration, fired, fired_if, if_due}
 use Rattle.driver_model.specs.Alarm.{with_alarm}
 
 -- what a visitor that fires leaves
@@ -36,7 +38,7 @@ pub fires : {A : Type 0} (now expires driver life : ℕ) (counts : Counts) (flas
     (old new : Own) (leaves : Alarm → Seen → A → Alarm → Own → Type 0) (r : Result (Option A) Stale)
     → Fires now expires leaves → driver ≡ 0 → expires ≡ expiration alarm → is_stale life old ≡ false
     → due_alarm now old ≡ Some alarm → Visits (grants_of driver counts AlarmValue) leaves life flash old r new
-    → new ≡ answered now old
+    → new ≡ own_after (answered now old)
 unfolding answered
 fires now expires driver life counts flash alarm old new leaves (Ok (Some answer)) says zero expires_is present due
     visits =
@@ -47,7 +49,8 @@ fires now expires driver life counts flash alarm old new leaves (Ok (Some answer
     ∙ ap (λ (a : Alarm). with_kept alarm_driver (AlarmValue a) v.own) left.0
     ∙ ap (with_alarm None) (left.1 ∙ ap (λ (d : ℕ). own_scheduled d 0 (now ∷ expires ∷ 0 ∷ []) old) zero
     ∙ ap (λ (e : ℕ). own_scheduled alarm_driver 0 (now ∷ e ∷ 0 ∷ []) old) expires_is)
-    ∙ ap (fired_if now old) (sym due)
+    ∙ keeping_commutes alarm_driver (AlarmValue (record { armed = None })) (fired now alarm old).schedules old
+    ∙ ap (λ (o : Option Armed). own_after (fired_if now old o)) (sym due)
 fires now expires driver life counts flash alarm old new leaves (Ok None) says zero expires_is present due visits =
     absurd (none_kept now old alarm (subst (λ (d : ℕ). kept d old ≡ None) zero visits.1) due)
 fires now expires driver life counts flash alarm old new leaves (Err stale) says zero expires_is present due visits =

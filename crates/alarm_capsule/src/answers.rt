@@ -5,6 +5,7 @@ ghost use Rattle.std.specs.Option.{option_map};
 ghost use Rattle.grant_enter.specs.Homes.{own_of, ChangesOnly};
 ghost use Rattle.driver_requests.specs.Asking.{IsPresent};
 ghost use Rattle.driver_model.specs.Alarm.{answered, due_alarm, due_slot, has_due, is_due};
+ghost use Rattle.driver_model.specs.Steps.{own_after};
 ghost use Rattle.alarm_capsule.specs.Answers.{AlarmAnswers};
 ghost use Rattle.alarm_capsule.specs.Due.{AlarmIsDue};
 
@@ -70,7 +71,8 @@ fn first_due(home: &Home, now: u32) -> Option<Due>
 fn fire(home: &mut Home, due: &Due, now: u32)
     requires due { AlarmIsDue now due.now.id.slot home.old due.now }
     requires dropped { (own_of home.old due.now.id.slot).inbox.dropped + 1 < 2 ^ 32 }
-    ensures own { own_of home.new due.now.id.slot ≡ answered now (own_of home.old due.now.id.slot) }
+    ensures own { own_of home.new due.now.id.slot
+        ≡ own_after (answered now (own_of home.old due.now.id.slot)) }
     ensures rest { ChangesOnly due.now.id.slot home.old home.new }
 {
     let fire = Fire {

@@ -19,6 +19,7 @@ use Rattle.process_record.specs.declared.outcome.Outcome.TheVariants.{Replied, T
 use Rattle.process_record.specs.declared.outcome.Outcome.TheVariants.{Ended, Again}
 use Rattle.process_record.specs.declared.process.Process.{Process}
 use Rattle.board_devices.specs.Clock.{clock_at}
+use Rattle.driver_model.specs.Steps.{own_after}
 use Rattle.driver_model.specs.Commands.{Commanded}
 use Rattle.driver_model.specs.Drivers.{CommandContext, CommandHandler, handler_of}
 use Rattle.driver_model.specs.Replies.{reply_of}
@@ -76,7 +77,7 @@ abbrev pub Came : Moment → ℕ → Homes → Homes → Order → Reply × Opti
     → Type 0
 Came m slot home home' order answer d d' taker =
     let c = taker (surroundings m.settings m.time) order.number order.a2 order.a3 (own_of home slot) in
-    (answer ≡ reply_of c.answer) × (own_of home' slot ≡ c.own) × Drives (id_of slot (own_of home slot)) c.acts d d'
+    (answer ≡ reply_of c.answer) × (own_of home' slot ≡ own_after c.step) × Drives (id_of slot (own_of home slot)) c.acts d d'
 
 module _ (m : Moment) (slot : ℕ) (home home' : Homes) (order : Order) (answer : Reply × Option CallRule)
     (d d' : Drivers) where
@@ -88,12 +89,12 @@ module _ (m : Moment) (slot : ℕ) (home home' : Homes) (order : Order) (answer 
       → Came m slot home home' order answer d d' taker
   came id tick taker found at when may comes =
       subst (λ (around : CommandContext). let c = taker around order.number order.a2 order.a3 (own_of home slot) in
-      (answer ≡ reply_of c.answer) × (own_of home' slot ≡ c.own)
+      (answer ≡ reply_of c.answer) × (own_of home' slot ≡ own_after c.step)
       × Drives (id_of slot (own_of home slot)) c.acts d d')
       around
       (subst (λ (k : ProcessId). let c =
       taker (record { now = tick; leds = length d.leds; storage = d.stores.size }) order.number order.a2 order.a3
-      (own_of home k.slot) in (answer ≡ reply_of c.answer) × (own_of home' k.slot ≡ c.own) × Drives k c.acts d d')
+      (own_of home k.slot) in (answer ≡ reply_of c.answer) × (own_of home' k.slot ≡ own_after c.step) × Drives k c.acts d d')
       at (comes taker found))
     where
       around : ◌≡◌ {A = CommandContext} (record { now = tick; leds = length d.leds; storage = d.stores.size })
@@ -126,7 +127,7 @@ module _ (m : Moment) (slot : ℕ) (home home' : Homes) (order : Order) (answer 
         (both (object_permits m.settings.strict (object_in home.flash p.object) call) (is_driver_command call) for).0
         ∙ ap (λ (c : SystemCall). by_form around r (form_of c)) is
         ∙ ap (taken_by around order.number order.a2 order.a3 r) found
-        ∙ ap (commanded r) (sym known)
+        ∙ ap (λ (x : Own). record (driver_answered (record_with_own r x) c.answer) { acts = c.acts }) (sym come.1)
         ∙ ap (λ (s : Served). record s { acts = c.acts })
         (given_so (record_with_own r own') c.answer ∙ ap (given (record_with_own r own')) (sym come.0)
         ∙ gives (record_with_own r own'))
@@ -152,9 +153,6 @@ module _ (m : Moment) (slot : ℕ) (home home' : Homes) (order : Order) (answer 
 
       c : Commanded
       c = taker around order.number order.a2 order.a3 own
-
-      known : ◌≡◌ {A = Commanded} (record { answer = c.answer; own = own'; acts = c.acts }) c
-      known = λ i. record { answer = c.answer; own = come.1 i; acts = c.acts }
 
 -- what comes of a call that is not left to its driver
 pub is_served : (strict : Bool) (slot : ℕ) (home home' : Homes) (p p' : Process) (call : SystemCall) (o : Outcome)

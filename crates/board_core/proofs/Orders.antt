@@ -13,6 +13,7 @@ use Rattle.grant_values.specs.Drivers.{driver_of}
 use Rattle.process_model.specs.Own.{Own}
 use Rattle.driver_model.specs.Replies.{reply_of}
 use Rattle.driver_model.specs.Asked.{OneOf}
+use Rattle.driver_model.specs.Steps.{own_after, silently}
 use Rattle.driver_model.specs.Commands.{BoardRequest, Commanded, Waits, Leaves, Lights, Switch, On, Off, Toggle}
 use Rattle.driver_model.specs.Commands.{by_number, refusing, row_or_refused, Writes, Reads, Randoms, Stores}
 use Rattle.driver_model.specs.Drivers.{CommandHandler, handler_by}
@@ -24,18 +25,18 @@ use Rattle.board_core.specs.declared.drivers.Order.{Order}
 use Rattle.board_core.specs.Driven.{Commands, Drives}
 
 -- a command of which every row leaves what is the process's own as it was does so, too
-rows_keep : (own : Own) (rows : List (ℕ × Commanded)) (number : ℕ) → AllByRecursion (λ row. row.1.own ≡ own) rows
-    → (by_number own rows number).own ≡ own
+rows_keep : (own : Own) (rows : List (ℕ × Commanded)) (number : ℕ) → AllByRecursion (λ row. own_after row.1.step ≡ own) rows
+    → own_after (by_number own rows number).step ≡ own
 rows_keep own [] number all = refl
 rows_keep own (row ∷ rows) number all = by_test (row.0 == number) (rows_keep own rows number all.1)
   where
-    by_test : (b : Bool) → (by_number own rows number).own ≡ own
-        → (row_or_refused own (cond b (Some row) (find (λ row. row.0 == number) rows))).own ≡ own
+    by_test : (b : Bool) → own_after (by_number own rows number).step ≡ own
+        → own_after (row_or_refused own (cond b (Some row) (find (λ row. row.0 == number) rows))).step ≡ own
     by_test true others = all.0
     by_test false others = others
 
 -- so do the commands to the LEDs
-pub leds_keep : (count number led : ℕ) (own : Own) → (leds.command count number led own).own ≡ own
+pub leds_keep : (count number led : ℕ) (own : Own) → own_after (leds.command count number led own).step ≡ own
 unfolding leds.command leds.commands
 leds_keep count number led own =
     rows_keep own (leds.commands count led own) number (
@@ -47,8 +48,8 @@ leds_keep count number led own =
     )
   where
     switched : (switch : Switch) (b : Bool)
-        → ◌≡◌ {A = Own} (cond b (record { answer = Ok Success; own = own; acts = Lights led switch ∷ [] })
-        (refusing Range own)).own own
+        → own_after (cond b (record { answer = Ok Success; step = silently own; acts = Lights led switch ∷ [] })
+        (refusing Range own)).step ≡ own
     switched switch true = refl
     switched switch false = refl
 
@@ -56,14 +57,14 @@ leds_keep count number led own =
 pub commands_by : (driver : Driver) (tick : ℕ) (id : ProcessId) (order : Order) (d d' : Drivers) (own own' : Own)
     (answer : Reply × Option CallRule) → driver_of order.driver ≡ Some driver
     → (let c = handler_by driver (record { now = tick; leds = length d.leds; storage = d.stores.size }) order.number
-    order.a2 order.a3 own in (answer ≡ reply_of c.answer) × (own' ≡ c.own) × Drives id c.acts d d')
+    order.a2 order.a3 own in (answer ≡ reply_of c.answer) × (own' ≡ own_after c.step) × Drives id c.acts d d')
     → Commands tick id order d own answer own' d'
 commands_by driver tick id order d d' own own' answer is does taker found =
     let same : handler_by driver ≡ taker =
     (let known : Some (handler_by driver) ≡ Some taker = sym (ap (option_map handler_by) is) ∙ found in cc) in
     subst (λ (t : CommandHandler). let c =
     t (record { now = tick; leds = length d.leds; storage = d.stores.size }) order.number order.a2 order.a3 own in
-    (answer ≡ reply_of c.answer) × (own' ≡ c.own) × Drives id c.acts d d') same does
+    (answer ≡ reply_of c.answer) × (own' ≡ own_after c.step) × Drives id c.acts d d') same does
 
 -- drivers of which nothing changes
 pub drives_nothing : (id : ProcessId) (d : Drivers) → Drives id [] d d

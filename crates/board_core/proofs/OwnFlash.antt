@@ -23,8 +23,8 @@ pub sent_of_own : (flash : List ℕ) (own : Own) → ReadsOwnFlash
 unfolding sent
 sent_of_own flash own law lies holds =
     ap (λ (bytes : List ℕ). unwrap_or (option_map (λ (write : WaitingWrite).
-    if portion write own == 0 then record { own = write_done own; printed = []; completed = true }
-    else record { own = taken own; printed = take (portion write own) (drop write.taken bytes); completed = false })
+    if portion write own == 0 then record { step = write_done own; printed = []; completed = true }
+    else record { step = taken own; printed = take (portion write own) (drop write.taken bytes); completed = false })
     (waiting_in console_writes own)) (unsent own))
     (law flash own (held ReadOnly console 1 own) lies (holds.read_only console 1))
 
@@ -37,7 +37,7 @@ moved_alike Read flash object bytes request own same = refl
 moved_alike Write flash object bytes request own same =
     let count = min request.length (held ReadOnly storage.storage 0 own).1 in
     ap (λ (bytes : List ℕ). record {
-      own = completing Write count 0 own;
+      step = completing Write count 0 own;
       written = Some (request.offset, take count bytes);
     }) same
 
@@ -57,7 +57,7 @@ answered_alike fault flash object bytes own same = by_request (waiting_in storag
     by_request None = refl
     by_request (Some request) =
         ap (λ (m : StorageServed). storage_answer_of
-        (if fault then record { own = completing request.kind 0 1 own; written = None } else m))
+        (if fault then record { step = completing request.kind 0 1 own; written = None } else m))
         (moved_alike request.kind flash object bytes request own same)
 
 pub answered_of_own : (fault : Bool) (flash bytes : List ℕ) (own : Own) → ReadsOwnFlash

@@ -33,6 +33,7 @@ use Rattle.driver_model.specs.Commands.{QueueName, Writes, Reads, Randoms, Store
 use Rattle.driver_model.specs.Console.{Received, Sent, console, console_writes, free_after, input, next_bytes, portion}
 use Rattle.driver_model.specs.Console.{received, sending, sent, taken, unreceived, unsent, write_done}
 use Rattle.driver_model.specs.Requests.{waiting_in}
+use Rattle.driver_model.specs.Steps.{DriverStep, own_after}
 use Rattle.driver_model.specs.Told.{drawn_told, received_told, sent_told, stored_told}
 use Rattle.driver_model.specs.Alarm.{answered, due_slot}
 use Rattle.driver_model.specs.Laws.{DueSlotIsThere}
@@ -52,7 +53,7 @@ use Rattle.random_capsule.specs.declared.capsule.RandomCapsule.{RandomCapsule}
 use Rattle.storage_capsule.specs.declared.capsule.StorageCapsule.{StorageCapsule}
 use Rattle.grant_enter.specs.Homes.{Homes, ChangesOnly, nobody, own_of}
 use Rattle.kernel_model.specs.declared.settings.Settings.{Settings}
-use Rattle.kernel_model.specs.Record.{Record, record_with_own}
+use Rattle.kernel_model.specs.Record.{Record, record_with_step}
 use Rattle.kernel_model.specs.Turn.{Event, Alarmed, Taken, WriteDone, Input, Stored, apply, flash_of}
 use Rattle.kernel_model.specs.Turn.{written_over}
 use Rattle.kernel_model.specs.World.{DeviceStep, Devices, World, alarmed, can_act, as_events, random_step}
@@ -211,7 +212,7 @@ record Answering (D : Type 0) : Type 0 where
 abbrev ServesFirst : {D : Type 0} (b : Inside) (h : IsBoard b) (id : ProcessId) → IsThere b.home.owns id → Answering D
     → Answered D → Type 0
 ServesFirst b h id there is a =
-    DeviceServes b (its_process b h id there) is.device id.slot (is.prints a.device) a.own
+    DeviceServes b (its_process b h id there) is.device id.slot (is.prints a.device) (own_after a.step)
     (is.after (waiting_still a.completed id.slot (ids_waiting_in b.drivers is.here)) a.device)
 
 -- and that it does it for whoever is the first
@@ -233,10 +234,10 @@ acts_on b h is x before serves (Ok answer) home ids y may answers =
     let there : IsThere b.home.owns id =
     first_is (IsThere b.home.owns) (ids_waiting_in b.drivers is.here) id answers.0 (waiters_there b h is.here) in
     let a = is.answer_to id in
-    told_by b h id there is.device (is.prints y) a.own home (is.after ids y) answers.5 answers.2 may
-    (subst (λ (xs : List ProcessId). DeviceServes b (its_process b h id there) is.device id.slot (is.prints y) a.own
+    told_by b h id there is.device (is.prints y) (own_after a.step) home (is.after ids y) answers.5 answers.2 may
+    (subst (λ (xs : List ProcessId). DeviceServes b (its_process b h id there) is.device id.slot (is.prints y) (own_after a.step)
     (is.after xs y)) (sym answers.4)
-    (subst (λ (z : _). DeviceServes b (its_process b h id there) is.device id.slot (is.prints z) a.own
+    (subst (λ (z : _). DeviceServes b (its_process b h id there) is.device id.slot (is.prints z) (own_after a.step)
     (is.after (waiting_still a.completed id.slot (ids_waiting_in b.drivers is.here)) z)) (sym answers.3)
     (serves id there answers.0)))
 
@@ -250,12 +251,12 @@ telling slot event printed devices =
     record { told = Some (record { slot = slot; event = event }); printed = printed; devices = devices }
 
 -- what is then its own, as an event tells
-sent_applied : (settings : Settings) (done : Bool) (r : Record) (own : Own)
-    → own ≡ (if done then write_done r.own else taken r.own)
-    → apply settings (if done then WriteDone else Taken) r ≡ record_with_own r own
+sent_applied : (settings : Settings) (done : Bool) (r : Record) (step : DriverStep)
+    → step ≡ (if done then write_done r.own else taken r.own)
+    → apply settings (if done then WriteDone else Taken) r ≡ record_with_step r step
 unfolding apply
-sent_applied settings true r o e = ap (record_with_own r) (sym e)
-sent_applied settings false r o e = ap (record_with_own r) (sym e)
+sent_applied settings true r step e = ap (record_with_step r) (sym e)
+sent_applied settings false r step e = ap (record_with_step r) (sym e)
 
 -- the UART is free soon after it took some bytes
 free_soon : (time ticks free : ℕ) (printed : List ℕ) → ticks ≤ BYTE_TICKS_LIMIT → length printed ≤ PRINT_LIMIT
@@ -272,8 +273,8 @@ free_soon time ticks free printed few short soon = by_length (length printed == 
 -- one step of a write, which is finished or has bytes left
 abbrev portioned : (ℕ → ℕ) → Own → Bool → WaitingWrite → Sent
 portioned flash own finished write =
-    if finished then record { own = write_done own; printed = []; completed = true }
-    else record { own = taken own; printed = next_bytes flash write own; completed = false }
+    if finished then record { step = write_done own; printed = []; completed = true }
+    else record { step = taken own; printed = next_bytes flash write own; completed = false }
 
 -- it takes so many bytes at most
 sent_few : (flash : ℕ → ℕ) (own : Own) → length (sent flash own).printed ≤ PRINT_LIMIT
@@ -328,7 +329,7 @@ serves_sent b h lines events law lent id is_there first =
     subst (λ (x : Sent). ServesFirst b h id is_there (sends b)
     (record {
       kind = sent_told kinds x;
-      own = x.own;
+      step = x.step;
       device = record { items = x.printed };
       completed =
           x.completed;
@@ -355,13 +356,13 @@ serves_sent b h lines events law lent id is_there first =
                 sending_at b.moment.time s.printed b.drivers.uart;
           }))
           first (its_record_was b h id is_there) refl;
-      tells = sent_applied b.moment.settings s.completed r s.own (events.writes (flash_of r) own);
+      tells = sent_applied b.moment.settings s.completed r s.step (events.writes (flash_of r) own);
     })
 
-input_applied : (settings : Settings) (bytes : List ℕ) (r : Record) (o : Own) → o ≡ input bytes r.own
-    → apply settings (Input bytes) r ≡ record_with_own r o
+input_applied : (settings : Settings) (bytes : List ℕ) (r : Record) (step : DriverStep) → step ≡ input bytes r.own
+    → apply settings (Input bytes) r ≡ record_with_step r step
 unfolding apply
-input_applied settings bytes r o e = ap (record_with_own r) (sym e)
+input_applied settings bytes r step e = ap (record_with_step r) (sym e)
 
 -- the UART, as bytes that came in go to a read
 abbrev receives : Inside → Answering SerialLine
@@ -384,7 +385,7 @@ serves_received b h lines events id is_there first =
     subst (λ (x : Received). ServesFirst b h id is_there (receives b)
     (record {
       kind = received_told kinds x;
-      own = x.own;
+      step = x.step;
       device =
           record b.drivers.uart { ring = drop (length x.moved) ring };
       completed = x.completed;
@@ -406,15 +407,16 @@ serves_received b h lines events id is_there first =
                 record b.drivers.uart { ring = drop (length s.moved) ring };
           }))
           first (its_record_was b h id is_there) refl;
-      tells = input_applied b.moment.settings s.moved r s.own (events.reads ring own);
+      tells = input_applied b.moment.settings s.moved r s.step (events.reads ring own);
     })
 
 -- what a process has as its own once a word was drawn for it, or none
-drawn_applied : (settings : Settings) (drawn : Option ℕ) (r : Record) (o : Own)
-    → o ≡ (random.answered drawn r.own).own → apply settings (drawn_told as_events drawn) r ≡ record_with_own r o
+drawn_applied : (settings : Settings) (drawn : Option ℕ) (r : Record) (step : DriverStep)
+    → step ≡ (random.answered drawn r.own).step
+    → apply settings (drawn_told as_events drawn) r ≡ record_with_step r step
 unfolding apply
-drawn_applied settings None r o e = ap (record_with_own r) (sym e)
-drawn_applied settings (Some word) r o e = ap (record_with_own r) (sym e)
+drawn_applied settings None r step e = ap (record_with_step r) (sym e)
+drawn_applied settings (Some word) r step e = ap (record_with_step r) (sym e)
 
 -- the source of random bytes, as it answers a request
 abbrev draws : Inside → Answering (List ℕ)
@@ -436,7 +438,7 @@ serves_drawn b h lines events id is_there first =
     subst (λ (x : random.RandomAnswered). ServesFirst b h id is_there (draws b)
     (record {
       kind = drawn_told kinds x.drawn;
-      own = x.own;
+      step = x.step;
       device = random.words_after x.drawn words;
       completed = x.completed;
     })) (sym (in_its_life id.life own s (random.unanswered own) is_there.1))
@@ -453,7 +455,7 @@ serves_drawn b h lines events id is_there first =
           (λ (slots : List ℕ). telling id.slot (drawn_told as_events s.drawn) []
           (record (devices_of b.drivers) { randoms = slots; words = random.words_after s.drawn words }))
           first (its_record_was b h id is_there) refl;
-      tells = drawn_applied b.moment.settings s.drawn r s.own (events.randoms word own);
+      tells = drawn_applied b.moment.settings s.drawn r s.step (events.randoms word own);
     })
 
 -- the answer to a request, if there is one
@@ -494,7 +496,7 @@ kept_beside s slot false written few = (refl, refl, refl)
 
 stored_applied : (settings : Settings) (fails : Bool) (r : Record)
     → let a = storage.answered fails (flash_of r) r.storage r.own in
-    apply settings (Stored (not fails)) r ≡ record r { own = a.own; storage = written_over r.storage a.written }
+    apply settings (Stored (not fails)) r ≡ record (record_with_step r a.step) { storage = written_over r.storage a.written }
 unfolding apply
 stored_applied settings true r = refl
 stored_applied settings false r = refl
@@ -532,7 +534,7 @@ serves_stored b h lines law lent id is_there first =
     subst (λ (x : storage.StorageAnswered). ServesFirst b h id is_there (stores b)
     (record {
       kind = stored_told kinds (store_fails_next s);
-      own = x.own;
+      step = x.step;
       device =
           if x.completed then storage_after id.slot x.written (after_count s) else s;
       completed = x.completed;
@@ -576,7 +578,7 @@ serves_stored b h lines law lent id is_there first =
     at_most_one false n m e = omega (arith, e)
 
 alarm_applied : (settings : Settings) (now : ℕ) (r : Record)
-    → apply settings (Alarmed now) r ≡ record_with_own r (answered now r.own)
+    → apply settings (Alarmed now) r ≡ record_with_step r (answered now r.own)
 unfolding apply
 alarm_applied settings now r = refl
 
@@ -584,7 +586,8 @@ alarm_applied settings now r = refl
 serves_alarmed : (b : Inside) (h : IsBoard b) (id : ProcessId) (is_there : IsThere b.home.owns id)
     → let now = clock_at b.moment.settings.start b.moment.time in
     LinesFollowAnswers → due_slot now (owns_in (world_of b)) ≡ Some id.slot
-    → DeviceServes b (its_process b h id is_there) Alarm id.slot [] (answered now (own_of b.home id.slot)) b.drivers
+    → DeviceServes b (its_process b h id is_there) Alarm id.slot []
+    (own_after (answered now (own_of b.home id.slot))) b.drivers
 serves_alarmed b h id is_there lines due =
     let now : ℕ = clock_at b.moment.settings.start b.moment.time in
     record {
@@ -628,7 +631,7 @@ acts_alarmed b h (Ok answer) home lines law answers printed empty =
     let there : IsThere b.home.owns id = (law now id.slot b.home.owns answers.0, sym answers.1) in
     let due : due_slot now (owns_in (world_of b)) ≡ Some id.slot = ap (due_slot now) (owns_in_world b h) ∙ answers.0 in
     acted_silent b Alarm (Ok answer) home b.drivers printed empty
-    (told_by b h id there Alarm [] (answered now (own_of b.home id.slot)) home b.drivers answers.4 answers.3
+    (told_by b h id there Alarm [] (own_after (answered now (own_of b.home id.slot))) home b.drivers answers.4 answers.3
     (ap is_some due) (serves_alarmed b h id there lines due))
 
 pub acts_sent : (b : Inside) (h : IsBoard b) (o : Result Answer NotReady) (home : Homes) (capsule : ConsoleCapsule)

@@ -10,6 +10,7 @@ use Rattle.syscall_abi.specs.declared.reply.Reply.{Reply}
 use Rattle.board_devices.specs.Storage.{fresh_storage}
 use Rattle.script_text.specs.Settings.{ScriptSettings as Script}
 use Rattle.process_model.specs.Own.{Own}
+use Rattle.driver_model.specs.Steps.{own_after}
 use Rattle.driver_model.specs.Commands.{BoardRequest, QueueName, Writes, Reads, Randoms, Stores}
 use Rattle.driver_model.specs.Drivers.{CommandHandler, handler_of}
 use Rattle.driver_model.specs.Replies.{reply_of}
@@ -125,11 +126,11 @@ pub record MayServe (m : Moment) (d : Drivers) (slot : ℕ) (own : Own) : Type 0
 
 -- what comes of a command, as its driver takes it: the answer, what is then the process's own, and what the drivers do
 abbrev pub Commands : ℕ → ProcessId → Order → Drivers → Own → Reply × Option CallRule → Own → Drivers → Type 0
-Commands tick id order d own answer own_after d_after =
+Commands tick id order d own answer own' d_after =
     (taker : CommandHandler) → handler_of order.driver ≡ Some taker →
     let c = taker (record {
       now = tick;
       leds = length d.leds;
       storage = d.stores.size;
     }) order.number order.a2 order.a3 own in
-    (answer ≡ reply_of c.answer) × (own_after ≡ c.own) × Drives id c.acts d d_after
+    (answer ≡ reply_of c.answer) × (own' ≡ own_after c.step) × Drives id c.acts d d_after

@@ -25,7 +25,7 @@ written_by home id =
     let s = in_life id.life own (sent (flash_byte home.flash) own) (unsent own) in
     record {
       kind = sent_told kinds s;
-      own = s.own;
+      step = s.step;
       device = record { items = s.printed };
       completed = s.completed;
     }
@@ -41,7 +41,7 @@ received_by line home id =
     let r = in_life id.life own (received line.ring own) (unreceived own) in
     record {
       kind = received_told kinds r;
-      own = r.own;
+      step = r.step;
       device = record line { ring = drop (length r.moved) line.ring };
       completed = r.completed;
     }

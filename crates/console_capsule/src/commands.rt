@@ -3,7 +3,8 @@ ghost use Rattle.std.specs.Prelude.{◌≡◌, is_some, true};
 ghost use Rattle.grant_enter.specs.Homes.{own_of, ChangesOnly};
 ghost use Rattle.driver_model.specs.Commands.{Reads};
 ghost use Rattle.driver_model.specs.Requests.{request_in};
-ghost use Rattle.driver_model.specs.Console.{cancelling, console, console_reads, asking_to_read, without_read};
+ghost use Rattle.driver_model.specs.Console.{cancelling, console, console_reads, asking_to_read, dropping_read};
+ghost use Rattle.driver_model.specs.Steps.{own_after};
 ghost use Rattle.driver_requests.specs.Asking.{IsPresent, MayAskAt, MayBeTold, Obeys, waiting_of};
 
 use crate::grants::{READ_ONLY, READ_WRITE, UPCALLS, consoles};
@@ -56,10 +57,12 @@ impl Visit<Console> for DropRead {
 }
 
 /// The read of a process that waits is dropped, and an upcall tells it.
+#[tactic(auto, using(crate::proofs::ReadEnds::told_first))]
 fn drop_read(home: &mut Home, id: ProcessId)
     requires told { MayBeTold home.old id }
     requires request { is_some (waiting_of console_reads id.life (own_of home.old id.slot)) ≡ true }
-    ensures own { own_of home.new id.slot ≡ without_read (own_of home.old id.slot) }
+    ensures own { own_of home.new id.slot
+        ≡ own_after (dropping_read (own_of home.old id.slot)) }
     ensures rest { ChangesOnly id.slot home.old home.new }
 {
     match consoles().visit(home, id, DropRead) {

@@ -5,6 +5,7 @@ ghost use Rattle.grant_enter.specs.Homes.{own_of, ChangesOnly};
 ghost use Rattle.grant_enter.specs.Seen.{Framed, IsLent, own_entered, seen};
 ghost use Rattle.tk_base.specs.Bytes.{over};
 ghost use Rattle.driver_model.specs.Console.{console, console_reads, bytes_moving, read_status, receiving};
+ghost use Rattle.driver_model.specs.Steps.{own_after};
 ghost use Rattle.driver_requests.specs.Asking.{MayBeTold, waiting_of};
 ghost use Rattle.console_capsule.specs.Receiving.{told_input, written_input};
 
@@ -125,10 +126,13 @@ fn take_in(entered: &mut Entered<'_>, uart: &mut Uart, read: &WaitingRead)
 fn step_of(home: &mut Home, id: ProcessId, uart: &mut Uart)
     requires told { MayBeTold home.old id }
     requires request { is_some (waiting_of console_reads id.life (own_of home.old id.slot)) ≡ true }
-    ensures step { let own = own_of home.old id.slot in
+    ensures own { let own = own_of home.old id.slot in
         IfSome (waiting_of console_reads id.life own)
-        (λ read. let r = receiving uart.old.ring own read in (own_of home.new id.slot ≡ r.own)
-        × (uart.new ≡ record uart.old { ring = drop (length r.moved) uart.old.ring })) }
+        (λ read. own_of home.new id.slot ≡ own_after (receiving uart.old.ring own read).step) }
+    ensures uart { let own = own_of home.old id.slot in
+        IfSome (waiting_of console_reads id.life own)
+        (λ read. let r = receiving uart.old.ring own read in
+        uart.new ≡ record uart.old { ring = drop (length r.moved) uart.old.ring }) }
     ensures rest { ChangesOnly id.slot home.old home.new }
 {
     match consoles().visit(home, id, Receive { uart }) {

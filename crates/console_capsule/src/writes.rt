@@ -5,6 +5,7 @@ ghost use Rattle.process_model.specs.Flash.{flash_byte};
 ghost use Rattle.grant_enter.specs.Homes.{own_of, ChangesOnly};
 ghost use Rattle.grant_enter.specs.Seen.{Framed, IsLent, own_entered, seen};
 ghost use Rattle.driver_model.specs.Console.{console, console_writes, next_bytes, portion, sending};
+ghost use Rattle.driver_model.specs.Steps.{own_after};
 ghost use Rattle.driver_requests.specs.Asking.{MayBeTold, waiting_of};
 ghost use Rattle.console_capsule.specs.Answers.{sending_at};
 ghost use Rattle.console_capsule.specs.Sending.{still_waiting, told_of};
@@ -16,6 +17,7 @@ use board_devices::{Kind, Uart};
 use driver_requests::{Serve, Service, has_request};
 use grant_enter::{Entered, Home, Visit, buffers_are_whole, frames_join};
 use grant_values::{Console, WaitingWrite};
+use process_model::keeping_commutes;
 use tk_base::{PRINT_LIMIT, ProcessId};
 
 /// Has the UART take the next bytes of the write that waits, which are put into an empty list; where none is left
@@ -115,10 +117,11 @@ fn step_of(home: &mut Home, id: ProcessId, printed: &mut ArrayVec<u8, PRINT_LIMI
     ensures step { let own = own_of home.old id.slot in
         IfSome (waiting_of console_writes id.life own)
         (λ write. let s = sending (flash_byte home.old.flash) own write in
-        (own_of home.new id.slot ≡ s.own) × (printed.new.items ≡ s.printed)
+        (own_of home.new id.slot ≡ own_after s.step) × (printed.new.items ≡ s.printed)
         × ((length printed.new.items == 0) ≡ s.completed)) }
     ensures rest { ChangesOnly id.slot home.old home.new }
 {
+    keeping_commutes();
     match consoles().visit(home, id, Transmit { printed }) {
         Ok(Some(_printed)) => {}
         _ => unreachable!(),

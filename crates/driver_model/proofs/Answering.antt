@@ -1,5 +1,5 @@
 -- Who waits after an answer.
-use Rattle.std.proofs.Common.{◌≡◌, ℕ, ◌+◌, ◌-◌, ◌==◌, nat_le, Bool, true, false, cond, List, [], Option}
+use Rattle.std.proofs.Common.{◌≡◌, ℕ, ◌+◌, ◌-◌, ◌==◌, nat_le, Bool, true, false, cond, List, [], ◌∷◌, length, Option}
 use Rattle.std.proofs.Common.{None, Some, is_some, is_none, option_map, unwrap_or, refl, ap, sym, ◌∙◌, subst}
 use Rattle.std.proofs.Math.Bool.{and-false}
 use Rattle.grant_model.specs.Grants.{Grant, grant_of}
@@ -12,7 +12,11 @@ use Rattle.grant_values.specs.declared.storage.StorageKind.TheVariants.{Read, Wr
 use Rattle.grant_values.specs.declared.storage.StorageRequest.{StorageRequest}
 use Rattle.process_model.specs.Own.{Own}
 use Rattle.driver_model.specs.Commands.{is_same, QueueName, Writes, Reads, Randoms, Stores}
-use Rattle.driver_model.specs.Requests.{RequestKind, request_in, waiting_in, with_request}
+use Rattle.driver_model.specs.Requests.{RequestKind, keeping_request, request_in, waiting_in, with_request}
+use Rattle.driver_model.specs.Steps.{DriverStep, own_after, scheduling, silently}
+use Rattle.process_model.specs.Served.{with_written}
+use Rattle.process_model.proofs.Scheduling.{keeping_commutes}
+use Rattle.grant_values.specs.Values.{AlarmValue}
 use Rattle.driver_model.specs.Console as console
 use Rattle.driver_model.specs.Console.{Sent, console_reads, console_writes}
 use Rattle.driver_model.specs.Random as random
@@ -23,6 +27,7 @@ use Rattle.driver_model.specs.Alarm as alarm
 use Rattle.driver_model.specs.Alarm.{with_alarm}
 use Rattle.driver_model.specs.Laws.{IsAtMostOneMore}
 use Rattle.driver_model.specs.Answers.{FollowsAnswer, LinesFollowAnswers, Remains, queue_left_by}
+use Rattle.driver_model.proofs.Requesting.{requesting_commutes}
 use Rattle.driver_model.proofs.Scheduled.{Serves, as_before, none_more, serves, serves_silently}
 use Rattle.driver_model.proofs.Sizes.{written_size}
 use Rattle.driver_model.proofs.Asked.{Asked, asked, told_by, asked_randoms, asked_reads, asked_stores, asked_writes}
@@ -134,6 +139,13 @@ module _ (own o : Own) (served : Serves own o) where
       (stays (asked own.grants))
       (λ size held. held)
 
+-- a request that is kept before an upcall is scheduled, and after
+then_told : {R : Type 0} (left : QueueName → Bool) (request_kind : RequestKind R) (request : Option R)
+    (step : DriverStep) (own : Own) → FollowsAnswer left own (with_request request_kind request (own_after step))
+    → FollowsAnswer left own (own_after (keeping_request request_kind request step))
+then_told left request_kind request step own =
+    subst (FollowsAnswer left own) (requesting_commutes request_kind request step.schedules step.own)
+
 -- one that waits keeps the request
 asks : {R : Type 0} (request_kind : RequestKind R) (own : Own) (request : R)
     → waiting_in request_kind own ≡ Some request → request_in request_kind own ≡ Some request
@@ -145,23 +157,24 @@ asks {R = R} request_kind own request is = if_so own.lives (request_in request_k
 
 -- a step of a write
 abbrev Sends : Own → Sent → Type 0
-Sends own s = FollowsAnswer (queue_left_by Writes s.completed) own s.own
+Sends own s = FollowsAnswer (queue_left_by Writes s.completed) own (own_after s.step)
 
 sends : (flash : ℕ → ℕ) (own : Own) → Sends own (console.sent flash own)
 unfolding console.sent
 sends flash own = by_waiting (waiting_in console_writes own) refl
   where
     by_portion : (write : WaitingWrite) (b : Bool) → waiting_in console_writes own ≡ Some write
-        → Sends own (cond b (record { own = console.write_done own; printed = []; completed = true })
-        (record { own = console.taken own; printed = console.next_bytes flash write own; completed = false }))
+        → Sends own (cond b (record { step = console.write_done own; printed = []; completed = true })
+        (record { step = console.taken own; printed = console.next_bytes flash write own; completed = false }))
     by_portion write true is =
         subst (λ (w : _). FollowsAnswer (queue_left_by Writes true) own
-        (unwrap_or (option_map (console.write_completing own) w) own))
+        (own_after (unwrap_or (option_map (console.write_completing own) w) (silently own))))
         (sym is)
-        (put_writes own _ (serves _ _ _ own.ram own (as_before own)) write None (asks console_writes own write is))
+        (then_told _ console_writes None (scheduling console.console 1 (write.taken ∷ 0 ∷ 0 ∷ []) own) own
+        (put_writes own _ (serves _ _ _ own.ram own (as_before own)) write None (asks console_writes own write is)))
     by_portion write false is =
         subst (λ (w : _). FollowsAnswer (queue_left_by Writes false) own
-        (unwrap_or (option_map (console.taking own) w) own)) (sym is)
+        (own_after (unwrap_or (option_map (console.taking own) w) (silently own)))) (sym is)
         (put_writes own _ (serves_silently own.ram own (as_before own)) write
         (Some (record write { taken = write.taken + console.portion write own }))
         (asks console_writes own write is))
@@ -172,86 +185,95 @@ sends flash own = by_waiting (waiting_in console_writes own) refl
     by_waiting (Some write) is = by_portion write (console.portion write own == 0) is
 
 receives : (ring : List ℕ) (own : Own) → let r = console.received ring own in
-    FollowsAnswer (queue_left_by Reads r.completed) own r.own
+    FollowsAnswer (queue_left_by Reads r.completed) own (own_after r.step)
 unfolding console.received
 receives ring own = by_waiting (waiting_in console_reads own) refl
   where
+    bytes : WaitingRead → List ℕ
+    bytes read = console.bytes_moving ring read own
+
     by_waiting : (w : Option WaitingRead) → waiting_in console_reads own ≡ w
         → let r = unwrap_or (option_map (console.receiving ring own) w) (console.unreceived own) in
-        FollowsAnswer (queue_left_by Reads r.completed) own r.own
+        FollowsAnswer (queue_left_by Reads r.completed) own (own_after r.step)
     by_waiting None is = unmoved _ own (never_left Reads)
     by_waiting (Some read) is =
-        subst (λ (w : _). FollowsAnswer (queue_left_by Reads true) own
-        (unwrap_or (option_map (console.reading_in (console.bytes_moving ring read own) own) w) own))
-        (sym is)
-        (put_reads own _ (serves _ _ _ _ own
-        (written_size console.console 1 0 (console.bytes_moving ring read own) own)) read None
+        then_told _ console_reads None
+        (scheduling console.console 2 (console.read_status own ∷ length (bytes read) ∷ 0 ∷ [])
+        (with_written console.console 1 0 (bytes read) own)) own
+        (put_reads own _ (serves _ _ _ _ own (written_size console.console 1 0 (bytes read) own)) read None
         (asks console_reads own read is))
 
 -- a step of a request for random bytes
-serves_if : (own : Own) (b : Bool) (p q : Progress) → Serves own p.own → Serves own q.own → Serves own (cond b p q).own
+serves_if : (own : Own) (b : Bool) (p q : Progress) → Serves own (own_after p.step) → Serves own (own_after q.step)
+    → Serves own (own_after (cond b p q).step)
 serves_if own true p q first second = first
 serves_if own false p q first second = second
 
 serves_drawing : (left : ℕ) (request : RandomRequest) (own : Own) (word : Option ℕ)
-    → Serves own (random.drawing left request own word).own
+    → Serves own (own_after (random.drawing left request own word).step)
 serves_drawing left request own None = serves _ _ _ own.ram own (as_before own)
 serves_drawing left request own (Some word) =
     serves_if own (nat_le left 4) _ _ (serves _ _ _ _ own (written_size random.random 0 request.written _ own))
     (serves_silently _ own (written_size random.random 0 request.written _ own))
 
 pub serves_progress : (word : Option ℕ) (request : RandomRequest) (own : Own)
-    → Serves own (random.progress word request own).own
+    → Serves own (own_after (random.progress word request own).step)
 serves_progress word request own =
     serves_if own (nat_le (random.wanted request own) request.written) _ _ (serves _ _ _ own.ram own (as_before own))
     (serves_drawing (random.wanted request own - request.written) request own word)
 
 draws : (word : Option ℕ) (own : Own) → let a = random.answered word own in
-    FollowsAnswer (queue_left_by Randoms a.completed) own a.own
+    FollowsAnswer (queue_left_by Randoms a.completed) own (own_after a.step)
 unfolding random.answered
 draws word own = by_waiting (waiting_in randoms own) refl
   where
     by_waiting : (w : Option RandomRequest) → waiting_in randoms own ≡ w
         → let a = unwrap_or (option_map (λ (request : RandomRequest). random.advanced
         (random.progress word request own)) w) (random.unanswered own) in
-        FollowsAnswer (queue_left_by Randoms a.completed) own a.own
+        FollowsAnswer (queue_left_by Randoms a.completed) own (own_after a.step)
     by_waiting None is = unmoved _ own (never_left Randoms)
     by_waiting (Some request) is =
-        put_randoms own _ (serves_progress word request own) request
-        (random.progress word request own).rest (asks randoms own request is)
+        let p = random.progress word request own in
+        then_told _ randoms p.rest p.step own
+        (put_randoms own _ (serves_progress word request own) request p.rest (asks randoms own request is))
 
 -- a storage request that is served
 pub serves_served : (fault : Bool) (flash : ℕ → ℕ) (bytes : List ℕ) (request : StorageRequest) (own : Own)
-    → Serves own (storage.storage_served fault flash bytes request own).own
+    → Serves own (own_after (storage.storage_served fault flash bytes request own).step)
 serves_served fault flash bytes request own = by_fault fault request.kind
   where
     by_fault : (b : Bool) (kind : StorageKind)
-        → Serves own (cond b (record { own = storage.completing request.kind 0 1 own; written = None })
-        (storage.moving kind flash bytes request own)).own
+        → Serves own (own_after (cond b (record { step = storage.completing request.kind 0 1 own; written = None })
+        (storage.moving kind flash bytes request own)).step)
     by_fault true kind = serves _ _ _ own.ram own (as_before own)
     by_fault false Read = serves _ _ _ _ own (written_size storage.storage 0 0 _ own)
     by_fault false Write = serves _ _ _ own.ram own (as_before own)
 
 stores : (fault : Bool) (flash : ℕ → ℕ) (bytes : List ℕ) (own : Own)
-    → let a = storage.answered fault flash bytes own in FollowsAnswer (queue_left_by Stores a.completed) own a.own
+    → let a = storage.answered fault flash bytes own in FollowsAnswer (queue_left_by Stores a.completed) own (own_after a.step)
 unfolding storage.answered
 stores fault flash bytes own = by_waiting (waiting_in storages own) refl
   where
     by_waiting : (w : Option StorageRequest) → waiting_in storages own ≡ w
         → let a = unwrap_or (option_map (λ (request : StorageRequest). storage.storage_answer_of
         (storage.storage_served fault flash bytes request own)) w) (storage.unanswered own) in
-        FollowsAnswer (queue_left_by Stores a.completed) own a.own
+        FollowsAnswer (queue_left_by Stores a.completed) own (own_after a.step)
     by_waiting None is = unmoved _ own (never_left Stores)
     by_waiting (Some request) is =
-        ends_stores own _ (serves_served fault flash bytes request own) request (asks storages own request is)
+        then_told _ storages None (storage.storage_served fault flash bytes request own).step own
+        (ends_stores own _ (serves_served fault flash bytes request own) request (asks storages own request is))
 
-fires : (now : ℕ) (own : Own) → FollowsAnswer (λ line. false) own (alarm.answered now own)
+fires : (now : ℕ) (own : Own) → FollowsAnswer (λ line. false) own (own_after (alarm.answered now own))
 unfolding alarm.answered
 fires now own = by_due (alarm.due_alarm now own)
   where
-    by_due : (due : Option Armed) → FollowsAnswer (λ line. false) own (alarm.fired_if now own due)
+    by_due : (due : Option Armed) → FollowsAnswer (λ line. false) own (own_after (alarm.fired_if now own due))
     by_due None = unmoved _ own (λ line. refl)
-    by_due (Some armed) = stops_alarm own _ (serves _ _ _ own.ram own (as_before own))
+    by_due (Some armed) =
+        subst (FollowsAnswer (λ line. false) own)
+        (keeping_commutes alarm.alarm_driver (AlarmValue (record { armed = None }))
+        (alarm.fired now armed own).schedules own)
+        (stops_alarm own _ (serves _ _ _ own.ram own (as_before own)))
 
 pub lines_follow_answers : LinesFollowAnswers
 lines_follow_answers = record { writes = sends; reads = receives; randoms = draws; stores = stores; alarms = fires }

@@ -22,9 +22,11 @@ use Rattle.driver_model.specs.Random as random
 use Rattle.driver_model.specs.Random.{Progress, randoms}
 use Rattle.driver_model.specs.Storage as storage
 use Rattle.driver_model.specs.Storage.{storages}
-use Rattle.driver_model.specs.Requests.{waiting_in}
+use Rattle.driver_model.specs.Requests.{RequestKind, keeping_request, waiting_in, with_request}
+use Rattle.driver_model.specs.Steps.{DriverStep, own_after, silently}
 use Rattle.driver_model.specs.Bytes.{AnswersWriteInBuffers, CommandsKeepBytes, input_buffer, stored_buffer, word_buffer}
 use Rattle.driver_model.proofs.Outcomes.{of_command}
+use Rattle.driver_model.proofs.Requesting.{requesting_commutes}
 use Rattle.driver_model.proofs.Scheduled.{schedules}
 use Rattle.driver_model.proofs.Services.{if_waits}
 
@@ -47,15 +49,27 @@ stays_scheduled : (Cause : ℕ → Type 0) (driver number : ℕ) (args : List �
 stays_scheduled Cause driver number args own at before after =
     inl (keeps_scheduled driver number args own at before after)
 
+-- nor does a request that is kept before, or after
+then_kept : {R : Type 0} (Cause : ℕ → Type 0) (request_kind : RequestKind R) (request : Option R) (step : DriverStep)
+    (own : Own) → ChangesAt Cause own (own_after step)
+    → ChangesAt Cause own (own_after (keeping_request request_kind request step))
+then_kept Cause request_kind request step own =
+    subst (ChangesAt Cause own) (requesting_commutes request_kind request step.schedules step.own)
+
+keeps_kept : {R : Type 0} (request_kind : RequestKind R) (request : Option R) (step : DriverStep) (own : Own)
+    → KeepsBytes own (own_after step) → KeepsBytes own (own_after (keeping_request request_kind request step))
+keeps_kept request_kind request step own =
+    subst (KeepsBytes own) (requesting_commutes request_kind request step.schedules step.own)
+
 pub commands_keep_bytes : OnlyWritesChangeBytes → CommandsKeepBytes
 commands_keep_bytes law driver taker is around number a2 a3 own =
-    of_command (λ around own c. KeepsBytes own c.own) driver taker is around number a2 a3 own (record {
+    of_command (λ around own c. KeepsBytes own (own_after c.step)) driver taker is around number a2 a3 own (record {
       refuses = λ rule at before after. refl;
       replies = λ reply at before after. refl;
       lights = λ led switch at before after. refl;
       arms = λ armed room. law.entering alarm.alarm_driver own;
       stops = λ at before after. refl;
-      cancels = keeps_scheduled console.console 2 (code_of CANCEL ∷ 0 ∷ 0 ∷ []) own;
+      cancels = keeps_scheduled console.console 2 (code_of CANCEL ∷ 0 ∷ 0 ∷ []) (with_request console_reads None own);
       writes = λ request room none. law.entering console.console own;
       reads = λ request room none. law.entering console.console own;
       draws = λ request room none. law.entering random.random own;
@@ -63,12 +77,13 @@ commands_keep_bytes law driver taker is around number a2 a3 own =
     })
 
 module _ (law : OnlyWritesChangeBytes) where
-  fires : (now : ℕ) (own : Own) (due : Option Armed) → KeepsBytes own (alarm.fired_if now own due)
+  fires : (now : ℕ) (own : Own) (due : Option Armed) → KeepsBytes own (own_after (alarm.fired_if now own due))
   fires now own None = λ at before after. refl
-  fires now own (Some armed) = keeps_scheduled alarm.alarm_driver 0 (now ∷ alarm.expiration armed ∷ 0 ∷ []) own
+  fires now own (Some armed) = keeps_scheduled alarm.alarm_driver 0 (now ∷ alarm.expiration armed ∷ 0 ∷ [])
+      (alarm.with_alarm None own)
 
   drawing : (left : ℕ) (request : RandomRequest) (own : Own) (word : Option ℕ) → IsWhole own
-      → ChangesAt (IsInside (word_buffer own)) own (random.drawing left request own word).own
+      → ChangesAt (IsInside (word_buffer own)) own (own_after (random.drawing left request own word).step)
   drawing left request own None whole =
       stays_scheduled (IsInside (word_buffer own)) random.random 0 (1 ∷ request.written ∷ 0 ∷ []) own
   drawing left request own (Some word) whole = by_left (nat_le left 4)
@@ -81,34 +96,34 @@ module _ (law : OnlyWritesChangeBytes) where
 
       by_left : (b : Bool)
           → ChangesAt (IsInside (word_buffer own)) own
-          (cond b (random.completing (Some word) 0 (request.written + left) o)
-          (record { rest = Some (record request { written = request.written + 4 }); own = o; drawn = Some word })).own
+          (own_after (cond b (random.completing (Some word) 0 (request.written + left) o)
+          (record { rest = Some (record request { written = request.written + 4 }); step = silently o; drawn = Some word })).step)
       by_left true = then_scheduled (IsInside (word_buffer own)) random.random 0 (0 ∷ (request.written + left) ∷ 0 ∷ [])
           own o written
       by_left false = written
 
   progress : (word : Option ℕ) (request : RandomRequest) (own : Own) → IsWhole own
-      → ChangesAt (IsInside (word_buffer own)) own (random.progress word request own).own
+      → ChangesAt (IsInside (word_buffer own)) own (own_after (random.progress word request own).step)
   progress word request own whole = by_wanted (nat_le (random.wanted request own) request.written)
     where
       by_wanted : (b : Bool)
           → ChangesAt (IsInside (word_buffer own)) own
-          (cond b (random.completing None 0 request.written own)
-          (random.drawing (random.wanted request own - request.written) request own word)).own
+          (own_after (cond b (random.completing None 0 request.written own)
+          (random.drawing (random.wanted request own - request.written) request own word)).step)
       by_wanted true = stays_scheduled (IsInside (word_buffer own)) random.random 0 (0 ∷ request.written ∷ 0 ∷ []) own
       by_wanted false = drawing _ request own word whole
 
-  no_progress : (request : RandomRequest) (own : Own) → KeepsBytes own (random.progress None request own).own
+  no_progress : (request : RandomRequest) (own : Own) → KeepsBytes own (own_after (random.progress None request own).step)
   no_progress request own = by_wanted (nat_le (random.wanted request own) request.written)
     where
       by_wanted : (b : Bool)
-          → KeepsBytes own (cond b (random.completing None 0 request.written own)
-          (random.drawing (random.wanted request own - request.written) request own None)).own
+          → KeepsBytes own (own_after (cond b (random.completing None 0 request.written own)
+          (random.drawing (random.wanted request own - request.written) request own None)).step)
       by_wanted true = keeps_scheduled random.random 0 (0 ∷ request.written ∷ 0 ∷ []) own
       by_wanted false = keeps_scheduled random.random 0 (1 ∷ request.written ∷ 0 ∷ []) own
 
   moving : (kind : StorageKind) (flash : ℕ → ℕ) (bytes : List ℕ) (request : StorageRequest) (own : Own) → IsWhole own
-      → ChangesAt (IsInside (stored_buffer own)) own (storage.moving kind flash bytes request own).own
+      → ChangesAt (IsInside (stored_buffer own)) own (own_after (storage.moving kind flash bytes request own).step)
   moving Read flash bytes request own whole =
       let count = min request.length (stored_buffer own).1 in
       let copied = slice_range bytes request.offset (request.offset + count) in
@@ -119,7 +134,7 @@ module _ (law : OnlyWritesChangeBytes) where
       (min request.length (held ReadOnly storage.storage 0 own).1 ∷ 0 ∷ 0 ∷ []) own
 
   served : (fault : Bool) (flash : ℕ → ℕ) (bytes : List ℕ) (request : StorageRequest) (own : Own) → IsWhole own
-      → ChangesAt (IsInside (stored_buffer own)) own (storage.storage_served fault flash bytes request own).own
+      → ChangesAt (IsInside (stored_buffer own)) own (own_after (storage.storage_served fault flash bytes request own).step)
   served true flash bytes request own whole =
       stays_scheduled (IsInside (stored_buffer own)) storage.storage (storage.upcall_for request.kind) (0 ∷ 1 ∷ 0 ∷ [])
       own
@@ -129,27 +144,34 @@ module _ (law : OnlyWritesChangeBytes) where
   unfolding alarm.answered random.answered storage.answered
   answers_write_in_buffers = record {
     alarmed = λ now own. fires now own (alarm.due_alarm now own);
-    taken = λ own. if_waits (KeepsBytes own) (console.taking own) own (waiting_in console_writes own)
+    taken = λ own. if_waits (λ (s : DriverStep). KeepsBytes own (own_after s)) (console.taking own) (silently own) (waiting_in console_writes own)
         (λ at before after. refl) (λ write at before after. refl);
-    write_done = λ own. if_waits (KeepsBytes own) (console.write_completing own) own (waiting_in console_writes own)
-        (λ at before after. refl) (λ write. keeps_scheduled console.console 1 (write.taken ∷ 0 ∷ 0 ∷ []) own);
+    write_done = λ own. if_waits (λ (s : DriverStep). KeepsBytes own (own_after s)) (console.write_completing own) (silently own) (waiting_in console_writes own)
+        (λ at before after. refl) (λ write. keeps_scheduled console.console 1 (write.taken ∷ 0 ∷ 0 ∷ [])
+        (with_request console_writes None own));
     input = λ bytes own whole.
-        if_waits (ChangesAt (IsInside (input_buffer own)) own) (console.reading_in bytes own) own
+        if_waits (λ (s : DriverStep). ChangesAt (IsInside (input_buffer own)) own (own_after s)) (console.reading_in bytes own)
+        (silently own)
         (waiting_in console_reads own) (λ at before after. inl refl)
         (λ read.
         then_scheduled (IsInside (input_buffer own)) console.console 2 (console.read_status own ∷ length bytes ∷ 0 ∷ [])
-        own (with_written console.console 1 0 bytes own)
+        own (with_request console_reads None (with_written console.console 1 0 bytes own))
         (law.written console.console 1 0 bytes own whole));
     word = λ word own whole.
-        if_waits (λ (a : random.RandomAnswered). ChangesAt (IsInside (word_buffer own)) own a.own) _ _
-        (waiting_in randoms own) (λ at before after. inl refl) (λ request. progress word request own whole);
+        if_waits (λ (a : random.RandomAnswered). ChangesAt (IsInside (word_buffer own)) own (own_after a.step)) _ _
+        (waiting_in randoms own) (λ at before after. inl refl) 
+        (λ request. let p = random.progress word request own in
+        then_kept _ randoms p.rest p.step own (progress word request own whole));
     no_word = λ own.
-        if_waits (λ (a : random.RandomAnswered). KeepsBytes own a.own) _ _ (waiting_in randoms own)
-        (λ at before after. refl) (λ request. no_progress request own);
+        if_waits (λ (a : random.RandomAnswered). KeepsBytes own (own_after a.step)) _ _ (waiting_in randoms own)
+        (λ at before after. refl) 
+        (λ request. let p = random.progress None request own in
+        keeps_kept randoms p.rest p.step own (no_progress request own));
     stored = λ fault flash bytes own whole.
-        if_waits (λ (a : storage.StorageAnswered). ChangesAt (IsInside (stored_buffer own)) own a.own) _ _
+        if_waits (λ (a : storage.StorageAnswered). ChangesAt (IsInside (stored_buffer own)) own (own_after a.step)) _ _
         (waiting_in storages own) (λ at before after. inl refl)
-        (λ request. served fault flash bytes request own whole);
+        (λ request. then_kept _ storages None (storage.storage_served fault flash bytes request own).step own
+        (served fault flash bytes request own whole));
     failed = λ flash bytes own. if_waits (λ (a : storage.StorageAnswered). a.written ≡ None) _ _
         (waiting_in storages own) refl (λ request. refl);
   }

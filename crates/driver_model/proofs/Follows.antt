@@ -10,11 +10,11 @@ use Rattle.grant_values.specs.Values.{AlarmValue}
 use Rattle.syscall_abi.specs.declared.reply.Reply.TheVariants.{Success}
 use Rattle.process_model.specs.Own.{Own}
 use Rattle.process_model.specs.Handed.{own_entering}
-use Rattle.process_model.specs.Served.{own_scheduled}
+use Rattle.driver_model.specs.Steps.{own_after}
 use Rattle.driver_model.specs.Commands.{Commanded, Leaves, Reads}
-use Rattle.driver_model.specs.Requests.{RequestKind, request_in}
+use Rattle.driver_model.specs.Requests.{RequestKind, request_in, with_request}
 use Rattle.driver_model.specs.Alarm.{alarm_driver, with_alarm}
-use Rattle.driver_model.specs.Console.{console, console_reads, console_writes, without_read}
+use Rattle.driver_model.specs.Console.{console, console_reads, console_writes, dropping_read}
 use Rattle.driver_model.specs.Random.{randoms}
 use Rattle.driver_model.specs.Storage.{storages}
 use Rattle.driver_model.specs.Lines.{FollowsCommand, LinesFollowCommands, OfEachRequestKind, has_waiting, waits_after}
@@ -45,15 +45,15 @@ not_yet {R} request_kind own none =
     by_lives false = refl
 
 -- by what is asked for after the command
-follows : (around : CommandContext) (own : Own) (c : Commanded) (after : Asked) → c.own.lives ≡ own.lives
-    → asked c.own.grants ≡ after → Moves (λ line waits. waits_after line waits c.acts) (asked own.grants) after
+follows : (around : CommandContext) (own : Own) (c : Commanded) (after : Asked) → (own_after c.step).lives ≡ own.lives
+    → asked (own_after c.step).grants ≡ after → Moves (λ line waits. waits_after line waits c.acts) (asked own.grants) after
     → (LiesWithin around.storage (asked own.grants).stores → LiesWithin around.storage after.stores) → BeginsOnce own c
     → FollowsCommand around own c
 follows around own c after lives is moves lies once = record {
   once = once;
-  lines = λ (l : own.lives ≡ true). each_waits _ own c.own after lives is
+  lines = λ (l : own.lives ≡ true). each_waits _ own (own_after c.step) after lives is
       (λ line ended. absurd (false≢true (sym ended ∙ l))) moves;
-  within = λ held. is_within around.storage c.own after is (lies held);
+  within = λ held. is_within around.storage (own_after c.step) after is (lies held);
 }
 
 -- another driver than those of the desks is armed, or stopped
@@ -62,14 +62,15 @@ arms_apart armed own =
     asked_apart alarm_driver (with_value (AlarmValue (record { armed = armed }))) own.grants refl refl refl (λ g. refl)
 
 cancels : (around : CommandContext) (own : Own)
-    → FollowsCommand around own (record { answer = Ok Success; own = without_read own; acts = Leaves Reads ∷ [] })
+    → FollowsCommand around own (record { answer = Ok Success; step = dropping_read own; acts = Leaves Reads ∷ [] })
 cancels around own =
-    let s = own_scheduled console 2 (code_of CANCEL ∷ 0 ∷ 0 ∷ []) own in
-    let q = schedules console 2 (code_of CANCEL ∷ 0 ∷ 0 ∷ []) own in
-    let same : s.grants ≡ own.grants = ap (λ (o : Own). o.grants) q.rest in
-    let lives : s.lives ≡ own.lives = ap (λ (o : Own). o.lives) q.rest in
-    let told : asked (without_read own).grants ≡ record (asked own.grants) { reads = None } =
-    asked_reads None s ∙ (λ i. record (asked (same i)) { reads = if_none (grant_of console s.grants) i }) in
+    let without = with_request console_reads None own in
+    let after = own_after (dropping_read own) in
+    let q = schedules console 2 (code_of CANCEL ∷ 0 ∷ 0 ∷ []) without in
+    let lives : after.lives ≡ own.lives = ap (λ (o : Own). o.lives) q.rest in
+    let told : asked after.grants ≡ record (asked own.grants) { reads = None } =
+    ap (λ (o : Own). asked o.grants) q.rest ∙ asked_reads None own
+    ∙ (λ i. record (asked own.grants) { reads = if_none (grant_of console own.grants) i }) in
     follows around own _ (record (asked own.grants) { reads = None }) lives told
     (record { writes = refl; reads = refl; randoms = refl; stores = refl }) (λ held. held)
     (record { writes = refl; reads = refl; randoms = refl; stores = refl })

@@ -1,6 +1,7 @@
 mod Tables
 mod Outcomes
 mod Scheduled
+pub mod Requesting
 mod Sizes
 mod Refusals
 mod Places

@@ -15,12 +15,13 @@ use Rattle.syscall_abi.specs.declared.reply.Reply.{Reply}
 use Rattle.syscall_abi.specs.declared.reply.Reply.TheVariants.{Success, SuccessU32}
 use Rattle.process_model.specs.Own.{Own}
 use Rattle.process_model.specs.Handed.{own_entering, has_place}
+use Rattle.driver_model.specs.Steps.{silently}
 use Rattle.driver_model.specs.Commands.{Commanded, Leaves, Lights, Reads, Switch, On, Off, Toggle, Waits, accepting}
 use Rattle.driver_model.specs.Commands.{refusing}
 use Rattle.driver_model.specs.Requests.{RequestKind, asking, asking_beside, request_in, with_request}
 use Rattle.driver_model.specs.Alarm.{alarm_driver, alarm_in, arming, expiration, stopping, with_alarm}
 use Rattle.driver_model.specs.Alarm.{command as alarm_command, commands as alarm_commands}
-use Rattle.driver_model.specs.Console.{cancelling, console_reads, console_writes, asking_to_read, without_read}
+use Rattle.driver_model.specs.Console.{cancelling, console_reads, console_writes, asking_to_read, dropping_read}
 use Rattle.driver_model.specs.Console.{command as console_command, commands as console_commands}
 use Rattle.driver_model.specs.Leds.{switching, command as led_command, commands as led_commands}
 use Rattle.driver_model.specs.Random.{randoms, command as random_command, commands as random_commands}
@@ -32,7 +33,7 @@ use Rattle.driver_model.proofs.Tables.{Each, commanded, taken}
 abbrev pub begun : {R : Type 0} → RequestKind R → R → Own → Commanded
 begun request_kind request own = record {
   answer = Ok Success;
-  own = with_request request_kind (Some request) (own_entering request_kind.driver own);
+  step = silently (with_request request_kind (Some request) (own_entering request_kind.driver own));
   acts = Waits request_kind.line ∷ [];
 }
 
@@ -41,11 +42,11 @@ pub record OfEachOutcome (around : CommandContext) (own : Own) (P : Commanded �
   pub refuses : (rule : CallRule) → P (refusing rule own)
   pub replies : (reply : Reply) → P (accepting reply own)
   pub lights : (led : ℕ) (switch : Switch)
-      → P (record { answer = Ok Success; own = own; acts = Lights led switch ∷ [] })
+      → P (record { answer = Ok Success; step = silently own; acts = Lights led switch ∷ [] })
   pub arms : (alarm : Armed) → has_place alarm_driver own ≡ true
       → P (accepting (SuccessU32 (expiration alarm)) (with_alarm (Some alarm) (own_entering alarm_driver own)))
   pub stops : P (accepting Success (with_alarm None own))
-  pub cancels : P (record { answer = Ok Success; own = without_read own; acts = Leaves Reads ∷ [] })
+  pub cancels : P (record { answer = Ok Success; step = dropping_read own; acts = Leaves Reads ∷ [] })
   pub writes : (request : WaitingWrite) → has_place console_writes.driver own ≡ true
       → request_in console_writes own ≡ None → P (begun console_writes request own)
   pub reads : (request : WaitingRead) → has_place console_reads.driver own ≡ true → request_in console_reads own ≡ None

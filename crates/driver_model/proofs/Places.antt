@@ -6,14 +6,14 @@ use Rattle.grant_model.specs.Grants.{Grant, grant_of}
 use Rattle.grant_region.specs.Region.{roomed}
 use Rattle.process_model.specs.Own.{Own}
 use Rattle.process_model.specs.Handed.{own_entering}
-use Rattle.process_model.specs.Served.{own_scheduled}
 use Rattle.driver_model.specs.Alarm.{with_alarm}
-use Rattle.driver_model.specs.Console.{console, console_reads, console_writes}
+use Rattle.driver_model.specs.Console.{console, console_reads, console_writes, dropping_read}
 use Rattle.driver_model.specs.Random.{randoms}
 use Rattle.driver_model.specs.Requests.{RequestKind, with_request}
 use Rattle.driver_model.specs.Storage.{storages}
 use Rattle.driver_model.specs.Laws.{CommandDropsAtMostOne, CommandsStayInPlace, IsAtMostOneMore, StaysInPlace}
 use Rattle.driver_model.proofs.Outcomes.{begun, of_command}
+use Rattle.driver_model.specs.Steps.{own_after}
 use Rattle.driver_model.proofs.Scheduled.{Queues, none_more, schedules}
 
 -- entering takes room alone
@@ -32,24 +32,24 @@ entering_stays driver own =
     takes_room (Some g) = refl
 
 begun_stays : {R : Type 0} (request_kind : RequestKind R) (request : R) (own : Own)
-    → StaysInPlace own (begun request_kind request own).own
+    → StaysInPlace own (own_after (begun request_kind request own).step)
 begun_stays request_kind request own =
-    ap (λ (o : Own). record o { grants = (begun request_kind request own).own.grants })
+    ap (λ (o : Own). record o { grants = (begun request_kind request own).step.own.grants })
     (entering_stays request_kind.driver own)
 
 -- a read that is dropped has its process told of it
-cancels : (own : Own) → Queues own (own_scheduled console 2 (code_of CANCEL ∷ 0 ∷ 0 ∷ []) own)
-cancels own = schedules console 2 (code_of CANCEL ∷ 0 ∷ 0 ∷ []) own
+cancels : (own : Own) → Queues (with_request console_reads None own) (own_after (dropping_read own))
+cancels own = schedules console 2 (code_of CANCEL ∷ 0 ∷ 0 ∷ []) (with_request console_reads None own)
 
 pub commands_stay_in_place : CommandsStayInPlace
 commands_stay_in_place driver taker is around number a2 a3 own =
-    of_command (λ around own c. StaysInPlace own c.own) driver taker is around number a2 a3 own (record {
+    of_command (λ around own c. StaysInPlace own (own_after c.step)) driver taker is around number a2 a3 own (record {
       refuses = λ rule. refl;
       replies = λ reply. refl;
       lights = λ led switch. refl;
       arms = λ alarm room. ap (with_alarm (Some alarm)) (entering_stays 0 own);
       stops = refl;
-      cancels = subst (λ (o : Own). StaysInPlace own (with_request console_reads None o)) (sym (cancels own).rest) refl;
+      cancels = subst (StaysInPlace own) (sym (cancels own).rest) refl;
       writes = λ request room none. begun_stays console_writes request own;
       reads = λ request room none. begun_stays console_reads request own;
       draws = λ request room none. begun_stays randoms request own;
@@ -58,14 +58,14 @@ commands_stay_in_place driver taker is around number a2 a3 own =
 
 pub command_drops_at_most_one : CommandDropsAtMostOne
 command_drops_at_most_one driver taker around number a2 a3 own is =
-    of_command (λ around own c. IsAtMostOneMore own.inbox.dropped c.own.inbox.dropped) driver taker is around number a2 a3 own
+    of_command (λ around own c. IsAtMostOneMore own.inbox.dropped (own_after c.step).inbox.dropped) driver taker is around number a2 a3 own
     (record {
       refuses = λ rule. none_more own.inbox.dropped;
       replies = λ reply. none_more own.inbox.dropped;
       lights = λ led switch. none_more own.inbox.dropped;
       arms = λ alarm room. none_more own.inbox.dropped;
       stops = none_more own.inbox.dropped;
-      cancels = (cancels own).dropped;
+      cancels = record { not_less = (cancels own).dropped.not_less; not_more = (cancels own).dropped.not_more };
       writes = λ request room none. none_more own.inbox.dropped;
       reads = λ request room none. none_more own.inbox.dropped;
       draws = λ request room none. none_more own.inbox.dropped;

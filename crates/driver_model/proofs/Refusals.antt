@@ -4,6 +4,7 @@ use Rattle.tk_base.specs.declared.call.CallRule.{CallRule}
 use Rattle.syscall_abi.specs.declared.reply.Reply.{Reply}
 use Rattle.syscall_abi.specs.declared.reply.Reply.TheVariants.{Success}
 use Rattle.process_model.specs.Own.{Own}
+use Rattle.driver_model.specs.Steps.{DriverStep}
 use Rattle.driver_model.specs.Commands.{BoardRequest, Commanded, refusing}
 use Rattle.driver_model.specs.Laws.{RefusedByAnyDriver}
 use Rattle.driver_model.proofs.Outcomes.{of_command}
@@ -18,9 +19,9 @@ keeps_refused own broken rule e = let same : broken ≡ rule = cc in ap (λ (r :
 no_refusal : (reply : Reply) (rule : CallRule) → ◌≡◌ {A = Result Reply CallRule} (Ok reply) (Err rule) → ⊥
 no_refusal reply rule e = cc
 
-keeps_accepted : (own new : Own) (reply : Reply) (acts : List BoardRequest)
-    → Keeps own (record { answer = Ok reply; own = new; acts = acts })
-keeps_accepted own new reply acts rule e = absurd (no_refusal reply rule e)
+keeps_accepted : (own : Own) (step : DriverStep) (reply : Reply) (acts : List BoardRequest)
+    → Keeps own (record { answer = Ok reply; step = step; acts = acts })
+keeps_accepted own step reply acts rule e = absurd (no_refusal reply rule e)
 
 pub refused_by_any_driver : RefusedByAnyDriver
 refused_by_any_driver driver taker around number a2 a3 own rule is e =

@@ -1,10 +1,12 @@
 -- The one walk over all that drivers do to a process.
-use Rattle.std.proofs.Common.{◌≡◌, true, ℕ, Option, None, Some, option_map, unwrap_or}
+use Rattle.std.proofs.Common.{◌≡◌, true, ℕ, [], ◌∷◌, length, Option, None, Some, option_map, unwrap_or, subst}
 use Rattle.grant_values.specs.declared.alarm.Armed.{Armed}
 use Rattle.grant_values.specs.Values.{KeptValue}
 use Rattle.process_model.specs.Own.{Own}
 use Rattle.process_model.specs.Handed.{own_entering, has_place}
-use Rattle.process_model.specs.Served.{with_kept}
+use Rattle.process_model.specs.Served.{with_kept, with_written}
+use Rattle.process_model.proofs.Scheduling.{keeping_commutes}
+use Rattle.driver_model.specs.Steps.{DriverStep, own_after, scheduling, silently}
 use Rattle.driver_model.specs.Alarm as alarm
 use Rattle.driver_model.specs.Console as console
 use Rattle.driver_model.specs.Console.{console_reads, console_writes}
@@ -35,38 +37,52 @@ pub if_waits : {R X : Type 0} (Q : X → Type 0) (serve : R → X) (none : X) (w
 if_waits Q serve none None nothing some = nothing
 if_waits Q serve none (Some request) nothing some = some request
 
+-- what holds of one that keeps a value, and then is told, by one that was told, and keeps it then
+told : (P : Own → Own → Type 0) → OfEachForm P → (driver : ℕ) (value : KeptValue) (step : DriverStep) (own : Own)
+    → Serves own (own_after step) → P own (own_after (record step { own = with_kept driver value step.own }))
+told P each driver value step own served =
+    subst (P own) (keeping_commutes driver value step.schedules step.own)
+    (each.serves driver value own (own_after step) served)
+
 pub of_services : (P : Own → Own → Type 0) → OfEachForm P → OfEachService P
 unfolding alarm.answered random.answered storage.answered
 of_services P each = record {
   command = λ driver taker is around number a2 a3 own.
-      of_command (λ around own c. P own c.own) driver taker is around number a2 a3 own (record {
+      of_command (λ around own c. P own (own_after c.step)) driver taker is around number a2 a3 own (record {
         refuses = λ rule. each.same own;
         replies = λ reply. each.same own;
         lights = λ led switch. each.same own;
         arms = λ alarm room. each.enters 0 _ own room;
         stops = each.keeps 0 _ own;
-        cancels = each.serves _ _ own _ (serves console.console 2 _ own.ram own (as_before own));
+        cancels = told P each console.console _ (scheduling console.console 2 _ own) own
+            (serves console.console 2 _ own.ram own (as_before own));
         writes = λ request room none. each.enters console.console _ own room;
         reads = λ request room none. each.enters console.console _ own room;
         draws = λ request room none. each.enters random.random _ own room;
         stores = λ request fits room none. each.enters storage.storage _ own room;
       });
   alarmed = λ now own. fires own now (alarm.due_alarm now own);
-  taken = λ own. if_waits (P own) (console.taking own) own (waiting_in console_writes own) (each.same own)
+  taken = λ own. if_waits (λ (s : DriverStep). P own (own_after s)) (console.taking own) (silently own) (waiting_in console_writes own) (each.same own)
       (λ write. each.keeps _ _ own);
-  write_done = λ own. if_waits (P own) (console.write_completing own) own (waiting_in console_writes own)
-      (each.same own) (λ write. each.serves _ _ own _ (serves _ _ _ own.ram own (as_before own)));
+  write_done = λ own. if_waits (λ (s : DriverStep). P own (own_after s)) (console.write_completing own) (silently own) (waiting_in console_writes own)
+      (each.same own) (λ write. told P each _ _ (scheduling console.console 1 (write.taken ∷ 0 ∷ 0 ∷ []) own) own
+      (serves _ _ _ own.ram own (as_before own)));
   input = λ bytes own.
-      if_waits (P own) (console.reading_in bytes own) own (waiting_in console_reads own) (each.same own)
-      (λ read. each.serves _ _ own _ (serves _ _ _ _ own (written_size console.console 1 0 bytes own)));
+      if_waits (λ (s : DriverStep). P own (own_after s)) (console.reading_in bytes own) (silently own) (waiting_in console_reads own) (each.same own)
+      (λ read. told P each _ _
+      (scheduling console.console 2 (console.read_status own ∷ length bytes ∷ 0 ∷ [])
+      (with_written console.console 1 0 bytes own)) own
+      (serves _ _ _ _ own (written_size console.console 1 0 bytes own)));
   drawn = λ word own.
-      if_waits (λ (a : random.RandomAnswered). P own a.own) _ _ (waiting_in randoms own) (each.same own)
-      (λ request. each.serves _ _ own _ (serves_progress word request own));
+      if_waits (λ (a : random.RandomAnswered). P own (own_after a.step)) _ _ (waiting_in randoms own) (each.same own)
+      (λ request. told P each _ _ (random.progress word request own).step own (serves_progress word request own));
   stored = λ fault flash bytes own.
-      if_waits (λ (a : storage.StorageAnswered). P own a.own) _ _ (waiting_in storages own) (each.same own)
-      (λ request. each.serves _ _ own _ (serves_served fault flash bytes request own));
+      if_waits (λ (a : storage.StorageAnswered). P own (own_after a.step)) _ _ (waiting_in storages own) (each.same own)
+      (λ request. told P each _ _ (storage.storage_served fault flash bytes request own).step own
+      (serves_served fault flash bytes request own));
 }
   where
-    fires : (own : Own) (now : ℕ) (due : Option Armed) → P own (alarm.fired_if now own due)
+    fires : (own : Own) (now : ℕ) (due : Option Armed) → P own (own_after (alarm.fired_if now own due))
     fires own now None = each.same own
-    fires own now (Some armed) = each.serves 0 _ own _ (serves 0 0 _ own.ram own (as_before own))
+    fires own now (Some armed) = told P each 0 _
+        (scheduling 0 0 (now ∷ alarm.expiration armed ∷ 0 ∷ []) own) own (serves 0 0 _ own.ram own (as_before own))

@@ -5,6 +5,7 @@ use Rattle.grant_values.specs.declared.console.WaitingRead.{WaitingRead}
 use Rattle.grant_values.specs.declared.console.WaitingWrite.{WaitingWrite}
 use Rattle.grant_values.specs.declared.random.RandomRequest.{RandomRequest}
 use Rattle.process_model.specs.Own.{Own}
+use Rattle.driver_model.specs.Steps.{silently}
 use Rattle.driver_model.specs.Requests.{waiting_in}
 use Rattle.driver_model.specs.Console as console
 use Rattle.driver_model.specs.Console.{Sent, console_reads, console_writes}
@@ -14,32 +15,35 @@ use Rattle.driver_model.specs.Answers.{EventsTellSteps}
 
 -- a write's step is what the process is told
 abbrev TellsWrite : Own → Sent → Type 0
-TellsWrite own s = s.own ≡ cond s.completed (console.write_done own) (console.taken own)
+TellsWrite own s = s.step ≡ cond s.completed (console.write_done own) (console.taken own)
 
 writes : (flash : ℕ → ℕ) (own : Own) → TellsWrite own (console.sent flash own)
 unfolding console.sent
 writes flash own = by_waiting (waiting_in console_writes own) refl
   where
     by_portion : (write : WaitingWrite) (b : Bool)
-        → TellsWrite own (cond b (record { own = console.write_done own; printed = []; completed = true })
-        (record { own = console.taken own; printed = console.next_bytes flash write own; completed = false }))
+        → TellsWrite own (cond b (record { step = console.write_done own; printed = []; completed = true })
+        (record { step = console.taken own; printed = console.next_bytes flash write own; completed = false }))
     by_portion write true = refl
     by_portion write false = refl
 
     by_waiting : (w : Option WaitingWrite) → w ≡ waiting_in console_writes own
         → TellsWrite own (unwrap_or (option_map (console.sending flash own) w) (console.unsent own))
-    by_waiting None is = ap (λ (w : Option WaitingWrite). unwrap_or (option_map (console.taking own) w) own) is
+    by_waiting None is = ap (λ (w : Option WaitingWrite). unwrap_or (option_map (console.taking own) w) (silently own)) is
     by_waiting (Some write) is = by_portion write (console.portion write own == 0)
 
-reads : (ring : List ℕ) (own : Own) → let r = console.received ring own in r.own ≡ console.input r.moved own
+reads : (ring : List ℕ) (own : Own) → let r = console.received ring own in r.step ≡ console.input r.moved own
 unfolding console.received
 reads ring own = by_waiting (waiting_in console_reads own) refl
   where
     by_waiting : (w : Option WaitingRead) → w ≡ waiting_in console_reads own
         → let r = unwrap_or (option_map (console.receiving ring own) w) (console.unreceived own) in
-        r.own ≡ console.input r.moved own
-    by_waiting None is = ap (λ (w : Option WaitingRead). unwrap_or (option_map (console.reading_in [] own) w) own) is
-    by_waiting (Some read) is = refl
+        r.step ≡ console.input r.moved own
+    by_waiting None is = ap (λ (w : Option WaitingRead). unwrap_or (option_map (console.reading_in [] own) w)
+        (silently own)) is
+    by_waiting (Some read) is =
+        ap (λ (w : Option WaitingRead). unwrap_or
+        (option_map (console.reading_in (console.bytes_moving ring read own) own) w) (silently own)) is
 
 -- a step of a request is what it is with the word that it drew, which is the next one
 pub record Draws (word : Option ℕ) (request : RandomRequest) (own : Own) (p : Progress) : Type 0 where
@@ -65,7 +69,7 @@ draws_step word request own =
         (cond last (random.completing (Some w) 0 (request.written + left) (random.with_word w left request own))
         (record {
           rest = Some (record request { written = request.written + 4 });
-          own = random.with_word w left request own;
+          step = silently (random.with_word w left request own);
           drawn = Some w;
         }))
 
@@ -96,9 +100,9 @@ at word own waiting =
     (random.unanswered own)
 
 draws : (word : Option ℕ) (own : Own) (waiting : Option RandomRequest)
-    → let a = at word own waiting in a.own ≡ (at a.drawn own waiting).own
+    → let a = at word own waiting in a.step ≡ (at a.drawn own waiting).step
 draws word own None = refl
-draws word own (Some request) = ap (λ (p : Progress). (random.advanced p).own) (sym (draws_step word request own).same)
+draws word own (Some request) = ap (λ (p : Progress). (random.advanced p).step) (sym (draws_step word request own).same)
 
 drawn_next : (word : Option ℕ) (own : Own) (waiting : Option RandomRequest)
     → IfSome (at word own waiting).drawn (λ drawn. word ≡ Some drawn)

@@ -11,7 +11,8 @@ use Rattle.grant_values.specs.Drivers.{number_of_driver}
 use Rattle.syscall_abi.specs.declared.reply.Reply.TheVariants.{Success, SuccessU32}
 use Rattle.process_model.specs.Own.{Own}
 use Rattle.process_model.specs.Handed.{own_entering, has_place}
-use Rattle.process_model.specs.Served.{kept, own_scheduled, with_kept}
+use Rattle.process_model.specs.Served.{kept, with_kept}
+use Rattle.driver_model.specs.Steps.{DriverStep, scheduling, silently}
 use Rattle.driver_model.specs.Commands.{Commanded, accepting, refusing, by_number}
 
 -- the number of the driver
@@ -76,17 +77,17 @@ if_due now (Some alarm) = if is_due now alarm then Some alarm else None
 abbrev pub due_alarm : ℕ → Own → Option Armed
 due_alarm now own = if own.lives then if_due now (alarm_in own) else None
 
--- An alarm fires: upcall 0 is scheduled with the clock and the expiration, and the alarm is stopped.
-abbrev pub fired : ℕ → Armed → Own → Own
-fired now alarm own = with_alarm None (own_scheduled alarm_driver 0 (now ∷ expiration alarm ∷ 0 ∷ []) own)
+-- An alarm fires: it is stopped, and upcall 0 is scheduled with the clock and the expiration.
+abbrev pub fired : ℕ → Armed → Own → DriverStep
+fired now alarm own = scheduling alarm_driver 0 (now ∷ expiration alarm ∷ 0 ∷ []) (with_alarm None own)
 
 -- a process whose alarm fired, if one did
-abbrev pub fired_if : ℕ → Own → Option Armed → Own
-fired_if now own None = own
+abbrev pub fired_if : ℕ → Own → Option Armed → DriverStep
+fired_if now own None = silently own
 fired_if now own (Some alarm) = fired now alarm own
 
 -- what the clock's answer changes of a process: its alarm fires, where it is due
-unfoldable pub answered : ℕ → Own → Own
+unfoldable pub answered : ℕ → Own → DriverStep
 answered now own = fired_if now own (due_alarm now own)
 
 -- whether the alarm of the process in a slot is due, if there is one

@@ -1,6 +1,7 @@
 -- What devices' answers leave of a process, and what of it the process is told.
 use Rattle.std.specs.Prelude.{◌≡◌, ℕ, Bool, false, ◌&&◌, if◌then◌else◌, List, Option, Some, IfSome}
 use Rattle.process_model.specs.Own.{Own}
+use Rattle.driver_model.specs.Steps.{own_after}
 use Rattle.driver_model.specs.Commands.{QueueName, Writes, Reads, Randoms, Stores, is_same}
 use Rattle.driver_model.specs.Alarm as alarm
 use Rattle.driver_model.specs.Console as console
@@ -30,23 +31,23 @@ queue_left_by here completed line = is_same here line && completed
 -- so it is with each device's answer to a process; an alarm that fires leaves no list
 pub record LinesFollowAnswers : Type 0 where
   pub writes : (flash : ℕ → ℕ) (own : Own) →
-      let s = console.sent flash own in FollowsAnswer (queue_left_by Writes s.completed) own s.own
+      let s = console.sent flash own in FollowsAnswer (queue_left_by Writes s.completed) own (own_after s.step)
   pub reads : (ring : List ℕ) (own : Own) →
-      let r = console.received ring own in FollowsAnswer (queue_left_by Reads r.completed) own r.own
+      let r = console.received ring own in FollowsAnswer (queue_left_by Reads r.completed) own (own_after r.step)
   pub randoms : (word : Option ℕ) (own : Own) →
-      let a = random.answered word own in FollowsAnswer (queue_left_by Randoms a.completed) own a.own
+      let a = random.answered word own in FollowsAnswer (queue_left_by Randoms a.completed) own (own_after a.step)
   pub stores : (fault : Bool) (flash : ℕ → ℕ) (bytes : List ℕ) (own : Own) →
-      let a = storage.answered fault flash bytes own in FollowsAnswer (queue_left_by Stores a.completed) own a.own
-  pub alarms : (now : ℕ) (own : Own) → FollowsAnswer (λ line. false) own (alarm.answered now own)
+      let a = storage.answered fault flash bytes own in FollowsAnswer (queue_left_by Stores a.completed) own (own_after a.step)
+  pub alarms : (now : ℕ) (own : Own) → FollowsAnswer (λ line. false) own (own_after (alarm.answered now own))
 
 -- What a process is told makes of it what the device's step did: a write had bytes taken, or completed; bytes came in
 -- for a read; a word was drawn for a request for random bytes, or none. The word that is drawn is the next one.
 pub record EventsTellSteps : Type 0 where
   pub writes : (flash : ℕ → ℕ) (own : Own) →
       let s = console.sent flash own in
-      s.own ≡ (if s.completed then console.write_done own else console.taken own)
+      s.step ≡ (if s.completed then console.write_done own else console.taken own)
   pub reads : (ring : List ℕ) (own : Own) →
-      let r = console.received ring own in r.own ≡ console.input r.moved own
+      let r = console.received ring own in r.step ≡ console.input r.moved own
   pub randoms : (word : Option ℕ) (own : Own) →
-      let a = random.answered word own in a.own ≡ (random.answered a.drawn own).own
+      let a = random.answered word own in a.step ≡ (random.answered a.drawn own).step
   pub drawn : (word : Option ℕ) (own : Own) → IfSome (random.answered word own).drawn (λ drawn. word ≡ Some drawn)

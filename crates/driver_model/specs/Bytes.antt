@@ -5,6 +5,7 @@ use Rattle.tk_base.specs.declared.kinds.PairKind.TheVariants.{ReadWrite}
 use Rattle.process_model.specs.Own.{Own}
 use Rattle.process_model.specs.Handed.{held}
 use Rattle.process_model.specs.Changes.{ChangesAt, IsInside, IsWhole, KeepsBytes}
+use Rattle.driver_model.specs.Steps.{own_after}
 use Rattle.driver_model.specs.Alarm as alarm
 use Rattle.driver_model.specs.Console as console
 use Rattle.driver_model.specs.Random as random
@@ -15,7 +16,7 @@ use Rattle.driver_model.specs.Drivers.{CommandContext, CommandHandler, handler_o
 abbrev pub CommandsKeepBytes : Type 0
 CommandsKeepBytes =
     (driver : ℕ) (taker : CommandHandler) → handler_of driver ≡ Some taker →
-    (around : CommandContext) (number a2 a3 : ℕ) (own : Own) → KeepsBytes own (taker around number a2 a3 own).own
+    (around : CommandContext) (number a2 a3 : ℕ) (own : Own) → KeepsBytes own (own_after (taker around number a2 a3 own).step)
 
 -- the read-write buffers of the console, of the random bytes and of the storage
 abbrev pub input_buffer : Own → ℕ × ℕ
@@ -34,15 +35,15 @@ stored_buffer own = held ReadWrite storage.storage 0 own
 -- storage
 -- request that fails writes nothing over the storage.
 pub record AnswersWriteInBuffers : Type 0 where
-  pub alarmed : (now : ℕ) (own : Own) → KeepsBytes own (alarm.answered now own)
-  pub taken : (own : Own) → KeepsBytes own (console.taken own)
-  pub write_done : (own : Own) → KeepsBytes own (console.write_done own)
+  pub alarmed : (now : ℕ) (own : Own) → KeepsBytes own (own_after (alarm.answered now own))
+  pub taken : (own : Own) → KeepsBytes own (own_after (console.taken own))
+  pub write_done : (own : Own) → KeepsBytes own (own_after (console.write_done own))
   pub input : (bytes : List ℕ) (own : Own) → IsWhole own →
-      ChangesAt (IsInside (input_buffer own)) own (console.input bytes own)
+      ChangesAt (IsInside (input_buffer own)) own (own_after (console.input bytes own))
   pub word : (word : Option ℕ) (own : Own) → IsWhole own →
-      ChangesAt (IsInside (word_buffer own)) own (random.answered word own).own
-  pub no_word : (own : Own) → KeepsBytes own (random.answered None own).own
+      ChangesAt (IsInside (word_buffer own)) own (own_after (random.answered word own).step)
+  pub no_word : (own : Own) → KeepsBytes own (own_after (random.answered None own).step)
   pub stored : (fault : Bool) (flash : ℕ → ℕ) (bytes : List ℕ) (own : Own) → IsWhole own →
-      ChangesAt (IsInside (stored_buffer own)) own (storage.answered fault flash bytes own).own
+      ChangesAt (IsInside (stored_buffer own)) own (own_after (storage.answered fault flash bytes own).step)
   pub failed : (flash : ℕ → ℕ) (bytes : List ℕ) (own : Own) →
       (storage.answered true flash bytes own).written ≡ None

@@ -4,6 +4,7 @@ use Rattle.tk_base.specs.declared.call.CallRule.{CallRule}
 use Rattle.tk_base.specs.declared.call.CallRule.TheVariants.{NoCommand}
 use Rattle.syscall_abi.specs.declared.reply.Reply.{Reply}
 use Rattle.process_model.specs.Own.{Own}
+use Rattle.driver_model.specs.Steps.{DriverStep, silently}
 
 -- the lists in which processes wait: to write to the console and to read from it, for random words, for storage
 pub data QueueName : Type 0 where
@@ -38,19 +39,20 @@ pub data BoardRequest : Type 0 where
 abbrev pub leaving_all : List BoardRequest
 leaving_all = Leaves Writes ∷ Leaves Reads ∷ Leaves Randoms ∷ Leaves Stores ∷ []
 
--- the reply to a command, or the rule that refuses it; what is then the process's own; what the board is to do for it
+-- the reply to a command, or the rule that refuses it; what the driver leaves of the process; what the board is to do
+-- for it
 pub record Commanded : Type 0 where
   pub answer : Result Reply CallRule
-  pub own : Own
+  pub step : DriverStep
   pub acts : List BoardRequest
 
 -- a command that is answered with a reply, with what is then the process's own; nothing is asked of the board
 abbrev pub accepting : Reply → Own → Commanded
-accepting reply own = record { answer = Ok reply; own = own; acts = [] }
+accepting reply own = record { answer = Ok reply; step = silently own; acts = [] }
 
 -- a refused command changes nothing
 abbrev pub refusing : CallRule → Own → Commanded
-refusing rule own = record { answer = Err rule; own = own; acts = [] }
+refusing rule own = record { answer = Err rule; step = silently own; acts = [] }
 
 -- a command is found by its number in the table of its driver; a number that is not there is refused
 abbrev pub row_or_refused : Own → Option (ℕ × Commanded) → Commanded

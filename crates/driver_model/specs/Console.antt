@@ -16,7 +16,8 @@ use Rattle.grant_values.specs.Drivers.{number_of_driver}
 use Rattle.syscall_abi.specs.declared.reply.Reply.TheVariants.{Success}
 use Rattle.process_model.specs.Own.{Own}
 use Rattle.process_model.specs.Handed.{held}
-use Rattle.process_model.specs.Served.{bytes_at, own_scheduled, with_written}
+use Rattle.process_model.specs.Served.{bytes_at, with_written}
+use Rattle.driver_model.specs.Steps.{DriverStep, scheduling, silently}
 use Rattle.driver_model.specs.Commands.{Commanded, Leaves, Reads, Writes, accepting, refusing, by_number}
 use Rattle.driver_model.specs.Requests.{RequestKind, asking, request_in, waiting_in, with_request}
 
@@ -53,13 +54,13 @@ asking_to_read count own =
     if count == 0 then refusing Empty own else asking console_reads (record { length = count }) own
 
 -- the read that waits is dropped: upcall 2 tells that it was cancelled
-abbrev pub without_read : Own → Own
-without_read own = with_request console_reads None (own_scheduled console 2 (code_of CANCEL ∷ 0 ∷ 0 ∷ []) own)
+abbrev pub dropping_read : Own → DriverStep
+dropping_read own = scheduling console 2 (code_of CANCEL ∷ 0 ∷ 0 ∷ []) (with_request console_reads None own)
 
 -- a read that waits is dropped, and its process waits no more; refused where none waits
 abbrev pub cancelling : Option WaitingRead → Own → Commanded
 cancelling None own = refusing Nothing own
-cancelling (Some read) own = record { answer = Ok Success; own = without_read own; acts = Leaves Reads ∷ [] }
+cancelling (Some read) own = record { answer = Ok Success; step = dropping_read own; acts = Leaves Reads ∷ [] }
 
 -- its commands: the driver is there; write, and read, so many bytes; drop the read
 unfoldable pub commands : ℕ → Own → List (ℕ × Commanded)
@@ -81,21 +82,23 @@ abbrev pub portion : WaitingWrite → Own → ℕ
 portion write own = min PRINT_LIMIT (min write.length (held ReadOnly console 1 own).1 - write.taken)
 
 -- a process of whose write they were taken
-abbrev pub taking : Own → WaitingWrite → Own
-taking own write = with_request console_writes (Some (record write { taken = write.taken + portion write own })) own
+abbrev pub taking : Own → WaitingWrite → DriverStep
+taking own write =
+    silently (with_request console_writes (Some (record write { taken = write.taken + portion write own })) own)
 
 -- a process whose write completes: upcall 1 tells how many bytes were taken
-abbrev pub write_completing : Own → WaitingWrite → Own
-write_completing own write = with_request console_writes None (own_scheduled console 1 (write.taken ∷ 0 ∷ 0 ∷ []) own)
+abbrev pub write_completing : Own → WaitingWrite → DriverStep
+write_completing own write =
+    scheduling console 1 (write.taken ∷ 0 ∷ 0 ∷ []) (with_request console_writes None own)
 
 -- What the UART tells a process: that it took the next bytes of its write; that it had taken all. Nothing changes where
 -- no write waits.
-abbrev pub taken : Own → Own
-taken own = unwrap_or (option_map (taking own) (waiting_in console_writes own)) own
+abbrev pub taken : Own → DriverStep
+taken own = unwrap_or (option_map (taking own) (waiting_in console_writes own)) (silently own)
 
 -- what the UART tells a process: that it had taken all bytes of its write, which completes
-abbrev pub write_done : Own → Own
-write_done own = unwrap_or (option_map (write_completing own) (waiting_in console_writes own)) own
+abbrev pub write_done : Own → DriverStep
+write_done own = unwrap_or (option_map (write_completing own) (waiting_in console_writes own)) (silently own)
 
 -- a buffer without bytes is told by TRD 104's code for a size
 abbrev pub read_status : Own → ℕ
@@ -104,25 +107,25 @@ read_status own = if (held ReadWrite console 1 own).1 == 0 then code_of SIZE els
 -- a process whose read completes with bytes, which are moved to the start of the buffer that is held now: upcall 2
 -- tells
 -- the status, and how many bytes were moved
-abbrev pub reading_in : List ℕ → Own → WaitingRead → Own
+abbrev pub reading_in : List ℕ → Own → WaitingRead → DriverStep
 reading_in bytes own read =
-    with_request console_reads None
-    (own_scheduled console 2 (read_status own ∷ length bytes ∷ 0 ∷ []) (with_written console 1 0 bytes own))
+    scheduling console 2 (read_status own ∷ length bytes ∷ 0 ∷ [])
+    (with_request console_reads None (with_written console 1 0 bytes own))
 
 -- What the UART tells a process: that bytes came in. Nothing changes where no read waits.
-abbrev pub input : List ℕ → Own → Own
-input bytes own = unwrap_or (option_map (reading_in bytes own) (waiting_in console_reads own)) own
+abbrev pub input : List ℕ → Own → DriverStep
+input bytes own = unwrap_or (option_map (reading_in bytes own) (waiting_in console_reads own)) (silently own)
 
--- What a step of the UART's sending half comes to: what is then the process's own; the bytes that were printed; whether
+-- What a step of the UART's sending half comes to: what it leaves of the process; the bytes that were printed; whether
 -- a write completed, so that its process waits no more.
 pub record Sent : Type 0 where
-  pub own : Own
+  pub step : DriverStep
   pub printed : List ℕ
   pub completed : Bool
 
 -- a step of the sending half that does nothing
 abbrev pub unsent : Own → Sent
-unsent own = record { own = own; printed = []; completed = false }
+unsent own = record { step = silently own; printed = []; completed = false }
 
 -- the bytes of a write that come next, in the buffer that is held now
 abbrev pub next_bytes : (ℕ → ℕ) → WaitingWrite → Own → List ℕ
@@ -132,8 +135,8 @@ next_bytes flash write own =
 -- the next bytes of a write are taken and printed; where none is left it completes
 abbrev pub sending : (ℕ → ℕ) → Own → WaitingWrite → Sent
 sending flash own write =
-    if portion write own == 0 then record { own = write_done own; printed = []; completed = true }
-    else record { own = taken own; printed = next_bytes flash write own; completed = false }
+    if portion write own == 0 then record { step = write_done own; printed = []; completed = true }
+    else record { step = taken own; printed = next_bytes flash write own; completed = false }
 
 -- the step for a process; nothing changes where no write of it waits
 unfoldable pub sent : (ℕ → ℕ) → Own → Sent
@@ -143,16 +146,16 @@ sent flash own = unwrap_or (option_map (sending flash own) (waiting_in console_w
 abbrev pub free_after : ℕ → ℕ → List ℕ → ℕ → ℕ
 free_after time ticks printed free = if length printed == 0 then free else time + length printed * ticks
 
--- What a step of the UART's receiving half comes to: what is then the process's own; the bytes that were moved, the
+-- What a step of the UART's receiving half comes to: what it leaves of the process; the bytes that were moved, the
 -- oldest that came in; whether a read completed, so that its process waits no more.
 pub record Received : Type 0 where
-  pub own : Own
+  pub step : DriverStep
   pub moved : List ℕ
   pub completed : Bool
 
 -- a step of the receiving half that does nothing
 abbrev pub unreceived : Own → Received
-unreceived own = record { own = own; moved = []; completed = false }
+unreceived own = record { step = silently own; moved = []; completed = false }
 
 -- the oldest bytes that came in, as many as a read asks for, and no more than the buffer has that is held now
 abbrev pub bytes_moving : List ℕ → WaitingRead → Own → List ℕ
@@ -162,7 +165,7 @@ bytes_moving ring read own = take (min read.length (held ReadWrite console 1 own
 abbrev pub receiving : List ℕ → Own → WaitingRead → Received
 receiving ring own read =
     let bytes = bytes_moving ring read own in
-    record { own = input bytes own; moved = bytes; completed = true }
+    record { step = reading_in bytes own read; moved = bytes; completed = true }
 
 -- the step for a process, with these bytes in the ring; nothing changes where no read of it waits
 unfoldable pub received : List ℕ → Own → Received

@@ -4,6 +4,7 @@ use Rattle.std.specs.Prelude.{slice_index_or, slice_set, None, Some, Err, is_som
 use Rattle.tk_base.specs.declared.call.CallRule.{CallRule}
 use Rattle.grant_values.specs.declared.alarm.Armed.{Armed}
 use Rattle.process_model.specs.Own.{Own}
+use Rattle.driver_model.specs.Steps.{own_after}
 use Rattle.driver_model.specs.Alarm.{answered, due_slot, next_left, ticks_left}
 use Rattle.driver_model.specs.Leds.{led_bits, is_lit, with_led}
 use Rattle.driver_model.specs.Commands.{refusing}
@@ -25,7 +26,8 @@ pub record IsAtMostOneMore (before after : ℕ) : Type 0 where
 abbrev pub CommandDropsAtMostOne : Type 0
 CommandDropsAtMostOne =
     (driver : ℕ) (taker : CommandHandler) (around : CommandContext) (number a2 a3 : ℕ) (own : Own) →
-    handler_of driver ≡ Some taker → IsAtMostOneMore own.inbox.dropped (taker around number a2 a3 own).own.inbox.dropped
+    handler_of driver ≡ Some taker →
+    IsAtMostOneMore own.inbox.dropped (own_after (taker around number a2 a3 own).step).inbox.dropped
 
 -- no ticks are left until the next alarm exactly where some slot has an alarm that is due
 abbrev pub IsDueWhereNoneAreLeft : Type 0
@@ -53,7 +55,8 @@ StaysInPlace own o = o ≡ record own {
 abbrev pub CommandsStayInPlace : Type 0
 CommandsStayInPlace =
     (driver : ℕ) (taker : CommandHandler) → handler_of driver ≡ Some taker →
-    (around : CommandContext) (number a2 a3 : ℕ) (own : Own) → StaysInPlace own (taker around number a2 a3 own).own
+    (around : CommandContext) (number a2 a3 : ℕ) (own : Own) → StaysInPlace own
+    (own_after (taker around number a2 a3 own).step)
 
 -- until as many ticks have passed as are left until the next alarm, none is due; none ever is, where none is armed
 abbrev pub QuietUntilNext : Type 0
@@ -71,7 +74,7 @@ DueSlotIsThere = (now slot : ℕ) (owns : List Own) → due_slot now owns ≡ So
 abbrev pub AnAlarmLeavesTheRest : Type 0
 AnAlarmLeavesTheRest =
     (now : ℕ) (own : Own) →
-    let o = answered now own in
+    let o = own_after (answered now own) in
     (o ≡ record own { inbox = o.inbox; grants = o.grants })
     × (own.inbox.dropped ≤ o.inbox.dropped) × (o.inbox.dropped ≤ own.inbox.dropped + 1)
 

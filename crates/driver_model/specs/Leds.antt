@@ -4,6 +4,7 @@ use Rattle.std.specs.Prelude.{List, [], ◌∷◌, Ok}
 use Rattle.tk_base.specs.declared.call.CallRule.TheVariants.{Range}
 use Rattle.syscall_abi.specs.declared.reply.Reply.TheVariants.{Success, SuccessU32}
 use Rattle.process_model.specs.Own.{Own}
+use Rattle.driver_model.specs.Steps.{silently}
 use Rattle.driver_model.specs.Commands.{BoardRequest, Waits, Leaves, Lights, Switch, On, Off, Toggle, Commanded}
 use Rattle.driver_model.specs.Commands.{accepting, refusing, by_number}
 
@@ -47,7 +48,7 @@ lit_after (act ∷ acts) leds = lit_after acts (lit_by act leds)
 -- one of so many LEDs is switched; it is refused where there is none of that number
 abbrev pub switching : ℕ → ℕ → Switch → Own → Commanded
 switching count led switch own =
-    if nat_lt led count then record { answer = Ok Success; own = own; acts = Lights led switch ∷ [] }
+    if nat_lt led count then record { answer = Ok Success; step = silently own; acts = Lights led switch ∷ [] }
     else refusing Range own
 
 -- its commands: how many LEDs there are; turn one on; turn it off; turn it to what it is not

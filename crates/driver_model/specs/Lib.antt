@@ -1,3 +1,4 @@
+pub mod Steps
 pub mod Commands
 pub mod Alarm
 pub mod Leds

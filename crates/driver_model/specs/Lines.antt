@@ -5,6 +5,7 @@ use Rattle.std.specs.Prelude.{is_some, IfSome}
 use Rattle.tk_base.specs.declared.kinds.PairKind.{PairKind}
 use Rattle.process_model.specs.Own.{Own, own_restarted, own_ended}
 use Rattle.process_model.specs.Handed.{own_entering, handing}
+use Rattle.driver_model.specs.Steps.{own_after}
 use Rattle.driver_model.specs.Commands.{BoardRequest, Waits, Leaves, Lights, QueueName, Commanded, is_same}
 use Rattle.driver_model.specs.Requests.{RequestKind, request_in, waiting_in}
 use Rattle.driver_model.specs.Console.{console_reads, console_writes}
@@ -58,10 +59,10 @@ IsWithin size own = IfSome (request_in storages own) (λ request. request.offset
 pub record FollowsCommand (around : CommandContext) (own : Own) (c : Commanded) : Type 0 where
   pub lines : own.lives ≡ true →
       OfEachRequestKind (λ R request_kind.
-      has_waiting request_kind c.own ≡ waits_after request_kind.line (has_waiting request_kind own) c.acts)
+      has_waiting request_kind (own_after c.step) ≡ waits_after request_kind.line (has_waiting request_kind own) c.acts)
   pub once : OfEachRequestKind (λ R request_kind.
       waits_once request_kind.line (has_waiting request_kind own) c.acts ≡ true)
-  pub within : IsWithin around.storage own → IsWithin around.storage c.own
+  pub within : IsWithin around.storage own → IsWithin around.storage (own_after c.step)
 
 -- so it is with each command to a driver
 abbrev pub LinesFollowCommands : Type 0

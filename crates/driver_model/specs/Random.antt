@@ -11,9 +11,10 @@ use Rattle.syscall_abi.specs.declared.reply.Reply.TheVariants.{Success}
 use Rattle.tk_base.specs.declared.kinds.PairKind.TheVariants.{ReadWrite}
 use Rattle.process_model.specs.Own.{Own}
 use Rattle.process_model.specs.Handed.{held}
-use Rattle.process_model.specs.Served.{own_scheduled, with_written}
+use Rattle.process_model.specs.Served.{with_written}
+use Rattle.driver_model.specs.Steps.{DriverStep, scheduling, silently}
 use Rattle.driver_model.specs.Commands.{Commanded, Randoms, accepting, by_number}
-use Rattle.driver_model.specs.Requests.{RequestKind, asking, waiting_in, with_request}
+use Rattle.driver_model.specs.Requests.{RequestKind, asking, keeping_request, waiting_in}
 
 -- the number of the driver
 abbrev pub random : ℕ
@@ -46,18 +47,18 @@ command number count own = by_number own (commands count own) number
 abbrev pub wanted : RandomRequest → Own → ℕ
 wanted request own = min request.count (held ReadWrite random 0 own).1
 
--- What one step of a request comes to: what waits of it still, none where it completed; what is then the process's
--- own, beside the request; the word that was drawn for it, if one was.
+-- What one step of a request comes to: what waits of it still, none where it completed; what it leaves of the process
+-- beside the request; the word that was drawn for it, if one was.
 pub record Progress : Type 0 where
   pub rest : Option RandomRequest
-  pub own : Own
+  pub step : DriverStep
   pub drawn : Option ℕ
 
 -- a request completes: upcall 0 tells how (1 where no word was left for it, else 0), and how many bytes were
 -- written
 abbrev pub completing : Option ℕ → ℕ → ℕ → Own → Progress
 completing drawn outcome bytes own =
-    record { rest = None; own = own_scheduled random 0 (outcome ∷ bytes ∷ 0 ∷ []) own; drawn = drawn }
+    record { rest = None; step = scheduling random 0 (outcome ∷ bytes ∷ 0 ∷ []) own; drawn = drawn }
 
 -- a process with the first bytes of a word, the lowest first, after those that were written so far
 abbrev pub with_word : ℕ → ℕ → RandomRequest → Own → Own
@@ -71,7 +72,7 @@ drawing left request own None = completing None 1 request.written own
 drawing left request own (Some word) =
     let o = with_word word left request own in
     if nat_le left 4 then completing (Some word) 0 (request.written + left) o
-    else record { rest = Some (record request { written = request.written + 4 }); own = o; drawn = Some word }
+    else record { rest = Some (record request { written = request.written + 4 }); step = silently o; drawn = Some word }
 
 -- one step of a request, with the next word, if one is left
 abbrev pub progress : Option ℕ → RandomRequest → Own → Progress
@@ -79,21 +80,21 @@ progress word request own =
     if nat_le (wanted request own) request.written then completing None 0 request.written own
     else drawing (wanted request own - request.written) request own word
 
--- What the source's answer to a process changes: what is the process's own; the word that was drawn, if one was;
+-- What the source's answer to a process comes to: what it leaves of the process; the word that was drawn, if one was;
 -- whether the request completed, so that the process waits no more.
 pub record RandomAnswered : Type 0 where
-  pub own : Own
+  pub step : DriverStep
   pub drawn : Option ℕ
   pub completed : Bool
 
 -- an answer that changes nothing
 abbrev pub unanswered : Own → RandomAnswered
-unanswered own = record { own = own; drawn = None; completed = false }
+unanswered own = record { step = silently own; drawn = None; completed = false }
 
 -- what a step of a request leaves: the request as far as it waits still
 abbrev pub advanced : Progress → RandomAnswered
 advanced p =
-    record { own = with_request randoms p.rest p.own; drawn = p.drawn; completed = is_none p.rest }
+    record { step = keeping_request randoms p.rest p.step; drawn = p.drawn; completed = is_none p.rest }
 
 -- the answer to a process, with the next word, if one is left; nothing changes where it has no request
 unfoldable pub answered : Option ℕ → Own → RandomAnswered

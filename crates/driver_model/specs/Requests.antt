@@ -7,6 +7,7 @@ use Rattle.syscall_abi.specs.declared.reply.Reply.TheVariants.{Success}
 use Rattle.process_model.specs.Own.{Own}
 use Rattle.process_model.specs.Handed.{own_entering, has_place}
 use Rattle.process_model.specs.Served.{kept, with_kept}
+use Rattle.driver_model.specs.Steps.{DriverStep, silently}
 use Rattle.driver_model.specs.Commands.{Commanded, QueueName, Waits, refusing}
 
 -- Where a process asks a driver for something: the driver's number; the request in the value that it keeps for the
@@ -28,6 +29,10 @@ with_request request_kind request own =
     with_kept request_kind.driver
     (request_kind.with_request request (unwrap_or (kept request_kind.driver own) NoValue)) own
 
+-- what a driver leaves of a process, which keeps another request then, or none
+abbrev pub keeping_request : {R : Type 0} → RequestKind R → Option R → DriverStep → DriverStep
+keeping_request request_kind request step = record step { own = with_request request_kind request step.own }
+
 -- the request of a process that waits, if one does; none of one that has ended
 abbrev pub waiting_in : {R : Type 0} → RequestKind R → Own → Option R
 waiting_in request_kind own = if own.lives then request_in request_kind own else None
@@ -37,7 +42,7 @@ abbrev pub beginning : {R : Type 0} → RequestKind R → R → Own → Commande
 beginning request_kind request own =
     if has_place request_kind.driver own then record {
       answer = Ok Success;
-      own = with_request request_kind (Some request) (own_entering request_kind.driver own);
+      step = silently (with_request request_kind (Some request) (own_entering request_kind.driver own));
       acts = Waits request_kind.line ∷ [];
     }
     else refusing NoRoom own

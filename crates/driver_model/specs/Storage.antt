@@ -14,9 +14,10 @@ use Rattle.grant_values.specs.Drivers.{number_of_driver}
 use Rattle.syscall_abi.specs.declared.reply.Reply.TheVariants.{Success, SuccessU32}
 use Rattle.process_model.specs.Own.{Own}
 use Rattle.process_model.specs.Handed.{held}
-use Rattle.process_model.specs.Served.{bytes_at, own_scheduled, with_written}
+use Rattle.process_model.specs.Served.{bytes_at, with_written}
+use Rattle.driver_model.specs.Steps.{DriverStep, scheduling, silently}
 use Rattle.driver_model.specs.Commands.{Commanded, Stores, accepting, refusing, by_number}
-use Rattle.driver_model.specs.Requests.{RequestKind, asking, waiting_in, with_request}
+use Rattle.driver_model.specs.Requests.{RequestKind, asking, keeping_request, waiting_in}
 
 -- the number of the driver
 abbrev pub storage : ℕ
@@ -55,10 +56,10 @@ commands size a2 a3 own =
 unfoldable pub command : ℕ → ℕ → ℕ → ℕ → Own → Commanded
 command size number a2 a3 own = by_number own (commands size a2 a3 own) number
 
--- What serving a request comes to: what is then the process's own, beside the request; and what is written over
+-- What serving a request comes to: what it leaves of the process, beside the request; and what is written over
 -- the slot's storage, from an offset on, if anything is.
 pub record StorageServed : Type 0 where
-  pub own : Own
+  pub step : DriverStep
   pub written : Option (ℕ × List ℕ)
 
 -- a read completes by upcall 0, a write by upcall 1
@@ -67,15 +68,15 @@ upcall_for Read = 0
 upcall_for Write = 1
 
 -- A request completes: its upcall tells how many bytes were moved, and how (0, or 1 for a fault).
-abbrev pub completing : StorageKind → ℕ → ℕ → Own → Own
-completing kind count outcome own = own_scheduled storage (upcall_for kind) (count ∷ outcome ∷ 0 ∷ []) own
+abbrev pub completing : StorageKind → ℕ → ℕ → Own → DriverStep
+completing kind count outcome own = scheduling storage (upcall_for kind) (count ∷ outcome ∷ 0 ∷ []) own
 
 -- bytes of the slot's storage are copied to the start of the buffer that is held now, and no more than it has
 abbrev pub reading_store : List ℕ → StorageRequest → Own → StorageServed
 reading_store bytes request own =
     let count = min request.length (held ReadWrite storage 0 own).1 in
     let copied = slice_range bytes request.offset (request.offset + count) in
-    record { own = completing Read count 0 (with_written storage 0 0 copied own); written = None }
+    record { step = completing Read count 0 (with_written storage 0 0 copied own); written = None }
 
 -- bytes from the start of the buffer that is held now, and no more than it has, are to be written over the storage
 abbrev pub writing_store : (ℕ → ℕ) → StorageRequest → Own → StorageServed
@@ -83,7 +84,7 @@ writing_store flash request own =
     let buffer = held ReadOnly storage 0 own in
     let count = min request.length buffer.1 in
     record {
-      own = completing Write count 0 own;
+      step = completing Write count 0 own;
       written = Some (request.offset, take count (bytes_at flash own buffer));
     }
 
@@ -95,23 +96,23 @@ moving Write flash bytes request own = writing_store flash request own
 -- a request is served, with flash and the bytes of the slot's storage; on a fault it moves nothing
 abbrev pub storage_served : Bool → (ℕ → ℕ) → List ℕ → StorageRequest → Own → StorageServed
 storage_served fault flash bytes request own =
-    if fault then record { own = completing request.kind 0 1 own; written = None }
+    if fault then record { step = completing request.kind 0 1 own; written = None }
     else moving request.kind flash bytes request own
 
--- What the storage's answer to a process changes: what is the process's own; what is written over the slot's
+-- What the storage's answer to a process comes to: what it leaves of the process; what is written over the slot's
 -- storage; whether a request completed, so that the process waits no more.
 pub record StorageAnswered : Type 0 where
-  pub own : Own
+  pub step : DriverStep
   pub written : Option (ℕ × List ℕ)
   pub completed : Bool
 
 -- an answer that changes nothing
 abbrev pub unanswered : Own → StorageAnswered
-unanswered own = record { own = own; written = None; completed = false }
+unanswered own = record { step = silently own; written = None; completed = false }
 
 -- a request that was served waits no more
 abbrev pub storage_answer_of : StorageServed → StorageAnswered
-storage_answer_of s = record { own = with_request storages None s.own; written = s.written; completed = true }
+storage_answer_of s = record { step = keeping_request storages None s.step; written = s.written; completed = true }
 
 -- the answer to a process; nothing changes where it has no request
 unfoldable pub answered : Bool → (ℕ → ℕ) → List ℕ → Own → StorageAnswered

@@ -5,7 +5,7 @@ use Rattle.tk_base.specs.declared.process.ProcessId.{ProcessId}
 use Rattle.board_devices.specs.declared.answer.Answer.{Answer}
 use Rattle.board_devices.specs.declared.answer.Kind.{Kind}
 use Rattle.board_devices.specs.declared.answer.Kind.TheVariants.{Taken, WriteDone, Input, Word, NoWord, Stored, Alarm}
-use Rattle.process_model.specs.Own.{Own}
+use Rattle.driver_model.specs.Steps.{DriverStep, own_after}
 use Rattle.driver_model.specs.Told.{Telling}
 use Rattle.grant_enter.specs.Homes.{Homes, own_of, ChangesOnly}
 use Rattle.driver_requests.specs.declared.serve.Service.{Service}
@@ -23,12 +23,11 @@ kinds = record {
   stored = Stored;
 }
 
--- what an answer to a process comes to: what it is told; what is then the process's own; the device; whether the
--- request
+-- what an answer to a process comes to: what it is told; what the driver leaves of it; the device; whether the request
 -- completed
 pub record Answered (D : Type 0) : Type 0 where
   pub kind : Kind
-  pub own : Own
+  pub step : DriverStep
   pub device : D
   pub completed : Bool
 
@@ -37,7 +36,7 @@ pub record IsAnswered {D : Type 0} (a : Answered D) (id : ProcessId) (old : Home
     (new : Homes) : Type 0 where
   pub tells : service.kind ≡ a.kind
   pub completes : service.completed ≡ a.completed
-  pub own : own_of new id.slot ≡ a.own
+  pub own : own_of new id.slot ≡ own_after a.step
   pub leaves : device ≡ a.device
   pub rest : ChangesOnly id.slot old new
 
@@ -49,5 +48,5 @@ AnswersFirst answer_to ids device old (Err refusal) ids' device' new = (ids' ≡
 AnswersFirst answer_to ids device old (Ok answer) ids' device' new =
     let a = answer_to answer.to in
     (slice_get ids 0 ≡ Some answer.to) × (answer.kind ≡ a.kind)
-    × (own_of new answer.to.slot ≡ a.own) × (device' ≡ a.device)
+    × (own_of new answer.to.slot ≡ own_after a.step) × (device' ≡ a.device)
     × (ids' ≡ waiting_still a.completed answer.to.slot ids) × ChangesOnly answer.to.slot old new

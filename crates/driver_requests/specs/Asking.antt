@@ -5,6 +5,7 @@ use Rattle.tk_base.specs.declared.call.CallRule.{CallRule}
 use Rattle.tk_base.specs.declared.process.ProcessId.{ProcessId}
 use Rattle.syscall_abi.specs.declared.reply.Reply.{Reply}
 use Rattle.process_model.specs.Own.{Own}
+use Rattle.driver_model.specs.Steps.{own_after}
 use Rattle.driver_model.specs.Commands.{Commanded, QueueName}
 use Rattle.driver_model.specs.Replies.{reply_of}
 use Rattle.driver_model.specs.Requests.{RequestKind, request_in, waiting_in}
@@ -42,7 +43,7 @@ pub record MayBeTold (home : Homes) (id : ProcessId) : Type 0 where
 pub record Obeys (here : QueueName) (id : ProcessId) (command : Own → Commanded) (ids : List ProcessId) (old : Homes)
     (result : Result Reply CallRule) (ids' : List ProcessId) (new : Homes) : Type 0 where
   pub answer : result ≡ (command (own_of old id.slot)).answer
-  pub own : own_of new id.slot ≡ (command (own_of old id.slot)).own
+  pub own : own_of new id.slot ≡ own_after (command (own_of old id.slot)).step
   pub waiting : ids' ≡ queue_after here id ids (command (own_of old id.slot)).acts
   pub rest : ChangesOnly id.slot old new
 
@@ -50,6 +51,6 @@ pub record Obeys (here : QueueName) (id : ProcessId) (command : Own → Commande
 pub record Replies (here : QueueName) (id : ProcessId) (command : Own → Commanded) (ids : List ProcessId) (old : Homes)
     (result : Reply × Option CallRule) (ids' : List ProcessId) (new : Homes) : Type 0 where
   pub reply : result ≡ reply_of (command (own_of old id.slot)).answer
-  pub own : own_of new id.slot ≡ (command (own_of old id.slot)).own
+  pub own : own_of new id.slot ≡ own_after (command (own_of old id.slot)).step
   pub waiting : ids' ≡ queue_after here id ids (command (own_of old id.slot)).acts
   pub rest : ChangesOnly id.slot old new

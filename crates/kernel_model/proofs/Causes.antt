@@ -27,6 +27,7 @@ use Rattle.syscall_abi.specs.Call.{call_of, class, form_of}
 use Rattle.process_model.specs.Changes.{ChangesAt, KeepsBytes, OnlyWritesChangeBytes, own_byte}
 use Rattle.process_model.specs.Flag.{flag_place}
 use Rattle.driver_model.specs.Bytes.{CommandsKeepBytes}
+use Rattle.driver_model.specs.Steps.{own_after}
 use Rattle.driver_model.specs.Commands.{Commanded}
 use Rattle.driver_model.specs.Drivers.{CommandContext, CommandHandler, handler_of}
 use Rattle.process_record.specs.declared.outcome.Outcome.TheVariants.{GoesOn, Waits}
@@ -34,7 +35,7 @@ use Rattle.process_record.specs.declared.process.Process.{Process}
 use Rattle.process_record.specs.declared.process.State.{State}
 use Rattle.process_record.specs.declared.process.State.TheVariants.{Running, Yielded, Faulted, Terminated}
 use Rattle.process_record.specs.Process.{after_call, after_fault, waiting}
-use Rattle.kernel_model.specs.Record.{Record, byte_at, instruction, with_effect, record_with_own, with_process}
+use Rattle.kernel_model.specs.Record.{record_with_step, Record, byte_at, instruction, with_effect, record_with_own, with_process}
 use Rattle.kernel_model.specs.declared.settings.Settings.{Settings}
 use Rattle.kernel_model.specs.Calls.{Served, driver_answered, by_form, exit, memop, object_permits, restart}
 use Rattle.kernel_model.specs.Calls.{restarted_by, restarted_main, served, swap_by, swap_refusal, taken_by, yield_now}
@@ -120,8 +121,8 @@ module _ (law : OnlyWritesChangeBytes) (commands : CommandsKeepBytes) (around : 
   of_swap swap None = kept r _ None (law.handing swap.kind swap.driver swap.number swap.pair r.own) refl
   of_swap swap (Some rule) = same_own r None _
 
-  of_answer : (c : Commanded) (answer : Result Reply CallRule) → KeepsBytes r.own c.own
-      → Leaves r None (driver_answered (record_with_own r c.own) answer)
+  of_answer : (c : Commanded) (answer : Result Reply CallRule) → KeepsBytes r.own (own_after c.step)
+      → Leaves r None (driver_answered (record_with_step r c.step) answer)
   of_answer c (Ok reply) same = kept r _ None same refl
   of_answer c (Err rule) same = kept r _ None same refl
 

@@ -15,6 +15,7 @@ use Rattle.fault_policy.specs.Policy.{decision}
 use Rattle.process_layout.specs.LayoutView.{permits_break}
 use Rattle.process_model.specs.Own.{Own, own_ended as ended_own}
 use Rattle.process_model.specs.Flag.{with_flag}
+use Rattle.driver_model.specs.Steps.{own_after}
 use Rattle.driver_model.specs.Commands.{Commanded}
 use Rattle.driver_model.specs.Drivers.{CommandContext, CommandHandler, handler_of}
 use Rattle.driver_model.specs.Services.{OfEachService}
@@ -36,7 +37,7 @@ use Rattle.process_record.specs.declared.process.State.{State}
 use Rattle.process_record.specs.declared.process.State.TheVariants.{Running, Yielded, Faulted, Terminated}
 use Rattle.process_record.specs.Process.{after_call as after_call_of, after_exit, after_fault, after_refusal}
 use Rattle.process_record.specs.Process.{after_reply, past_call, waiting}
-use Rattle.kernel_model.specs.Record.{Record, instruction, with_effect, record_with_own, with_process}
+use Rattle.kernel_model.specs.Record.{record_with_step, Record, instruction, with_effect, record_with_own, with_process}
 use Rattle.kernel_model.specs.declared.settings.Settings.{Settings}
 use Rattle.kernel_model.specs.Calls.{Served, driver_answered, break_moved, by_form, deliver_by, exit, failure_of}
 use Rattle.kernel_model.specs.Calls.{flag_written, former_pair, memop, memops, moved_by, or_refused, object_permits}
@@ -191,11 +192,11 @@ module _ (R : Own → Own → Type 0) (services : OfEachService R) (I J : Record
   by_swap r h swap (Some rule) is =
       by_refused r h rule (FailureU32U32 (error_of rule) swap.pair.0 swap.pair.1)
 
-  by_answer : (r : Record) (c : Commanded) → I (record_with_own r c.own) → (answer : Result Reply CallRule)
-      → J (driver_answered (record_with_own r c.own) answer).after
+  by_answer : (r : Record) (c : Commanded) → I (record_with_step r c.step) → (answer : Result Reply CallRule)
+      → J (driver_answered (record_with_step r c.step) answer).after
   unfolding Q
-  by_answer r c h (Ok reply) = by_replied (record_with_own r c.own) h reply
-  by_answer r c h (Err rule) = by_plain (record_with_own r c.own) h rule
+  by_answer r c h (Ok reply) = by_replied (record_with_step r c.step) h reply
+  by_answer r c h (Err rule) = by_plain (record_with_step r c.step) h rule
 
   by_command : (around : CommandContext) (r : Record) → I r → (driver number a2 a3 : ℕ) (o : Option CommandHandler)
       → handler_of driver ≡ o → Q (taken_by around number a2 a3 r o)
@@ -203,7 +204,7 @@ module _ (R : Own → Own → Type 0) (services : OfEachService R) (I J : Record
   by_command around r h driver number a2 a3 None is = by_plain r h NoDriver
   by_command around r h driver number a2 a3 (Some taker) is =
       let c = taker around number a2 a3 r.own in
-      by_answer r c (k.serves r c.own r.storage (services.command driver taker is around number a2 a3 r.own) h) c.answer
+      by_answer r c (k.serves r (own_after c.step) r.storage (services.command driver taker is around number a2 a3 r.own) h) c.answer
 
   of_form : (around : CommandContext) (r : Record) → is_alive r.process.state ≡ true → I r → (form : CallForm)
       → Q (by_form around r form)

@@ -14,6 +14,7 @@ use Rattle.tbf_headers.specs.Meaning.{Meaning, header_reading}
 use Rattle.process_model.specs.Own.{Own, without_first}
 use Rattle.process_model.specs.Flag.{with_flag}
 use Rattle.process_model.specs.Handed.{lies_in_ram}
+use Rattle.driver_model.specs.Steps.{own_after}
 use Rattle.driver_model.specs.Commands.{Commanded, refusing as refused_by_driver}
 use Rattle.driver_model.specs.Drivers.{CommandContext, CommandHandler, handler_of}
 use Rattle.driver_model.specs.Laws.{IsAtMostOneMore}
@@ -25,7 +26,7 @@ use Rattle.syscall_abi.specs.Call.{form_of}
 use Rattle.syscall_abi.specs.declared.reply.Reply.{Reply}
 use Rattle.syscall_abi.specs.declared.reply.Reply.TheVariants.{Failure}
 use Rattle.process_record.specs.declared.outcome.Outcome.TheVariants.{ToDriver}
-use Rattle.kernel_model.specs.Record.{Record, record_with_own}
+use Rattle.kernel_model.specs.Record.{record_with_step, Record, record_with_own}
 use Rattle.kernel_model.specs.Turn.{rule_shown}
 use Rattle.kernel_model.specs.Calls.{Served, driver_answered, by_form, commanded, exit, failed_swap, failure_of}
 use Rattle.kernel_model.specs.Calls.{memop}
@@ -157,14 +158,14 @@ of_swap P promise around r swap (Some rule) both = both.refused rule
 of_commanded : (P : Served → Type 0) (around : CommandContext) (r : Record) (c : Commanded)
     (answer : Result Reply CallRule) → c.answer ≡ answer
     → ((rule : CallRule) → c.answer ≡ Err rule → c ≡ refused_by_driver rule r.own)
-    → IsAtMostOneMore r.own.inbox.dropped c.own.inbox.dropped
-    → (length r.own.inbox.pending < PENDING_LIMIT → c.own.inbox.dropped ≡ r.own.inbox.dropped)
-    → (r.own.lives ≡ true → KeepsLines around.storage r.own c.own c.acts) → OfBoth P around r plain → P (commanded r c)
+    → IsAtMostOneMore r.own.inbox.dropped (own_after c.step).inbox.dropped
+    → (length r.own.inbox.pending < PENDING_LIMIT → (own_after c.step).inbox.dropped ≡ r.own.inbox.dropped)
+    → (r.own.lives ≡ true → KeepsLines around.storage r.own (own_after c.step) c.acts) → OfBoth P around r plain → P (commanded r c)
 of_commanded P around r c (Ok reply) is refuses drops room lines both =
-    let same : record (replied (record_with_own r c.own) reply) { acts = c.acts } ≡ commanded r c =
-    ap (λ (x : Result Reply CallRule). record (driver_answered (record_with_own r c.own) x) { acts = c.acts })
+    let same : record (replied (record_with_step r c.step) reply) { acts = c.acts } ≡ commanded r c =
+    ap (λ (x : Result Reply CallRule). record (driver_answered (record_with_step r c.step) x) { acts = c.acts })
     (sym is) in
-    subst P same (both.served (record (replied (record_with_own r c.own) reply) { acts = c.acts })
+    subst P same (both.served (record (replied (record_with_step r c.step) reply) { acts = c.acts })
     (record { no_rule = refl; dropped = drops; room = room; done = λ e. cc; lines = λ lives can. lines lives }))
 of_commanded P around r c (Err rule) is refuses drops room lines both =
     subst P (ap (commanded r) (sym (refuses rule is))) (both.refused rule)

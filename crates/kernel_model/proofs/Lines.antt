@@ -6,6 +6,7 @@ use Rattle.grant_values.specs.declared.storage.StorageRequest.{StorageRequest}
 use Rattle.grant_model.specs.Grants.{Grant, grant_of}
 use Rattle.process_model.specs.Own.{Own, own_ended}
 use Rattle.syscall_abi.specs.declared.form.Swap.{Swap}
+use Rattle.driver_model.specs.Steps.{own_after}
 use Rattle.driver_model.specs.Commands.{Commanded, leaving_all}
 use Rattle.driver_model.specs.Drivers.{CommandContext}
 use Rattle.driver_model.specs.Laws.{StaysInPlace}
@@ -94,9 +95,9 @@ keeps_handed law size swap own =
 
 -- one that gave a command
 pub keeps_commanded : (around : CommandContext) (own : Own) (c : Commanded) → own.lives ≡ true
-    → FollowsCommand around own c → StaysInPlace own c.own → KeepsLines around.storage own c.own c.acts
+    → FollowsCommand around own c → StaysInPlace own (own_after c.step) → KeepsLines around.storage own (own_after c.step) c.acts
 keeps_commanded around own c lives follows stays =
-    let life : c.own.life ≡ own.life = ap (λ (o : Own). o.life) stays in
+    let life : (own_after c.step).life ≡ own.life = ap (λ (o : Own). o.life) stays in
     record {
       lines = follows.lines lives;
       once = follows.once;

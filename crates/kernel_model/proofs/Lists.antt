@@ -29,6 +29,7 @@ use Rattle.kernel_model.specs.Record.{Record}
 use Rattle.kernel_model.specs.declared.settings.Settings.{Settings}
 use Rattle.kernel_model.specs.Turn.{Turned, Alarmed, Taken, WriteDone, Input, Stored, apply, flash_of}
 use Rattle.kernel_model.specs.Turn.{turned, turn_in}
+use Rattle.driver_model.specs.Steps.{DriverStep, own_after}
 use Rattle.driver_model.specs.Told.{drawn_told}
 use Rattle.kernel_model.specs.World.{as_events, Answer, DeviceStep, Devices, Stepped, World, acted, after, alarmed, arrived}
 use Rattle.kernel_model.specs.World.{begin_wait, carried_out, device_step_of, done, random_step}
@@ -360,31 +361,33 @@ moved_own left own o p same lines =
     (λ R request_kind. has_waiting request_kind x ≡ cond (left request_kind.line) false (has_waiting request_kind own)))
     (sym same) lines
 
-sent_own : (settings : Settings) (r : Record) (o : Own) (b : Bool)
-    → o ≡ cond b (console.write_done r.own) (console.taken r.own) → (apply settings (cond b WriteDone Taken) r).own ≡ o
+sent_own : (settings : Settings) (r : Record) (step : DriverStep) (b : Bool)
+    → step ≡ cond b (console.write_done r.own) (console.taken r.own)
+    → (apply settings (cond b WriteDone Taken) r).own ≡ own_after step
 unfolding apply
-sent_own settings r o true e = sym e
-sent_own settings r o false e = sym e
+sent_own settings r step true e = ap own_after (sym e)
+sent_own settings r step false e = ap own_after (sym e)
 
 drawn_own : (settings : Settings) (r : Record) (drawn : Option ℕ)
-    → (apply settings (drawn_told as_events drawn) r).own ≡ (random.answered drawn r.own).own
+    → (apply settings (drawn_told as_events drawn) r).own ≡ own_after (random.answered drawn r.own).step
 unfolding apply
 drawn_own settings r None = refl
 drawn_own settings r (Some word) = refl
 
 stored_own : (settings : Settings) (r : Record) (fails : Bool)
-    → (apply settings (Stored (not fails)) r).own ≡ (storage.answered fails (flash_of r) r.storage r.own).own
+    → (apply settings (Stored (not fails)) r).own
+    ≡ own_after (storage.answered fails (flash_of r) r.storage r.own).step
 unfolding apply
 stored_own settings r true = refl
 stored_own settings r false = refl
 
 input_own : (settings : Settings) (r : Record) (bytes : List ℕ)
-    → (apply settings (Input bytes) r).own ≡ console.input bytes r.own
+    → (apply settings (Input bytes) r).own ≡ own_after (console.input bytes r.own)
 unfolding apply
 input_own settings r bytes = refl
 
 alarmed_own : (settings : Settings) (r : Record) (now : ℕ)
-    → (apply settings (Alarmed now) r).own ≡ alarm.answered now r.own
+    → (apply settings (Alarmed now) r).own ≡ own_after (alarm.answered now r.own)
 unfolding apply
 alarmed_own settings r now = refl
 
@@ -431,8 +434,8 @@ module _ (follow : LinesFollowAnswers) (tell : EventsTellSteps) (w : World) (h :
       let s = console.sent (flash_of r) r.own in
       answered_each (transmitting w slot r) (record { slot = slot; event = cond s.completed WriteDone Taken }) r is refl
       (queue_left_by Writes s.completed) lists
-      (moved_own (queue_left_by Writes s.completed) r.own s.own _
-      (sent_own w.settings r s.own s.completed (tell.writes (flash_of r) r.own))
+      (moved_own (queue_left_by Writes s.completed) r.own (own_after s.step) _
+      (sent_own w.settings r s.step s.completed (tell.writes (flash_of r) r.own))
       (follow.writes (flash_of r) r.own).lines)
     where
       lists : (here : QueueName)
@@ -450,8 +453,8 @@ module _ (follow : LinesFollowAnswers) (tell : EventsTellSteps) (w : World) (h :
       let s = console.received w.devices.line.ring r.own in
       answered_each (receive_step w slot r) (record { slot = slot; event = Input s.moved }) r is refl
       (queue_left_by Reads s.completed) lists
-      (moved_own (queue_left_by Reads s.completed) r.own s.own _
-      (input_own w.settings r s.moved ∙ sym (tell.reads w.devices.line.ring r.own))
+      (moved_own (queue_left_by Reads s.completed) r.own (own_after s.step) _
+      (input_own w.settings r s.moved ∙ ap own_after (sym (tell.reads w.devices.line.ring r.own)))
       (follow.reads w.devices.line.ring r.own).lines)
     where
       lists : (here : QueueName)
@@ -469,8 +472,8 @@ module _ (follow : LinesFollowAnswers) (tell : EventsTellSteps) (w : World) (h :
       let a = random.answered (slice_get w.devices.words 0) r.own in
       answered_each (random_step w slot r) (record { slot = slot; event = drawn_told as_events a.drawn }) r is
       refl (queue_left_by Randoms a.completed) lists
-      (moved_own (queue_left_by Randoms a.completed) r.own a.own _
-      (drawn_own w.settings r a.drawn ∙ sym (tell.randoms (slice_get w.devices.words 0) r.own))
+      (moved_own (queue_left_by Randoms a.completed) r.own (own_after a.step) _
+      (drawn_own w.settings r a.drawn ∙ ap own_after (sym (tell.randoms (slice_get w.devices.words 0) r.own)))
       (follow.randoms (slice_get w.devices.words 0) r.own).lines)
     where
       lists : (here : QueueName)
@@ -489,7 +492,7 @@ module _ (follow : LinesFollowAnswers) (tell : EventsTellSteps) (w : World) (h :
       let a = storage.answered fails (flash_of r) r.storage r.own in
       answered_each (storing w slot r) (record { slot = slot; event = Stored (not fails) }) r is refl
       (queue_left_by Stores a.completed) lists
-      (moved_own (queue_left_by Stores a.completed) r.own a.own _ (stored_own w.settings r fails)
+      (moved_own (queue_left_by Stores a.completed) r.own (own_after a.step) _ (stored_own w.settings r fails)
       (follow.stores fails (flash_of r) r.storage r.own).lines)
     where
       lists : (here : QueueName)
@@ -515,7 +518,7 @@ module _ (follow : LinesFollowAnswers) (tell : EventsTellSteps) (w : World) (h :
       by_record (Some r) e =
           answered_each (alarmed w slot) (record { slot = slot; event = Alarmed (now_in w) }) r e refl (λ line. false)
           (λ here. refl)
-          (moved_own (λ line. false) r.own (alarm.answered (now_in w) r.own) _ (alarmed_own w.settings r (now_in w))
+          (moved_own (λ line. false) r.own (own_after (alarm.answered (now_in w) r.own)) _ (alarmed_own w.settings r (now_in w))
           (follow.alarms (now_in w) r.own).lines)
 
   due_lists : (due : Option ℕ) → AreLists (done w (option_map (alarmed w) due)).after

@@ -26,13 +26,14 @@ use Rattle.driver_model.specs.Random as random
 use Rattle.driver_model.specs.Random.{randoms}
 use Rattle.driver_model.specs.Storage as storage
 use Rattle.driver_model.specs.Storage.{storages}
+use Rattle.driver_model.specs.Steps.{silently}
 use Rattle.driver_model.specs.Requests.{RequestKind, request_in, waiting_in}
 use Rattle.driver_model.specs.Laws.{StaysInPlace}
 use Rattle.driver_model.specs.Keeping.{DriversKeep, IsInOrder, KeepsLimit, KeepsOrder}
 use Rattle.driver_model.specs.Services.{OfEachService}
 use Rattle.process_record.specs.declared.process.State.{State}
 use Rattle.process_record.specs.declared.process.State.TheVariants.{Running, Yielded, Faulted, Terminated}
-use Rattle.kernel_model.specs.Record.{Record, record_with_own}
+use Rattle.kernel_model.specs.Record.{record_with_step, Record, record_with_own}
 use Rattle.kernel_model.specs.declared.settings.Settings.{Settings}
 use Rattle.kernel_model.specs.Calls.{restart, restarted_by, restarted_main, restarted_with, own_swapped}
 use Rattle.kernel_model.specs.Turn.{Event, Turn, Alarmed, Taken, WriteDone, Input, Word, NoWord, Stored, apply}
@@ -144,30 +145,30 @@ over_answer : (settings : Settings) (event : Event) (r : Record) → r.own.lives
 unfolding IsAnswer apply alarm.answered random.answered storage.answered
 over_answer settings (Turn time) r over is = absurd is
 over_answer settings (Alarmed now) r over is =
-    ap (λ (b : Bool). record_with_own r (alarm.fired_if now r.own
+    ap (λ (b : Bool). record_with_step r (alarm.fired_if now r.own
     (cond b (alarm.if_due now (alarm.alarm_in r.own)) None))) over
 over_answer settings Taken r over is =
-    ap (λ (b : Bool). record_with_own r (unwrap_or
-    (option_map (console.taking r.own) (cond b (request_in console_writes r.own) None)) r.own)) over
+    ap (λ (b : Bool). record_with_step r (unwrap_or
+    (option_map (console.taking r.own) (cond b (request_in console_writes r.own) None)) (silently r.own))) over
 over_answer settings WriteDone r over is =
-    ap (λ (b : Bool). record_with_own r (unwrap_or
-    (option_map (console.write_completing r.own) (cond b (request_in console_writes r.own) None)) r.own)) over
+    ap (λ (b : Bool). record_with_step r (unwrap_or
+    (option_map (console.write_completing r.own) (cond b (request_in console_writes r.own) None)) (silently r.own))) over
 over_answer settings (Input bytes) r over is =
-    ap (λ (b : Bool). record_with_own r (unwrap_or
-    (option_map (console.reading_in bytes r.own) (cond b (request_in console_reads r.own) None)) r.own)) over
+    ap (λ (b : Bool). record_with_step r (unwrap_or
+    (option_map (console.reading_in bytes r.own) (cond b (request_in console_reads r.own) None)) (silently r.own))) over
 over_answer settings (Word word) r over is =
-    ap (λ (w : _). record_with_own r (unwrap_or
+    ap (λ (w : _). record_with_step r (unwrap_or
     (option_map (λ request. random.advanced (random.progress (Some word) request r.own)) w)
-    (random.unanswered r.own)).own) (none_waits randoms r.own over)
+    (random.unanswered r.own)).step) (none_waits randoms r.own over)
 over_answer settings NoWord r over is =
-    ap (λ (w : _). record_with_own r (unwrap_or
+    ap (λ (w : _). record_with_step r (unwrap_or
     (option_map (λ request. random.advanced (random.progress None request r.own)) w)
-    (random.unanswered r.own)).own) (none_waits randoms r.own over)
+    (random.unanswered r.own)).step) (none_waits randoms r.own over)
 over_answer settings (Stored moved) r over is =
     ap (λ (w : _). let a =
     unwrap_or (option_map (λ request.
     storage.storage_answer_of (storage.storage_served (not moved) (flash_of r) r.storage request r.own)) w)
-    (storage.unanswered r.own) in record r { own = a.own; storage = written_over r.storage a.written })
+    (storage.unanswered r.own) in record (record_with_step r a.step) { storage = written_over r.storage a.written })
     (none_waits storages r.own over)
 
 pub same_some : {X : Type 0} (x y : X) → Some x ≡ Some y → x ≡ y

@@ -28,6 +28,7 @@ use Rattle.tk_base.specs.Kinds.{count_of}
 use Rattle.process_model.specs.Own.{Own, own_ended as ended_own}
 use Rattle.process_model.specs.Handed.{handing, held}
 use Rattle.process_model.specs.Pairs.{HandsOne, HandsTheSame, HasShape, OnlyHandingChangesPairs}
+use Rattle.driver_model.specs.Steps.{own_after}
 use Rattle.driver_model.specs.Commands.{Commanded, leaving_all}
 use Rattle.driver_model.specs.Drivers.{CommandContext, CommandHandler, handler_of}
 use Rattle.driver_model.specs.Pairs.{DriversLeavePairs}
@@ -44,7 +45,7 @@ use Rattle.process_record.specs.declared.outcome.Outcome.TheVariants.{Replied, E
 use Rattle.process_record.specs.declared.process.State.{State}
 use Rattle.process_record.specs.declared.process.State.TheVariants.{Running, Yielded, Faulted, Terminated}
 use Rattle.process_record.specs.Process.{after_exit, after_fault}
-use Rattle.kernel_model.specs.Record.{Record, instruction, with_effect, record_with_own, with_process}
+use Rattle.kernel_model.specs.Record.{record_with_step, Record, instruction, with_effect, record_with_own, with_process}
 use Rattle.kernel_model.specs.declared.settings.Settings.{Settings}
 use Rattle.kernel_model.specs.Calls.{Served, driver_answered, by_form, exit, failure_of, memop, object_permits}
 use Rattle.kernel_model.specs.Calls.{refused_with, restart, served, swap_by, swap_refusal, swapped, taken_by}
@@ -283,8 +284,8 @@ module _ (law : OnlyHandingChangesPairs) (drivers : DriversLeavePairs) where
         by_test (λ s. Keeps r s.after) (number == 0) _ _ (keeps_yield_now at r.own.inbox.pending)
         (by_test (λ s. Keeps r s.after) (number == 1) _ _ (same_kept r _ refl refl) (same_kept r _ refl refl))
 
-    keeps_answered : (c : Commanded) (answer : Result Reply CallRule) → HandsTheSame r.own c.own
-        → Keeps r (driver_answered (record_with_own r c.own) answer).after
+    keeps_answered : (c : Commanded) (answer : Result Reply CallRule) → HandsTheSame r.own (own_after c.step)
+        → Keeps r (driver_answered (record_with_step r c.step) answer).after
     keeps_answered c (Ok reply) same = record { pairs = same; object = refl }
     keeps_answered c (Err rule) same = record { pairs = same; object = refl }
 

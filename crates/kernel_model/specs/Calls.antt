@@ -33,7 +33,7 @@ use Rattle.process_record.specs.declared.outcome.Outcome.{Outcome}
 use Rattle.process_record.specs.declared.outcome.Outcome.TheVariants.{Replied, Waits, Delivered, GoesOn, Ended, Again}
 use Rattle.process_record.specs.Process.{after_call, after_exit, after_reply, after_refusal, delivered, restarted}
 use Rattle.process_record.specs.Process.{waiting}
-use Rattle.kernel_model.specs.Record.{Record, with_process, record_with_own}
+use Rattle.kernel_model.specs.Record.{Record, with_process, record_with_own, record_with_step}
 
 -- what a call leaves, what comes of it, and what the board is to do for it
 pub record Served : Type 0 where
@@ -221,7 +221,7 @@ driver_answered r (Err rule) = refused r rule
 
 -- what comes of a command leaves of its process, and asks of the board
 abbrev pub commanded : Record → Commanded → Served
-commanded r c = record (driver_answered (record_with_own r c.own) c.answer) { acts = c.acts }
+commanded r c = record (driver_answered (record_with_step r c.step) c.answer) { acts = c.acts }
 
 -- the driver takes a command; it is refused where there is no such driver
 abbrev pub taken_by : CommandContext → ℕ → ℕ → ℕ → Record → Option CommandHandler → Served

@@ -4,6 +4,7 @@ use Rattle.rv32_model.specs.UserTurn.{UserTurn}
 use Rattle.process_model.specs.Own.{Own}
 use Rattle.process_model.specs.Changes.{own_byte}
 use Rattle.process_model.specs.Flash.{object_byte}
+use Rattle.driver_model.specs.Steps.{DriverStep, own_after}
 use Rattle.process_model.specs.Instruction.{instruction_of, with_write}
 use Rattle.process_record.specs.declared.process.Process.{Process}
 
@@ -29,6 +30,10 @@ with_process r p = record r { process = p }
 -- a record of which something else is the process's own
 abbrev pub record_with_own : Record → Own → Record
 record_with_own r own = record r { own = own }
+
+-- a record of which a driver served the process: what it left is the process's own, and what it scheduled is queued
+abbrev pub record_with_step : Record → DriverStep → Record
+record_with_step r step = record_with_own r (own_after step)
 
 -- the instruction at pc, under what the process may access and over its own bytes
 abbrev pub instruction : Record → UserTurn

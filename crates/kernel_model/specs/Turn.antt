@@ -36,7 +36,7 @@ use Rattle.process_record.specs.declared.process.Process.{Process}
 use Rattle.process_record.specs.declared.process.State.{State}
 use Rattle.process_record.specs.declared.process.State.TheVariants.{Running, Yielded, Faulted, Terminated}
 use Rattle.process_record.specs.Process.{after_turn, after_fault}
-use Rattle.kernel_model.specs.Record.{Record, record_with_own, with_process, instruction, with_effect}
+use Rattle.kernel_model.specs.Record.{Record, record_with_step, with_process, instruction, with_effect}
 use Rattle.kernel_model.specs.declared.settings.Settings.{Settings}
 use Rattle.kernel_model.specs.Calls.{Served, deliver_by, served, restart}
 
@@ -201,17 +201,17 @@ written_over bytes (Some written) = overwritten bytes written.0 written.1
 abbrev pub stored : Bool → Record → Record
 stored moved r =
     let a = storage.answered (not moved) (flash_of r) r.storage r.own in
-    record r { own = a.own; storage = written_over r.storage a.written }
+    record (record_with_step r a.step) { storage = written_over r.storage a.written }
 
 -- the record after an event; nothing else changes a record, and it reads no other process, list or device
 unfoldable pub apply : Settings → Event → Record → Record
 apply settings (Turn time) r = (turned settings time r).after
-apply settings (Alarmed now) r = record_with_own r (alarm.answered now r.own)
-apply settings Taken r = record_with_own r (console.taken r.own)
-apply settings WriteDone r = record_with_own r (console.write_done r.own)
-apply settings (Input bytes) r = record_with_own r (console.input bytes r.own)
-apply settings (Word word) r = record_with_own r (random.answered (Some word) r.own).own
-apply settings NoWord r = record_with_own r (random.answered None r.own).own
+apply settings (Alarmed now) r = record_with_step r (alarm.answered now r.own)
+apply settings Taken r = record_with_step r (console.taken r.own)
+apply settings WriteDone r = record_with_step r (console.write_done r.own)
+apply settings (Input bytes) r = record_with_step r (console.input bytes r.own)
+apply settings (Word word) r = record_with_step r (random.answered (Some word) r.own).step
+apply settings NoWord r = record_with_step r (random.answered None r.own).step
 apply settings (Stored moved) r = stored moved r
 
 -- whether a process in a state can have a turn: it runs, or it waits and an upcall is pending

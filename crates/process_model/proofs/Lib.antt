@@ -1,2 +1,3 @@
 mod Pairs
 mod Changes
+pub mod Scheduling

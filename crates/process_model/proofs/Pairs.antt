@@ -19,7 +19,7 @@ use Rattle.process_model.specs.Flag.{with_flag}
 use Rattle.process_model.specs.Pairs.{HandsNone, HandsOne, HandsTheSame, HasShape, OnlyHandingChangesPairs, pairs_in}
 
 -- a change that leaves the grant its driver's changes the grant of that driver alone
-at : (driver other : ℕ) (change : Grant → Grant) (gs : List Grant) → ((g : Grant) → (change g).driver ≡ g.driver)
+pub at : (driver other : ℕ) (change : Grant → Grant) (gs : List Grant) → ((g : Grant) → (change g).driver ≡ g.driver)
     → grant_of other (with_grant driver change gs)
     ≡ cond (driver == other) (option_map change (grant_of other gs)) (grant_of other gs)
 at driver other change [] stays = by_test (driver == other)

@@ -2,7 +2,7 @@
 -- writes the buffers that the process has allowed (TRD 104, "Read-Only Allow", "Read-Write Allow"), and keeps a value in the
 -- process's grant (Levy et al., SOSP 2017, section 4).
 use Rattle.std.specs.Prelude.{ℕ, ◌+◌, ◌-◌, if◌then◌else◌, List, map, take}
-use Rattle.std.specs.Prelude.{slice_range, Option, option_map}
+use Rattle.std.specs.Prelude.{slice_range, Option, None, Some, option_map}
 use Rattle.std.specs.List.{range_with_len}
 use Rattle.tk_base.specs.declared.upcall.Upcall.{Upcall as Scheduled}
 use Rattle.upcall_queue.specs.Pending.{scheduled}
@@ -26,6 +26,17 @@ queueing upcall own = record own { inbox = scheduled upcall own.inbox }
 -- the same of the upcall that the process now holds
 abbrev pub own_scheduled : ℕ → ℕ → List ℕ → Own → Own
 own_scheduled driver number args own = queueing (upcall_of driver number args own) own
+
+-- an upcall that a driver schedules for a process, by its number there, with arguments
+pub record ScheduledUpcall : Type 0 where
+  pub driver : ℕ
+  pub number : ℕ
+  pub args : List ℕ
+
+-- a process for which an upcall was scheduled, if one was
+abbrev pub own_scheduling : Option ScheduledUpcall → Own → Own
+own_scheduling None own = own
+own_scheduling (Some upcall) own = own_scheduled upcall.driver upcall.number upcall.args own
 
 -- the value that a process keeps for a driver; none where the driver is not entered
 abbrev pub kept : ℕ → Own → Option KeptValue

@@ -1,7 +1,7 @@
 //! Laws of the definitions. The functions do nothing.
 ghost use Rattle.process_model.specs.Changes.{OnlyWritesChangeBytes};
 ghost use Rattle.process_model.specs.Flash.{ReadsOwnFlash};
-ghost use Rattle.process_model.specs.Laws.{RestartForgets};
+ghost use Rattle.process_model.specs.Laws.{KeepingCommutes, RestartForgets};
 ghost use Rattle.process_model.specs.Pairs.{OnlyHandingChangesPairs};
 
 use grant_model::pairs_stand_by_kind;
@@ -11,6 +11,13 @@ use rv32_model::{writes_are_listed, writes_are_permitted};
 /// breaks were.
 pub fn restart_forgets()
     ensures { RestartForgets }
+{}
+
+/// It is the same whether a driver keeps another value for a process before it schedules an upcall, or after: the pairs
+/// that the process has handed stay (TRD 104, "Yield"; Levy et al., SOSP 2017, section 4).
+#[tactic(auto, using(crate::proofs::Scheduling::keeping_commutes))]
+pub fn keeping_commutes()
+    ensures { KeepingCommutes }
 {}
 
 /// What a driver reads of a read-only buffer depends on no other process's object: it lies in the process's own

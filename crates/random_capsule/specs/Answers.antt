@@ -14,7 +14,7 @@ answer_to words home id =
     let a = in_life id.life own (answered (slice_get words 0) own) (unanswered own) in
     record {
       kind = drawn_told kinds a.drawn;
-      own = a.own;
+      step = a.step;
       device = words_after a.drawn words;
       completed = a.completed;
     }

@@ -2,7 +2,7 @@
 ghost use Rattle.std.specs.Prelude.{◌≡◌, ◌+◌, ◌-◌, ◌<◌, ◌≤◌, ◌^◌};
 ghost use Rattle.grant_enter.specs.Seen.{Framed, IsLent, own_entered, seen};
 ghost use Rattle.driver_model.specs.Random.{completing, drawing, progress, random, wanted};
-ghost use Rattle.random_capsule.specs.Steps.{step_progress};
+ghost use Rattle.random_capsule.specs.Steps.{Progresses};
 
 use grant_enter::{Entered, Grant, Visit, a_buffer_is_written, buffers_are_whole, frames_join};
 use grant_values::{Driver, Random, RandomRequest};
@@ -88,8 +88,8 @@ fn complete(entered: &mut Entered<'_>, drawn: Option<u32>, outcome: u32, bytes: 
     requires driver { (seen entered.old).driver ≡ random }
     requires upcall { 0 < (seen entered.old).counts.upcalls }
     requires dropped { (own_entered entered.old).inbox.dropped + 1 < 2 ^ 32 }
-    ensures step { step_progress result (own_entered entered.new)
-        ≡ completing drawn outcome bytes (own_entered entered.old) }
+    ensures step { Progresses (completing drawn outcome bytes (own_entered entered.old))
+        result (own_entered entered.new) }
     // what a visitor owes
     ensures lent { IsLent entered.new }
     ensures framed { Framed entered.old entered.new }
@@ -106,8 +106,8 @@ fn draw(entered: &mut Entered<'_>, request: &RandomRequest, left: u32, word: u32
     requires buffer { 0 < (seen entered.old).counts.rw }
     requires dropped { (own_entered entered.old).inbox.dropped + 1 < 2 ^ 32 }
     requires left { request.now.written + left < 2 ^ 32 }
-    ensures step { step_progress result (own_entered entered.new)
-        ≡ drawing left request.now (own_entered entered.old) (Some word) }
+    ensures step { Progresses (drawing left request.now (own_entered entered.old) (Some word))
+        result (own_entered entered.new) }
     // what a visitor owes
     ensures lent { IsLent entered.new }
     ensures framed { Framed entered.old entered.new }
@@ -135,8 +135,8 @@ fn take_step(entered: &mut Entered<'_>, request: &RandomRequest, word: Option<u3
     requires upcall { 0 < (seen entered.old).counts.upcalls }
     requires buffer { 0 < (seen entered.old).counts.rw }
     requires dropped { (own_entered entered.old).inbox.dropped + 1 < 2 ^ 32 }
-    ensures step { step_progress result (own_entered entered.new)
-        ≡ progress word request.now (own_entered entered.old) }
+    ensures step { Progresses (progress word request.now (own_entered entered.old))
+        result (own_entered entered.new) }
     // what a visitor owes
     ensures lent { IsLent entered.new }
     ensures framed { Framed entered.old entered.new }

@@ -19,7 +19,7 @@ answer_to s home id =
     let a = in_life id.life own served (unanswered own) in
     record {
       kind = stored_told kinds (store_fails_next s);
-      own = a.own;
+      step = a.step;
       device = if a.completed then storage_after id.slot a.written (after_count s) else s;
       completed = a.completed;
     }

@@ -5,7 +5,8 @@ use Rattle.grant_values.specs.declared.storage.Storage.{Storage as Value}
 use Rattle.grant_values.specs.declared.storage.StorageRequest.{StorageRequest}
 use Rattle.board_devices.specs.Storage.{StoredSlots, is_fault, slot_bytes, with_slot_bytes}
 use Rattle.process_model.specs.Own.{Own}
-use Rattle.driver_model.specs.Requests.{with_request}
+use Rattle.driver_model.specs.Requests.{keeping_request}
+use Rattle.driver_model.specs.Steps.{own_after}
 use Rattle.driver_model.specs.Storage.{storage_served, storages}
 
 -- the storage with bytes written over those of a slot, from an offset on, if any are
@@ -27,10 +28,10 @@ abbrev pub ServesStorage : ℕ → Bool → (ℕ → ℕ) → StoredSlots → Op
 ServesStorage slot fault flash old None own new value own' = Unit {0}
 ServesStorage slot fault flash old (Some request) own new value own' =
     let s = storage_served fault flash (slot_bytes old slot) request own in
-    (own' ≡ s.own) × (new ≡ storage_after slot s.written old) × (value ≡ record { request = None })
+    (own' ≡ own_after s.step) × (new ≡ storage_after slot s.written old) × (value ≡ record { request = None })
 
 -- what serving a process's request leaves of it, and of the storage, which counts it
 abbrev pub Completes : ℕ → (ℕ → ℕ) → StoredSlots → Own → StoredSlots → Own → StorageRequest → Type 0
 Completes slot flash old own new own' request =
     let s = storage_served (store_fails_next old) flash (slot_bytes old slot) request own in
-    (own' ≡ with_request storages None s.own) × (new ≡ storage_after slot s.written (after_count old))
+    (own' ≡ own_after (keeping_request storages None s.step)) × (new ≡ storage_after slot s.written (after_count old))

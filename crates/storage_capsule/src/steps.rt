@@ -13,6 +13,7 @@ use board_devices::{Kind, Stores};
 use driver_requests::{Serve, Service, has_request};
 use grant_enter::Home;
 use grant_values::StorageRequest;
+use process_model::keeping_commutes;
 use tk_base::ProcessId;
 
 /// Counts the request of a process, and serves it.
@@ -32,6 +33,7 @@ fn count_and_serve(home: &mut Home, id: ProcessId, stores: &mut Stores)
         slot,
         fault,
     };
+    keeping_commutes();
     match storages().visit(home, id, transfer) {
         Ok(Some(_stores)) => {}
         _ => unreachable!(),

@@ -7,6 +7,7 @@ ghost use Rattle.process_model.specs.Flash.{flash_byte};
 ghost use Rattle.process_model.specs.Served.{ram_at, with_written};
 ghost use Rattle.grant_enter.specs.Seen.{Framed, IsLent, own_entered, seen};
 ghost use Rattle.driver_model.specs.Storage.{completing, moving, storage_served, storage};
+ghost use Rattle.driver_model.specs.Steps.{own_after};
 ghost use Rattle.storage_capsule.specs.Serving.{storage_after};
 
 use crate::moves::{fill, put};
@@ -102,7 +103,7 @@ fn move_bytes(
     requires within { request.now.offset + request.now.length ≤ stores.old.size }
     ensures moved { let s = moving request.now.kind (flash_byte (seen entered.old).flash)
         (slot_bytes stores.old slot) request.now (own_entered entered.old) in
-        (completing request.now.kind result 0 (own_entered entered.new) ≡ s.own)
+        (completing request.now.kind result 0 (own_entered entered.new) ≡ s.step)
         × (stores.new ≡ storage_after slot s.written stores.old) }
     ensures dropped { (own_entered entered.new).inbox.dropped ≡ (own_entered entered.old).inbox.dropped }
     // what a visitor owes
@@ -124,7 +125,7 @@ fn complete(entered: &mut Entered<'_>, kind: StorageKind, count: u32, outcome: u
     requires upcalls { 1 < (seen entered.old).counts.upcalls }
     requires dropped { (own_entered entered.old).inbox.dropped + 1 < 2 ^ 32 }
     ensures own { own_entered entered.new
-        ≡ completing kind count outcome (own_entered entered.old) }
+        ≡ own_after (completing kind count outcome (own_entered entered.old)) }
     // what a visitor owes
     ensures lent { IsLent entered.new }
     ensures framed { Framed entered.old entered.new }
@@ -152,7 +153,7 @@ fn serve_request(
     requires within { request.now.offset + request.now.length ≤ stores.old.size }
     ensures served { let s = storage_served fault (flash_byte (seen entered.old).flash)
         (slot_bytes stores.old slot) request.now (own_entered entered.old) in
-        (own_entered entered.new ≡ s.own) × (stores.new ≡ storage_after slot s.written stores.old) }
+        (own_entered entered.new ≡ own_after s.step) × (stores.new ≡ storage_after slot s.written stores.old) }
     // what a visitor owes
     ensures lent { IsLent entered.new }
     ensures framed { Framed entered.old entered.new }

@@ -1,6 +1,7 @@
 use Rattle.std.proofs.Common.{◌≡◌, ℕ, Some, rules, ap, sym, ◌∙◌}
 use Rattle.grant_values.specs.declared.drivers.Driver.TheVariants.{Alarm, Console, Leds, Random, Storage}
 use Rattle.grant_values.specs.Drivers.{driver_of}
+use Rattle.driver_model.specs.Steps.{own_after}
 use Rattle.driver_model.specs.Commands.{Stores}
 use Rattle.driver_model.specs.Replies.{reply_of}
 use Rattle.driver_model.specs.Storage as storage
@@ -68,7 +69,7 @@ returns-in-Some-Storage-clause-comes c =
     commands_by Storage c.args.tick c.args.id c.args.order.now c.args.self.now _ own
     (own_of c.command-in-Some-Storage.new.home c.args.id.slot) c.command-in-Some-Storage.result is (
       does.reply ∙ ap (λ (n : ℕ). reply_of (asks n).answer) size,
-      does.own ∙ ap (λ (n : ℕ). (asks n).own) size,
+      does.own ∙ ap (λ (n : ℕ). own_after (asks n).step) size,
       storage_drives c.args.id c.args.self.now c.command-in-Some-Storage.new.self.waiting _
           (c.drivers_ask_for_their_own.ensures.storage _ c.args.order.now.number c.args.order.now.a2 c.args.order.now.a3
           own) (does.waiting

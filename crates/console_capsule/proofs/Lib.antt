@@ -1,0 +1,2 @@
+mod ReadEnds
+mod Receiving
