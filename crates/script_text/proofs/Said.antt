@@ -16,8 +16,8 @@ use Rattle.script_text.specs.declared.table.Line.TheVariants.{Stop, Restart, Thr
 use Rattle.script_text.specs.declared.table.Line.TheVariants.{StorageFault, Random, Input}
 use Rattle.script_text.specs.Progress.{with_line, stood_in}
 use Rattle.script_text.specs.Rules.{is_single, skips}
-use Rattle.script_text.specs.Said.{lines_of, stands, settings, number_on, policy_on, policy_by, is_strict_on}
-use Rattle.script_text.specs.Said.{is_strict_by, words_on, event_on}
+use Rattle.script_text.specs.Said.{lines_of, stands, settings, number_on, policy_on, policy_by, is_strict}
+use Rattle.script_text.specs.Said.{words_on, event_on}
 use Rattle.script_text.specs.Seats.{stood_at, stood_after}
 use Rattle.script_text.specs.Settings.{ScriptSettings}
 use Rattle.script_text.specs.Table.{row, line_table, is_key, line_fits, line_of}
@@ -50,7 +50,7 @@ assembled ram leds slice start uart storage policy filters faults randoms inputs
   uart = slice_index_or (map number_on uart) 0 (row Uart).default;
   storage = slice_index_or (map number_on storage) 0 (row Storage).default;
   policy = slice_index_or (map policy_on policy) 0 policies.Stop;
-  strict = slice_index_or (map is_strict_on filters) 0 false;
+  strict = slice_index_or (map (λ text. is_strict (line_of (words text))) filters) 0 false;
   faults = map number_on faults;
   words = flat_map words_on randoms;
   events = map event_on inputs;
@@ -153,10 +153,12 @@ first_policy line before text name h l =
 
 first_filter : (line : Line) (before : List (List ℕ)) (text : List ℕ) → (row FilterOpen).name ≡ (row line).name
     → stands line before ≡ false → line_of (words text) ≡ Some line
-    → slice_index_or (map is_strict_on (lines_of FilterOpen before ++ text ∷ [])) 0 false ≡ is_strict_by line
+    → slice_index_or (map (λ t. is_strict (line_of (words t))) (lines_of FilterOpen before ++ text ∷ [])) 0 false
+    ≡ is_strict (Some line)
 first_filter line before text name h l =
-    first_said is_strict_on (lines_of FilterOpen before) text false (ap some (one_name FilterOpen line name before) ∙ h)
-    ∙ rw l refl
+    first_said (λ t. is_strict (line_of (words t))) (lines_of FilterOpen before) text false
+    (ap some (one_name FilterOpen line name before) ∙ h)
+    ∙ ap is_strict l
 
 stands_now : (xs : List (List ℕ)) (text : List ℕ) → some (xs ++ text ∷ []) ≡ true
 stands_now xs text = lt-ltb 0 (length (xs ++ text ∷ [])) (omega (arith, length-append xs (text ∷ [])))

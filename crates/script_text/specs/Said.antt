@@ -1,6 +1,6 @@
 -- What lines say that have no fault. It is this board's own rule.
 use Rattle.std.specs.Prelude.{ℕ, ◌-◌, Bool, true, false, nat_lt, List, [], map, filter, flat_map, length, drop}
-use Rattle.std.specs.Prelude.{slice_index, slice_index_or}
+use Rattle.std.specs.Prelude.{slice_index, slice_index_or, Option, Some}
 use Rattle.std.specs.Int.{w32, from_be_bytes}
 use Rattle.std.specs.Option.{option_map_or}
 use Rattle.std.specs.Result.{result_unwrap_or}
@@ -48,13 +48,9 @@ abbrev pub policy_on : List ℕ → Policy
 policy_on text = option_map_or (λ line. policy_by line (words text)) (line_of (words text)) policies.Stop
 
 -- the filter that a line names is the strict one
-abbrev pub is_strict_by : Line → Bool
-is_strict_by FilterStrict = true
-is_strict_by line = false
-
--- the filter that a `filter` line names is the strict one
-abbrev pub is_strict_on : List ℕ → Bool
-is_strict_on text = option_map_or is_strict_by (line_of (words text)) false
+abbrev pub is_strict : Option Line → Bool
+is_strict (Some FilterStrict) = true
+is_strict line = false
 
 -- the bytes that hex digits write, two for each
 unfoldable pub hex_bytes : List ℕ → List ℕ
@@ -82,7 +78,7 @@ settings all = record {
   uart = number_said Uart all;
   storage = number_said Storage all;
   policy = slice_index_or (map policy_on (lines_of Stop all)) 0 policies.Stop;
-  strict = slice_index_or (map is_strict_on (lines_of FilterOpen all)) 0 false;
+  strict = slice_index_or (map (λ text. is_strict (line_of (words text))) (lines_of FilterOpen all)) 0 false;
   faults = numbers_of StorageFault all;
   words = flat_map words_on (lines_of Random all);
   events = map event_on (lines_of Input all);
