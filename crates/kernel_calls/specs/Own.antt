@@ -1,5 +1,5 @@
 -- A process with its own object (Levy et al., SOSP 2017; Tock Binary Format, "Main" and "Program").
-use Rattle.std.specs.Prelude.{◌≡◌, ℕ, ◌+◌, ◌^◌, ◌<◌, ◌≤◌, Bool, true, false, List, length, Option, None, Some}
+use Rattle.std.specs.Prelude.{◌≡◌, ℕ, ◌+◌, ◌^◌, ◌<◌, ◌≤◌, List, length, Option, None, Some}
 use Rattle.std.specs.Prelude.{Result, Ok, Err, IsOk}
 use Rattle.tk_base.specs.declared.access.TheConstants.{FLASH_START}
 use Rattle.tbf_headers.specs.declared.fault.HeaderFault.{HeaderFault}
@@ -11,8 +11,6 @@ use Rattle.process_model.specs.Own.{Own}
 use Rattle.process_model.specs.Flash.{HasObject, object_in}
 use Rattle.process_model.specs.declared.place.Object.{Object}
 use Rattle.process_record.specs.declared.process.Process.{Process}
-use Rattle.process_record.specs.declared.process.State.{State}
-use Rattle.process_record.specs.declared.process.State.TheVariants.{Running, Yielded, Faulted, Terminated}
 use Rattle.kernel_model.specs.Record.{Record}
 use Rattle.kernel_model.specs.Lives.{is_alive}
 

@@ -25,8 +25,7 @@ object_byte object bytes at = slice_index bytes (at - object.address)
 
 -- the bytes of an object in flash
 abbrev pub object_in : List ℕ → Object → List ℕ
-object_in flash object =
-    let at = object.address - FLASH_START in slice_range flash at (at + object.size)
+object_in flash object = slice_range flash (object.address - FLASH_START) (object.address - FLASH_START + object.size)
 
 -- What is read of a buffer that a process may allow to be read is the process's own: it is the same of the bytes of its
 -- object as of all of flash.
