@@ -22,7 +22,11 @@ pub fn filter(header: &Header<'_>, strict: bool, call: &Call) -> Result<(), Call
         Some(perms) => lists_call(&perms, call),
         None => !(strict && call.driver().is_some()),
     };
-    if permitted { Ok(()) } else { Err(CallRule::Permission) }
+    if permitted {
+        Ok(())
+    } else {
+        Err(CallRule::Permission)
+    }
 }
 
 /// Whether the entries permit a call.
