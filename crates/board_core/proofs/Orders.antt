@@ -25,7 +25,8 @@ use Rattle.board_core.specs.declared.drivers.Order.{Order}
 use Rattle.board_core.specs.Driven.{Commands, Drives}
 
 -- a command of which every row leaves what is the process's own as it was does so, too
-rows_keep : (own : Own) (rows : List (ℕ × Commanded)) (number : ℕ) → AllByRecursion (λ row. own_after row.1.step ≡ own) rows
+rows_keep : (own : Own) (rows : List (ℕ × Commanded)) (number : ℕ) → AllByRecursion
+    (λ row. own_after row.1.step ≡ own) rows
     → own_after (by_number own rows number).step ≡ own
 rows_keep own [] number all = refl
 rows_keep own (row ∷ rows) number all = by_test (row.0 == number) (rows_keep own rows number all.1)

@@ -1,5 +1,5 @@
 -- What each turn does to the pairs that its process has handed, and what a swap in it gives back.
-use Rattle.std.proofs.Common.{◌≡◌, ◌≢◌, ◌<◌, ◌≤◌, ℕ, ◌==◌, ◌&&◌, nat_lt, not, Bool, true, false, cond, List, [], ◌∷◌}
+use Rattle.std.proofs.Common.{◌≡◌, ◌≢◌, ◌<◌, ◌≤◌, ℕ, ◌==◌, ◌&&◌, nat_lt, Bool, true, false, cond, List, [], ◌∷◌}
 use Rattle.std.proofs.Common.{length, slice_set, Option, None, Some, is_none, is_some, unwrap_or, Result, Ok, Err, refl}
 use Rattle.std.proofs.Common.{ap, sym, subst, ◌∙◌, arith, eqb-true, eq-eqb, ne_eqb, ◌||◌}
 use Rattle.std.specs.Prelude.{slice_index}
@@ -11,7 +11,7 @@ use Rattle.std.proofs.lemmas.List.{get_or-set_same, get_or-set_other, get_or_pas
 use Rattle.tk_base.specs.Call.{error_of}
 use Rattle.tk_base.specs.declared.access.Denial.{Denial}
 use Rattle.tk_base.specs.declared.call.CallRule.{CallRule}
-use Rattle.tk_base.specs.declared.call.CallRule.TheVariants.{NoDriver, NoNumber, NoOperation, Permission}
+use Rattle.tk_base.specs.declared.call.CallRule.TheVariants.{NoOperation, Permission}
 use Rattle.tk_base.specs.Regs.{Registers}
 use Rattle.tk_base.specs.declared.upcall.Upcall.{Upcall as Scheduled}
 use Rattle.tbf_headers.specs.Meaning.{header_reading}
@@ -21,7 +21,6 @@ use Rattle.fault_policy.specs.Policy.{decision}
 use Rattle.rv32_model.specs.declared.turn_end.TurnEnd.{TurnEnd}
 use Rattle.rv32_model.specs.declared.turn_end.TurnEnd.TheVariants as ends
 use Rattle.rv32_model.specs.UserTurn.{MemoryAccess}
-use Rattle.grant_values.specs.Drivers.{counts_of}
 use Rattle.tk_base.specs.declared.kinds.PairKind.{PairKind}
 use Rattle.tk_base.specs.declared.kinds.PairKind.TheVariants.{Upcall, ReadOnly, ReadWrite}
 use Rattle.grant_model.specs.Grants.{shape_of}
@@ -46,7 +45,7 @@ use Rattle.process_record.specs.declared.outcome.Outcome.TheVariants.{Replied, E
 use Rattle.process_record.specs.declared.process.State.{State}
 use Rattle.process_record.specs.declared.process.State.TheVariants.{Running, Yielded, Faulted, Terminated}
 use Rattle.process_record.specs.Process.{after_exit, after_fault}
-use Rattle.kernel_model.specs.Record.{record_with_step, Record, instruction, with_effect, record_with_own, with_process}
+use Rattle.kernel_model.specs.Record.{Record, instruction, with_effect, with_process, record_with_step}
 use Rattle.kernel_model.specs.declared.settings.Settings.{Settings}
 use Rattle.kernel_model.specs.Calls.{Served, driver_answered, by_form, exit, failure_of, memop, object_permits}
 use Rattle.kernel_model.specs.Calls.{refused_with, restart, served, swap_by, swap_refusal, swapped, taken_by}

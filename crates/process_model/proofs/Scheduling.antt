@@ -1,5 +1,5 @@
 -- A value that is kept before an upcall is scheduled, and after.
-use Rattle.std.proofs.Common.{◌≡◌, ℕ, ◌+◌, ◌==◌, Bool, true, false, cond, List, [], ◌∷◌, ◌++◌, Option, None, Some}
+use Rattle.std.proofs.Common.{◌≡◌, ℕ, ◌+◌, ◌==◌, Bool, true, false, cond, [], ◌∷◌, ◌++◌, Option, None, Some}
 use Rattle.std.proofs.Common.{option_map, refl, ap, sym, ◌∙◌}
 use Rattle.tk_base.specs.declared.kinds.PairKind.TheVariants.{Upcall}
 use Rattle.tk_base.specs.declared.upcall.Upcall.{Upcall as Scheduled}
@@ -8,7 +8,7 @@ use Rattle.grant_values.specs.Values.{KeptValue}
 use Rattle.grant_model.specs.Grants.{Grant, grant_of, pair_of, with_value}
 use Rattle.process_model.specs.Own.{Own}
 use Rattle.process_model.specs.Handed.{held}
-use Rattle.process_model.specs.Served.{ScheduledUpcall, own_scheduling, queueing, upcall_of, with_kept}
+use Rattle.process_model.specs.Served.{queueing, upcall_of, with_kept}
 use Rattle.process_model.specs.Laws.{KeepingCommutes}
 use Rattle.process_model.proofs.Pairs.{at}
 
