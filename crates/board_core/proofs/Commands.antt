@@ -27,7 +27,7 @@ use Rattle.driver_model.specs.Laws.{CommandsStayInPlace, StaysInPlace}
 use Rattle.tk_base.specs.declared.process.ProcessId.{ProcessId}
 use Rattle.grant_enter.specs.Homes.{Homes, living, nobody, own_of}
 use Rattle.kernel_model.specs.Record.{Record, record_with_own, with_process}
-use Rattle.kernel_model.specs.Calls.{Served, driver_answered, by_form, commanded, failure_of, object_permits}
+use Rattle.kernel_model.specs.Calls.{Served, driver_answered, by_form, failure_of, object_permits}
 use Rattle.kernel_model.specs.Calls.{refused_with, served, taken_by}
 use Rattle.kernel_calls.specs.Own.{IsApplication, IsOwnObject, HasStart, object_in, record_in}
 use Rattle.kernel_model.specs.Lives.{is_alive}
