@@ -20,7 +20,8 @@ as_commanded answer own = record { answer = answer; step = silently own; acts = 
 -- The answer is the command's, as the process gets it, and so is what is then the process's own; it asks nothing of the
 -- board.
 abbrev pub AlarmReplies : Commanded → Reply × Option CallRule → Own → Type 0
-AlarmReplies command answer own = (answer ≡ reply_of command.answer) × (own ≡ own_after command.step) × (command.acts ≡ [])
+AlarmReplies command answer own =
+    (answer ≡ reply_of command.answer) × (own ≡ own_after command.step) × (command.acts ≡ [])
 
 -- The lowest slot whose alarm is due got its answer, and is told the tick, and nothing else changed; or none is due,
 -- and

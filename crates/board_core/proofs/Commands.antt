@@ -27,7 +27,7 @@ use Rattle.driver_model.specs.Laws.{CommandsStayInPlace, StaysInPlace}
 use Rattle.tk_base.specs.declared.process.ProcessId.{ProcessId}
 use Rattle.grant_enter.specs.Homes.{Homes, living, nobody, own_of}
 use Rattle.kernel_model.specs.Record.{Record, record_with_own, with_process}
-use Rattle.kernel_model.specs.Calls.{Served, driver_answered, by_form, commanded, failure_of, object_permits}
+use Rattle.kernel_model.specs.Calls.{Served, driver_answered, by_form, failure_of, object_permits}
 use Rattle.kernel_model.specs.Calls.{refused_with, served, taken_by}
 use Rattle.process_model.specs.Flash.{object_in}
 use Rattle.kernel_calls.specs.Own.{IsApplication, IsOwnObject, HasStart, record_in}
@@ -77,7 +77,8 @@ abbrev pub Came : Moment → ℕ → Homes → Homes → Order → Reply × Opti
     → Type 0
 Came m slot home home' order answer d d' taker =
     let c = taker (surroundings m.settings m.time) order.number order.a2 order.a3 (own_of home slot) in
-    (answer ≡ reply_of c.answer) × (own_of home' slot ≡ own_after c.step) × Drives (id_of slot (own_of home slot)) c.acts d d'
+    (answer ≡ reply_of c.answer) × (own_of home' slot ≡ own_after c.step) × Drives
+        (id_of slot (own_of home slot)) c.acts d d'
 
 module _ (m : Moment) (slot : ℕ) (home home' : Homes) (order : Order) (answer : Reply × Option CallRule)
     (d d' : Drivers) where
@@ -94,7 +95,8 @@ module _ (m : Moment) (slot : ℕ) (home home' : Homes) (order : Order) (answer 
       around
       (subst (λ (k : ProcessId). let c =
       taker (record { now = tick; leds = length d.leds; storage = d.stores.size }) order.number order.a2 order.a3
-      (own_of home k.slot) in (answer ≡ reply_of c.answer) × (own_of home' k.slot ≡ own_after c.step) × Drives k c.acts d d')
+      (own_of home k.slot) in (answer ≡ reply_of c.answer) × (own_of home' k.slot ≡ own_after c.step)
+          × Drives k c.acts d d')
       at (comes taker found))
     where
       around : ◌≡◌ {A = CommandContext} (record { now = tick; leds = length d.leds; storage = d.stores.size })

@@ -1,6 +1,6 @@
 -- Commands to each driver.
 use Rattle.std.proofs.Common.{◌≡◌, inl, inr, ℕ, ◌==◌, Bool, true, false, cond, nat_lt, List, [], ◌∷◌, length, find}
-use Rattle.std.proofs.Common.{Option, Some, Result, Ok, refl, sym, ap, subst, ◌∙◌}
+use Rattle.std.proofs.Common.{Option, Some, Ok, refl, sym, ap, subst, ◌∙◌}
 use Rattle.std.specs.List.{AllByRecursion}
 use Rattle.std.specs.Option.{option_map}
 use Rattle.tk_base.specs.declared.call.CallRule.{CallRule}
@@ -25,7 +25,8 @@ use Rattle.board_core.specs.declared.drivers.Order.{Order}
 use Rattle.board_core.specs.Driven.{Commands, Drives}
 
 -- a command of which every row leaves what is the process's own as it was does so, too
-rows_keep : (own : Own) (rows : List (ℕ × Commanded)) (number : ℕ) → AllByRecursion (λ row. own_after row.1.step ≡ own) rows
+rows_keep : (own : Own) (rows : List (ℕ × Commanded)) (number : ℕ) → AllByRecursion
+    (λ row. own_after row.1.step ≡ own) rows
     → own_after (by_number own rows number).step ≡ own
 rows_keep own [] number all = refl
 rows_keep own (row ∷ rows) number all = by_test (row.0 == number) (rows_keep own rows number all.1)

@@ -10,7 +10,7 @@ use Rattle.process_model.specs.Flash.{HasObject, ReadsOwnFlash, flash_byte, obje
 use Rattle.process_model.specs.Handed.{HoldsInPlace, held}
 use Rattle.process_model.specs.Own.{Own}
 use Rattle.process_model.specs.Served.{bytes_at}
-use Rattle.driver_model.specs.Console.{console, console_writes, portion, sent, taken, unsent, write_done}
+use Rattle.driver_model.specs.Console.{console, console_writes, portion, sent, taking, unsent, write_completing}
 use Rattle.driver_model.specs.Requests.{waiting_in}
 use Rattle.driver_model.specs.Storage as storage
 use Rattle.driver_model.specs.Storage.{StorageServed, storage_answer_of, answered, completing, moving, storage_served}
@@ -23,8 +23,12 @@ pub sent_of_own : (flash : List ℕ) (own : Own) → ReadsOwnFlash
 unfolding sent
 sent_of_own flash own law lies holds =
     ap (λ (bytes : List ℕ). unwrap_or (option_map (λ (write : WaitingWrite).
-    if portion write own == 0 then record { step = write_done own; printed = []; completed = true }
-    else record { step = taken own; printed = take (portion write own) (drop write.taken bytes); completed = false })
+    if portion write own == 0 then record { step = write_completing own write; printed = []; completed = true }
+    else record {
+      step = taking own write;
+      printed = take (portion write own) (drop write.taken bytes);
+      completed = false;
+    })
     (waiting_in console_writes own)) (unsent own))
     (law flash own (held ReadOnly console 1 own) lies (holds.read_only console 1))
 

@@ -31,7 +31,8 @@ use Rattle.process_record.specs.declared.process.Process.{Process}
 use Rattle.driver_model.specs.Answers.{EventsTellSteps, LinesFollowAnswers, queue_left_by}
 use Rattle.driver_model.specs.Commands.{QueueName, Writes, Reads, Randoms, Stores}
 use Rattle.driver_model.specs.Console.{Received, Sent, console, console_writes, free_after, input, next_bytes, portion}
-use Rattle.driver_model.specs.Console.{received, sending, sent, taken, unreceived, unsent, write_done}
+use Rattle.driver_model.specs.Console.{received, sending, sent, taken, taking, unreceived, unsent, write_completing}
+use Rattle.driver_model.specs.Console.{write_done}
 use Rattle.driver_model.specs.Requests.{waiting_in}
 use Rattle.driver_model.specs.Steps.{DriverStep, own_after}
 use Rattle.driver_model.specs.Told.{drawn_told, received_told, sent_told, stored_told}
@@ -235,14 +236,16 @@ acts_on b h is x before serves (Ok answer) home ids y may answers =
     first_is (IsThere b.home.owns) (ids_waiting_in b.drivers is.here) id answers.0 (waiters_there b h is.here) in
     let a = is.answer_to id in
     told_by b h id there is.device (is.prints y) (own_after a.step) home (is.after ids y) answers.5 answers.2 may
-    (subst (λ (xs : List ProcessId). DeviceServes b (its_process b h id there) is.device id.slot (is.prints y) (own_after a.step)
+    (subst (λ (xs : List ProcessId). DeviceServes b (its_process b h id there) is.device id.slot (is.prints y)
+        (own_after a.step)
     (is.after xs y)) (sym answers.4)
     (subst (λ (z : _). DeviceServes b (its_process b h id there) is.device id.slot (is.prints z) (own_after a.step)
     (is.after (waiting_still a.completed id.slot (ids_waiting_in b.drivers is.here)) z)) (sym answers.3)
     (serves id there answers.0)))
 
 -- a process in the life that it is in
-in_its_life : {X : Type 0} (life : ℕ) (own : Own) (there gone : X) → own.life ≡ life → in_life life own there gone ≡ there
+in_its_life : {X : Type 0} (life : ℕ) (own : Own) (there gone : X) → own.life ≡ life
+    → in_life life own there gone ≡ there
 in_its_life life own there gone is = ap (λ (b : Bool). if b then there else gone) (eq-eqb own.life life is)
 
 -- what a device does that tells a process something
@@ -273,8 +276,8 @@ free_soon time ticks free printed few short soon = by_length (length printed == 
 -- one step of a write, which is finished or has bytes left
 abbrev portioned : (ℕ → ℕ) → Own → Bool → WaitingWrite → Sent
 portioned flash own finished write =
-    if finished then record { step = write_done own; printed = []; completed = true }
-    else record { step = taken own; printed = next_bytes flash write own; completed = false }
+    if finished then record { step = write_completing own write; printed = []; completed = true }
+    else record { step = taking own write; printed = next_bytes flash write own; completed = false }
 
 -- it takes so many bytes at most
 sent_few : (flash : ℕ → ℕ) (own : Own) → length (sent flash own).printed ≤ PRINT_LIMIT
@@ -496,7 +499,8 @@ kept_beside s slot false written few = (refl, refl, refl)
 
 stored_applied : (settings : Settings) (fails : Bool) (r : Record)
     → let a = storage.answered fails (flash_of r) r.storage r.own in
-    apply settings (Stored (not fails)) r ≡ record (record_with_step r a.step) { storage = written_over r.storage a.written }
+    apply settings (Stored (not fails)) r ≡ record
+        (record_with_step r a.step) { storage = written_over r.storage a.written }
 unfolding apply
 stored_applied settings true r = refl
 stored_applied settings false r = refl

@@ -13,7 +13,7 @@ use Rattle.grant_values.specs.declared.storage.StorageRequest.{StorageRequest}
 use Rattle.process_model.specs.Own.{Own}
 use Rattle.driver_model.specs.Commands.{is_same, QueueName, Writes, Reads, Randoms, Stores}
 use Rattle.driver_model.specs.Requests.{RequestKind, keeping_request, request_in, waiting_in, with_request}
-use Rattle.driver_model.specs.Steps.{DriverStep, own_after, scheduling, silently}
+use Rattle.driver_model.specs.Steps.{DriverStep, own_after, scheduling}
 use Rattle.process_model.specs.Served.{with_written}
 use Rattle.process_model.proofs.Scheduling.{keeping_commutes}
 use Rattle.grant_values.specs.Values.{AlarmValue}
@@ -164,20 +164,14 @@ unfolding console.sent
 sends flash own = by_waiting (waiting_in console_writes own) refl
   where
     by_portion : (write : WaitingWrite) (b : Bool) → waiting_in console_writes own ≡ Some write
-        → Sends own (cond b (record { step = console.write_done own; printed = []; completed = true })
-        (record { step = console.taken own; printed = console.next_bytes flash write own; completed = false }))
+        → Sends own (cond b (record { step = console.write_completing own write; printed = []; completed = true })
+        (record { step = console.taking own write; printed = console.next_bytes flash write own; completed = false }))
     by_portion write true is =
-        subst (λ (w : _). FollowsAnswer (queue_left_by Writes true) own
-        (own_after (unwrap_or (option_map (console.write_completing own) w) (silently own))))
-        (sym is)
-        (then_told _ console_writes None (scheduling console.console 1 (write.taken ∷ 0 ∷ 0 ∷ []) own) own
-        (put_writes own _ (serves _ _ _ own.ram own (as_before own)) write None (asks console_writes own write is)))
+        then_told _ console_writes None (scheduling console.console 1 (write.taken ∷ 0 ∷ 0 ∷ []) own) own
+        (put_writes own _ (serves _ _ _ own.ram own (as_before own)) write None (asks console_writes own write is))
     by_portion write false is =
-        subst (λ (w : _). FollowsAnswer (queue_left_by Writes false) own
-        (own_after (unwrap_or (option_map (console.taking own) w) (silently own)))) (sym is)
-        (put_writes own _ (serves_silently own.ram own (as_before own)) write
-        (Some (record write { taken = write.taken + console.portion write own }))
-        (asks console_writes own write is))
+        put_writes own _ (serves_silently own.ram own (as_before own)) write
+        (Some (record write { taken = write.taken + console.portion write own })) (asks console_writes own write is)
 
     by_waiting : (w : Option WaitingWrite) → waiting_in console_writes own ≡ w
         → Sends own (unwrap_or (option_map (console.sending flash own) w) (console.unsent own))
@@ -250,7 +244,8 @@ serves_served fault flash bytes request own = by_fault fault request.kind
     by_fault false Write = serves _ _ _ own.ram own (as_before own)
 
 stores : (fault : Bool) (flash : ℕ → ℕ) (bytes : List ℕ) (own : Own)
-    → let a = storage.answered fault flash bytes own in FollowsAnswer (queue_left_by Stores a.completed) own (own_after a.step)
+    → let a = storage.answered fault flash bytes own in FollowsAnswer (queue_left_by Stores a.completed) own
+    (own_after a.step)
 unfolding storage.answered
 stores fault flash bytes own = by_waiting (waiting_in storages own) refl
   where

@@ -97,7 +97,8 @@ module _ (law : OnlyWritesChangeBytes) where
       by_left : (b : Bool)
           → ChangesAt (IsInside (word_buffer own)) own
           (own_after (cond b (random.completing (Some word) 0 (request.written + left) o)
-          (record { rest = Some (record request { written = request.written + 4 }); step = silently o; drawn = Some word })).step)
+          (record { rest = Some
+              (record request { written = request.written + 4 }); step = silently o; drawn = Some word })).step)
       by_left true = then_scheduled (IsInside (word_buffer own)) random.random 0 (0 ∷ (request.written + left) ∷ 0 ∷ [])
           own o written
       by_left false = written
@@ -113,7 +114,8 @@ module _ (law : OnlyWritesChangeBytes) where
       by_wanted true = stays_scheduled (IsInside (word_buffer own)) random.random 0 (0 ∷ request.written ∷ 0 ∷ []) own
       by_wanted false = drawing _ request own word whole
 
-  no_progress : (request : RandomRequest) (own : Own) → KeepsBytes own (own_after (random.progress None request own).step)
+  no_progress : (request : RandomRequest) (own : Own) → KeepsBytes own
+      (own_after (random.progress None request own).step)
   no_progress request own = by_wanted (nat_le (random.wanted request own) request.written)
     where
       by_wanted : (b : Bool)
@@ -134,7 +136,8 @@ module _ (law : OnlyWritesChangeBytes) where
       (min request.length (held ReadOnly storage.storage 0 own).1 ∷ 0 ∷ 0 ∷ []) own
 
   served : (fault : Bool) (flash : ℕ → ℕ) (bytes : List ℕ) (request : StorageRequest) (own : Own) → IsWhole own
-      → ChangesAt (IsInside (stored_buffer own)) own (own_after (storage.storage_served fault flash bytes request own).step)
+      → ChangesAt (IsInside (stored_buffer own)) own
+      (own_after (storage.storage_served fault flash bytes request own).step)
   served true flash bytes request own whole =
       stays_scheduled (IsInside (stored_buffer own)) storage.storage (storage.upcall_for request.kind) (0 ∷ 1 ∷ 0 ∷ [])
       own
@@ -144,13 +147,16 @@ module _ (law : OnlyWritesChangeBytes) where
   unfolding alarm.answered random.answered storage.answered
   answers_write_in_buffers = record {
     alarmed = λ now own. fires now own (alarm.due_alarm now own);
-    taken = λ own. if_waits (λ (s : DriverStep). KeepsBytes own (own_after s)) (console.taking own) (silently own) (waiting_in console_writes own)
+    taken = λ own. if_waits (λ (s : DriverStep). KeepsBytes own (own_after s)) (console.taking own) (silently own)
+        (waiting_in console_writes own)
         (λ at before after. refl) (λ write at before after. refl);
-    write_done = λ own. if_waits (λ (s : DriverStep). KeepsBytes own (own_after s)) (console.write_completing own) (silently own) (waiting_in console_writes own)
+    write_done = λ own. if_waits (λ (s : DriverStep). KeepsBytes own (own_after s)) (console.write_completing own)
+        (silently own) (waiting_in console_writes own)
         (λ at before after. refl) (λ write. keeps_scheduled console.console 1 (write.taken ∷ 0 ∷ 0 ∷ [])
         (with_request console_writes None own));
     input = λ bytes own whole.
-        if_waits (λ (s : DriverStep). ChangesAt (IsInside (input_buffer own)) own (own_after s)) (console.reading_in bytes own)
+        if_waits (λ (s : DriverStep). ChangesAt (IsInside (input_buffer own)) own (own_after s))
+            (console.reading_in bytes own)
         (silently own)
         (waiting_in console_reads own) (λ at before after. inl refl)
         (λ read.

@@ -46,7 +46,8 @@ not_yet {R} request_kind own none =
 
 -- by what is asked for after the command
 follows : (around : CommandContext) (own : Own) (c : Commanded) (after : Asked) → (own_after c.step).lives ≡ own.lives
-    → asked (own_after c.step).grants ≡ after → Moves (λ line waits. waits_after line waits c.acts) (asked own.grants) after
+    → asked (own_after c.step).grants ≡ after → Moves (λ line waits. waits_after line waits c.acts)
+    (asked own.grants) after
     → (LiesWithin around.storage (asked own.grants).stores → LiesWithin around.storage after.stores) → BeginsOnce own c
     → FollowsCommand around own c
 follows around own c after lives is moves lies once = record {

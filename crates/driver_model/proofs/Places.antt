@@ -58,7 +58,8 @@ commands_stay_in_place driver taker is around number a2 a3 own =
 
 pub command_drops_at_most_one : CommandDropsAtMostOne
 command_drops_at_most_one driver taker around number a2 a3 own is =
-    of_command (λ around own c. IsAtMostOneMore own.inbox.dropped (own_after c.step).inbox.dropped) driver taker is around number a2 a3 own
+    of_command (λ around own c. IsAtMostOneMore own.inbox.dropped (own_after c.step).inbox.dropped)
+    driver taker is around number a2 a3 own
     (record {
       refuses = λ rule. none_more own.inbox.dropped;
       replies = λ reply. none_more own.inbox.dropped;

@@ -62,13 +62,16 @@ of_services P each = record {
         stores = λ request fits room none. each.enters storage.storage _ own room;
       });
   alarmed = λ now own. fires own now (alarm.due_alarm now own);
-  taken = λ own. if_waits (λ (s : DriverStep). P own (own_after s)) (console.taking own) (silently own) (waiting_in console_writes own) (each.same own)
+  taken = λ own. if_waits (λ (s : DriverStep). P own (own_after s)) (console.taking own) (silently own)
+      (waiting_in console_writes own) (each.same own)
       (λ write. each.keeps _ _ own);
-  write_done = λ own. if_waits (λ (s : DriverStep). P own (own_after s)) (console.write_completing own) (silently own) (waiting_in console_writes own)
+  write_done = λ own. if_waits (λ (s : DriverStep). P own (own_after s)) (console.write_completing own) (silently own)
+      (waiting_in console_writes own)
       (each.same own) (λ write. told P each _ _ (scheduling console.console 1 (write.taken ∷ 0 ∷ 0 ∷ []) own) own
       (serves _ _ _ own.ram own (as_before own)));
   input = λ bytes own.
-      if_waits (λ (s : DriverStep). P own (own_after s)) (console.reading_in bytes own) (silently own) (waiting_in console_reads own) (each.same own)
+      if_waits (λ (s : DriverStep). P own (own_after s)) (console.reading_in bytes own) (silently own)
+          (waiting_in console_reads own) (each.same own)
       (λ read. told P each _ _
       (scheduling console.console 2 (console.read_status own ∷ length bytes ∷ 0 ∷ [])
       (with_written console.console 1 0 bytes own)) own

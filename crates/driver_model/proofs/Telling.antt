@@ -22,15 +22,19 @@ unfolding console.sent
 writes flash own = by_waiting (waiting_in console_writes own) refl
   where
     by_portion : (write : WaitingWrite) (b : Bool)
-        → TellsWrite own (cond b (record { step = console.write_done own; printed = []; completed = true })
-        (record { step = console.taken own; printed = console.next_bytes flash write own; completed = false }))
-    by_portion write true = refl
-    by_portion write false = refl
+        → Some write ≡ waiting_in console_writes own
+        → TellsWrite own (cond b (record { step = console.write_completing own write; printed = []; completed = true })
+        (record { step = console.taking own write; printed = console.next_bytes flash write own; completed = false }))
+    by_portion write true is =
+        ap (λ (w : Option WaitingWrite). unwrap_or (option_map (console.write_completing own) w) (silently own)) is
+    by_portion write false is =
+        ap (λ (w : Option WaitingWrite). unwrap_or (option_map (console.taking own) w) (silently own)) is
 
     by_waiting : (w : Option WaitingWrite) → w ≡ waiting_in console_writes own
         → TellsWrite own (unwrap_or (option_map (console.sending flash own) w) (console.unsent own))
-    by_waiting None is = ap (λ (w : Option WaitingWrite). unwrap_or (option_map (console.taking own) w) (silently own)) is
-    by_waiting (Some write) is = by_portion write (console.portion write own == 0)
+    by_waiting None is = ap
+        (λ (w : Option WaitingWrite). unwrap_or (option_map (console.taking own) w) (silently own)) is
+    by_waiting (Some write) is = by_portion write (console.portion write own == 0) is
 
 reads : (ring : List ℕ) (own : Own) → let r = console.received ring own in r.step ≡ console.input r.moved own
 unfolding console.received

@@ -135,8 +135,8 @@ next_bytes flash write own =
 -- the next bytes of a write are taken and printed; where none is left it completes
 abbrev pub sending : (ℕ → ℕ) → Own → WaitingWrite → Sent
 sending flash own write =
-    if portion write own == 0 then record { step = write_done own; printed = []; completed = true }
-    else record { step = taken own; printed = next_bytes flash write own; completed = false }
+    if portion write own == 0 then record { step = write_completing own write; printed = []; completed = true }
+    else record { step = taking own write; printed = next_bytes flash write own; completed = false }
 
 -- the step for a process; nothing changes where no write of it waits
 unfoldable pub sent : (ℕ → ℕ) → Own → Sent

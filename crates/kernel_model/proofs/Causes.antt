@@ -35,7 +35,7 @@ use Rattle.process_record.specs.declared.process.Process.{Process}
 use Rattle.process_record.specs.declared.process.State.{State}
 use Rattle.process_record.specs.declared.process.State.TheVariants.{Running, Yielded, Faulted, Terminated}
 use Rattle.process_record.specs.Process.{after_call, after_fault, waiting}
-use Rattle.kernel_model.specs.Record.{record_with_step, Record, byte_at, instruction, with_effect, record_with_own, with_process}
+use Rattle.kernel_model.specs.Record.{Record, byte_at, instruction, with_effect, with_process, record_with_step}
 use Rattle.kernel_model.specs.declared.settings.Settings.{Settings}
 use Rattle.kernel_model.specs.Calls.{Served, driver_answered, by_form, exit, memop, object_permits, restart}
 use Rattle.kernel_model.specs.Calls.{restarted_by, restarted_main, served, swap_by, swap_refusal, taken_by, yield_now}

@@ -37,7 +37,7 @@ use Rattle.process_record.specs.declared.process.State.{State}
 use Rattle.process_record.specs.declared.process.State.TheVariants.{Running, Yielded, Faulted, Terminated}
 use Rattle.process_record.specs.Process.{after_call as after_call_of, after_exit, after_fault, after_refusal}
 use Rattle.process_record.specs.Process.{after_reply, past_call, waiting}
-use Rattle.kernel_model.specs.Record.{record_with_step, Record, instruction, with_effect, record_with_own, with_process}
+use Rattle.kernel_model.specs.Record.{Record, instruction, with_effect, record_with_own, record_with_step, with_process}
 use Rattle.kernel_model.specs.declared.settings.Settings.{Settings}
 use Rattle.kernel_model.specs.Calls.{Served, driver_answered, break_moved, by_form, deliver_by, exit, failure_of}
 use Rattle.kernel_model.specs.Calls.{flag_written, former_pair, memop, memops, moved_by, or_refused, object_permits}
@@ -204,7 +204,8 @@ module _ (R : Own → Own → Type 0) (services : OfEachService R) (I J : Record
   by_command around r h driver number a2 a3 None is = by_plain r h NoDriver
   by_command around r h driver number a2 a3 (Some taker) is =
       let c = taker around number a2 a3 r.own in
-      by_answer r c (k.serves r (own_after c.step) r.storage (services.command driver taker is around number a2 a3 r.own) h) c.answer
+      by_answer r c (k.serves r (own_after c.step) r.storage
+          (services.command driver taker is around number a2 a3 r.own) h) c.answer
 
   of_form : (around : CommandContext) (r : Record) → is_alive r.process.state ≡ true → I r → (form : CallForm)
       → Q (by_form around r form)

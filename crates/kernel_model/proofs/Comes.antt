@@ -26,7 +26,7 @@ use Rattle.syscall_abi.specs.Call.{form_of}
 use Rattle.syscall_abi.specs.declared.reply.Reply.{Reply}
 use Rattle.syscall_abi.specs.declared.reply.Reply.TheVariants.{Failure}
 use Rattle.process_record.specs.declared.outcome.Outcome.TheVariants.{ToDriver}
-use Rattle.kernel_model.specs.Record.{record_with_step, Record, record_with_own}
+use Rattle.kernel_model.specs.Record.{Record, record_with_step}
 use Rattle.kernel_model.specs.Turn.{rule_shown}
 use Rattle.kernel_model.specs.Calls.{Served, driver_answered, by_form, commanded, exit, failed_swap, failure_of}
 use Rattle.kernel_model.specs.Calls.{memop}
@@ -160,7 +160,8 @@ of_commanded : (P : Served → Type 0) (around : CommandContext) (r : Record) (c
     → ((rule : CallRule) → c.answer ≡ Err rule → c ≡ refused_by_driver rule r.own)
     → IsAtMostOneMore r.own.inbox.dropped (own_after c.step).inbox.dropped
     → (length r.own.inbox.pending < PENDING_LIMIT → (own_after c.step).inbox.dropped ≡ r.own.inbox.dropped)
-    → (r.own.lives ≡ true → KeepsLines around.storage r.own (own_after c.step) c.acts) → OfBoth P around r plain → P (commanded r c)
+    → (r.own.lives ≡ true → KeepsLines around.storage r.own (own_after c.step) c.acts) → OfBoth P around r plain → P
+    (commanded r c)
 of_commanded P around r c (Ok reply) is refuses drops room lines both =
     let same : record (replied (record_with_step r c.step) reply) { acts = c.acts } ≡ commanded r c =
     ap (λ (x : Result Reply CallRule). record (driver_answered (record_with_step r c.step) x) { acts = c.acts })

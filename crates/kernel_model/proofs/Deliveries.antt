@@ -31,7 +31,7 @@ use Rattle.syscall_abi.specs.Call.{call_of, class, form_of, a0, a1, a2, a3}
 use Rattle.upcall_queue.specs.Pending.{is_of}
 use Rattle.process_model.specs.Own.{Own, own_ended as ended_own}
 use Rattle.process_model.specs.Flag.{with_flag}
-use Rattle.process_model.specs.Handed.{handing, lies_in_ram, still_pending}
+use Rattle.process_model.specs.Handed.{lies_in_ram, still_pending}
 use Rattle.process_model.specs.Pairs.{HandsTheSame, HasShape, OnlyHandingChangesPairs}
 use Rattle.driver_model.specs.Steps.{own_after}
 use Rattle.driver_model.specs.Commands.{Commanded}
@@ -45,7 +45,7 @@ use Rattle.process_record.specs.declared.process.Process.{Process}
 use Rattle.process_record.specs.declared.process.State.{State}
 use Rattle.process_record.specs.declared.process.State.TheVariants.{Running, Yielded, Faulted, Terminated}
 use Rattle.process_record.specs.Process.{after_call, after_fault, waiting}
-use Rattle.kernel_model.specs.Record.{record_with_step, Record, instruction, with_effect, record_with_own, with_process}
+use Rattle.kernel_model.specs.Record.{Record, instruction, with_effect, with_process, record_with_step}
 use Rattle.kernel_model.specs.declared.settings.Settings.{Settings}
 use Rattle.kernel_model.specs.Calls.{failed_swap, Served, driver_answered, by_form, exit, failure_of, memop}
 use Rattle.kernel_model.specs.Calls.{object_permits, own_swapped}
@@ -381,7 +381,8 @@ module _ (promise : Promise) (around : CommandContext) (r : Record) where
       of_swap 3 swap (λ lt. by_leaves r 3 _ (of_allowed swap (λ k. cc) (λ pending. refl) lt))
 
   -- a command
-  of_answer : (c : Commanded) (answer : Result Reply CallRule) → HandsTheSame r.own (own_after c.step) → SchedulesHeld r.own (own_after c.step)
+  of_answer : (c : Commanded) (answer : Result Reply CallRule) → HandsTheSame r.own (own_after c.step)
+      → SchedulesHeld r.own (own_after c.step)
       → LeavesByCall r 2 (record (driver_answered (record_with_step r c.step) answer) { acts = c.acts })
   of_answer c (Ok reply) same sched = by_leaves r 2 _ (schedules law r _ _ refl same sched passes_all)
   of_answer c (Err rule) same sched = by_leaves r 2 _ (schedules law r _ _ refl same sched passes_all)

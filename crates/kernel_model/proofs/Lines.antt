@@ -95,7 +95,8 @@ keeps_handed law size swap own =
 
 -- one that gave a command
 pub keeps_commanded : (around : CommandContext) (own : Own) (c : Commanded) → own.lives ≡ true
-    → FollowsCommand around own c → StaysInPlace own (own_after c.step) → KeepsLines around.storage own (own_after c.step) c.acts
+    → FollowsCommand around own c → StaysInPlace own (own_after c.step) → KeepsLines around.storage own
+    (own_after c.step) c.acts
 keeps_commanded around own c lives follows stays =
     let life : (own_after c.step).life ≡ own.life = ap (λ (o : Own). o.life) stays in
     record {

@@ -31,7 +31,8 @@ use Rattle.kernel_model.specs.Turn.{Turned, Alarmed, Taken, WriteDone, Input, St
 use Rattle.kernel_model.specs.Turn.{turned, turn_in}
 use Rattle.driver_model.specs.Steps.{DriverStep, own_after}
 use Rattle.driver_model.specs.Told.{drawn_told}
-use Rattle.kernel_model.specs.World.{as_events, Answer, DeviceStep, Devices, Stepped, World, acted, after, alarmed, arrived}
+use Rattle.kernel_model.specs.World.{as_events, Answer, DeviceStep, Devices, Stepped, World, acted, after, alarmed}
+use Rattle.kernel_model.specs.World.{arrived}
 use Rattle.kernel_model.specs.World.{begin_wait, carried_out, device_step_of, done, random_step}
 use Rattle.kernel_model.specs.World.{first_waiting, now_in, owns_in, ran, receive_step, records_after, routed}
 use Rattle.kernel_model.specs.World.{stop_wait, storing, told_to, transmitting, queue_without}
@@ -518,7 +519,8 @@ module _ (follow : LinesFollowAnswers) (tell : EventsTellSteps) (w : World) (h :
       by_record (Some r) e =
           answered_each (alarmed w slot) (record { slot = slot; event = Alarmed (now_in w) }) r e refl (λ line. false)
           (λ here. refl)
-          (moved_own (λ line. false) r.own (own_after (alarm.answered (now_in w) r.own)) _ (alarmed_own w.settings r (now_in w))
+          (moved_own (λ line. false) r.own (own_after (alarm.answered (now_in w) r.own)) _
+              (alarmed_own w.settings r (now_in w))
           (follow.alarms (now_in w) r.own).lines)
 
   due_lists : (due : Option ℕ) → AreLists (done w (option_map (alarmed w) due)).after

@@ -33,7 +33,7 @@ use Rattle.driver_model.specs.Keeping.{DriversKeep, IsInOrder, KeepsLimit, Keeps
 use Rattle.driver_model.specs.Services.{OfEachService}
 use Rattle.process_record.specs.declared.process.State.{State}
 use Rattle.process_record.specs.declared.process.State.TheVariants.{Running, Yielded, Faulted, Terminated}
-use Rattle.kernel_model.specs.Record.{record_with_step, Record, record_with_own}
+use Rattle.kernel_model.specs.Record.{Record, record_with_step}
 use Rattle.kernel_model.specs.declared.settings.Settings.{Settings}
 use Rattle.kernel_model.specs.Calls.{restart, restarted_by, restarted_main, restarted_with, own_swapped}
 use Rattle.kernel_model.specs.Turn.{Event, Turn, Alarmed, Taken, WriteDone, Input, Word, NoWord, Stored, apply}
@@ -152,7 +152,8 @@ over_answer settings Taken r over is =
     (option_map (console.taking r.own) (cond b (request_in console_writes r.own) None)) (silently r.own))) over
 over_answer settings WriteDone r over is =
     ap (λ (b : Bool). record_with_step r (unwrap_or
-    (option_map (console.write_completing r.own) (cond b (request_in console_writes r.own) None)) (silently r.own))) over
+    (option_map (console.write_completing r.own) (cond b (request_in console_writes r.own) None))
+        (silently r.own))) over
 over_answer settings (Input bytes) r over is =
     ap (λ (b : Bool). record_with_step r (unwrap_or
     (option_map (console.reading_in bytes r.own) (cond b (request_in console_reads r.own) None)) (silently r.own))) over

@@ -50,9 +50,9 @@ sent_of r = by_waiting (waiting_in console_writes r.own) refl
   where
     by_portion : (write : WaitingWrite) (b : Bool) → waiting_in console_writes r.own ≡ Some write
         → let s : Sent =
-        cond b (record { step = console.write_done r.own; printed = []; completed = true })
+        cond b (record { step = console.write_completing r.own write; printed = []; completed = true })
         (record {
-          step = console.taken r.own;
+          step = console.taking r.own write;
           printed = console.next_bytes (flash_of r) write r.own;
           completed =
               false;

@@ -17,7 +17,8 @@ use Rattle.kernel_model.specs.Record.{Record}
 use Rattle.kernel_model.specs.Turn.{Event, Turn, Alarmed, Taken, WriteDone, Input, Word, NoWord, Stored, TurnTrace}
 use Rattle.kernel_model.specs.Turn.{Turned, apply, turned}
 use Rattle.driver_model.specs.Told.{drawn_told}
-use Rattle.kernel_model.specs.World.{as_events, Answer, DeviceStep, Stepped, World, after, alarmed, arrived, carried_out}
+use Rattle.kernel_model.specs.World.{Answer, DeviceStep, Stepped, World, after, alarmed, arrived, as_events}
+use Rattle.kernel_model.specs.World.{carried_out}
 use Rattle.kernel_model.specs.World.{device_step_of, done, random_step, first_waiting, is_ready, labels}
 use Rattle.kernel_model.specs.World.{labels_of, now_in, owns_in, ran, receive_step, records_after, storing}
 use Rattle.kernel_model.specs.World.{transmitting}

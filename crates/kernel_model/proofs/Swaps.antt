@@ -1,5 +1,5 @@
 -- What each turn does to the pairs that its process has handed, and what a swap in it gives back.
-use Rattle.std.proofs.Common.{◌≡◌, ◌≢◌, ◌<◌, ◌≤◌, ℕ, ◌==◌, ◌&&◌, nat_lt, not, Bool, true, false, cond, List, [], ◌∷◌}
+use Rattle.std.proofs.Common.{◌≡◌, ◌≢◌, ◌<◌, ◌≤◌, ℕ, ◌==◌, ◌&&◌, nat_lt, Bool, true, false, cond, List, [], ◌∷◌}
 use Rattle.std.proofs.Common.{length, slice_set, Option, None, Some, is_none, is_some, unwrap_or, Result, Ok, Err, refl}
 use Rattle.std.proofs.Common.{ap, sym, subst, ◌∙◌, arith, eqb-true, eq-eqb, ne_eqb, ◌||◌}
 use Rattle.std.specs.Prelude.{slice_index}
@@ -45,7 +45,7 @@ use Rattle.process_record.specs.declared.outcome.Outcome.TheVariants.{Replied, E
 use Rattle.process_record.specs.declared.process.State.{State}
 use Rattle.process_record.specs.declared.process.State.TheVariants.{Running, Yielded, Faulted, Terminated}
 use Rattle.process_record.specs.Process.{after_exit, after_fault}
-use Rattle.kernel_model.specs.Record.{record_with_step, Record, instruction, with_effect, record_with_own, with_process}
+use Rattle.kernel_model.specs.Record.{Record, instruction, with_effect, with_process, record_with_step}
 use Rattle.kernel_model.specs.declared.settings.Settings.{Settings}
 use Rattle.kernel_model.specs.Calls.{Served, driver_answered, by_form, exit, failure_of, memop, object_permits}
 use Rattle.kernel_model.specs.Calls.{refused_with, restart, served, swap_by, swap_refusal, swapped, taken_by}

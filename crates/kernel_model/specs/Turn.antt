@@ -36,7 +36,7 @@ use Rattle.process_record.specs.declared.process.Process.{Process}
 use Rattle.process_record.specs.declared.process.State.{State}
 use Rattle.process_record.specs.declared.process.State.TheVariants.{Running, Yielded, Faulted, Terminated}
 use Rattle.process_record.specs.Process.{after_turn, after_fault}
-use Rattle.kernel_model.specs.Record.{Record, record_with_step, with_process, instruction, with_effect}
+use Rattle.kernel_model.specs.Record.{Record, with_process, instruction, with_effect, record_with_step}
 use Rattle.kernel_model.specs.declared.settings.Settings.{Settings}
 use Rattle.kernel_model.specs.Calls.{Served, deliver_by, served, restart}
 

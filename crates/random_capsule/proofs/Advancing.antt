@@ -10,7 +10,8 @@ use Rattle.random_capsule.specs.Steps.{Progresses}
 module _ (word : Option ℕ) (request : RandomRequest) (own o : Own) (n : ℕ) (step : Step) (now : Own)
     (same : o ≡ own) (count : n ≡ wanted request own) where
   tests : (b : Bool) → nat_le n request.written ≡ b
-      → Progresses (cond b (completing None 0 request.written o) (drawing (n - request.written) request o word)) step now
+      → Progresses (cond b (completing None 0 request.written o)
+      (drawing (n - request.written) request o word)) step now
       → Progresses (progress word request own) step now
   tests b is p =
       subst (λ (x : Own). Progresses (progress word request x) step now) same
