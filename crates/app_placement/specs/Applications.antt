@@ -36,12 +36,8 @@ application_in offset (Ok h) = option_map (application offset h) h.main
 
 -- whether an object is an application that can start
 abbrev pub is_app : Verdict → Bool
-is_app (Bad fault) = false
-is_app Padding = false
-is_app Disabled = false
-is_app BadEntry = false
-is_app WrongFlash = false
 is_app App = true
+is_app other = false
 
 -- what an object that was found asks for, if it is an application
 abbrev pub application_of : List ℕ → Found → Option Application

@@ -552,7 +552,7 @@ module _ (script : Script) (flash : List ℕ) where
       → map (fresh_record script.storage flash) (zip processes (map own_opened footprints))
       ≡ filter_map (record_placed script.storage flash) (placed_applications script.ram flash)
       → unplaced.items ≡ filter_map unplaced_at (placed_applications script.ram flash)
-      → visible ≡ visible_settings script.leds script.start script.storage script.policy → AreFresh script d
+      → visible ≡ visible_settings script.leds script.start script.storage script.policy script.strict → AreFresh script d
       → world_with (map (record_of home.flash) (zip (zip processes home.owns) d.stores.slots)) unplaced.items visible
       (devices_of d) ≡ opening script flash
   unfolding opening

@@ -123,7 +123,7 @@ module _ (script : Script) (d : Drivers) where
 
   -- they are those of a board
   pub driven_first : (fs : List Footprint) → script.uart ≤ BYTE_TICKS_LIMIT → AreFresh script d
-      → AreDriven (visible_settings script.leds script.start script.storage script.policy) 0 (map opened fs) d
+      → AreDriven (visible_settings script.leds script.start script.storage script.policy script.strict) 0 (map opened fs) d
   driven_first fs slow fresh = record {
     writes = subst (λ (c : _). IsQueueOf console_writes c.writes (map opened fs)) (sym fresh.console)
         (empty_line console_writes fs);

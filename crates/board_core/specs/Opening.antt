@@ -68,7 +68,7 @@ unfoldable pub opening : Script → List ℕ → World
 opening script flash = record {
   records = filter_map (record_placed script.storage flash) (placed_applications script.ram flash);
   unplaced = filter_map unplaced_at (placed_applications script.ram flash);
-  settings = visible_settings script.leds script.start script.storage script.policy;
+  settings = visible_settings script.leds script.start script.storage script.policy script.strict;
   pace = pace script.slice;
   devices = record {
     writes = [];

@@ -162,14 +162,15 @@ fn is_now(left: Option<u32>) -> bool
 /// What of a script's settings processes can see.
 fn settings_of(script: &Script) -> Settings
     ensures { result
-        ≡ visible_settings script.now.leds script.now.start script.now.storage script.now.policy }
+        ≡ visible_settings script.now.leds script.now.start script.now.storage script.now.policy
+            script.now.strict }
 {
     Settings {
         leds: script.leds,
         start: script.start,
         storage: script.storage,
         policy: script.policy,
-        strict: false,
+        strict: script.strict,
     }
 }
 

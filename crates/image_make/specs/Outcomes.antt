@@ -20,11 +20,7 @@ use Rattle.image_make.specs.Images.{object_found}
 -- whether an object has a bad header
 abbrev pub has_fault : Verdict → Bool
 has_fault (Bad fault) = true
-has_fault Padding = false
-has_fault Disabled = false
-has_fault BadEntry = false
-has_fault WrongFlash = false
-has_fault App = false
+has_fault other = false
 
 -- the object at an offset, where one is found and its header has no fault
 abbrev pub unless_faulty : Found → Option Found

@@ -30,14 +30,10 @@ IsDoneByTurn r s told at =
 
 -- the buffer that a process holds for the device that answers it so; one without bytes, where the answer moves none
 abbrev pub buffer_for : Event → Own → ℕ × ℕ
-buffer_for (Turn time) own = (0, 0)
-buffer_for (Alarmed now) own = (0, 0)
-buffer_for Taken own = (0, 0)
-buffer_for WriteDone own = (0, 0)
 buffer_for (Input bytes) own = input_buffer own
 buffer_for (Word word) own = word_buffer own
-buffer_for NoWord own = (0, 0)
 buffer_for (Stored moved) own = stored_buffer own
+buffer_for other own = (0, 0)
 
 -- what is written over a slot's storage where a request is served: from an offset on, these bytes, if any
 abbrev pub served_write : Record → Option (ℕ × List ℕ)
@@ -50,15 +46,8 @@ Covers (Some written) k = (written.0 ≤ k) × (k < written.0 + length written.1
 
 -- an answer that writes over a place of the storage: a request that was served, not one that failed
 abbrev pub Overwrites : Event → Record → ℕ → Type 0
-Overwrites (Turn time) r k = ⊥
-Overwrites (Alarmed now) r k = ⊥
-Overwrites Taken r k = ⊥
-Overwrites WriteDone r k = ⊥
-Overwrites (Input bytes) r k = ⊥
-Overwrites (Word word) r k = ⊥
-Overwrites NoWord r k = ⊥
 Overwrites (Stored true) r k = Covers (served_write r) k
-Overwrites (Stored false) r k = ⊥
+Overwrites other r k = ⊥
 
 -- A label with a cause of a change of a byte of the process in a slot, of which this is the record before and after the
 -- step: its own turn with such a cause; or an answer to it, inside the buffer that it held before the step for the

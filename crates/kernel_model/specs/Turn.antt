@@ -60,22 +60,12 @@ arguments regs = a0 regs ∷ a1 regs ∷ a2 regs ∷ a3 regs ∷ []
 -- what an outcome shows: the reply as it stands in the registers, and the rule that the call broke
 abbrev pub reply_shown : Registers → Outcome → Option (List ℕ)
 reply_shown regs (outcomes.Replied reply rule) = Some (arguments (put_reply reply regs))
-reply_shown regs outcomes.ToDriver = None
-reply_shown regs outcomes.Waits = None
-reply_shown regs outcomes.Delivered = None
-reply_shown regs outcomes.GoesOn = None
-reply_shown regs outcomes.Ended = None
-reply_shown regs outcomes.Again = None
+reply_shown regs other = None
 
 -- the rule that a call broke, where it was refused
 abbrev pub rule_shown : Outcome → Option CallRule
 rule_shown (outcomes.Replied reply rule) = rule
-rule_shown outcomes.ToDriver = None
-rule_shown outcomes.Waits = None
-rule_shown outcomes.Delivered = None
-rule_shown outcomes.GoesOn = None
-rule_shown outcomes.Ended = None
-rule_shown outcomes.Again = None
+rule_shown other = None
 
 -- the call as the step shows it, from the registers before it and what came of it
 abbrev pub made : Registers → Outcome → CallMade

@@ -10,14 +10,8 @@ use Rattle.kernel_model.specs.Replay.{after_all}
 
 -- the random word that an answer tells, if it tells one
 abbrev pub word_in : Event → List ℕ
-word_in (Turn time) = []
-word_in (Alarmed now) = []
-word_in Taken = []
-word_in WriteDone = []
-word_in (Input bytes) = []
 word_in (Word word) = word ∷ []
-word_in NoWord = []
-word_in (Stored moved) = []
+word_in other = []
 
 -- the random word that a label tells a process, if it does
 abbrev pub word_told : Label → List ℕ

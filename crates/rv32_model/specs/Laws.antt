@@ -63,15 +63,7 @@ IsDueOf denies regs d (Some (instrs.Load kind rd rs1 offset)) =
     IsDueData denies Load (w32_of (register regs rs1 + offset)) (load_width kind) d
 IsDueOf denies regs d (Some (instrs.Store width rs1 rs2 offset)) =
     IsDueData denies Store (w32_of (register regs rs1 + offset)) width d
-IsDueOf denies regs d (Some (instrs.Lui rd imm)) = ⊥
-IsDueOf denies regs d (Some (instrs.Auipc rd imm)) = ⊥
-IsDueOf denies regs d (Some (instrs.Jal rd offset)) = ⊥
-IsDueOf denies regs d (Some (instrs.Jalr rd rs1 offset)) = ⊥
-IsDueOf denies regs d (Some (instrs.Branch test rs1 rs2 offset)) = ⊥
-IsDueOf denies regs d (Some (instrs.OpImm op rd rs1 imm)) = ⊥
-IsDueOf denies regs d (Some (instrs.Op op rd rs1 rs2)) = ⊥
-IsDueOf denies regs d (Some instrs.Fence) = ⊥
-IsDueOf denies regs d (Some instrs.Ecall) = ⊥
+IsDueOf denies regs d (Some other) = ⊥
 
 -- the instruction at pc, which may be fetched
 pub record IsInstrAt (denies : Denies) (bytes : ℕ → ℕ) (pc : ℕ) (instr : Option Instr) : Type 0 where

@@ -49,11 +49,7 @@ CauseOf told command Memory = Unit {0}
 -- and where they are none: nothing else is looked at
 abbrev pub CauseWithout : Refusal → Type 0
 CauseWithout Usage = Unit {0}
-CauseWithout (Fault file) = ⊥
-CauseWithout (TooLong file) = ⊥
-CauseWithout (Script line rule) = ⊥
-CauseWithout (Image fault) = ⊥
-CauseWithout Memory = ⊥
+CauseWithout other = ⊥
 
 -- the cause of a refusal
 abbrev pub Cause : ShelfAccount → Option Command → Refusal → Type 0
