@@ -1014,6 +1014,18 @@ SCRIPTS = [
          script=b"policy", text="script 1 words"),
     boot("filter-open", "a script may name a filter", EXIT_7, RUN_OF_EXIT_7, script=b"filter open"),
     boot("filter-strict", "each of the two lets a process exit", EXIT_7, RUN_OF_EXIT_7, script=b"filter strict"),
+] + [
+    boot("call-under-filter-" + name, shows,
+         app(li(A4, 2), li(A0, LED), li(A1, 0), li(A2, 0), ecall, li(A4, 6), li(A0, 0), ecall), """
+        ==
+        slot 0 - terminated %d turns 8 restarts 0
+        leds 0000
+        end done steps 8 time 8
+    """ % code, script=b"filter " + name.encode())
+    for name, shows, code in [
+        ("open", "an application without a Permissions element may call a driver", 4),
+        ("strict", "and under the strict filter it is refused", 11)]
+] + [
     boot("slice-of-0", "a slice has one turn at least", EXIT_7, status=5,
          script=b"slice 0", text="script 1 out-of-range"),
     boot("leds-of-a-script", "a script says how many LEDs there are", b"", script=b"leds 6\n", text="""

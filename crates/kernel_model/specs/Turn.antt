@@ -34,7 +34,7 @@ use Rattle.process_record.specs.declared.outcome.Outcome.{Outcome}
 use Rattle.process_record.specs.declared.outcome.Outcome.TheVariants as outcomes
 use Rattle.process_record.specs.declared.process.Process.{Process}
 use Rattle.process_record.specs.declared.process.State.{State}
-use Rattle.process_record.specs.declared.process.State.TheVariants.{Running, Yielded, Faulted, Terminated}
+use Rattle.process_record.specs.declared.process.State.TheVariants.{Running, Yielded}
 use Rattle.process_record.specs.Process.{after_turn, after_fault}
 use Rattle.kernel_model.specs.Record.{Record, with_process, instruction, with_effect, record_with_step}
 use Rattle.kernel_model.specs.declared.settings.Settings.{Settings}
@@ -158,8 +158,7 @@ delivery r (upcall ∷ more) = idle (deliver_by (turn_counted r) (upcall ∷ mor
 abbrev pub turn_in : Settings → ℕ → State → Record → Turned
 turn_in settings time Running r = instructed settings time r
 turn_in settings time Yielded r = delivery r r.own.inbox.pending
-turn_in settings time Faulted r = idle r
-turn_in settings time (Terminated code) r = idle r
+turn_in settings time other r = idle r
 
 -- the turn of a process at a time, by its state
 unfoldable pub turned : Settings → ℕ → Record → Turned
@@ -208,8 +207,7 @@ apply settings (Stored moved) r = stored moved r
 abbrev pub has_turn : State → Bool → Bool
 has_turn Running pending = true
 has_turn Yielded pending = pending
-has_turn Faulted pending = false
-has_turn (Terminated code) pending = false
+has_turn other pending = false
 
 -- whether an upcall waits to be delivered
 abbrev pub is_pending : List Upcall → Bool
