@@ -847,6 +847,28 @@ SEVERAL = [
         leds 0000
         end done steps 64 time 64
     """),
+    boot("last-of-sixteen-differs", "what the last of sixteen does, the others do not see",
+         EXIT_7 * 15 + app(li(A4, 6), li(A0, 0), li(A1, 8), ecall, size=64), """
+        ==
+        slot 0 - terminated 7 turns 4 restarts 0
+        slot 1 - terminated 7 turns 4 restarts 0
+        slot 2 - terminated 7 turns 4 restarts 0
+        slot 3 - terminated 7 turns 4 restarts 0
+        slot 4 - terminated 7 turns 4 restarts 0
+        slot 5 - terminated 7 turns 4 restarts 0
+        slot 6 - terminated 7 turns 4 restarts 0
+        slot 7 - terminated 7 turns 4 restarts 0
+        slot 8 - terminated 7 turns 4 restarts 0
+        slot 9 - terminated 7 turns 4 restarts 0
+        slot 10 - terminated 7 turns 4 restarts 0
+        slot 11 - terminated 7 turns 4 restarts 0
+        slot 12 - terminated 7 turns 4 restarts 0
+        slot 13 - terminated 7 turns 4 restarts 0
+        slot 14 - terminated 7 turns 4 restarts 0
+        slot 15 - terminated 8 turns 4 restarts 0
+        leds 0000
+        end done steps 64 time 64
+    """),
     boot("five-applications-in-4096-bytes", "four blocks of 1024 bytes fill the least RAM", EXIT_7 * 5,
          script=b"ram 4096\n", text="""
         ==

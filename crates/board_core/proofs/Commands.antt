@@ -78,7 +78,7 @@ abbrev pub Came : Moment → ℕ → Homes → Homes → Order → Reply × Opti
 Came m slot home home' order answer d d' taker =
     let c = taker (surroundings m.settings m.time) order.number order.a2 order.a3 (own_of home slot) in
     (answer ≡ reply_of c.answer) × (own_of home' slot ≡ own_after c.step) × Drives
-        (id_of slot (own_of home slot)) c.acts d d'
+    (id_of slot (own_of home slot)) c.acts d d'
 
 module _ (m : Moment) (slot : ℕ) (home home' : Homes) (order : Order) (answer : Reply × Option CallRule)
     (d d' : Drivers) where
@@ -96,7 +96,7 @@ module _ (m : Moment) (slot : ℕ) (home home' : Homes) (order : Order) (answer 
       (subst (λ (k : ProcessId). let c =
       taker (record { now = tick; leds = length d.leds; storage = d.stores.size }) order.number order.a2 order.a3
       (own_of home k.slot) in (answer ≡ reply_of c.answer) × (own_of home' k.slot ≡ own_after c.step)
-          × Drives k c.acts d d')
+      × Drives k c.acts d d')
       at (comes taker found))
     where
       around : ◌≡◌ {A = CommandContext} (record { now = tick; leds = length d.leds; storage = d.stores.size })

@@ -237,7 +237,7 @@ acts_on b h is x before serves (Ok answer) home ids y may answers =
     let a = is.answer_to id in
     told_by b h id there is.device (is.prints y) (own_after a.step) home (is.after ids y) answers.5 answers.2 may
     (subst (λ (xs : List ProcessId). DeviceServes b (its_process b h id there) is.device id.slot (is.prints y)
-        (own_after a.step)
+    (own_after a.step)
     (is.after xs y)) (sym answers.4)
     (subst (λ (z : _). DeviceServes b (its_process b h id there) is.device id.slot (is.prints z) (own_after a.step)
     (is.after (waiting_still a.completed id.slot (ids_waiting_in b.drivers is.here)) z)) (sym answers.3)
@@ -500,7 +500,7 @@ kept_beside s slot false written few = (refl, refl, refl)
 stored_applied : (settings : Settings) (fails : Bool) (r : Record)
     → let a = storage.answered fails (flash_of r) r.storage r.own in
     apply settings (Stored (not fails)) r ≡ record
-        (record_with_step r a.step) { storage = written_over r.storage a.written }
+    (record_with_step r a.step) { storage = written_over r.storage a.written }
 unfolding apply
 stored_applied settings true r = refl
 stored_applied settings false r = refl

@@ -163,7 +163,7 @@ fn is_now(left: Option<u32>) -> bool
 fn settings_of(script: &Script) -> Settings
     ensures { result
         ≡ visible_settings script.now.leds script.now.start script.now.storage script.now.policy
-            script.now.strict }
+        script.now.strict }
 {
     Settings {
         leds: script.leds,

@@ -97,8 +97,12 @@ module _ (law : OnlyWritesChangeBytes) where
       by_left : (b : Bool)
           → ChangesAt (IsInside (word_buffer own)) own
           (own_after (cond b (random.completing (Some word) 0 (request.written + left) o)
-          (record { rest = Some
-              (record request { written = request.written + 4 }); step = silently o; drawn = Some word })).step)
+          (record {
+            rest = Some
+                (record request { written = request.written + 4 });
+            step = silently o;
+            drawn = Some word;
+          })).step)
       by_left true = then_scheduled (IsInside (word_buffer own)) random.random 0 (0 ∷ (request.written + left) ∷ 0 ∷ [])
           own o written
       by_left false = written
@@ -156,7 +160,7 @@ module _ (law : OnlyWritesChangeBytes) where
         (with_request console_writes None own));
     input = λ bytes own whole.
         if_waits (λ (s : DriverStep). ChangesAt (IsInside (input_buffer own)) own (own_after s))
-            (console.reading_in bytes own)
+        (console.reading_in bytes own)
         (silently own)
         (waiting_in console_reads own) (λ at before after. inl refl)
         (λ read.
@@ -165,12 +169,12 @@ module _ (law : OnlyWritesChangeBytes) where
         (law.written console.console 1 0 bytes own whole));
     word = λ word own whole.
         if_waits (λ (a : random.RandomAnswered). ChangesAt (IsInside (word_buffer own)) own (own_after a.step)) _ _
-        (waiting_in randoms own) (λ at before after. inl refl) 
+        (waiting_in randoms own) (λ at before after. inl refl)
         (λ request. let p = random.progress word request own in
         then_kept _ randoms p.rest p.step own (progress word request own whole));
     no_word = λ own.
         if_waits (λ (a : random.RandomAnswered). KeepsBytes own (own_after a.step)) _ _ (waiting_in randoms own)
-        (λ at before after. refl) 
+        (λ at before after. refl)
         (λ request. let p = random.progress None request own in
         keeps_kept randoms p.rest p.step own (no_progress request own));
     stored = λ fault flash bytes own whole.

@@ -71,7 +71,7 @@ of_services P each = record {
       (serves _ _ _ own.ram own (as_before own)));
   input = λ bytes own.
       if_waits (λ (s : DriverStep). P own (own_after s)) (console.reading_in bytes own) (silently own)
-          (waiting_in console_reads own) (each.same own)
+      (waiting_in console_reads own) (each.same own)
       (λ read. told P each _ _
       (scheduling console.console 2 (console.read_status own ∷ length bytes ∷ 0 ∷ [])
       (with_written console.console 1 0 bytes own)) own

@@ -38,7 +38,7 @@ pub record LinesFollowAnswers : Type 0 where
       let a = random.answered word own in FollowsAnswer (queue_left_by Randoms a.completed) own (own_after a.step)
   pub stores : (fault : Bool) (flash : ℕ → ℕ) (bytes : List ℕ) (own : Own) →
       let a = storage.answered fault flash bytes own in FollowsAnswer (queue_left_by Stores a.completed) own
-          (own_after a.step)
+      (own_after a.step)
   pub alarms : (now : ℕ) (own : Own) → FollowsAnswer (λ line. false) own (own_after (alarm.answered now own))
 
 -- What a process is told makes of it what the device's step did: a write had bytes taken, or completed; bytes came in

@@ -17,7 +17,7 @@ abbrev pub CommandsKeepBytes : Type 0
 CommandsKeepBytes =
     (driver : ℕ) (taker : CommandHandler) → handler_of driver ≡ Some taker →
     (around : CommandContext) (number a2 a3 : ℕ) (own : Own) → KeepsBytes own
-        (own_after (taker around number a2 a3 own).step)
+    (own_after (taker around number a2 a3 own).step)
 
 -- the read-write buffers of the console, of the random bytes and of the storage
 abbrev pub input_buffer : Own → ℕ × ℕ

@@ -205,7 +205,7 @@ module _ (R : Own → Own → Type 0) (services : OfEachService R) (I J : Record
   by_command around r h driver number a2 a3 (Some taker) is =
       let c = taker around number a2 a3 r.own in
       by_answer r c (k.serves r (own_after c.step) r.storage
-          (services.command driver taker is around number a2 a3 r.own) h) c.answer
+      (services.command driver taker is around number a2 a3 r.own) h) c.answer
 
   of_form : (around : CommandContext) (r : Record) → is_alive r.process.state ≡ true → I r → (form : CallForm)
       → Q (by_form around r form)

@@ -520,7 +520,7 @@ module _ (follow : LinesFollowAnswers) (tell : EventsTellSteps) (w : World) (h :
           answered_each (alarmed w slot) (record { slot = slot; event = Alarmed (now_in w) }) r e refl (λ line. false)
           (λ here. refl)
           (moved_own (λ line. false) r.own (own_after (alarm.answered (now_in w) r.own)) _
-              (alarmed_own w.settings r (now_in w))
+          (alarmed_own w.settings r (now_in w))
           (follow.alarms (now_in w) r.own).lines)
 
   due_lists : (due : Option ℕ) → AreLists (done w (option_map (alarmed w) due)).after

@@ -153,7 +153,7 @@ over_answer settings Taken r over is =
 over_answer settings WriteDone r over is =
     ap (λ (b : Bool). record_with_step r (unwrap_or
     (option_map (console.write_completing r.own) (cond b (request_in console_writes r.own) None))
-        (silently r.own))) over
+    (silently r.own))) over
 over_answer settings (Input bytes) r over is =
     ap (λ (b : Bool). record_with_step r (unwrap_or
     (option_map (console.reading_in bytes r.own) (cond b (request_in console_reads r.own) None)) (silently r.own))) over
