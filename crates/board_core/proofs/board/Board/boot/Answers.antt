@@ -132,6 +132,7 @@ returns-clause-world c =
           script.uart;
       storage = script.storage;
       policy = script.policy;
+      strict = script.strict;
       faults = script.faults.items;
       words =
           script.words;
