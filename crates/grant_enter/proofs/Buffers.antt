@@ -12,17 +12,19 @@ use Rattle.std.proofs.lemmas.List.FromFn.{length-map-range_with_len, get_or-map-
 use Rattle.tk_base.specs.declared.access.TheConstants.{FLASH_START, RAM_START}
 use Rattle.process_layout.specs.LayoutView.{LayoutView}
 use Rattle.process_layout.specs.Interval.{lies_within}
-use Rattle.tk_base.specs.declared.kinds.PairKind.TheVariants.{ReadOnly, ReadWrite}
+use Rattle.tk_base.specs.declared.kinds.PairKind.{PairKind}
+use Rattle.tk_base.specs.declared.kinds.PairKind.TheVariants.{Upcall, ReadOnly, ReadWrite, Readable}
+use Rattle.tk_base.specs.Kinds.{is_writable}
 use Rattle.grant_model.specs.Grants.{Grant, grant_of, pair_of}
 use Rattle.board_memory.specs.Memory.{MemoryBytes, ram_between}
-use Rattle.process_model.specs.Handed.{HoldsInPlace, held, may_share, lies_in_ram, lies_in_flash}
+use Rattle.process_model.specs.Handed.{HoldsInPlace, held, may_keep, lies_in_ram, lies_in_flash}
 use Rattle.process_model.specs.Flash.{flash_byte}
 use Rattle.process_model.specs.Served.{bytes_at, ram_at}
 use Rattle.grant_enter.specs.declared.seat.Seat.{Seat}
 use Rattle.grant_enter.specs.Buffers.{buffer_start, last_of}
 use Rattle.grant_enter.specs.Homes.{FitsMemory}
-use Rattle.grant_enter.proofs.Holding.{wider}
-use Rattle.grant_enter.specs.Seats.{Holds, SitsIn, LiesBelowMark, MayBeRead, app_in, own_in, readable}
+use Rattle.grant_enter.proofs.Holding.{lies_zero, wider}
+use Rattle.grant_enter.specs.Seats.{Holds, SitsIn, LiesBelowMark, LiesInPlace, MayBeRead, app_in, buffer_bytes, own_in}
 
 all_by : (P : Grant → Type 0) (driver : ℕ) (g x : Grant) (gs : List Grant) (b : Bool) → P x
     → cond b (Some x) (grant_of driver gs) ≡ Some g → (grant_of driver gs ≡ Some g → P g) → P g
@@ -41,28 +43,31 @@ pair_at P [] n none all = none
 pair_at P (p ∷ ps) zero none all = all.0
 pair_at P (p ∷ ps) (suc n) none all = pair_at P ps n none all.1
 
-rw_by : (e : LayoutView) (n : ℕ) (o : Option Grant) → ((g : Grant) → o ≡ Some g → Holds e g)
-    → LiesBelowMark e (pair_of ReadWrite n o)
-rw_by e n None holds = λ some. absurd (omega arith)
-rw_by e n (Some g) holds = (holds g refl).each ReadWrite n
+lies_by : (kind : PairKind) (e : LayoutView) (n : ℕ) (o : Option Grant) → ((g : Grant) → o ≡ Some g → Holds e g)
+    → LiesInPlace kind e (pair_of kind n o)
+lies_by kind e n None holds = lies_zero kind e
+lies_by kind e n (Some g) holds = (holds g refl).each kind n
 
-ro_by : (e : LayoutView) (n : ℕ) (o : Option Grant) → ((g : Grant) → o ≡ Some g → Holds e g)
-    → MayBeRead e (pair_of ReadOnly n o)
-ro_by e n None holds = λ some. absurd (omega arith)
-ro_by e n (Some g) holds = (holds g refl).each ReadOnly n
+-- what may be written lies below the mark
+pub below_mark : (kind : PairKind) (e : LayoutView) (pair : ℕ × ℕ) → IsTrue (is_writable kind) → LiesInPlace kind e pair
+    → LiesBelowMark e pair
+below_mark Upcall e pair can lies = absurd (cc)
+below_mark ReadOnly e pair can lies = absurd (cc)
+below_mark ReadWrite e pair can lies = lies
+below_mark Readable e pair can lies = lies
 
-module _ (m : MemoryBytes) (seat : Seat) (t : SitsIn m seat) (driver n : ℕ) where
-  pub rw_lies : LiesBelowMark seat.layout (held ReadWrite driver n (own_in m.ram seat))
-  rw_lies = let gs = (own_in m.ram seat).grants in
-      rw_by seat.layout n (grant_of driver gs) (λ g is. all_of (Holds seat.layout) driver g gs t.seated.kept.held is)
+module _ (m : MemoryBytes) (seat : Seat) (t : SitsIn m seat) (kind : PairKind) (driver n : ℕ) where
+  pub lies_held : LiesInPlace kind seat.layout (held kind driver n (own_in m.ram seat))
+  lies_held = let gs = (own_in m.ram seat).grants in
+      lies_by kind seat.layout n (grant_of driver gs)
+      (λ g is. all_of (Holds seat.layout) driver g gs t.seated.kept.held is)
 
-  pub ro_may : MayBeRead seat.layout (held ReadOnly driver n (own_in m.ram seat))
-  ro_may = let gs = (own_in m.ram seat).grants in
-      ro_by seat.layout n (grant_of driver gs) (λ g is. all_of (Holds seat.layout) driver g gs t.seated.kept.held is)
+  pub below_held : IsTrue (is_writable kind) → LiesBelowMark seat.layout (held kind driver n (own_in m.ram seat))
+  below_held can = below_mark kind seat.layout (held kind driver n (own_in m.ram seat)) can lies_held
 
 -- where a buffer lies, it may be allowed
 rw_allowed : (e : LayoutView) (pair : ℕ × ℕ) → e.mark ≤ e.brk → LiesBelowMark e pair
-    → IsTrue (may_share ReadWrite e pair)
+    → IsTrue (pair.1 == 0 || lies_in_ram e pair.0 pair.1)
 rw_allowed e pair below lies = by_size (pair.1 == 0) refl
   where
     by_size : (a : Bool) → pair.1 == 0 ≡ a → IsTrue (a || lies_in_ram e pair.0 pair.1)
@@ -70,7 +75,7 @@ rw_allowed e pair below lies = by_size (pair.1 == 0) refl
     by_size false none = let some : 0 < pair.1 = grind (arith, nat_tests) in let l = lies some in
         grind (arith, nat_tests)
 
-ro_allowed : (e : LayoutView) (pair : ℕ × ℕ) → e.mark ≤ e.brk → MayBeRead e pair → IsTrue (may_share ReadOnly e pair)
+ro_allowed : (e : LayoutView) (pair : ℕ × ℕ) → e.mark ≤ e.brk → MayBeRead e pair → IsTrue (may_keep ReadOnly e pair)
 ro_allowed e pair below may = by_size (pair.1 == 0) refl
   where
     by_size : (a : Bool) → pair.1 == 0 ≡ a → IsTrue (a || lies_in_ram e pair.0 pair.1 || lies_in_flash e pair.0 pair.1)
@@ -78,12 +83,17 @@ ro_allowed e pair below may = by_size (pair.1 == 0) refl
     by_size false none = let some : 0 < pair.1 = grind (arith, nat_tests) in
         wider e.start e.mark e.brk pair.0 pair.1 (lies_in_flash e pair.0 pair.1) below (may some)
 
+allowed : (kind : PairKind) (e : LayoutView) (pair : ℕ × ℕ) → e.mark ≤ e.brk → LiesInPlace kind e pair
+    → IsTrue (may_keep kind e pair)
+allowed Upcall e pair below lies = refl
+allowed ReadOnly e pair below lies = ro_allowed e pair below lies
+allowed ReadWrite e pair below lies = rw_allowed e pair below lies
+allowed Readable e pair below lies = rw_allowed e pair below lies
+
 pub in_place : (m : MemoryBytes) (seat : Seat) → SitsIn m seat → HoldsInPlace (own_in m.ram seat)
 in_place m seat t = record {
-  read_only = λ driver number. ro_allowed seat.layout (held ReadOnly driver number (own_in m.ram seat))
-      t.settled.ordered.buffers (ro_may m seat t driver number);
-  read_write = λ driver number. rw_allowed seat.layout (held ReadWrite driver number (own_in m.ram seat))
-      t.settled.ordered.buffers (rw_lies m seat t driver number);
+  each = λ kind driver number. allowed kind seat.layout (held kind driver number (own_in m.ram seat))
+      t.settled.ordered.buffers (lies_held m seat t kind driver number);
 }
 
 -- an interval that has no places has no bytes
@@ -169,10 +179,10 @@ module _ (m : MemoryBytes) (seat : Seat) (s : FitsMemory (length m.flash) (lengt
 
   -- what is lent to be read
   pub read_is : (buffer : ℕ × ℕ) → MayBeRead seat.layout buffer
-      → readable m seat.layout buffer ≡ bytes_at (flash_byte m.flash) (own_in m.ram seat) buffer
+      → buffer_bytes m seat.layout buffer ≡ bytes_at (flash_byte m.flash) (own_in m.ram seat) buffer
   read_is buffer may = read_by buffer (buffer.1 == 0) (lies_in_ram seat.layout buffer.0 buffer.1) refl refl may
 
-  -- where a read-write buffer lies in memory, which has no bytes where its size is 0
+  -- where a buffer that may be written lies in memory, which has no bytes where its size is 0
   pub record EndsAt (buffer : ℕ × ℕ) (from to : ℕ) : Type 0 where
     pub from_low : RAM_START ≤ from
     pub order : from ≤ to

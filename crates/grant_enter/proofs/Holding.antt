@@ -5,8 +5,8 @@ use Rattle.std.specs.Prelude.{max}
 use Rattle.std.specs.List.{AllByRecursion}
 use Rattle.std.proofs.lemmas.Bool.Decides.{nat_tests}
 use Rattle.tk_base.specs.declared.kinds.PairKind.{PairKind}
-use Rattle.tk_base.specs.declared.kinds.PairKind.TheVariants.{Upcall, ReadOnly, ReadWrite}
-use Rattle.tk_base.specs.Kinds.{count_of}
+use Rattle.tk_base.specs.declared.kinds.PairKind.TheVariants.{Upcall, ReadOnly, ReadWrite, Readable}
+use Rattle.tk_base.specs.Kinds.{count_of, is_buffer}
 use Rattle.process_layout.specs.LayoutView.{LayoutView}
 use Rattle.process_layout.specs.Interval.{lies_within}
 use Rattle.grant_model.specs.Grants.{Grant, HasPairs, grant_of, pair_of, shape_of, with_grant, with_pair, entering}
@@ -16,7 +16,7 @@ use Rattle.grant_model.specs.Laws.{PairsStandByKind}
 use Rattle.grant_region.specs.Region.{roomed}
 use Rattle.swap_tables.specs.declared.handover.Handover.{Handover}
 use Rattle.swap_tables.specs.Swaps.{swapped}
-use Rattle.process_model.specs.Handed.{lies_in_ram, lies_in_flash, may_share, marked}
+use Rattle.process_model.specs.Handed.{lies_in_ram, lies_in_flash, may_share, marked, raised}
 use Rattle.grant_enter.specs.Seats.{Holds, LiesBelowMark, LiesInPlace, MayBeRead}
 
 -- a layout with another mark
@@ -33,9 +33,11 @@ raised_by pair e false false = refl
 -- what was handed changes the mark alone
 pub only_mark : (kind : PairKind) (pair : ℕ × ℕ) (e : LayoutView)
     → marked kind pair e ≡ with_mark (marked kind pair e).mark e
-only_mark Upcall pair e = refl
-only_mark ReadOnly pair e = raised_by pair e (pair.1 == 0) (lies_in_ram e pair.0 pair.1)
-only_mark ReadWrite pair e = raised_by pair e (pair.1 == 0) (lies_in_ram e pair.0 pair.1)
+only_mark kind pair e = by_test (is_buffer kind)
+  where
+    by_test : (b : Bool) → cond b (raised pair e) e ≡ with_mark (cond b (raised pair e) e).mark e
+    by_test true = raised_by pair e (pair.1 == 0) (lies_in_ram e pair.0 pair.1)
+    by_test false = refl
 
 raised_up : (pair : ℕ × ℕ) (e : LayoutView) (a b : Bool)
     → e.mark ≤ (cond a e (cond b (with_mark (max e.mark (pair.0 + pair.1)) e) e)).mark
@@ -45,9 +47,11 @@ raised_up pair e false false = omega arith
 
 -- and never lowers it
 pub mark_rises : (kind : PairKind) (pair : ℕ × ℕ) (e : LayoutView) → e.mark ≤ (marked kind pair e).mark
-mark_rises Upcall pair e = omega arith
-mark_rises ReadOnly pair e = raised_up pair e (pair.1 == 0) (lies_in_ram e pair.0 pair.1)
-mark_rises ReadWrite pair e = raised_up pair e (pair.1 == 0) (lies_in_ram e pair.0 pair.1)
+mark_rises kind pair e = by_test (is_buffer kind)
+  where
+    by_test : (b : Bool) → e.mark ≤ (cond b (raised pair e) e).mark
+    by_test true = raised_up pair e (pair.1 == 0) (lies_in_ram e pair.0 pair.1)
+    by_test false = omega arith
 
 raised_below : (pair : ℕ × ℕ) (e : LayoutView) (a b : Bool) → lies_in_ram e pair.0 pair.1 ≡ b → e.mark ≤ e.brk
     → (cond a e (cond b (with_mark (max e.mark (pair.0 + pair.1)) e) e)).mark ≤ e.brk
@@ -57,11 +61,13 @@ raised_below pair e false false is h = h
 
 -- it stays at or below the break
 pub mark_below : (kind : PairKind) (pair : ℕ × ℕ) (e : LayoutView) → e.mark ≤ e.brk → (marked kind pair e).mark ≤ e.brk
-mark_below Upcall pair e h = h
-mark_below ReadOnly pair e h = raised_below pair e (pair.1 == 0) (lies_in_ram e pair.0 pair.1) refl h
-mark_below ReadWrite pair e h = raised_below pair e (pair.1 == 0) (lies_in_ram e pair.0 pair.1) refl h
+mark_below kind pair e h = by_test (is_buffer kind)
+  where
+    by_test : (b : Bool) → (cond b (raised pair e) e).mark ≤ e.brk
+    by_test true = raised_below pair e (pair.1 == 0) (lies_in_ram e pair.0 pair.1) refl h
+    by_test false = h
 
--- a buffer that was handed lies where it may
+-- a buffer that was handed lies where it may: one that may be written, and one that may only be read
 rw_handed : (pair : ℕ × ℕ) (e : LayoutView) (a b : Bool) → pair.1 == 0 ≡ a → lies_in_ram e pair.0 pair.1 ≡ b
     → IsTrue (a || b) → let mark = (cond a e (cond b (with_mark (max e.mark (pair.0 + pair.1)) e) e)).mark in
     LiesBelowMark (with_mark mark e) pair
@@ -89,14 +95,15 @@ lies_handed : (kind : PairKind) (pair : ℕ × ℕ) (e : LayoutView) → IsTrue 
 lies_handed Upcall pair e may = tt
 lies_handed ReadOnly pair e may =
     ro_handed pair e (pair.1 == 0) (lies_in_ram e pair.0 pair.1) (lies_in_flash e pair.0 pair.1) refl refl refl may
-lies_handed ReadWrite pair e may =
-    rw_handed pair e (pair.1 == 0) (lies_in_ram e pair.0 pair.1) refl refl may
+lies_handed ReadWrite pair e may = rw_handed pair e (pair.1 == 0) (lies_in_ram e pair.0 pair.1) refl refl may
+lies_handed Readable pair e may = rw_handed pair e (pair.1 == 0) (lies_in_ram e pair.0 pair.1) refl refl may
 
 -- one without bytes lies anywhere
-lies_zero : (kind : PairKind) (e : LayoutView) → LiesInPlace kind e (0, 0)
+pub lies_zero : (kind : PairKind) (e : LayoutView) → LiesInPlace kind e (0, 0)
 lies_zero Upcall e = tt
 lies_zero ReadOnly e = λ some. absurd (omega arith)
 lies_zero ReadWrite e = λ some. absurd (omega arith)
+lies_zero Readable e = λ some. absurd (omega arith)
 
 -- a layout of the same block and the same flash, whose mark is no lower
 pub record Marks (e f : LayoutView) : Type 0 where
@@ -110,6 +117,9 @@ pub wider : (a b c at size : ℕ) (f : Bool) → b ≤ c → IsTrue (lies_within
 wider a b c at size true h t = grind (arith, nat_tests)
 wider a b c at size false h t = grind (arith, nat_tests)
 
+below_on : (e f : LayoutView) (pair : ℕ × ℕ) → Marks e f → LiesBelowMark e pair → LiesBelowMark f pair
+below_on e f pair m lies = λ some. let l = lies some in (omega (arith, l.0, m.start), omega (arith, l.1, m.mark))
+
 -- under it a pair lies where it may, as before
 lies_on : (kind : PairKind) (e f : LayoutView) (pair : ℕ × ℕ) → Marks e f → LiesInPlace kind e pair
     → LiesInPlace kind f pair
@@ -121,8 +131,8 @@ lies_on ReadOnly e f pair m may = λ some.
     (sym m.flash_start)
     (subst (λ (n : ℕ). IsTrue (lies_within e.start f.mark pair.0 pair.1 || lies_within e.flash_start n pair.0 pair.1))
     (sym m.flash_end) (wider e.start e.mark f.mark pair.0 pair.1 (lies_in_flash e pair.0 pair.1) m.mark (may some))))
-lies_on ReadWrite e f pair m lies = λ some.
-    let l = lies some in (omega (arith, l.0, m.start), omega (arith, l.1, m.mark))
+lies_on ReadWrite e f pair m lies = below_on e f pair m lies
+lies_on Readable e f pair m lies = below_on e f pair m lies
 
 pub holds_on : (e f : LayoutView) (g : Grant) → Marks e f → Holds e g → Holds f g
 holds_on e f g m h = record { each = λ kind n. lies_on kind e f (pair_of kind n (Some g)) m (h.each kind n) }
@@ -221,6 +231,7 @@ may_roomed : (kind : PairKind) (driver : ℕ) (pair : ℕ × ℕ) (e : LayoutVie
 may_roomed Upcall driver pair e None may = may
 may_roomed ReadOnly driver pair e None may = may
 may_roomed ReadWrite driver pair e None may = may
+may_roomed Readable driver pair e None may = may
 may_roomed kind driver pair e (Some g) may = may
 
 -- room for a grant does not change what may be handed

@@ -1,6 +1,6 @@
 -- What a driver has changed of a process in its seat, and what it has left.
 use Rattle.std.proofs.Common.{get_or, ◌≡◌, ℕ, zero, suc, ◌+◌, ◌-◌, ◌<◌, ◌≤◌, ◌⊎◌, inl, inr, ◌==◌, Bool, true, false, List, []}
-use Rattle.std.proofs.Common.{◌∷◌, length, slice_index, Option, None, Some, refl, sym, ap, subst, ◌∙◌, arith}
+use Rattle.std.proofs.Common.{◌∷◌, ◌++◌, length, slice_index, Option, None, Some, refl, sym, ap, subst, ◌∙◌, arith}
 use Rattle.std.specs.Prelude.{slice_range}
 use Rattle.std.specs.List.{AllByRecursion}
 use Rattle.std.proofs.lemmas.Bool.{eqb-true}
@@ -9,7 +9,7 @@ use Rattle.std.proofs.lemmas.List.{places}
 use Rattle.tk_base.specs.declared.access.TheConstants.{RAM_START}
 use Rattle.tk_base.specs.declared.upcall.Counts.{Counts}
 use Rattle.process_layout.specs.LayoutView.{LayoutView}
-use Rattle.tk_base.specs.declared.kinds.PairKind.TheVariants.{ReadWrite}
+use Rattle.tk_base.specs.declared.kinds.PairKind.TheVariants.{ReadWrite, Readable}
 use Rattle.grant_model.specs.Grants.{Grant, grant_of, pairs_of}
 use Rattle.board_memory.specs.Memory.{MemoryBytes}
 use Rattle.process_model.specs.Flash.{HasObject}
@@ -19,7 +19,7 @@ use Rattle.grant_enter.specs.declared.seat.Seat.{Seat}
 use Rattle.grant_enter.specs.Homes.{FitsMemory}
 use Rattle.grant_enter.specs.Windows.{SameOutside}
 use Rattle.grant_enter.specs.Seats.{Holds, IsKept, IsSeated, LiesBelowMark, Reseats, app_in, kernel_in, own_in, owned}
-use Rattle.grant_enter.specs.Seen.{IsLentTo, LiesOutside, SameButIn, VisitorChanges, ServesIn, rw_buffers, rw_of}
+use Rattle.grant_enter.specs.Seen.{IsLentTo, LiesOutside, SameButIn, VisitorChanges, ServesIn, writable_buffers, writable_of}
 use Rattle.grant_enter.proofs.Buffers.{all_of}
 use Rattle.grant_enter.proofs.Moves.{settled_in}
 use Rattle.grant_enter.proofs.Windows.{length_window, short, window_at, windows_same, widened}
@@ -38,11 +38,20 @@ all_at : (P : ℕ × ℕ → Type 0) (ps : List (ℕ × ℕ)) → ((n : ℕ) →
 all_at P [] each = tt
 all_at P (p ∷ ps) each = (each 0, all_at P ps (λ n. each (suc n)))
 
--- all read-write buffers of the driver lie below the mark
+all_joined : (P : ℕ × ℕ → Type 0) (ps qs : List (ℕ × ℕ)) → AllByRecursion P ps → AllByRecursion P qs
+    → AllByRecursion P (ps ++ qs)
+all_joined P [] qs p q = q
+all_joined P (pair ∷ ps) qs p q = (p.0, all_joined P ps qs p.1 q)
+
+-- all buffers that the driver may write lie below the mark
 all_below : (e : LayoutView) (o : Option Grant) → ((g : Grant) → o ≡ Some g → Holds e g)
-    → AllByRecursion (LiesBelowMark e) (rw_of o)
+    → AllByRecursion (LiesBelowMark e) (writable_of o)
 all_below e None holds = tt
-all_below e (Some g) holds = all_at (LiesBelowMark e) (pairs_of ReadWrite g) ((holds g refl).each ReadWrite)
+all_below e (Some g) holds =
+    let each = (holds g refl).each in
+    all_joined (LiesBelowMark e) (pairs_of ReadWrite g) (pairs_of Readable g)
+    (all_at (LiesBelowMark e) (pairs_of ReadWrite g) (each ReadWrite))
+    (all_at (LiesBelowMark e) (pairs_of Readable g) (each Readable))
 
 -- an address outside of a layout's own part lies in none of them
 outside : (e : LayoutView) (a : ℕ) (buffers : List (ℕ × ℕ)) → e.mark ≤ e.kernel_break
@@ -91,13 +100,13 @@ module _ (driver : ℕ) (counts : Counts) (m : MemoryBytes) (seat : Seat) (l : I
   own_part =
       let s = l.sits.settled in
       let gs = (own_in m.ram seat).grants in
-      let all : AllByRecursion (LiesBelowMark seat.layout) (rw_buffers driver (own_in m.ram seat)) =
+      let all : AllByRecursion (LiesBelowMark seat.layout) (writable_buffers driver (own_in m.ram seat)) =
       all_below seat.layout (grant_of driver gs)
       (λ g is. all_of (Holds seat.layout) driver g gs l.sits.seated.kept.held is) in
       record {
         long = v.bytes.long;
         each = λ k side.
-            v.bytes.each k (outside seat.layout (RAM_START + k) (rw_buffers driver (own_in m.ram seat))
+            v.bytes.each k (outside seat.layout (RAM_START + k) (writable_buffers driver (own_in m.ram seat))
             (omega (arith, s.ordered.buffers, s.ordered.grants)) (at_side k side) all);
       }
     where
@@ -160,9 +169,9 @@ module _ (driver : ℕ) (counts : Counts) (m : MemoryBytes) (seat : Seat) (l : I
       }
   own_same = ap (own_in m'.ram) v.seat_is ∙ own_with seat'.inbox
 
-  app_bytes : SameButIn (rw_buffers driver (own_in m.ram seat)) seat.layout.start (app_in m.ram seat.layout)
+  app_bytes : SameButIn (writable_buffers driver (own_in m.ram seat)) seat.layout.start (app_in m.ram seat.layout)
       (app_in m'.ram seat.layout)
-  app_bytes = window_but (rw_buffers driver (own_in m.ram seat)) m.ram m'.ram seat.layout.start
+  app_bytes = window_but (writable_buffers driver (own_in m.ram seat)) m.ram m'.ram seat.layout.start
       (seat.layout.start - RAM_START) (seat.layout.kernel_break - RAM_START) l.sits.settled.from refl
       (omega (arith, l.sits.settled.to, l.sits.settled.from, l.sits.settled.ordered.end)) v.bytes
 
@@ -171,13 +180,13 @@ module _ (driver : ℕ) (counts : Counts) (m : MemoryBytes) (seat : Seat) (l : I
     rest = own_same
         ∙ sym (ap (λ (o : Own). record (own_in m.ram seat) { ram = o.ram; inbox = o.inbox })
         own_same);
-    bytes = subst (λ (xs : List ℕ). SameButIn (rw_buffers driver (own_in m.ram seat)) seat.layout.start
+    bytes = subst (λ (xs : List ℕ). SameButIn (writable_buffers driver (own_in m.ram seat)) seat.layout.start
         (app_in m.ram seat.layout) xs) (sym (ap (λ (o : Own). o.ram) own_same)) app_bytes;
   }
 
-  -- its read-write buffers are the same
-  pub buffers_same : rw_buffers driver (own_in m'.ram seat') ≡ rw_buffers driver (own_in m.ram seat)
-  buffers_same = ap (λ (o : Own). rw_buffers driver o) own_same
+  -- the buffers that it may write are the same
+  pub buffers_same : writable_buffers driver (own_in m'.ram seat') ≡ writable_buffers driver (own_in m.ram seat)
+  buffers_same = ap (λ (o : Own). writable_buffers driver o) own_same
 
 -- it serves it once more
 pub serving_on : (driver : ℕ) (counts : Counts) (m : MemoryBytes) (seat : Seat) (m1 : MemoryBytes) (seat1 : Seat)

@@ -1,14 +1,17 @@
 -- Bytes that a driver wrote into a buffer of a process.
-use Rattle.std.proofs.Common.{◌≡◌, ℕ, ◌+◌, ◌-◌, ◌<◌, ◌≤◌, ◌⊎◌, inl, inr, ◌==◌, Bool, true, false, cond, List, []}
-use Rattle.std.proofs.Common.{length, take, drop, Option, None, Some, refl, sym, ap, subst, ◌∙◌, rules, arith}
+use Rattle.std.proofs.Common.{◌≡◌, ℕ, ◌+◌, ◌-◌, ◌<◌, ◌≤◌, ◌⊎◌, inl, inr, ◌==◌, Bool, IsTrue, true, false, cond, List, []}
+use Rattle.std.proofs.Common.{◌∷◌, ◌++◌, length, take, drop, Option, None, Some, refl, sym, ap, subst, ◌∙◌, rules, arith}
 use Rattle.std.specs.Prelude.{slice_range}
+use Rattle.std.specs.List.{AllByRecursion}
 use Rattle.std.proofs.lemmas.Bool.{eqb-true}
 use Rattle.std.proofs.lemmas.Bool.Decides.{nat_tests}
 use Rattle.std.proofs.lemmas.Grind.{same_number_lists}
 use Rattle.std.proofs.lemmas.List.{places, take_all, take-append-le, take-append-drop, length-take}
 use Rattle.tk_base.specs.declared.access.TheConstants.{RAM_START}
 use Rattle.tk_base.specs.declared.upcall.Counts.{Counts}
-use Rattle.tk_base.specs.declared.kinds.PairKind.TheVariants.{ReadWrite}
+use Rattle.tk_base.specs.declared.kinds.PairKind.{PairKind}
+use Rattle.tk_base.specs.declared.kinds.PairKind.TheVariants.{Upcall, ReadOnly, ReadWrite, Readable}
+use Rattle.tk_base.specs.Kinds.{is_writable}
 use Rattle.grant_model.specs.Grants.{Grant, grant_of, pair_of, pairs_of}
 use Rattle.board_memory.specs.Memory.{MemoryBytes, with_run}
 use Rattle.tk_base.specs.Bytes.{over}
@@ -16,9 +19,9 @@ use Rattle.process_model.specs.Handed.{held}
 use Rattle.process_model.specs.Served.{ram_at, fitting, with_written}
 use Rattle.grant_enter.specs.declared.seat.Seat.{Seat}
 use Rattle.grant_enter.specs.Seats.{LiesBelowMark, own_in}
-use Rattle.grant_enter.specs.Seen.{IsLentTo, LiesOutside, ServesIn, rw_of}
+use Rattle.grant_enter.specs.Seen.{IsLentTo, LiesOutside, ServesIn, writable_of}
 use Rattle.grant_enter.specs.Buffers.{buffer_start}
-use Rattle.grant_enter.proofs.Buffers.{own_bytes, pair_at, rw_lies, no_range}
+use Rattle.grant_enter.proofs.Buffers.{below_held, own_bytes, pair_at, no_range}
 use Rattle.grant_enter.proofs.Serving.{own_same, serving_nothing, side_of}
 use Rattle.grant_enter.proofs.Windows.{length_window, over_outside}
 
@@ -49,30 +52,47 @@ over_run xs ys at size offset to fits = same_number_lists _ _ (search (rules, pl
 length_over : (xs ys : List ℕ) (at : ℕ) → at + length ys ≤ length xs → length (over xs at ys) ≡ length xs
 length_over xs ys at fits = (over_outside xs ys at fits).long
 
+-- what holds of all of two lists holds of each
+all_first : (P : ℕ × ℕ → Type 0) (ps qs : List (ℕ × ℕ)) → AllByRecursion P (ps ++ qs) → AllByRecursion P ps
+all_first P [] qs all = tt
+all_first P (pair ∷ ps) qs all = (all.0, all_first P ps qs all.1)
+
+all_second : (P : ℕ × ℕ → Type 0) (ps qs : List (ℕ × ℕ)) → AllByRecursion P (ps ++ qs) → AllByRecursion P qs
+all_second P [] qs all = all
+all_second P (pair ∷ ps) qs all = all_second P ps qs all.1
+
 -- what lies outside of all buffers lies outside of one
-outside_at : (o : Option Grant) (n a : ℕ) → LiesOutside a (rw_of o) → let b = pair_of ReadWrite n o in
-    (a < b.0) ⊎ (b.0 + b.1 ≤ a)
-outside_at None n a out = inr (omega arith)
-outside_at (Some g) n a out =
-    pair_at (λ (b : ℕ × ℕ). (a < b.0) ⊎ (b.0 + b.1 ≤ a)) (pairs_of ReadWrite g) n (inr (omega arith)) out
+outside_at : (kind : PairKind) (o : Option Grant) (n a : ℕ) → IsTrue (is_writable kind) → LiesOutside a (writable_of o)
+    → let b = pair_of kind n o in (a < b.0) ⊎ (b.0 + b.1 ≤ a)
+outside_at kind None n a can out = inr (omega arith)
+outside_at kind (Some g) n a can out = pair_at Beside (pairs_of kind g) n (inr (omega arith)) (of_kind kind can)
+  where
+    Beside : ℕ × ℕ → Type 0
+    Beside b = (a < b.0) ⊎ (b.0 + b.1 ≤ a)
 
--- bytes were written into a process's read-write buffer, from an offset in it on, as many as fit
-pub record Wrote (driver n offset : ℕ) (bs : List ℕ) (m : MemoryBytes) (seat : Seat) (m' : MemoryBytes) : Type 0 where
+    of_kind : (k : PairKind) → IsTrue (is_writable k) → AllByRecursion Beside (pairs_of k g)
+    of_kind Upcall can = absurd (cc)
+    of_kind ReadOnly can = absurd (cc)
+    of_kind ReadWrite can = all_first Beside (pairs_of ReadWrite g) (pairs_of Readable g) out
+    of_kind Readable can = all_second Beside (pairs_of ReadWrite g) (pairs_of Readable g) out
+
+-- bytes were written into a buffer of a process, from an offset in it on, as many as fit
+pub record Wrote (kind : PairKind) (driver n offset : ℕ) (bs : List ℕ) (m : MemoryBytes) (seat : Seat) (m' : MemoryBytes) : Type 0 where
   pub serves : ServesIn driver m seat m' seat
-  pub own : own_in m'.ram seat ≡ with_written driver n offset bs (own_in m.ram seat)
+  pub own : own_in m'.ram seat ≡ with_written kind driver n offset bs (own_in m.ram seat)
 
-module _ (driver n : ℕ) (counts : Counts) (m : MemoryBytes) (seat : Seat) (l : IsLentTo driver counts m seat)
-    (offset : ℕ) (bs : List ℕ) where
+module _ (kind : PairKind) (can : IsTrue (is_writable kind)) (driver n : ℕ) (counts : Counts) (m : MemoryBytes)
+    (seat : Seat) (l : IsLentTo driver counts m seat) (offset : ℕ) (bs : List ℕ) where
   none_fit : (size : ℕ) → size ≤ offset → take (size - offset) bs ≡ []
   none_fit size h = let z : size - offset ≡ 0 = omega arith in ap (λ (k : ℕ). take k bs) z
 
   -- nothing was written
-  nothing : (m' : MemoryBytes) → m' ≡ m → fitting (held ReadWrite driver n (own_in m.ram seat)) offset bs ≡ []
-      → Wrote driver n offset bs m seat m'
+  nothing : (m' : MemoryBytes) → m' ≡ m → fitting (held kind driver n (own_in m.ram seat)) offset bs ≡ []
+      → Wrote kind driver n offset bs m seat m'
   nothing m' same none =
       let own = own_in m.ram seat in
-      let buffer = held ReadWrite driver n own in
-      subst (λ (x : MemoryBytes). Wrote driver n offset bs m seat x) (sym same) (record {
+      let buffer = held kind driver n own in
+      subst (λ (x : MemoryBytes). Wrote kind driver n offset bs m seat x) (sym same) (record {
         serves = serving_nothing driver m seat;
         own = sym (ap (λ (xs : List ℕ). record own { ram = over own.ram (buffer.0 - own.layout.start + offset) xs })
             none ∙ ap (λ (xs : List ℕ). record own { ram = xs })
@@ -80,10 +100,10 @@ module _ (driver n : ℕ) (counts : Counts) (m : MemoryBytes) (seat : Seat) (l :
       })
 
   -- bytes in RAM were written
-  some_in : (buffer : ℕ × ℕ) → buffer ≡ held ReadWrite driver n (own_in m.ram seat) → seat.layout.start ≤ buffer.0
+  some_in : (buffer : ℕ × ℕ) → buffer ≡ held kind driver n (own_in m.ram seat) → seat.layout.start ≤ buffer.0
       → buffer.0 + buffer.1 ≤ seat.layout.mark → offset ≤ buffer.1 → (m' : MemoryBytes)
       → m' ≡ record m { ram = over m.ram (buffer.0 - RAM_START + offset) (fitting buffer offset bs) }
-      → Wrote driver n offset bs m seat m'
+      → Wrote kind driver n offset bs m seat m'
   some_in buffer is low high order m' made =
       let s = l.sits.settled in
       let own = own_in m.ram seat in
@@ -101,10 +121,10 @@ module _ (driver n : ℕ) (counts : Counts) (m : MemoryBytes) (seat : Seat) (l :
           each = λ k lies.
               out.each k (places_of k at (length fit)
               (subst (λ (b : ℕ × ℕ). (RAM_START + k < b.0) ⊎ (b.0 + b.1 ≤ RAM_START + k)) (sym is)
-              (outside_at (grant_of driver own.grants) n (RAM_START + k) lies)) refl long);
+              (outside_at kind (grant_of driver own.grants) n (RAM_START + k) can lies)) refl long);
         };
       } in
-      subst (λ (x : MemoryBytes). Wrote driver n offset bs m seat x) (sym made) (record {
+      subst (λ (x : MemoryBytes). Wrote kind driver n offset bs m seat x) (sym made) (record {
         serves = serves;
         own = own_same driver counts m seat l (record m { ram = over m.ram at fit }) seat serves
             ∙ ap (λ (xs : List ℕ). record own { ram = xs })
@@ -124,10 +144,10 @@ module _ (driver n : ℕ) (counts : Counts) (m : MemoryBytes) (seat : Seat) (l :
       places_of k at size (inr h) e g = inr (omega (arith, l.sits.settled.from))
 
   -- as the code leaves memory
-  wrote_by : (buffer : ℕ × ℕ) (a : Bool) → buffer.1 == 0 ≡ a → buffer ≡ held ReadWrite driver n (own_in m.ram seat)
+  wrote_by : (buffer : ℕ × ℕ) (a : Bool) → buffer.1 == 0 ≡ a → buffer ≡ held kind driver n (own_in m.ram seat)
       → (lent left : List ℕ) → lent ≡ ram_at (own_in m.ram seat) buffer
       → left ≡ over lent offset (take (length lent - offset) bs) → LiesBelowMark seat.layout buffer
-      → Wrote driver n offset bs m seat (with_run m (cond a seat.layout.start buffer.0) left)
+      → Wrote kind driver n offset bs m seat (with_run m (cond a seat.layout.start buffer.0) left)
   wrote_by buffer true none is lent left was made lies =
       let s = l.sits.settled in
       let z : buffer.1 ≡ 0 = eqb-true buffer.1 0 none in
@@ -165,7 +185,7 @@ module _ (driver n : ℕ) (counts : Counts) (m : MemoryBytes) (seat : Seat) (l :
       by_offset : (buffer.1 < offset) ⊎ (offset ≤ buffer.1)
           → left ≡ over (slice_range m.ram (buffer.0 - RAM_START) (buffer.0 - RAM_START + buffer.1)) offset
           (fitting buffer offset bs) → buffer.0 - RAM_START + buffer.1 ≤ length m.ram → seat.layout.start ≤ buffer.0
-          → buffer.0 + buffer.1 ≤ seat.layout.mark → Wrote driver n offset bs m seat (with_run m buffer.0 left)
+          → buffer.0 + buffer.1 ≤ seat.layout.mark → Wrote kind driver n offset bs m seat (with_run m buffer.0 left)
       by_offset (inl past) now to low high =
           let xs = slice_range m.ram (buffer.0 - RAM_START) (buffer.0 - RAM_START + buffer.1) in
           let none : fitting buffer offset bs ≡ [] = none_fit buffer.1 (omega arith) in
@@ -194,19 +214,19 @@ module _ (driver n : ℕ) (counts : Counts) (m : MemoryBytes) (seat : Seat) (l :
           ∙ ap (λ (ys : List ℕ). record m { ram = ys })
           (over_run m.ram fit (buffer.0 - RAM_START) buffer.1 offset to (omega arith)))
 
-  pub wrote : (lent left : List ℕ) → lent ≡ ram_at (own_in m.ram seat) (held ReadWrite driver n (own_in m.ram seat))
+  pub wrote : (lent left : List ℕ) → lent ≡ ram_at (own_in m.ram seat) (held kind driver n (own_in m.ram seat))
       → left ≡ over lent offset (take (length lent - offset) bs)
-      → Wrote driver n offset bs m seat (with_run m
-      (buffer_start seat.layout (held ReadWrite driver n (own_in m.ram seat))) left)
+      → Wrote kind driver n offset bs m seat (with_run m
+      (buffer_start seat.layout (held kind driver n (own_in m.ram seat))) left)
   wrote lent left was made =
-      let buffer = held ReadWrite driver n (own_in m.ram seat) in
-      wrote_by buffer (buffer.1 == 0) refl refl lent left was made (rw_lies m seat l.sits driver n)
+      let buffer = held kind driver n (own_in m.ram seat) in
+      wrote_by buffer (buffer.1 == 0) refl refl lent left was made (below_held m seat l.sits kind driver n can)
 
   -- how many bytes the buffer has
-  pub size_is : (lent : List ℕ) → lent ≡ ram_at (own_in m.ram seat) (held ReadWrite driver n (own_in m.ram seat))
-      → length lent ≡ (held ReadWrite driver n (own_in m.ram seat)).1
-  size_is lent was = let buffer = held ReadWrite driver n (own_in m.ram seat) in
-      by_size buffer (buffer.1 == 0) refl (rw_lies m seat l.sits driver n) was
+  pub size_is : (lent : List ℕ) → lent ≡ ram_at (own_in m.ram seat) (held kind driver n (own_in m.ram seat))
+      → length lent ≡ (held kind driver n (own_in m.ram seat)).1
+  size_is lent was = let buffer = held kind driver n (own_in m.ram seat) in
+      by_size buffer (buffer.1 == 0) refl (below_held m seat l.sits kind driver n can) was
     where
       by_size : (buffer : ℕ × ℕ) (a : Bool) → buffer.1 == 0 ≡ a → LiesBelowMark seat.layout buffer
           → lent ≡ ram_at (own_in m.ram seat) buffer → length lent ≡ buffer.1
@@ -227,12 +247,12 @@ module _ (driver n : ℕ) (counts : Counts) (m : MemoryBytes) (seat : Seat) (l :
 over_all : (xs bytes : List ℕ) → length bytes ≡ length xs → bytes ≡ over xs 0 (take (length xs - 0) bytes)
 over_all xs bytes long = same_number_lists _ _ (search (rules, places)) (λ k h. grind (arith, places))
 
--- other bytes stand in a read-write buffer that was lent
-pub buffer_written : (driver n : ℕ) (counts : Counts) (m : MemoryBytes) (seat : Seat) → IsLentTo driver counts m seat
+-- other bytes stand in a buffer that was lent
+pub buffer_written : (kind : PairKind) → IsTrue (is_writable kind) → (driver n : ℕ) (counts : Counts) (m : MemoryBytes) (seat : Seat) → IsLentTo driver counts m seat
     → (bytes : List ℕ)
-    → length bytes ≡ length (ram_at (own_in m.ram seat) (held ReadWrite driver n (own_in m.ram seat)))
-    → Wrote driver n 0 bytes m seat (with_run m (buffer_start seat.layout (held ReadWrite driver n (own_in m.ram seat)))
+    → length bytes ≡ length (ram_at (own_in m.ram seat) (held kind driver n (own_in m.ram seat)))
+    → Wrote kind driver n 0 bytes m seat (with_run m (buffer_start seat.layout (held kind driver n (own_in m.ram seat)))
     bytes)
-buffer_written driver n counts m seat l bytes long = let lent =
-    ram_at (own_in m.ram seat) (held ReadWrite driver n (own_in m.ram seat)) in
-    wrote driver n counts m seat l 0 bytes lent bytes refl (over_all lent bytes long)
+buffer_written kind can driver n counts m seat l bytes long = let lent =
+    ram_at (own_in m.ram seat) (held kind driver n (own_in m.ram seat)) in
+    wrote kind can driver n counts m seat l 0 bytes lent bytes refl (over_all lent bytes long)

@@ -10,7 +10,7 @@ use Rattle.process_layout.specs.LayoutView.{LayoutView}
 use Rattle.process_layout.specs.Interval.{lies_within}
 use Rattle.process_layout.specs.Ordered.{IsOrdered}
 use Rattle.tk_base.specs.declared.kinds.PairKind.{PairKind}
-use Rattle.tk_base.specs.declared.kinds.PairKind.TheVariants.{Upcall as Subscribed, ReadOnly, ReadWrite}
+use Rattle.tk_base.specs.declared.kinds.PairKind.TheVariants.{Upcall as Subscribed, ReadOnly}
 use Rattle.grant_values.specs.Words.{bytes_of_words}
 use Rattle.grant_values.specs.Values.{KeptValue, value_words}
 use Rattle.grant_model.specs.Grants.{Grant, grant_of, entered, pair_of}
@@ -77,7 +77,7 @@ pub record AreSettled (flash ram : ℕ) (layouts : List LayoutView) : Type 0 whe
 abbrev pub layouts_of : List Seat → List LayoutView
 layouts_of seats = map (λ s. s.layout) seats
 
--- a read-write buffer that has bytes lies below the mark
+-- a buffer that has bytes and may be written lies below the mark
 abbrev pub LiesBelowMark : LayoutView → ℕ × ℕ → Type 0
 LiesBelowMark e pair = 0 < pair.1 → (e.start ≤ pair.0) × (pair.0 + pair.1 ≤ e.mark)
 
@@ -91,7 +91,7 @@ MayBeRead e pair =
 abbrev pub LiesInPlace : PairKind → LayoutView → ℕ × ℕ → Type 0
 LiesInPlace Subscribed e pair = Unit
 LiesInPlace ReadOnly e pair = MayBeRead e pair
-LiesInPlace ReadWrite e pair = LiesBelowMark e pair
+LiesInPlace writable e pair = LiesBelowMark e pair
 
 -- the pairs of a grant lie where they may
 pub record Holds (e : LayoutView) (g : Grant) : Type 0 where
@@ -159,8 +159,8 @@ pub record MakesRoom (driver : ℕ) (m : MemoryBytes) (e : LayoutView) (m' : Mem
   pub grants : Regrants m e m' e' (entered driver (decode_grants (kernel_in m.ram e)))
 
 -- the bytes of a buffer that may be read, which has none where its size is 0
-abbrev pub readable : MemoryBytes → LayoutView → ℕ × ℕ → List ℕ
-readable m e buffer =
+abbrev pub buffer_bytes : MemoryBytes → LayoutView → ℕ × ℕ → List ℕ
+buffer_bytes m e buffer =
     if buffer.1 == 0 then []
     else (if lies_in_ram e buffer.0 buffer.1 then ram_between m.ram buffer.0 (buffer.0 + buffer.1)
     else slice_range m.flash (buffer.0 - FLASH_START) (buffer.0 + buffer.1 - FLASH_START))

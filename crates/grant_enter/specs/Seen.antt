@@ -1,11 +1,11 @@
 -- What a driver sees of a process while it visits the process's grant, and what it may change (Levy et al., SOSP 2017,
 -- section 4).
-use Rattle.std.specs.Prelude.{ℕ, ◌≡◌, ◌<◌, ◌≤◌, ◌+◌, ◌⊎◌, List, [], length, slice_index, Option, None, Some}
+use Rattle.std.specs.Prelude.{ℕ, ◌≡◌, ◌<◌, ◌≤◌, ◌+◌, ◌⊎◌, List, [], ◌++◌, length, slice_index, Option, None, Some}
 use Rattle.std.specs.List.{AllByRecursion}
 use Rattle.tk_base.specs.declared.access.TheConstants.{RAM_START}
 use Rattle.tk_base.specs.declared.upcall.Counts.{Counts}
 use Rattle.grant_values.specs.Drivers.{counts_of}
-use Rattle.tk_base.specs.declared.kinds.PairKind.TheVariants.{ReadWrite}
+use Rattle.tk_base.specs.declared.kinds.PairKind.TheVariants.{ReadWrite, Readable}
 use Rattle.grant_model.specs.Grants.{Grant, grant_of, pairs_of}
 use Rattle.board_memory.specs.Memory.{MemoryBytes}
 use Rattle.process_model.specs.Own.{Own}
@@ -38,14 +38,14 @@ pub record IsLentTo (driver : ℕ) (counts : Counts) (m : MemoryBytes) (seat : S
 abbrev pub IsLent : Entered → Type 0
 IsLent e = IsLentTo e.driver e.counts e.memory.now e.seat.now
 
--- the read-write buffers of a grant
-abbrev pub rw_of : Option Grant → List (ℕ × ℕ)
-rw_of None = []
-rw_of (Some g) = pairs_of ReadWrite g
+-- the buffers of a grant that its driver may write: the read-write and the readable ones
+abbrev pub writable_of : Option Grant → List (ℕ × ℕ)
+writable_of None = []
+writable_of (Some g) = pairs_of ReadWrite g ++ pairs_of Readable g
 
 -- those that a process has allowed a driver
-abbrev pub rw_buffers : ℕ → Own → List (ℕ × ℕ)
-rw_buffers driver own = rw_of (grant_of driver own.grants)
+abbrev pub writable_buffers : ℕ → Own → List (ℕ × ℕ)
+writable_buffers driver own = writable_of (grant_of driver own.grants)
 
 -- an address lies in none of some buffers
 abbrev pub LiesOutside : ℕ → List (ℕ × ℕ) → Type 0
@@ -56,17 +56,17 @@ pub record SameButIn (buffers : List (ℕ × ℕ)) (first : ℕ) (old new : List
   pub long : length new ≡ length old
   pub each : (k : ℕ) → LiesOutside (first + k) buffers → slice_index new k ≡ slice_index old k
 
--- a driver has changed of a process's own the bytes in its read-write buffers, what is pending and how many upcalls
--- were dropped, and nothing else
+-- a driver has changed of a process's own the bytes in its read-write or readable buffers, what is pending and how many
+-- upcalls were dropped, and nothing else
 pub record VisitorChanges (driver : ℕ) (old new : Own) : Type 0 where
   pub rest : new ≡ record old { ram = new.ram; inbox = new.inbox }
-  pub bytes : SameButIn (rw_buffers driver old) old.layout.start old.ram new.ram
+  pub bytes : SameButIn (writable_buffers driver old) old.layout.start old.ram new.ram
 
 -- the same of a seat and of all of memory
 pub record ServesIn (driver : ℕ) (m : MemoryBytes) (seat : Seat) (m' : MemoryBytes) (seat' : Seat) : Type 0 where
   pub seat_is : seat' ≡ record seat { inbox = seat'.inbox }
   pub flash : m'.flash ≡ m.flash
-  pub bytes : SameButIn (rw_buffers driver (own_in m.ram seat)) RAM_START m.ram m'.ram
+  pub bytes : SameButIn (writable_buffers driver (own_in m.ram seat)) RAM_START m.ram m'.ram
 
 -- a visitor has kept what it was lent, and changed no more than it may
 pub record Framed (old new : Entered) : Type 0 where

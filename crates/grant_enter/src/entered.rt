@@ -1,25 +1,26 @@
 //! A process while a driver visits its grant.
-ghost use Rattle.std.specs.Prelude.{◌≡◌, ◌+◌, ◌-◌, ◌<◌, ◌≤◌, ◌^◌, min, length, take, slice_range};
+ghost use Rattle.std.specs.Prelude.{◌≡◌, ◌+◌, ◌-◌, ◌<◌, ◌≤◌, ◌^◌, IsTrue, min, length, take, slice_range};
 ghost use Rattle.std.specs.Borrow.{sem};
 ghost use Rattle.tk_base.specs.declared.access.TheConstants.{FLASH_START, RAM_START};
 ghost use Rattle.board_memory.specs.Memory.{ram_between};
-ghost use Rattle.tk_base.specs.declared.kinds.PairKind.TheVariants.{ReadOnly, ReadWrite};
+ghost use Rattle.tk_base.specs.declared.kinds.PairKind.TheVariants.{ReadOnly, ReadWrite, Readable};
+ghost use Rattle.tk_base.specs.Kinds.{count_of, is_writable};
 ghost use Rattle.process_model.specs.Handed.{held};
 ghost use Rattle.upcall_queue.specs.Pending.{is_queued};
 ghost use Rattle.process_model.specs.Flash.{flash_byte};
 ghost use Rattle.process_model.specs.Served.{bytes_at, ram_at, own_scheduled, upcall_of, with_written};
 ghost use Rattle.tk_base.specs.Bytes.{over};
-ghost use Rattle.grant_enter.specs.Buffers.{LendsBuffer, buffer_start, last_of};
+ghost use Rattle.grant_enter.specs.Buffers.{LendsBuffer, buffer_held, buffer_start, last_of};
 ghost use Rattle.grant_enter.specs.Homes.{FitsMemory};
-ghost use Rattle.grant_enter.specs.Seats.{MayBeRead, own_in, readable};
-ghost use Rattle.grant_enter.specs.Seen.{Framed, IsLent, IsLentTo, own_entered, seen};
+ghost use Rattle.grant_enter.specs.Seats.{MayBeRead, buffer_bytes};
+ghost use Rattle.grant_enter.specs.Seen.{Framed, IsLent, own_entered, seen};
 
 use crate::kept::kernel_of;
 use crate::seat::Seat;
 use board_memory::Memory;
 use process_layout::Layout;
-use swap_tables::{buffer_ro, buffer_rw, upcall};
-use tk_base::{Addr, Counts, FLASH_START, Upcall};
+use swap_tables::{buffer_ro, buffer_rw, buffer_ur, upcall};
+use tk_base::{Addr, Counts, FLASH_START, PairKind, Upcall};
 
 /// A process while a driver visits its grant: the buffers that it has allowed the driver, which are lent and
 /// never copied, and the upcalls that it has subscribed (Levy et al., SOSP 2017, section 4).
@@ -45,7 +46,7 @@ fn flash_part(flash: &[u8], from: Addr, to: Addr) -> &[u8]
 fn buffer_at<'a>(memory: &'a Memory, layout: &Layout, at: Addr, size: u32) -> &'a [u8]
     requires settled { FitsMemory (length memory.now.flash) (length memory.now.ram) layout.now }
     requires may { MayBeRead layout.now (at, size) }
-    ensures { result.now ≡ readable memory.now layout.now (at, size) }
+    ensures { result.now ≡ buffer_bytes memory.now layout.now (at, size) }
 {
     if size == 0 {
         return &[];
@@ -68,26 +69,55 @@ fn ends_of(layout: &Layout, buffer: (u32, u32)) -> (Addr, Addr)
     (at, at + size)
 }
 
-/// The addresses of the read-write buffer of a number.
-fn rw_ends(memory: &Memory, seat: &Seat, driver: u32, counts: &Counts, n: u32) -> (Addr, Addr)
-    requires lent { IsLentTo driver counts.now memory.now seat.now }
-    requires number { n < counts.now.rw }
-    ensures ends { result ≡ (
-      buffer_start seat.now.layout (held ReadWrite driver n (own_in memory.now.ram seat.now)),
-      last_of seat.now.layout (held ReadWrite driver n (own_in memory.now.ram seat.now)),
-    ) }
-    ensures from { RAM_START ≤ result.0 }
-    ensures order { result.0 ≤ result.1 }
-    ensures to { result.1 ≤ RAM_START + length memory.now.ram }
-    ensures bytes { ram_between memory.now.ram result.0 result.1
-        ≡ ram_at (own_in memory.now.ram seat.now)
-        (held ReadWrite driver n (own_in memory.now.ram seat.now)) }
-{
-    let buffer = buffer_rw(kernel_of(memory, &seat.layout), driver, counts, n);
-    ends_of(&seat.layout, buffer)
-}
-
 impl Entered<'_> {
+    /// The pair of a kind and a number that the process holds with the driver.
+    fn held(&self, kind: PairKind, n: u32) -> (u32, u32)
+        requires lent { IsLent self.now }
+        requires number { n < count_of kind (seen self.now).counts }
+        ensures { result ≡ held kind (seen self.now).driver n (own_entered self.now) }
+    {
+        let kernel = kernel_of(self.memory, &self.seat.layout);
+        match kind {
+            PairKind::Upcall => upcall(kernel, self.driver, &self.counts, n),
+            PairKind::ReadOnly => buffer_ro(kernel, self.driver, &self.counts, n),
+            PairKind::ReadWrite => buffer_rw(kernel, self.driver, &self.counts, n),
+            PairKind::Readable => buffer_ur(kernel, self.driver, &self.counts, n),
+        }
+    }
+
+    /// The addresses of a buffer that the driver may write.
+    fn ends(&self, kind: PairKind, n: u32) -> (Addr, Addr)
+        requires lent { IsLent self.now }
+        requires writable { IsTrue (is_writable kind) }
+        requires number { n < count_of kind (seen self.now).counts }
+        ensures ends { result ≡ (
+          buffer_start self.now.seat.now.layout (buffer_held kind n self.now),
+          last_of self.now.seat.now.layout (buffer_held kind n self.now),
+        ) }
+        ensures from { RAM_START ≤ result.0 }
+        ensures order { result.0 ≤ result.1 }
+        ensures to { result.1 ≤ RAM_START + length self.now.memory.now.ram }
+        ensures bytes { ram_between self.now.memory.now.ram result.0 result.1
+            ≡ ram_at (own_entered self.now) (buffer_held kind n self.now) }
+    {
+        let buffer = self.held(kind, n);
+        ends_of(&self.seat.layout, buffer)
+    }
+
+    /// A buffer that the driver may write, lent to be written.
+    fn lend(&mut self, kind: PairKind, n: u32) -> &mut [u8]
+        requires lent { IsLent self.old }
+        requires writable { IsTrue (is_writable kind) }
+        requires number { n < count_of kind (seen self.old).counts }
+        ensures* writes_back { sem 𝓛 (LendsBuffer kind n self.entry result) }
+        ensures bytes { result.now
+            ≡ ram_at (own_entered self.old) (buffer_held kind n self.old) }
+    {
+        let (from, to) = self.ends(kind, n);
+        let memory = &mut *self.memory;
+        memory.part_mut(from, to)
+    }
+
     /// The read-only buffer of a number that the process has allowed the driver (TRD 104, "Read-Only Allow").
     /// It is lent from the process's RAM, or from flash where it lies there; it has no bytes where the
     /// process has allowed none.
@@ -97,12 +127,7 @@ impl Entered<'_> {
         ensures { result.now ≡ bytes_at (flash_byte (seen self.now).flash) (own_entered self.now)
             (held ReadOnly (seen self.now).driver n (own_entered self.now)) }
     {
-        let (at, size) = buffer_ro(
-            kernel_of(self.memory, &self.seat.layout),
-            self.driver,
-            &self.counts,
-            n,
-        );
+        let (at, size) = self.held(PairKind::ReadOnly, n);
         buffer_at(self.memory, &self.seat.layout, at, size)
     }
 
@@ -111,13 +136,23 @@ impl Entered<'_> {
     pub fn read_write(&mut self, n: u32) -> &mut [u8]
         requires lent { IsLent self.old }
         requires number { n < (seen self.old).counts.rw }
-        ensures* writes_back { sem 𝓛 (LendsBuffer self.entry n result) }
+        ensures* writes_back { sem 𝓛 (LendsBuffer ReadWrite n self.entry result) }
         ensures bytes { result.now ≡ ram_at (own_entered self.old)
             (held ReadWrite (seen self.old).driver n (own_entered self.old)) }
     {
-        let (from, to) = rw_ends(self.memory, self.seat, self.driver, &self.counts, n);
-        let memory = &mut *self.memory;
-        memory.part_mut(from, to)
+        self.lend(PairKind::ReadWrite, n)
+    }
+
+    /// The buffer of a number that the process has allowed the driver and may read while the kernel writes
+    /// it (the userspace-readable allow of Tock's kernel), lent as [`Entered::read_write`].
+    pub fn readable(&mut self, n: u32) -> &mut [u8]
+        requires lent { IsLent self.old }
+        requires number { n < (seen self.old).counts.ur }
+        ensures* writes_back { sem 𝓛 (LendsBuffer Readable n self.entry result) }
+        ensures bytes { result.now ≡ ram_at (own_entered self.old)
+            (held Readable (seen self.old).driver n (own_entered self.old)) }
+    {
+        self.lend(PairKind::Readable, n)
     }
 
     /// Writes bytes into the read-write buffer of a number, from an offset in it on, as many as fit, and
@@ -128,7 +163,8 @@ impl Entered<'_> {
         ensures count { result ≡ min (length bytes.now)
             ((held ReadWrite (seen self.old).driver n (own_entered self.old)).1 - offset) }
         ensures own { own_entered self.new
-            ≡ with_written (seen self.old).driver n offset bytes.now (own_entered self.old) }
+            ≡ with_written ReadWrite (seen self.old).driver n offset bytes.now
+            (own_entered self.old) }
         // what a visitor owes
         ensures lent { IsLent self.new }
         ensures framed { Framed self.old self.new }
@@ -152,12 +188,7 @@ impl Entered<'_> {
         ensures lent { IsLent self.new }
         ensures framed { Framed self.old self.new }
     {
-        let (function, app) = upcall(
-            kernel_of(self.memory, &self.seat.layout),
-            self.driver,
-            &self.counts,
-            n,
-        );
+        let (function, app) = self.held(PairKind::Upcall, n);
         let upcall = Upcall {
             driver: self.driver,
             number: n,

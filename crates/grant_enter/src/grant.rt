@@ -12,22 +12,22 @@ use std::marker::PhantomData;
 use tk_base::{Counts, ProcessId};
 
 /// The grants that processes keep for one driver (Levy et al., SOSP 2017, section 4): the type of their
-/// value, and how many upcalls, read-only buffers and read-write buffers they have.
+/// value, and how many upcalls and read-only, read-write and readable buffers they have.
 #[derive(Drop)]
-pub struct Grant<T: GrantValue, const UP: usize, const RO: usize, const RW: usize> {
+pub struct Grant<T: GrantValue, const UP: usize, const RO: usize, const RW: usize, const UR: usize> {
     /// The driver's number.
     pub driver: u32,
     counts: Counts,
     value: PhantomData<T>,
-    ghost counts_are: { counts ≡ counting UP RO RW T.SIZE },
+    ghost counts_are: { counts ≡ counting UP RO RW UR T.SIZE },
     ghost known: { IsCounted T.driver driver counts T.SIZE },
 }
 
-impl<T: GrantValue, const UP: usize, const RO: usize, const RW: usize> Grant<T, UP, RO, RW> {
+impl<T: GrantValue, const UP: usize, const RO: usize, const RW: usize, const UR: usize> Grant<T, UP, RO, RW, UR> {
     /// The grants of a driver, whose value and whose counts are those of the type.
-    pub fn of(driver: u32) -> Grant<T, UP, RO, RW>
+    pub fn of(driver: u32) -> Grant<T, UP, RO, RW, UR>
         requires value { driver_of driver ≡ Some T.driver }
-        requires counts { counts_of driver ≡ Some (counting UP RO RW T.SIZE) }
+        requires counts { counts_of driver ≡ Some (counting UP RO RW UR T.SIZE) }
         ensures { result.driver ≡ driver }
     {
         match counts(driver) {
@@ -54,10 +54,10 @@ impl<T: GrantValue, const UP: usize, const RO: usize, const RW: usize> Grant<T, 
         id: ProcessId,
         visitor: V,
     ) -> Result<V::Answer, EnterError>
-        requires asks { Asks (grants_of self.now.driver (counting UP RO RW T.SIZE) T.kept)
+        requires asks { Asks (grants_of self.now.driver (counting UP RO RW UR T.SIZE) T.kept)
             (V.asks visitor) home.old.flash
             (own_entering self.now.driver (own_of home.old id.slot)) }
-        ensures enters { Enters (grants_of self.now.driver (counting UP RO RW T.SIZE) T.kept)
+        ensures enters { Enters (grants_of self.now.driver (counting UP RO RW UR T.SIZE) T.kept)
             (V.leaves visitor) id.life home.old.flash
             (own_of home.old id.slot) result (own_of home.new id.slot) }
         ensures rest { ChangesOnly id.slot home.old home.new }
@@ -87,9 +87,9 @@ impl<T: GrantValue, const UP: usize, const RO: usize, const RW: usize> Grant<T, 
         id: ProcessId,
         visitor: V,
     ) -> Result<Option<V::Answer>, Stale>
-        requires asks { Asks (grants_of self.now.driver (counting UP RO RW T.SIZE) T.kept)
+        requires asks { Asks (grants_of self.now.driver (counting UP RO RW UR T.SIZE) T.kept)
             (V.asks visitor) home.old.flash (own_of home.old id.slot) }
-        ensures visits { Visits (grants_of self.now.driver (counting UP RO RW T.SIZE) T.kept)
+        ensures visits { Visits (grants_of self.now.driver (counting UP RO RW UR T.SIZE) T.kept)
             (V.leaves visitor) id.life home.old.flash
             (own_of home.old id.slot) result (own_of home.new id.slot) }
         ensures rest { ChangesOnly id.slot home.old home.new }
@@ -112,7 +112,7 @@ impl<T: GrantValue, const UP: usize, const RO: usize, const RW: usize> Grant<T, 
     /// this life. It is stale exactly where the process has ended or is in another life, or none was placed in
     /// the slot.
     pub fn peek(&self, home: &Home, id: ProcessId) -> Result<Option<T>, Stale>
-        ensures { Peeks (grants_of self.now.driver (counting UP RO RW T.SIZE) T.kept) id.life
+        ensures { Peeks (grants_of self.now.driver (counting UP RO RW UR T.SIZE) T.kept) id.life
             (own_of home.now id.slot) result }
     {
         if !home.is_placed(id.slot) {

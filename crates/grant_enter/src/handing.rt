@@ -11,7 +11,7 @@ use board_memory::{Block, Memory, SplitBlock};
 use grant_model::pairs_stand_by_kind;
 use grant_region::NoRoom;
 use process_layout::Layout;
-use swap_tables::{Handover, swap_ro, swap_rw, swap_upcall};
+use swap_tables::{Handover, swap_ro, swap_rw, swap_upcall, swap_ur};
 use tk_base::PairKind;
 use upcall_queue::Inbox;
 
@@ -44,6 +44,7 @@ fn swap(
         PairKind::Upcall => swap_upcall(layout, app, kernel, driver, &counts, number, pair),
         PairKind::ReadOnly => swap_ro(layout, app, kernel, driver, &counts, number, pair),
         PairKind::ReadWrite => swap_rw(layout, app, kernel, driver, &counts, number, pair),
+        PairKind::Readable => swap_ur(layout, app, kernel, driver, &counts, number, pair),
     }
 }
 
@@ -87,7 +88,7 @@ fn note_handed(layout: &mut Layout, inbox: &mut Inbox, handover: Handover)
 {
     match handover.kind {
         PairKind::Upcall => inbox.pending.drop_of(handover.driver, handover.number),
-        PairKind::ReadOnly | PairKind::ReadWrite => raise_mark(layout, handover.pair),
+        PairKind::ReadOnly | PairKind::ReadWrite | PairKind::Readable => raise_mark(layout, handover.pair),
     }
 }
 

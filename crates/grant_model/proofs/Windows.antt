@@ -8,8 +8,8 @@ use Rattle.std.proofs.lemmas.List.{drop-set-add, take-set-le, length-set, length
 use Rattle.std.proofs.lemmas.List.Sums.{sum_by-cons}
 use Rattle.std.proofs.Math.Seq.{take-set-lt}
 use Rattle.tk_base.specs.declared.kinds.PairKind.{PairKind}
-use Rattle.tk_base.specs.declared.kinds.PairKind.TheVariants.{Upcall, ReadOnly, ReadWrite}
 use Rattle.tk_base.specs.declared.upcall.Counts.{Counts}
+use Rattle.tk_base.proofs.Ranks.{same_rank}
 use Rattle.tk_base.specs.Kinds.{count_of, pair_count, pair_counts, pair_place, pairs_before, rank_of}
 use Rattle.grant_model.specs.Grants.{Grant, HasPairs, fresh, shape_of, pair_of, pairs_of, with_pair}
 use Rattle.grant_model.specs.Laws.{PairsStandByKind}
@@ -71,20 +71,6 @@ set-window-past xs before count i x past =
     ap (λ k. take count (drop before (set xs k x))) at
     ∙ ap (take count) (drop-set-add before xs (i - before) x)
     ∙ take-set-le count (drop before xs) (i - before) x (omega arith)
-
--- the kind of a rank
-abbrev kind_at : ℕ → PairKind
-kind_at zero = Upcall
-kind_at (suc zero) = ReadOnly
-kind_at (suc (suc n)) = ReadWrite
-
-kind_at-rank : (kind : PairKind) → kind_at (rank_of kind) ≡ kind
-kind_at-rank Upcall = refl
-kind_at-rank ReadOnly = refl
-kind_at-rank ReadWrite = refl
-
-same_rank : (kind other : PairKind) → rank_of other ≡ rank_of kind → other ≡ kind
-same_rank kind other same = sym (kind_at-rank other) ∙ ap kind_at same ∙ kind_at-rank kind
 
 count-window : (kind : PairKind) (g : Grant) → HasPairs g → length (pairs_of kind g) ≡ count_of kind (shape_of g.driver)
 count-window kind g has =

@@ -17,7 +17,7 @@ pub record Grant : Type 0 where
 
 -- the counts of a driver's grant; all 0 where there is no such driver
 abbrev pub counts_or_none : Option Counts → Counts
-counts_or_none None = counting 0 0 0 0
+counts_or_none None = counting 0 0 0 0 0
 counts_or_none (Some counts) = counts
 
 -- how many pairs and bytes the grant of a driver has; none of any where there is no such driver

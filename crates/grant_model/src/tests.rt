@@ -17,7 +17,7 @@ fn a_buffer_of_the_console()
 #[tactic(auto, unfolding(crate::specs::Grants::shape_of, grant_values::specs::Drivers::counts_of, grant_values::specs::Drivers::drivers))]
 fn the_last_entered_is_lowest()
     ensures one_way { encode_grants (entered 0 (entered 0x50001 (entered 1 (entered 0x40001 []))))
-        ≡ (0 ∷ 0 ∷ 0 ∷ 0 ∷ 40 ∷ 0 ∷ 0 ∷ 0 ∷ []) ++ replicate 32 0
+        ≡ (0 ∷ 0 ∷ 0 ∷ 0 ∷ 48 ∷ 0 ∷ 0 ∷ 0 ∷ []) ++ replicate 40 0
         ++ (1 ∷ 0 ∷ 5 ∷ 0 ∷ 64 ∷ 0 ∷ 0 ∷ 0 ∷ []) ++ replicate 56 0
         ++ (1 ∷ 0 ∷ 0 ∷ 0 ∷ 96 ∷ 0 ∷ 0 ∷ 0 ∷ []) ++ replicate 88 0
         ++ (1 ∷ 0 ∷ 4 ∷ 0 ∷ 48 ∷ 0 ∷ 0 ∷ 0 ∷ []) ++ replicate 40 0 }
@@ -25,7 +25,7 @@ fn the_last_entered_is_lowest()
         ≡ (1 ∷ 0 ∷ 4 ∷ 0 ∷ 48 ∷ 0 ∷ 0 ∷ 0 ∷ []) ++ replicate 40 0
         ++ (1 ∷ 0 ∷ 0 ∷ 0 ∷ 96 ∷ 0 ∷ 0 ∷ 0 ∷ []) ++ replicate 88 0
         ++ (1 ∷ 0 ∷ 5 ∷ 0 ∷ 64 ∷ 0 ∷ 0 ∷ 0 ∷ []) ++ replicate 56 0
-        ++ (0 ∷ 0 ∷ 0 ∷ 0 ∷ 40 ∷ 0 ∷ 0 ∷ 0 ∷ []) ++ replicate 32 0 }
+        ++ (0 ∷ 0 ∷ 0 ∷ 0 ∷ 48 ∷ 0 ∷ 0 ∷ 0 ∷ []) ++ replicate 40 0 }
 {}
 
 #[test]

@@ -22,17 +22,17 @@ drivers = Alarm ∷ Console ∷ Leds ∷ Random ∷ Storage ∷ []
 abbrev pub driver_of : ℕ → Option Driver
 driver_of number = find (λ driver. number_of_driver driver == number) drivers
 
--- so many upcalls, read-only and read-write buffers, and bytes of a value
-abbrev pub counting : ℕ → ℕ → ℕ → ℕ → Counts
-counting upcalls ro rw value = record { upcalls = upcalls; ro = ro; rw = rw; ur = 0; value = value }
+-- so many upcalls, read-only, read-write and readable buffers, and bytes of a value
+abbrev pub counting : ℕ → ℕ → ℕ → ℕ → ℕ → Counts
+counting upcalls ro rw ur value = record { upcalls = upcalls; ro = ro; rw = rw; ur = ur; value = value }
 
--- each driver's upcalls, read-only buffers and read-write buffers, and the bytes of its value; the LEDs keep nothing
+-- each driver's upcalls, read-only, read-write and readable buffers, and the bytes of its value; the LEDs keep nothing
 abbrev pub counts_by : Driver → Counts
-counts_by Alarm = counting 1 0 0 24
-counts_by Console = counting 3 2 2 32
-counts_by Leds = counting 0 0 0 0
-counts_by Random = counting 1 0 1 24
-counts_by Storage = counting 2 1 1 24
+counts_by Alarm = counting 1 0 0 1 24
+counts_by Console = counting 3 2 2 0 32
+counts_by Leds = counting 0 0 0 0 0
+counts_by Random = counting 1 0 1 0 24
+counts_by Storage = counting 2 1 1 0 24
 
 -- the counts of the driver of a number; none where there is no such driver
 unfoldable pub counts_of : ℕ → Option Counts

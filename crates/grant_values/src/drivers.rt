@@ -1,6 +1,6 @@
 //! The drivers, with what each keeps of a process.
 ghost use Rattle.std.specs.Prelude.{◌≡◌, ◌<◌, ◌^◌, IfSome, Some};
-ghost use Rattle.grant_values.specs.Drivers.{cost_of, counts_by, counts_of, driver_of, number_of_driver};
+ghost use Rattle.grant_values.specs.Drivers.{cost_of, counting, counts_by, counts_of, driver_of, number_of_driver};
 
 use crate::alarm::Alarm;
 use crate::console::Console;
@@ -76,11 +76,11 @@ impl Driver {
         ensures cost_fits { cost_of result < 2 ^ 32 }
     {
         match self {
-            Driver::Alarm => counting(1, 0, 0, Alarm::SIZE),
-            Driver::Console => counting(3, 2, 2, Console::SIZE),
-            Driver::Leds => counting(0, 0, 0, 0),
-            Driver::Random => counting(1, 0, 1, Random::SIZE),
-            Driver::Storage => counting(2, 1, 1, Storage::SIZE),
+            Driver::Alarm => counting(1, 0, 0, 1, Alarm::SIZE),
+            Driver::Console => counting(3, 2, 2, 0, Console::SIZE),
+            Driver::Leds => counting(0, 0, 0, 0, 0),
+            Driver::Random => counting(1, 0, 1, 0, Random::SIZE),
+            Driver::Storage => counting(2, 1, 1, 0, Storage::SIZE),
         }
     }
 }
@@ -97,14 +97,14 @@ pub fn counts(driver: u32) -> Option<Counts>
 }
 
 /// The counts of one row of the table.
-fn counting(upcalls: u32, ro: u32, rw: u32, value: u32) -> Counts
-    ensures { result ≡ record { upcalls = upcalls; ro = ro; rw = rw; ur = 0; value = value } }
+fn counting(upcalls: u32, ro: u32, rw: u32, ur: u32, value: u32) -> Counts
+    ensures { result ≡ counting upcalls ro rw ur value }
 {
     Counts {
         upcalls,
         ro,
         rw,
-        ur: 0,
+        ur,
         value,
     }
 }

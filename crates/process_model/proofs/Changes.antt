@@ -19,13 +19,14 @@ use Rattle.rv32_model.specs.Laws.{WritesAreListed, WritesArePermitted, stores_at
 use Rattle.process_layout.specs.LayoutView.{LayoutView}
 use Rattle.process_layout.specs.Interval.{lies_within}
 use Rattle.tk_base.specs.declared.kinds.PairKind.{PairKind}
-use Rattle.tk_base.specs.declared.kinds.PairKind.TheVariants.{Upcall, ReadOnly, ReadWrite}
+use Rattle.tk_base.specs.declared.kinds.PairKind.TheVariants.{Upcall, ReadOnly, ReadWrite, Readable}
+use Rattle.tk_base.specs.Kinds.{is_buffer, is_writable}
 use Rattle.grant_model.specs.Grants.{Grant, grant_of}
 use Rattle.grant_region.specs.Region.{roomed}
 use Rattle.process_model.specs.Own.{Own}
 use Rattle.process_model.specs.Permission.{denied}
 use Rattle.process_model.specs.Instruction.{instruction_of, ram_after, with_write}
-use Rattle.process_model.specs.Handed.{own_entering, handing, held, lies_in_ram, marked, may_share, raised}
+use Rattle.process_model.specs.Handed.{may_keep, own_entering, handing, held, lies_in_ram, marked, may_share, raised}
 use Rattle.process_model.specs.Flag.{flag_place, with_flag}
 use Rattle.process_model.specs.Served.{with_written}
 use Rattle.tk_base.specs.Bytes.{over}
@@ -199,8 +200,17 @@ written_at ram bytes start from size offset a lies low high = by_room (cases_lt 
         inl (ap (λ (xs : List ℕ). slice_index xs (a - start))
         (over_nothing ram (from - start + offset) (size - offset) bytes (omega arith)))
 
--- a buffer with bytes that may be allowed begins in the block
-begins : (e : LayoutView) (buffer : ℕ × ℕ) → IsTrue (may_share ReadWrite e buffer) → 0 < buffer.1 → e.start ≤ buffer.0
+-- a buffer that the kernel may write has no bytes, or lies in accessible RAM
+pub keeps_in_ram : (kind : PairKind) (e : LayoutView) (buffer : ℕ × ℕ) → IsTrue (is_writable kind)
+    → IsTrue (may_keep kind e buffer) → (buffer.1 == 0 || lies_in_ram e buffer.0 buffer.1) ≡ true
+keeps_in_ram Upcall e buffer can may = absurd (cc)
+keeps_in_ram ReadOnly e buffer can may = absurd (cc)
+keeps_in_ram ReadWrite e buffer can may = may
+keeps_in_ram Readable e buffer can may = may
+
+-- such a buffer with bytes begins in the block
+begins : (e : LayoutView) (buffer : ℕ × ℕ) → (buffer.1 == 0 || lies_in_ram e buffer.0 buffer.1) ≡ true → 0 < buffer.1
+    → e.start ≤ buffer.0
 begins e buffer may some = by_size (buffer.1 == 0) (lies_in_ram e buffer.0 buffer.1) refl refl may
   where
     by_size : (none ram : Bool) → (buffer.1 == 0) ≡ none → lies_in_ram e buffer.0 buffer.1 ≡ ram → (none || ram) ≡ true
@@ -209,12 +219,14 @@ begins e buffer may some = by_size (buffer.1 == 0) (lies_in_ram e buffer.0 buffe
     by_size false true is lies may = starts e.start e.brk buffer.0 buffer.1 lies
     by_size false false is lies may = absurd (cc)
 
-changes_written : (driver number offset : ℕ) (bytes : List ℕ) (own : Own) → IsWhole own
-    → ChangesAt (IsInside (held ReadWrite driver number own)) own (with_written driver number offset bytes own)
-changes_written driver number offset bytes own whole a before after =
-    let buffer = held ReadWrite driver number own in
+changes_written : (kind : PairKind) (driver number offset : ℕ) (bytes : List ℕ) (own : Own) → IsTrue (is_writable kind)
+    → IsWhole own → ChangesAt (IsInside (held kind driver number own)) own
+    (with_written kind driver number offset bytes own)
+changes_written kind driver number offset bytes own can whole a before after =
+    let buffer = held kind driver number own in
     written_at own.ram bytes own.layout.start buffer.0 buffer.1 offset a
-    (begins own.layout buffer (whole.buffers.read_write driver number)) before.0
+    (begins own.layout buffer (keeps_in_ram kind own.layout buffer can (whole.buffers.each kind driver number)))
+    before.0
     (omega (arith, before.0, before.1, whole.bytes))
 
 -- bytes that are cut at the kernel break stay up to there
@@ -244,9 +256,12 @@ raised_stays pair e = by_tests (pair.1 == 0) (lies_in_ram e pair.0 pair.1)
 
 marked_stays : (kind : PairKind) (pair : ℕ × ℕ) (e : LayoutView)
     → ((marked kind pair e).start ≡ e.start) × ((marked kind pair e).kernel_break ≡ e.kernel_break)
-marked_stays Upcall pair e = (refl, refl)
-marked_stays ReadOnly pair e = raised_stays pair e
-marked_stays ReadWrite pair e = raised_stays pair e
+marked_stays kind pair e = by_test (is_buffer kind)
+  where
+    by_test : (b : Bool)
+        → ((cond b (raised pair e) e).start ≡ e.start) × ((cond b (raised pair e) e).kernel_break ≡ e.kernel_break)
+    by_test true = raised_stays pair e
+    by_test false = (refl, refl)
 
 keeps_entering : (driver : ℕ) (own : Own) → KeepsBytes own (own_entering driver own)
 keeps_entering driver own =

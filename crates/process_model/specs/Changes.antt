@@ -6,7 +6,7 @@ use Rattle.tk_base.specs.Regs.{Registers}
 use Rattle.rv32_model.specs.declared.turn_end.TurnEnd.TheVariants.{Went}
 use Rattle.rv32_model.specs.Laws.{stores_at}
 use Rattle.tk_base.specs.declared.kinds.PairKind.{PairKind}
-use Rattle.tk_base.specs.declared.kinds.PairKind.TheVariants.{ReadWrite}
+use Rattle.tk_base.specs.Kinds.{is_writable}
 use Rattle.process_model.specs.Own.{Own}
 use Rattle.process_model.specs.Instruction.{instruction_of, with_write}
 use Rattle.process_model.specs.Handed.{HoldsInPlace, own_entering, handing, held}
@@ -41,16 +41,17 @@ abbrev pub IsInside : ℕ × ℕ → ℕ → Type 0
 IsInside buffer at = (buffer.0 ≤ at) × (at < buffer.0 + buffer.1)
 
 -- What changes bytes: an instruction that goes those that a store covers which it lists; a yield its
--- flag; a driver those inside the read-write buffer that it writes. To enter a driver, or to hand it a pair, changes
--- none.
+-- flag; a driver those inside the buffer that it writes, of a kind that it may write. To enter a driver, or to hand it
+-- a pair, changes none.
 pub record OnlyWritesChangeBytes : Type 0 where
   pub instruction : (own : Own) (seen : ℕ → ℕ) (regs : Registers) →
       let t = instruction_of own seen regs in
       ChangesAt (λ at. (t.end ≡ Went) × IsTrue (list_any (stores_at at) t.accesses)) own (with_write own t)
   pub flag : (place byte : ℕ) (own : Own)
       → ChangesAt (λ at. flag_place place own ≡ Some at) own (with_flag place byte own)
-  pub written : (driver number offset : ℕ) (bytes : List ℕ) (own : Own) → IsWhole own →
-      ChangesAt (IsInside (held ReadWrite driver number own)) own (with_written driver number offset bytes own)
+  pub written : (kind : PairKind) (driver number offset : ℕ) (bytes : List ℕ) (own : Own) →
+      IsTrue (is_writable kind) → IsWhole own →
+      ChangesAt (IsInside (held kind driver number own)) own (with_written kind driver number offset bytes own)
   pub entering : (driver : ℕ) (own : Own) → KeepsBytes own (own_entering driver own)
   pub handing : (kind : PairKind) (driver number : ℕ) (pair : ℕ × ℕ) (own : Own) →
       KeepsBytes own (handing kind driver number pair own)

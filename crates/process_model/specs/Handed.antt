@@ -1,12 +1,14 @@
 -- What a process hands to a driver: the upcalls that it subscribes and the buffers that it allows (TRD 104, "Subscribe",
--- "Read-Only Allow", "Read-Write Allow"; Levy et al., SOSP 2017, section 4).
-use Rattle.std.specs.Prelude.{ℕ, ◌+◌, ◌-◌, ◌*◌, ◌/◌, ◌==◌, Bool, IsTrue, ◌||◌, max, if◌then◌else◌, List, take}
+-- "Read-Only Allow", "Read-Write Allow"; the userspace-readable allow of Tock's kernel;
+-- Levy et al., SOSP 2017, section 4).
+use Rattle.std.specs.Prelude.{ℕ, ◌+◌, ◌-◌, ◌*◌, ◌/◌, ◌==◌, Bool, IsTrue, true, ◌||◌, max, if◌then◌else◌, List, take}
 use Rattle.tk_base.specs.declared.upcall.Upcall.{Upcall as Scheduled}
 use Rattle.process_layout.specs.LayoutView.{LayoutView}
 use Rattle.process_layout.specs.Interval.{lies_within}
 use Rattle.upcall_queue.specs.Pending.{without_key}
 use Rattle.tk_base.specs.declared.kinds.PairKind.{PairKind}
-use Rattle.tk_base.specs.declared.kinds.PairKind.TheVariants.{Upcall, ReadOnly, ReadWrite}
+use Rattle.tk_base.specs.declared.kinds.PairKind.TheVariants.{Upcall, ReadOnly}
+use Rattle.tk_base.specs.Kinds.{is_buffer}
 use Rattle.grant_model.specs.Grants.{grant_of, with_grant, with_pair, pair_of, entered}
 use Rattle.grant_region.specs.Region.{fits, roomed}
 use Rattle.process_model.specs.Own.{Own}
@@ -28,7 +30,11 @@ even at = at / 2 * 2
 abbrev pub may_share : PairKind → LayoutView → ℕ × ℕ → Bool
 may_share Upcall e pair = pair.0 == 0 || lies_in_ram e (even pair.0) 4 || lies_in_flash e (even pair.0) 4
 may_share ReadOnly e pair = pair.1 == 0 || lies_in_ram e pair.0 pair.1 || lies_in_flash e pair.0 pair.1
-may_share ReadWrite e pair = pair.1 == 0 || lies_in_ram e pair.0 pair.1
+may_share writable e pair = pair.1 == 0 || lies_in_ram e pair.0 pair.1
+
+-- whether it may keep it: a buffer where it may hand it, an upcall wherever its function lies by now
+abbrev pub may_keep : PairKind → LayoutView → ℕ × ℕ → Bool
+may_keep kind e pair = if is_buffer kind then may_share kind e pair else true
 
 -- whether a driver is entered, or its grant fits
 abbrev pub has_place : ℕ → Own → Bool
@@ -52,15 +58,12 @@ raised pair e =
 
 -- the layout once a pair was handed: a buffer in RAM that has bytes raises the mark to its end, an upcall does not
 abbrev pub marked : PairKind → ℕ × ℕ → LayoutView → LayoutView
-marked Upcall pair e = e
-marked ReadOnly pair e = raised pair e
-marked ReadWrite pair e = raised pair e
+marked kind pair e = if is_buffer kind then raised pair e else e
 
 -- another upcall of a driver and number takes the pending ones away
 abbrev pub still_pending : PairKind → ℕ → ℕ → List Scheduled → List Scheduled
-still_pending Upcall driver number pending = without_key driver number pending
-still_pending ReadOnly driver number pending = pending
-still_pending ReadWrite driver number pending = pending
+still_pending kind driver number pending =
+    if is_buffer kind then pending else without_key driver number pending
 
 -- a process that has handed a pair to a driver: the driver is entered, the pair is the new one, and all else stays
 abbrev pub handing : PairKind → ℕ → ℕ → ℕ × ℕ → Own → Own
@@ -74,5 +77,4 @@ handing kind driver number pair own =
 
 -- every buffer that a process has allowed a driver lies where it may still be allowed
 pub record HoldsInPlace (own : Own) : Type 0 where
-  pub read_only : (driver number : ℕ) → IsTrue (may_share ReadOnly own.layout (held ReadOnly driver number own))
-  pub read_write : (driver number : ℕ) → IsTrue (may_share ReadWrite own.layout (held ReadWrite driver number own))
+  pub each : (kind : PairKind) (driver number : ℕ) → IsTrue (may_keep kind own.layout (held kind driver number own))

@@ -6,7 +6,8 @@ use Rattle.std.specs.Prelude.{slice_range, Option, None, Some, option_map}
 use Rattle.std.specs.List.{range_with_len}
 use Rattle.tk_base.specs.declared.upcall.Upcall.{Upcall as Scheduled}
 use Rattle.upcall_queue.specs.Pending.{scheduled}
-use Rattle.tk_base.specs.declared.kinds.PairKind.TheVariants.{Upcall, ReadWrite}
+use Rattle.tk_base.specs.declared.kinds.PairKind.{PairKind}
+use Rattle.tk_base.specs.declared.kinds.PairKind.TheVariants.{Upcall}
 use Rattle.grant_values.specs.Values.{KeptValue}
 use Rattle.grant_model.specs.Grants.{grant_of, with_grant, with_value}
 use Rattle.process_model.specs.Own.{Own}
@@ -65,6 +66,6 @@ abbrev pub own_written : ℕ × ℕ → ℕ → List ℕ → Own → Own
 own_written buffer offset bytes own =
     record own { ram = over own.ram (buffer.0 - own.layout.start + offset) (fitting buffer offset bytes) }
 
--- the same of the read-write buffer that the process has allowed a driver
-abbrev pub with_written : ℕ → ℕ → ℕ → List ℕ → Own → Own
-with_written driver number offset bytes own = own_written (held ReadWrite driver number own) offset bytes own
+-- the same of the buffer of a kind and a number that the process has allowed a driver
+abbrev pub with_written : PairKind → ℕ → ℕ → ℕ → List ℕ → Own → Own
+with_written kind driver number offset bytes own = own_written (held kind driver number own) offset bytes own

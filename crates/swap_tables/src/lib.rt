@@ -8,5 +8,5 @@ mod pairs;
 mod swaps;
 
 pub use handover::Handover;
-pub use pairs::{buffer_ro, buffer_rw, upcall};
-pub use swaps::{swap_ro, swap_rw, swap_upcall};
+pub use pairs::{buffer_ro, buffer_rw, buffer_ur, upcall};
+pub use swaps::{swap_ro, swap_rw, swap_upcall, swap_ur};

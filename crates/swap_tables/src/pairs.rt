@@ -1,7 +1,7 @@
 //! The pairs that a process holds.
 ghost use Rattle.std.specs.Prelude.{◌≡◌, ℕ, ◌+◌, ◌*◌, ◌/◌, ◌≤◌, List, length, slice_index, slice_set};
 ghost use Rattle.grant_values.specs.Words.{bytes_of_words, words_of};
-ghost use Rattle.tk_base.specs.declared.kinds.PairKind.TheVariants.{Upcall, ReadOnly, ReadWrite};
+ghost use Rattle.tk_base.specs.declared.kinds.PairKind.TheVariants.{Upcall, ReadOnly, ReadWrite, Readable};
 ghost use Rattle.tk_base.specs.Kinds.{pair_place};
 ghost use Rattle.swap_tables.specs.Swaps.{CanLookUp, held_pair};
 
@@ -27,6 +27,15 @@ pub fn buffer_rw(kernel: &[u8], driver: u32, counts: &Counts, number: u32) -> (u
     ensures { result ≡ held_pair ReadWrite driver number kernel.now }
 {
     pair_held(kernel, driver, counts, PairKind::ReadWrite, number)
+}
+
+/// The buffer of a number that the process has allowed the driver and may read while the kernel writes
+/// it (the userspace-readable allow of Tock's kernel), as [`buffer_ro`].
+pub fn buffer_ur(kernel: &[u8], driver: u32, counts: &Counts, number: u32) -> (u32, u32)
+    requires { CanLookUp Readable driver counts.now number kernel.now }
+    ensures { result ≡ held_pair Readable driver number kernel.now }
+{
+    pair_held(kernel, driver, counts, PairKind::Readable, number)
 }
 
 /// The upcall of a number that the process has subscribed with the driver (TRD 104, "Subscribe"):

@@ -1,6 +1,6 @@
 //! Swaps of the pairs that a process holds.
 ghost use Rattle.std.specs.Prelude.{◌≡◌, ◌<◌, ◌^◌, length, IfSome, IfNone, None};
-ghost use Rattle.tk_base.specs.declared.kinds.PairKind.TheVariants.{Upcall, ReadOnly, ReadWrite};
+ghost use Rattle.tk_base.specs.declared.kinds.PairKind.TheVariants.{Upcall, ReadOnly, ReadWrite, Readable};
 ghost use Rattle.grant_model.specs.Grants.{grant_of};
 ghost use Rattle.grant_model.specs.Encoding.{EncodesGrants, decode_grants};
 ghost use Rattle.grant_region.specs.Region.{parts_of};
@@ -63,6 +63,33 @@ pub fn swap_rw(
 {
     let handover = Handover {
         kind: PairKind::ReadWrite,
+        driver,
+        counts: *counts,
+        number,
+        pair,
+    };
+    swap_pair(layout, app, kernel, handover)
+}
+
+/// Swaps the buffer of a number that the process has allowed the driver and may read while the kernel
+/// writes it (the userspace-readable allow of Tock's kernel): the new one's address, and its size in
+/// bytes. All else is as for [`swap_ro`].
+pub fn swap_ur(
+    layout: &mut Layout,
+    app: &mut [u8],
+    kernel: &mut [u8],
+    driver: u32,
+    counts: &Counts,
+    number: u32,
+    pair: (u32, u32),
+) -> Result<(u32, u32), NoRoom>
+    requires { CanSwap (handing_over Readable driver counts.now number pair)
+        (parts_of layout.old app.old kernel.old) }
+    ensures { SwapOutcome (handing_over Readable driver counts.now number pair)
+        (parts_of layout.old app.old kernel.old) (parts_of layout.new app.new kernel.new) result }
+{
+    let handover = Handover {
+        kind: PairKind::Readable,
         driver,
         counts: *counts,
         number,

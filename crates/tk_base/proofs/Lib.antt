@@ -1,2 +1,3 @@
+pub mod Ranks
 mod Puts
 mod Stores

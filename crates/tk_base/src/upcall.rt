@@ -37,7 +37,7 @@ pub struct Counts {
     pub ro: u32,
     /// Read-write buffers that can be allowed.
     pub rw: u32,
-    /// Buffers that can be allowed which the process may read while the kernel writes them: no driver has one yet.
+    /// Buffers that can be allowed which the process may read while the kernel writes them.
     pub ur: u32,
     /// Bytes of the value that the driver keeps.
     pub value: u32,

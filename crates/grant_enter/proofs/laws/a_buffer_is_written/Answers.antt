@@ -4,8 +4,8 @@ use Rattle.grant_enter.proofs.Writing.{buffer_written}
 use Rattle.grant_enter.proofs.laws.a_buffer_is_written.Goals as goal
 
 pub returns : goal.returns
-returns c = λ e n bytes l long.
-    let w = buffer_written e.driver n e.counts e.memory.now e.seat.now l bytes long in
+returns c = λ kind n e bytes can l long.
+    let w = buffer_written kind can e.driver n e.counts e.memory.now e.seat.now l bytes long in
     record {
       own = w.own;
       lent = still_lent e.driver e.counts e.memory.now e.seat.now l _ e.seat.now w.serves;

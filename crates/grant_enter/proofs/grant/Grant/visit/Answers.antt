@@ -33,7 +33,7 @@ invariant_of-home g c =
 
 pub returns-clause-visits : goal.returns-clause-visits
 returns-clause-visits g c =
-    let same : c.args.self.now.counts ≡ counting g.row.UP g.row.RO g.row.RW g.T.GrantValue.SIZE = search rules in
+    let same : c.args.self.now.counts ≡ counting g.row.UP g.row.RO g.row.RW g.row.UR g.T.GrantValue.SIZE = search rules in
     subst (λ (counts : Counts). Visits (grants_of c.args.self.now.driver counts g.T.GrantValue.kept)
     (g.V.Visit.leaves c.args.visitor) c.args.id.life c.args.home.now.flash (own_of c.args.home.now c.args.id.slot)
     c.visit_seat.result (own_of (homes_of (with_seat c.home.inside c.visit_seat.new.memory c.index.result c.visit_seat.new.seat))
