@@ -13,15 +13,16 @@ use Rattle.grant_enter.specs.declared.visit.Stale.{Stale}
 use Rattle.grant_enter.specs.Seen.{Seen}
 use Rattle.grant_enter.specs.Visits.{Visits, grants_of, is_stale}
 use Rattle.driver_model.specs.Alarm.{alarm_driver, answered, armed_in, due_alarm, expiration, fired, fired_if, if_due}
-use Rattle.driver_model.specs.Alarm.{with_alarm}
+use Rattle.driver_model.specs.Alarm.{showing, with_alarm}
 
 -- what a visitor that fires leaves
 abbrev Fires : {A : Type 0} → ℕ → ℕ → (Alarm → Seen → A → Alarm → Own → Type 0) → Type 0
 Fires now expires leaves = (value : Alarm) (seen : Seen) (answer : _) (value' : Alarm) (own : Own)
     → leaves value seen answer value' own
-    → (value' ≡ record { armed = None }) × (own ≡ own_scheduled seen.driver 0 (now ∷ expires ∷ 0 ∷ []) seen.own)
+    → (value' ≡ record { armed = None })
+    × (own ≡ own_scheduled seen.driver 0 (now ∷ expires ∷ 0 ∷ []) (showing now seen.own))
 
-not_stale : (b : Bool) → b ≡ true → b ≡ false → ⊥
+pub not_stale : (b : Bool) → b ≡ true → b ≡ false → ⊥
 not_stale b e f = cc
 
 nothing_due : (b : Bool) (alarm : Armed) → ◌≡◌ {A = Option Armed} (cond b None None) (Some alarm) → ⊥
@@ -47,9 +48,10 @@ fires now expires driver life counts flash alarm old new leaves (Ok (Some answer
     v.after
     ∙ ap (λ (d : ℕ). with_kept d (AlarmValue v.value) v.own) zero
     ∙ ap (λ (a : Alarm). with_kept alarm_driver (AlarmValue a) v.own) left.0
-    ∙ ap (with_alarm None) (left.1 ∙ ap (λ (d : ℕ). own_scheduled d 0 (now ∷ expires ∷ 0 ∷ []) old) zero
-    ∙ ap (λ (e : ℕ). own_scheduled alarm_driver 0 (now ∷ e ∷ 0 ∷ []) old) expires_is)
-    ∙ keeping_commutes alarm_driver (AlarmValue (record { armed = None })) (fired now alarm old).schedules old
+    ∙ ap (with_alarm None) (left.1 ∙ ap (λ (d : ℕ). own_scheduled d 0 (now ∷ expires ∷ 0 ∷ []) (showing now old)) zero
+    ∙ ap (λ (e : ℕ). own_scheduled alarm_driver 0 (now ∷ e ∷ 0 ∷ []) (showing now old)) expires_is)
+    ∙ keeping_commutes alarm_driver (AlarmValue (record { armed = None })) (fired now alarm old).schedules
+    (showing now old)
     ∙ ap (λ (o : Option Armed). own_after (fired_if now old o)) (sym due)
 fires now expires driver life counts flash alarm old new leaves (Ok None) says zero expires_is present due visits =
     absurd (none_kept now old alarm (subst (λ (d : ℕ). kept d old ≡ None) zero visits.1) due)

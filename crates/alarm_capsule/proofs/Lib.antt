@@ -1,2 +1,3 @@
 mod Firing
+mod Showing
 mod Slots

@@ -20,7 +20,8 @@ pub struct AlarmCapsule;
 impl AlarmCapsule {
     /// Serves a command of the process of an id to the alarm, at a tick of the clock (TRD 104, "Command"): the reply,
     /// and the rule that refuses it, if one does. 0 asks whether the driver is there; 1 for its ticks a second, 2 for
-    /// the clock; 3 stops the alarm, which is refused with [`CallRule::Nothing`] where none is armed; 5 arms it `a2`
+    /// the clock, which it also shows in the readable buffer 0 that the process has allowed, in four bytes, the lowest
+    /// first, as many as fit; 3 stops the alarm, which is refused with [`CallRule::Nothing`] where none is armed; 5 arms it `a2`
     /// ticks from now on, and 6 `a3` ticks from the reference `a2` on, with the tick of the expiration in the reply,
     /// or refused with [`CallRule::NoRoom`]. Any other number is refused with [`CallRule::NoCommand`]. Nothing of
     /// another process changes, and nothing at all where it is refused.
@@ -41,8 +42,8 @@ impl AlarmCapsule {
         reply_of(obey(home, now, id, number, a2, a3))
     }
 
-    /// The alarm of the lowest slot whose alarm is due at a tick of the clock fires: it is disarmed, and upcall 0 is
-    /// scheduled with that tick and its expiration. The answer is whose alarm it was, and the tick. [`NotReady`] comes
+    /// The alarm of the lowest slot whose alarm is due at a tick of the clock fires: it is disarmed, the clock is shown
+    /// as by command 2, and upcall 0 is scheduled with that tick and its expiration. The answer is whose alarm it was, and the tick. [`NotReady`] comes
     /// exactly where no alarm of a process that lives is due, and then nothing changes. Nothing of another slot
     /// changes.
     // Inlined, an answer that its caller does not read is not made.

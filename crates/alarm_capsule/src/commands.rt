@@ -2,10 +2,10 @@
 ghost use Rattle.std.specs.Prelude.{◌≡◌, ◌+◌, ◌%◌, ◌<◌, ◌^◌, false, length, is_some};
 ghost use Rattle.grant_enter.specs.Homes.{own_of, ChangesOnly};
 ghost use Rattle.driver_requests.specs.Asking.{IsPresent};
-ghost use Rattle.driver_model.specs.Alarm.{alarm_in, arming, command, expiration, stopping};
+ghost use Rattle.driver_model.specs.Alarm.{alarm_in, arming, command, expiration, showing, stopping};
 ghost use Rattle.alarm_capsule.specs.Answers.{as_commanded};
 
-use crate::visits::{Arm, Stop, alarms};
+use crate::visits::{Arm, Show, Stop, alarms};
 use grant_enter::Home;
 use grant_values::{Alarm, Armed};
 use syscall_abi::Reply;
@@ -57,6 +57,15 @@ fn stop(home: &mut Home, id: ProcessId) -> Result<Reply, CallRule>
     Ok(Reply::Success)
 }
 
+/// Shows the clock to a process, where it has a buffer for that.
+fn show(home: &mut Home, id: ProcessId, now: u32)
+    requires { IsPresent home.old id }
+    ensures shown { own_of home.new id.slot ≡ showing now (own_of home.old id.slot) }
+    ensures rest { ChangesOnly id.slot home.old home.new }
+{
+    let _ = alarms().visit(home, id, Show { now });
+}
+
 /// A command of the process of an id to the alarm, at a tick of the clock: the reply, or the rule that refuses it.
 #[tactic(auto, unfolding(driver_model::specs::Alarm::command, driver_model::specs::Alarm::commands))]
 pub(crate) fn obey(
@@ -75,7 +84,10 @@ pub(crate) fn obey(
     match number {
         0 => Ok(Reply::Success),
         1 => Ok(Reply::SuccessU32(FREQUENCY)),
-        2 => Ok(Reply::SuccessU32(now)),
+        2 => {
+            show(home, id, now);
+            Ok(Reply::SuccessU32(now))
+        }
         3 => stop(home, id),
         5 => arm(
             home,

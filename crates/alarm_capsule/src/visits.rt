@@ -1,16 +1,20 @@
 //! What the alarm does with the value that a process keeps for it.
-ghost use Rattle.std.specs.Prelude.{◌≡◌};
-ghost use Rattle.driver_model.specs.Alarm.{alarm_driver};
+ghost use Rattle.std.specs.Prelude.{◌≡◌, ◌<◌};
+ghost use Rattle.driver_model.specs.Alarm.{alarm_driver, showing};
+ghost use Rattle.grant_enter.specs.Seen.{Framed, IsLent, own_entered, seen};
 
-use grant_enter::{Entered, Grant, Visit, frames_join};
+use grant_enter::{Entered, Grant, Visit, a_buffer_is_written, buffers_are_whole, frames_join, put_from};
 use grant_values::{Alarm, Armed, Driver};
 
 /// The grants that processes keep for the alarm.
+pub(crate) type Alarms = Grant<Alarm, 1, 0, 0, 1>;
+
+/// Those that there are.
 #[tactic(auto, unfolding(grant_values::specs::Drivers::counts_of, grant_values::specs::Drivers::drivers))]
-pub(crate) fn alarms() -> Grant<Alarm, 1, 0, 0>
+pub(crate) fn alarms() -> Alarms
     ensures { result.driver ≡ alarm_driver }
 {
-    Grant::of(Driver::Alarm.number())
+    Alarms::of(Driver::Alarm.number())
 }
 
 /// Arms an alarm, in place of the one before.
@@ -55,7 +59,44 @@ impl Visit<Alarm> for Stop {
     }
 }
 
-/// Fires the alarm: it is stopped, and its upcall tells the clock and the expiration.
+/// Shows the clock to a process, in the buffer that it reads.
+fn show(entered: &mut Entered<'_>, now: u32)
+    requires lent { IsLent entered.old }
+    requires driver { (seen entered.old).driver ≡ alarm_driver }
+    requires number { 0 < (seen entered.old).counts.ur }
+    ensures own { own_entered entered.new ≡ showing now (own_entered entered.old) }
+    // what a visitor owes
+    ensures lent { IsLent entered.new }
+    ensures framed { Framed entered.old entered.new }
+{
+    a_buffer_is_written();
+    buffers_are_whole();
+    put_from(entered.readable(0), 0, &now.to_le_bytes());
+}
+
+/// Shows the clock.
+#[derive(Drop)]
+pub(crate) struct Show {
+    pub now: u32,
+}
+
+impl Visit<Alarm> for Show {
+    ghost use Rattle.std.specs.Prelude.{◌≡◌, ◌<◌};
+    ghost use Rattle.driver_model.specs.Alarm.{alarm_driver, showing};
+
+    type Answer = ();
+
+    ghost asks = { λ shows value seen. (seen.driver ≡ alarm_driver) × (0 < seen.counts.ur) };
+
+    ghost leaves = { λ shows value seen answer value' own.
+        (value' ≡ value) × (own ≡ showing shows.now seen.own) };
+
+    fn run(self, _value: &mut Alarm, entered: &mut Entered<'_>) {
+        show(entered, self.now);
+    }
+}
+
+/// Fires the alarm: it is stopped, the clock is shown, and its upcall tells the clock and the expiration.
 #[derive(Drop)]
 pub(crate) struct Fire {
     pub now: u32,
@@ -65,16 +106,21 @@ pub(crate) struct Fire {
 impl Visit<Alarm> for Fire {
     ghost use Rattle.std.specs.Prelude.{◌≡◌, ◌+◌, ◌<◌, ◌^◌, [], ◌∷◌, None};
     ghost use Rattle.process_model.specs.Served.{own_scheduled};
+    ghost use Rattle.driver_model.specs.Alarm.{alarm_driver, showing};
 
     type Answer = ();
 
-    ghost asks = { λ fire value seen. (0 < seen.counts.upcalls) × (seen.own.inbox.dropped + 1 < 2 ^ 32) };
+    ghost asks = { λ fire value seen. (seen.driver ≡ alarm_driver) × (0 < seen.counts.ur)
+        × (0 < seen.counts.upcalls) × (seen.own.inbox.dropped + 1 < 2 ^ 32) };
 
     ghost leaves = { λ fire value seen answer value' own. (value' ≡ record { armed = None })
-        × (own ≡ own_scheduled seen.driver 0 (fire.now ∷ fire.expiration ∷ 0 ∷ []) seen.own) };
+        × (own ≡ own_scheduled seen.driver 0 (fire.now ∷ fire.expiration ∷ 0 ∷ [])
+        (showing fire.now seen.own)) };
 
     fn run(self, value: &mut Alarm, entered: &mut Entered<'_>) {
+        frames_join();
         value.armed = None;
+        show(entered, self.now);
         entered.schedule(0, [self.now, self.expiration, 0]);
     }
 }

@@ -33,6 +33,7 @@ use Rattle.driver_model.specs.Random.{randoms}
 use Rattle.driver_model.specs.Storage.{storages}
 use Rattle.driver_model.specs.Requests.{RequestKind}
 use Rattle.driver_model.specs.Lines.{has_waiting}
+use Rattle.process_model.proofs.Changes.{keeps_none}
 use Rattle.process_model.specs.Pairs.{OnlyHandingChangesPairs}
 use Rattle.driver_model.specs.Keeping.{IsInOrder, IsSettled}
 use Rattle.kernel_model.specs.Wholes.{HasWholeOwn}
@@ -274,7 +275,7 @@ whole_first law storage flash low r o =
         record {
           order = places;
           bytes = length-replicate (e.kernel_break - e.start) 0;
-          buffers = record { read_only = λ driver number. refl; read_write = λ driver number. refl };
+          buffers = record { each = λ kind driver number. keeps_none kind _ };
           shape = (law.none _ refl).shape;
         })
 

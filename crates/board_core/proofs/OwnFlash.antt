@@ -30,7 +30,7 @@ sent_of_own flash own law lies holds =
       completed = false;
     })
     (waiting_in console_writes own)) (unsent own))
-    (law flash own (held ReadOnly console 1 own) lies (holds.read_only console 1))
+    (law flash own (held ReadOnly console 1 own) lies (holds.each ReadOnly console 1))
 
 -- what is written over its storage
 moved_alike : (kind : StorageKind) (flash object : ℕ → ℕ) (bytes : List ℕ) (request : StorageRequest) (own : Own)
@@ -70,4 +70,4 @@ pub answered_of_own : (fault : Bool) (flash bytes : List ℕ) (own : Own) → Re
     ≡ answered fault (object_byte own.object (object_in flash own.object)) bytes own
 answered_of_own fault flash bytes own law lies holds =
     answered_alike fault (flash_byte flash) (object_byte own.object (object_in flash own.object)) bytes own
-    (law flash own (held ReadOnly storage.storage 0 own) lies (holds.read_only storage.storage 0))
+    (law flash own (held ReadOnly storage.storage 0 own) lies (holds.each ReadOnly storage.storage 0))

@@ -3,13 +3,14 @@ use Rattle.std.specs.Prelude.{◌≡◌, ℕ, List, [], ◌∷◌, drop, length,
 use Rattle.board_devices.specs.SerialLine.{SerialLine}
 use Rattle.grant_values.specs.declared.console.Console.{Console}
 use Rattle.grant_values.specs.declared.console.WaitingRead.{WaitingRead}
+use Rattle.tk_base.specs.declared.kinds.PairKind.TheVariants.{ReadWrite}
 use Rattle.process_model.specs.Own.{Own}
 use Rattle.process_model.specs.Served.{own_scheduled, with_written}
 use Rattle.driver_model.specs.Console.{console, bytes_moving, read_status}
 
 -- a process to the start of whose buffer they were moved
 abbrev pub written_input : List ℕ → Own → Own
-written_input bytes own = with_written console 1 0 bytes own
+written_input bytes own = with_written ReadWrite console 1 0 bytes own
 
 -- and that is told of them
 abbrev pub told_input : List ℕ → Own → Own

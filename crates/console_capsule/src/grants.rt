@@ -15,9 +15,12 @@ pub(crate) const READ_ONLY: usize = 2;
 pub(crate) const READ_WRITE: usize = 2;
 
 /// The grants that processes keep for the console.
+pub(crate) type Consoles = Grant<Console, UPCALLS, READ_ONLY, READ_WRITE, 0>;
+
+/// Those that there are.
 #[tactic(auto, unfolding(grant_values::specs::Drivers::counts_of, grant_values::specs::Drivers::drivers))]
-pub(crate) fn consoles() -> Grant<Console, UPCALLS, READ_ONLY, READ_WRITE>
+pub(crate) fn consoles() -> Consoles
     ensures { result.driver ≡ console }
 {
-    Grant::of(Driver::Console.number())
+    Consoles::of(Driver::Console.number())
 }

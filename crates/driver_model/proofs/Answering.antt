@@ -3,6 +3,7 @@ use Rattle.std.proofs.Common.{◌≡◌, ℕ, ◌+◌, ◌-◌, ◌==◌, nat_le
 use Rattle.std.proofs.Common.{None, Some, is_some, is_none, option_map, unwrap_or, refl, ap, sym, ◌∙◌, subst}
 use Rattle.std.proofs.Math.Bool.{and-false}
 use Rattle.grant_model.specs.Grants.{Grant, grant_of}
+use Rattle.tk_base.specs.declared.kinds.PairKind.TheVariants.{ReadWrite}
 use Rattle.grant_values.specs.declared.alarm.Armed.{Armed}
 use Rattle.grant_values.specs.declared.console.WaitingRead.{WaitingRead}
 use Rattle.grant_values.specs.declared.console.WaitingWrite.{WaitingWrite}
@@ -29,7 +30,7 @@ use Rattle.driver_model.specs.Laws.{IsAtMostOneMore}
 use Rattle.driver_model.specs.Answers.{FollowsAnswer, LinesFollowAnswers, Remains, queue_left_by}
 use Rattle.driver_model.proofs.Requesting.{requesting_commutes}
 use Rattle.driver_model.proofs.Scheduled.{Serves, as_before, none_more, serves, serves_silently}
-use Rattle.driver_model.proofs.Sizes.{written_size}
+use Rattle.driver_model.proofs.Sizes.{showing_size, written_size}
 use Rattle.driver_model.proofs.Asked.{Asked, asked, told_by, asked_randoms, asked_reads, asked_stores, asked_writes}
 use Rattle.driver_model.proofs.Asked.{if_told}
 use Rattle.driver_model.proofs.Waits.{LiesWithin, Moves, each_waits, is_within, stays}
@@ -193,8 +194,8 @@ receives ring own = by_waiting (waiting_in console_reads own) refl
     by_waiting (Some read) is =
         then_told _ console_reads None
         (scheduling console.console 2 (console.read_status own ∷ length (bytes read) ∷ 0 ∷ [])
-        (with_written console.console 1 0 (bytes read) own)) own
-        (put_reads own _ (serves _ _ _ _ own (written_size console.console 1 0 (bytes read) own)) read None
+        (with_written ReadWrite console.console 1 0 (bytes read) own)) own
+        (put_reads own _ (serves _ _ _ _ own (written_size ReadWrite refl console.console 1 0 (bytes read) own)) read None
         (asks console_reads own read is))
 
 -- a step of a request for random bytes
@@ -207,8 +208,8 @@ serves_drawing : (left : ℕ) (request : RandomRequest) (own : Own) (word : Opti
     → Serves own (own_after (random.drawing left request own word).step)
 serves_drawing left request own None = serves _ _ _ own.ram own (as_before own)
 serves_drawing left request own (Some word) =
-    serves_if own (nat_le left 4) _ _ (serves _ _ _ _ own (written_size random.random 0 request.written _ own))
-    (serves_silently _ own (written_size random.random 0 request.written _ own))
+    serves_if own (nat_le left 4) _ _ (serves _ _ _ _ own (written_size ReadWrite refl random.random 0 request.written _ own))
+    (serves_silently _ own (written_size ReadWrite refl random.random 0 request.written _ own))
 
 pub serves_progress : (word : Option ℕ) (request : RandomRequest) (own : Own)
     → Serves own (own_after (random.progress word request own).step)
@@ -240,7 +241,7 @@ serves_served fault flash bytes request own = by_fault fault request.kind
         → Serves own (own_after (cond b (record { step = storage.completing request.kind 0 1 own; written = None })
         (storage.moving kind flash bytes request own)).step)
     by_fault true kind = serves _ _ _ own.ram own (as_before own)
-    by_fault false Read = serves _ _ _ _ own (written_size storage.storage 0 0 _ own)
+    by_fault false Read = serves _ _ _ _ own (written_size ReadWrite refl storage.storage 0 0 _ own)
     by_fault false Write = serves _ _ _ own.ram own (as_before own)
 
 stores : (fault : Bool) (flash : ℕ → ℕ) (bytes : List ℕ) (own : Own)
@@ -267,8 +268,8 @@ fires now own = by_due (alarm.due_alarm now own)
     by_due (Some armed) =
         subst (FollowsAnswer (λ line. false) own)
         (keeping_commutes alarm.alarm_driver (AlarmValue (record { armed = None }))
-        (alarm.fired now armed own).schedules own)
-        (stops_alarm own _ (serves _ _ _ own.ram own (as_before own)))
+        (alarm.fired now armed own).schedules (alarm.showing now own))
+        (stops_alarm own _ (serves _ _ _ _ own (showing_size now own)))
 
 pub lines_follow_answers : LinesFollowAnswers
 lines_follow_answers = record { writes = sends; reads = receives; randoms = draws; stores = stores; alarms = fires }

@@ -1,10 +1,10 @@
 -- The bytes of a process's own after commands and answers.
-use Rattle.std.proofs.Common.{◌≡◌, ◌⊎◌, inl, ℕ, ◌+◌, ◌-◌, Bool, true, false, cond, nat_le, List, [], ◌∷◌}
+use Rattle.std.proofs.Common.{◌≡◌, ◌⊎◌, inl, inr, ℕ, ◌+◌, ◌-◌, Bool, true, false, cond, nat_le, List, [], ◌∷◌}
 use Rattle.std.proofs.Common.{length, Option, None, Some, refl, sym, subst}
 use Rattle.std.specs.Prelude.{min, slice_range}
 use Rattle.tk_base.specs.Call.{code_of}
 use Rattle.tk_base.specs.declared.call.ErrorCode.TheVariants.{CANCEL}
-use Rattle.tk_base.specs.declared.kinds.PairKind.TheVariants.{ReadOnly}
+use Rattle.tk_base.specs.declared.kinds.PairKind.TheVariants.{ReadOnly, ReadWrite, Readable}
 use Rattle.grant_values.specs.declared.alarm.Armed.{Armed}
 use Rattle.grant_values.specs.declared.random.RandomRequest.{RandomRequest}
 use Rattle.grant_values.specs.declared.storage.StorageKind.{StorageKind}
@@ -24,7 +24,10 @@ use Rattle.driver_model.specs.Storage as storage
 use Rattle.driver_model.specs.Storage.{storages}
 use Rattle.driver_model.specs.Requests.{RequestKind, keeping_request, waiting_in, with_request}
 use Rattle.driver_model.specs.Steps.{DriverStep, own_after, silently}
-use Rattle.driver_model.specs.Bytes.{AnswersWriteInBuffers, CommandsKeepBytes, input_buffer, stored_buffer, word_buffer}
+use Rattle.driver_model.specs.Bytes.{AnswersWriteInBuffers, CommandsWriteInBuffers, ShowsClock, clock_buffer, input_buffer, shows_clock}
+use Rattle.driver_model.specs.Bytes.{stored_buffer, word_buffer}
+use Rattle.driver_model.specs.Commands.{Commanded}
+use Rattle.driver_model.specs.Drivers.{CommandContext}
 use Rattle.driver_model.proofs.Outcomes.{of_command}
 use Rattle.driver_model.proofs.Requesting.{requesting_commutes}
 use Rattle.driver_model.proofs.Scheduled.{schedules}
@@ -61,26 +64,45 @@ keeps_kept : {R : Type 0} (request_kind : RequestKind R) (request : Option R) (s
 keeps_kept request_kind request step own =
     subst (KeepsBytes own) (requesting_commutes request_kind request step.schedules step.own)
 
-pub commands_keep_bytes : OnlyWritesChangeBytes → CommandsKeepBytes
-commands_keep_bytes law driver taker is around number a2 a3 own =
-    of_command (λ around own c. KeepsBytes own (own_after c.step)) driver taker is around number a2 a3 own (record {
-      refuses = λ rule at before after. refl;
-      replies = λ reply at before after. refl;
-      lights = λ led switch at before after. refl;
-      arms = λ armed room. law.entering alarm.alarm_driver own;
-      stops = λ at before after. refl;
-      cancels = keeps_scheduled console.console 2 (code_of CANCEL ∷ 0 ∷ 0 ∷ []) (with_request console_reads None own);
-      writes = λ request room none. law.entering console.console own;
-      reads = λ request room none. law.entering console.console own;
-      draws = λ request room none. law.entering random.random own;
-      stores = λ request fits room none. law.entering storage.storage own;
+-- what is shown is written into its buffer
+shows : OnlyWritesChangeBytes → (now : ℕ) (own : Own) → IsWhole own
+    → ChangesAt (IsInside (clock_buffer own)) own (alarm.showing now own)
+shows law now own whole = law.written Readable alarm.alarm_driver 0 0 _ own refl whole
+
+pub commands_write_in_buffers : OnlyWritesChangeBytes → CommandsWriteInBuffers
+commands_write_in_buffers law driver taker is around number a2 a3 own whole =
+    of_command (λ around own c. Writes around own c) driver taker is around number a2 a3 own (record {
+      refuses = λ rule at before after. inl refl;
+      replies = λ reply at before after. inl refl;
+      lights = λ led switch at before after. inl refl;
+      shows = λ clock at before after. inside clock at (shows law around.now own (whole clock) at before after);
+      arms = λ armed room at before after. inl (law.entering alarm.alarm_driver own at before after);
+      stops = λ at before after. inl refl;
+      cancels = λ at before after. inl (keeps_scheduled console.console 2 (code_of CANCEL ∷ 0 ∷ 0 ∷ [])
+          (with_request console_reads None own) at before after);
+      writes = λ request room none at before after. inl (law.entering console.console own at before after);
+      reads = λ request room none at before after. inl (law.entering console.console own at before after);
+      draws = λ request room none at before after. inl (law.entering random.random own at before after);
+      stores = λ request fits room none at before after. inl (law.entering storage.storage own at before after);
     })
+  where
+    Writes : CommandContext → Own → Commanded → Type 0
+    Writes around own c = ChangesAt (ShowsClock driver number own c) own (own_after c.step)
+
+    inside : shows_clock driver number ≡ true → (at : ℕ)
+        → (own_byte (alarm.showing around.now own) at ≡ own_byte own at) ⊎ IsInside (clock_buffer own) at
+        → (own_byte (alarm.showing around.now own) at ≡ own_byte own at)
+        ⊎ ((shows_clock driver number ≡ true) × (true ≡ true) × IsInside (clock_buffer own) at)
+    inside clock at (inl same) = inl same
+    inside clock at (inr there) = inr (clock, refl, there)
 
 module _ (law : OnlyWritesChangeBytes) where
-  fires : (now : ℕ) (own : Own) (due : Option Armed) → KeepsBytes own (own_after (alarm.fired_if now own due))
-  fires now own None = λ at before after. refl
-  fires now own (Some armed) = keeps_scheduled alarm.alarm_driver 0 (now ∷ alarm.expiration armed ∷ 0 ∷ [])
-      (alarm.with_alarm None own)
+  fires : (now : ℕ) (own : Own) (due : Option Armed) → IsWhole own
+      → ChangesAt (IsInside (clock_buffer own)) own (own_after (alarm.fired_if now own due))
+  fires now own None whole = λ at before after. inl refl
+  fires now own (Some armed) whole =
+      then_scheduled (IsInside (clock_buffer own)) alarm.alarm_driver 0 (now ∷ alarm.expiration armed ∷ 0 ∷ []) own
+      (alarm.with_alarm None (alarm.showing now own)) (shows law now own whole)
 
   drawing : (left : ℕ) (request : RandomRequest) (own : Own) (word : Option ℕ) → IsWhole own
       → ChangesAt (IsInside (word_buffer own)) own (own_after (random.drawing left request own word).step)
@@ -92,7 +114,7 @@ module _ (law : OnlyWritesChangeBytes) where
       o = random.with_word word left request own
 
       written : ChangesAt (IsInside (word_buffer own)) own o
-      written = law.written random.random 0 _ _ own whole
+      written = law.written ReadWrite random.random 0 _ _ own refl whole
 
       by_left : (b : Bool)
           → ChangesAt (IsInside (word_buffer own)) own
@@ -134,7 +156,7 @@ module _ (law : OnlyWritesChangeBytes) where
       let count = min request.length (stored_buffer own).1 in
       let copied = slice_range bytes request.offset (request.offset + count) in
       then_scheduled (IsInside (stored_buffer own)) storage.storage 0 (count ∷ 0 ∷ 0 ∷ []) own
-      (with_written storage.storage 0 0 copied own) (law.written storage.storage 0 0 copied own whole)
+      (with_written ReadWrite storage.storage 0 0 copied own) (law.written ReadWrite storage.storage 0 0 copied own refl whole)
   moving Write flash bytes request own whole =
       stays_scheduled (IsInside (stored_buffer own)) storage.storage 1
       (min request.length (held ReadOnly storage.storage 0 own).1 ∷ 0 ∷ 0 ∷ []) own
@@ -150,7 +172,7 @@ module _ (law : OnlyWritesChangeBytes) where
   pub answers_write_in_buffers : AnswersWriteInBuffers
   unfolding alarm.answered random.answered storage.answered
   answers_write_in_buffers = record {
-    alarmed = λ now own. fires now own (alarm.due_alarm now own);
+    alarmed = λ now own whole. fires now own (alarm.due_alarm now own) whole;
     taken = λ own. if_waits (λ (s : DriverStep). KeepsBytes own (own_after s)) (console.taking own) (silently own)
         (waiting_in console_writes own)
         (λ at before after. refl) (λ write at before after. refl);
@@ -165,8 +187,8 @@ module _ (law : OnlyWritesChangeBytes) where
         (waiting_in console_reads own) (λ at before after. inl refl)
         (λ read.
         then_scheduled (IsInside (input_buffer own)) console.console 2 (console.read_status own ∷ length bytes ∷ 0 ∷ [])
-        own (with_request console_reads None (with_written console.console 1 0 bytes own))
-        (law.written console.console 1 0 bytes own whole));
+        own (with_request console_reads None (with_written ReadWrite console.console 1 0 bytes own))
+        (law.written ReadWrite console.console 1 0 bytes own refl whole));
     word = λ word own whole.
         if_waits (λ (a : random.RandomAnswered). ChangesAt (IsInside (word_buffer own)) own (own_after a.step)) _ _
         (waiting_in randoms own) (λ at before after. inl refl)

@@ -7,19 +7,19 @@ use Rattle.tk_base.specs.declared.limits.TheConstants.{SLOT_COUNT}
 use Rattle.grant_values.specs.declared.alarm.Armed.{Armed}
 use Rattle.process_model.specs.Own.{Own}
 use Rattle.driver_model.specs.Alarm.{alarm_driver, answered, due_alarm, due_slot, expiration, fired_if, has_due}
-use Rattle.driver_model.specs.Alarm.{with_alarm}
+use Rattle.driver_model.specs.Alarm.{showing, with_alarm}
 use Rattle.driver_model.specs.Steps.{own_after}
 use Rattle.driver_model.specs.Laws.{AnAlarmLeavesTheRest, DueSlotIsThere, IsAtMostOneMore}
 use Rattle.driver_model.proofs.Scheduled.{none_more, schedules}
 
 fires : (now : ℕ) (own : Own) (alarm : Option Armed) → let o = own_after (fired_if now own alarm) in
-    (o ≡ record own { inbox = o.inbox; grants = o.grants })
+    (o ≡ record own { ram = o.ram; inbox = o.inbox; grants = o.grants })
     × IsAtMostOneMore own.inbox.dropped o.inbox.dropped
 fires now own None = (refl, none_more own.inbox.dropped)
 fires now own (Some alarm) =
-    let q = schedules alarm_driver 0 (now ∷ expiration alarm ∷ 0 ∷ []) (with_alarm None own) in
+    let q = schedules alarm_driver 0 (now ∷ expiration alarm ∷ 0 ∷ []) (with_alarm None (showing now own)) in
     let rest = subst
-    (λ (o : Own). o ≡ record own { inbox = o.inbox; grants = o.grants }) (sym q.rest) refl in
+    (λ (o : Own). o ≡ record own { ram = o.ram; inbox = o.inbox; grants = o.grants }) (sym q.rest) refl in
     (rest, record { not_less = q.dropped.not_less; not_more = q.dropped.not_more })
 
 pub an_alarm_leaves_the_rest : AnAlarmLeavesTheRest

@@ -86,6 +86,8 @@ lines_follow_commands driver taker is around number a2 a3 own =
           (record { writes = refl; reads = refl; randoms = refl; stores = refl });
       lights = λ led switch. follows around own _ before refl refl (stays before) (λ held. held)
           (record { writes = refl; reads = refl; randoms = refl; stores = refl });
+      shows = λ is. follows around own _ before refl refl (stays before) (λ held. held)
+          (record { writes = refl; reads = refl; randoms = refl; stores = refl });
       arms = λ alarm room.
           follows around own _ before refl (arms_apart (Some alarm) (own_entering alarm_driver own)
           ∙ asked_still alarm_driver own.grants) (stays before) (λ held. held)

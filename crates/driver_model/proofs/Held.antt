@@ -6,7 +6,7 @@ use Rattle.grant_values.specs.Drivers.{cost_of}
 use Rattle.grant_values.specs.Values.{KeptValue}
 use Rattle.grant_model.specs.Grants.{Grant, entering as entering_grants, grant_of, shape_of, with_grant, with_pair}
 use Rattle.tk_base.specs.declared.kinds.PairKind.{PairKind}
-use Rattle.tk_base.specs.declared.kinds.PairKind.TheVariants.{Upcall, ReadOnly, ReadWrite}
+use Rattle.tk_base.specs.Kinds.{is_buffer}
 use Rattle.process_layout.specs.LayoutView.{LayoutView}
 use Rattle.grant_region.specs.Region.{fits, roomed}
 use Rattle.process_model.specs.Own.{Own}
@@ -98,9 +98,11 @@ raised_in_order pair own h =
 
 marked_in_order : (kind : PairKind) (pair : ℕ × ℕ) (own : Own)
     → KeepsOrder own (record own { layout = marked kind pair own.layout })
-marked_in_order Upcall pair own h = h
-marked_in_order ReadOnly pair own h = raised_in_order pair own h
-marked_in_order ReadWrite pair own h = raised_in_order pair own h
+marked_in_order kind pair own = by_test (is_buffer kind)
+  where
+    by_test : (b : Bool) → KeepsOrder own (record own { layout = cond b (raised pair own.layout) own.layout })
+    by_test true = raised_in_order pair own
+    by_test false = λ h. h
 
 pub handed_order : (kind : PairKind) (driver number : ℕ) (pair : ℕ × ℕ) (own : Own) → has_place driver own ≡ true
     → KeepsOrder own (handing kind driver number pair own)
@@ -113,9 +115,11 @@ handed_order kind driver number pair own room h =
 
 pub marked_rest : (kind : PairKind) (pair : ℕ × ℕ) (e : LayoutView)
     → marked kind pair e ≡ record e { mark = (marked kind pair e).mark }
-marked_rest Upcall pair e = refl
-marked_rest ReadOnly pair e = raised_rest pair e
-marked_rest ReadWrite pair e = raised_rest pair e
+marked_rest kind pair e = by_test (is_buffer kind)
+  where
+    by_test : (b : Bool) → cond b (raised pair e) e ≡ record e { mark = (cond b (raised pair e) e).mark }
+    by_test true = raised_rest pair e
+    by_test false = refl
 
 pub roomed_rest : (driver : ℕ) (e : LayoutView) (g : Option Grant)
     → roomed driver e g ≡ record e { kernel_break = (roomed driver e g).kernel_break }
@@ -142,6 +146,7 @@ drivers_keep = record {
     keeps = λ driver value own. refl;
     enters = λ driver value own room. ap (with_kept driver value) (entering_stays driver own);
     serves = λ driver value own o s. subst (λ (x : Own). StaysInPlace own (with_kept driver value x)) (sym s.rest) refl;
+    shows = λ own ram size. refl;
   });
   order = of_services KeepsOrder (record {
     same = λ own h. h;
@@ -150,12 +155,14 @@ drivers_keep = record {
         (entering_order driver own room h);
     serves = λ driver value own o s h. keeping_order driver value o
         (same_order own o (ap (λ (x : Own). x.layout) s.rest) (ap (λ (x : Own). costs x.grants) s.rest) h);
+    shows = λ own ram size h. same_order own _ refl refl h;
   });
   limit = of_services KeepsLimit (record {
     same = same_limit;
     keeps = λ driver value own. record { limit = λ few. few; room = λ few. refl };
     enters = λ driver value own room. record { limit = λ few. few; room = λ few. refl };
     serves = λ driver value own o s. record { limit = s.limit.limit; room = s.limit.room };
+    shows = λ own ram size. record { limit = λ few. few; room = λ few. refl };
   });
   handed = handed_order;
   handed_places = handed_places;

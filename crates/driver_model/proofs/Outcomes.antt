@@ -1,6 +1,6 @@
 -- Whatever may come of a command to any driver: the one walk over the tables of all of them.
 use Rattle.std.proofs.Common.{◌≡◌, ◌≤◌, ℕ, ◌+◌, ◌==◌, nat_le, nat_lt, Bool, true, false, cond, [], ◌∷◌, Option, None}
-use Rattle.std.proofs.Common.{Some, Ok, refl}
+use Rattle.std.proofs.Common.{Some, Ok, refl, ap, sym, ◌∙◌, eqb-true, ◌&&◌}
 use Rattle.std.proofs.lemmas.Bool.{leb-true}
 use Rattle.tk_base.specs.declared.call.CallRule.{CallRule}
 use Rattle.tk_base.specs.declared.call.CallRule.TheVariants.{Busy, Empty, NoCommand, NoRoom, Nothing, Range}
@@ -11,6 +11,8 @@ use Rattle.grant_values.specs.declared.drivers.Driver.{Driver}
 use Rattle.grant_values.specs.declared.drivers.Driver.TheVariants.{Alarm, Console, Leds, Random, Storage}
 use Rattle.grant_values.specs.declared.random.RandomRequest.{RandomRequest}
 use Rattle.grant_values.specs.declared.storage.StorageRequest.{StorageRequest}
+use Rattle.grant_values.specs.Drivers.{number_of_driver}
+use Rattle.driver_model.specs.Bytes.{shows_clock}
 use Rattle.syscall_abi.specs.declared.reply.Reply.{Reply}
 use Rattle.syscall_abi.specs.declared.reply.Reply.TheVariants.{Success, SuccessU32}
 use Rattle.process_model.specs.Own.{Own}
@@ -19,7 +21,7 @@ use Rattle.driver_model.specs.Steps.{silently}
 use Rattle.driver_model.specs.Commands.{Commanded, Leaves, Lights, Reads, Switch, On, Off, Toggle, Waits, accepting}
 use Rattle.driver_model.specs.Commands.{refusing}
 use Rattle.driver_model.specs.Requests.{RequestKind, asking, asking_beside, request_in, with_request}
-use Rattle.driver_model.specs.Alarm.{alarm_driver, alarm_in, arming, expiration, stopping, with_alarm}
+use Rattle.driver_model.specs.Alarm.{alarm_driver, alarm_in, arming, expiration, showing, stopping, with_alarm}
 use Rattle.driver_model.specs.Alarm.{command as alarm_command, commands as alarm_commands}
 use Rattle.driver_model.specs.Console.{cancelling, console_reads, console_writes, asking_to_read, dropping_read}
 use Rattle.driver_model.specs.Console.{command as console_command, commands as console_commands}
@@ -27,7 +29,7 @@ use Rattle.driver_model.specs.Leds.{switching, command as led_command, commands 
 use Rattle.driver_model.specs.Random.{randoms, command as random_command, commands as random_commands}
 use Rattle.driver_model.specs.Storage.{requesting, storages, command as storage_command, commands as storage_commands}
 use Rattle.driver_model.specs.Drivers.{CommandContext, CommandHandler, handler_by, handler_of}
-use Rattle.driver_model.proofs.Tables.{Each, commanded, taken}
+use Rattle.driver_model.proofs.Tables.{Each, EachAt, commanded, commanded_at, taken}
 
 -- a request that begins to wait
 abbrev pub begun : {R : Type 0} → RequestKind R → R → Own → Commanded
@@ -37,12 +39,13 @@ begun request_kind request own = record {
   acts = Waits request_kind.line ∷ [];
 }
 
--- what holds of each thing that may come of a command
-pub record OfEachOutcome (around : CommandContext) (own : Own) (P : Commanded → Type 0) : Type 0 where
+-- what holds of each thing that may come of a command to a driver
+pub record OfEachOutcome (driver number : ℕ) (around : CommandContext) (own : Own) (P : Commanded → Type 0) : Type 0 where
   pub refuses : (rule : CallRule) → P (refusing rule own)
   pub replies : (reply : Reply) → P (accepting reply own)
   pub lights : (led : ℕ) (switch : Switch)
       → P (record { answer = Ok Success; step = silently own; acts = Lights led switch ∷ [] })
+  pub shows : shows_clock driver number ≡ true → P (accepting (SuccessU32 around.now) (showing around.now own))
   pub arms : (alarm : Armed) → has_place alarm_driver own ≡ true
       → P (accepting (SuccessU32 (expiration alarm)) (with_alarm (Some alarm) (own_entering alarm_driver own)))
   pub stops : P (accepting Success (with_alarm None own))
@@ -75,8 +78,8 @@ by_asking : {R : Type 0} (P : Commanded → Type 0) (request_kind : RequestKind 
 by_asking P request_kind request own refuses begins =
     by_beside P request_kind (request_in request_kind own) request own refl refuses begins
 
-module _ (P : Commanded → Type 0) (around : CommandContext) (number a2 a3 : ℕ) (own : Own)
-    (each : OfEachOutcome around own P) where
+module _ (P : Commanded → Type 0) (driver : ℕ) (around : CommandContext) (number a2 a3 : ℕ) (own : Own)
+    (each : OfEachOutcome driver number around own P) where
   by_arming : (alarm : Armed) → P (arming alarm own)
   by_arming alarm = by_test P (has_place alarm_driver own) _ _ (each.arms alarm) (each.refuses NoRoom)
 
@@ -84,14 +87,21 @@ module _ (P : Commanded → Type 0) (around : CommandContext) (number a2 a3 : �
   by_stopping None = each.refuses Nothing
   by_stopping (Some alarm) = each.stops
 
-  of_alarm : P (alarm_command around.now number a2 a3 own)
-  unfolding Each alarm_command alarm_commands
-  of_alarm =
-      commanded P own (alarm_commands around.now a2 a3 own) number (each.refuses NoCommand) (
-        each.replies Success,
+  clock : number_of_driver Alarm ≡ driver → (2 == number) ≡ true → shows_clock driver number ≡ true
+  clock is two =
+      ap (λ d. d == 0 && number == 2) (sym is) ∙ ap (λ n. n == 2) (sym (eqb-true 2 number two))
+
+  of_alarm : number_of_driver Alarm ≡ driver → P (alarm_command around.now number a2 a3 own)
+  unfolding EachAt alarm_command alarm_commands
+  of_alarm is =
+      commanded_at P own (alarm_commands around.now a2 a3 own) number (each.refuses NoCommand) (
+        λ n. each.replies Success,
         (
-          each.replies (SuccessU32 1000),
-          (each.replies (SuccessU32 around.now), (by_stopping (alarm_in own), (by_arming _, (by_arming _, tt)))),
+          λ n. each.replies (SuccessU32 1000),
+          (
+            λ n. each.shows (clock is n),
+            (λ n. by_stopping (alarm_in own), (λ n. by_arming _, (λ n. by_arming _, tt))),
+          ),
         ),
       )
 
@@ -141,17 +151,17 @@ module _ (P : Commanded → Type 0) (around : CommandContext) (number a2 a3 : �
       commanded P own (storage_commands around.storage a2 a3 own) number (each.refuses NoCommand)
       (each.replies Success, (each.replies (SuccessU32 around.storage), (by_requesting _, (by_requesting _, tt))))
 
-  of_driver : (d : Driver) → P (handler_by d around number a2 a3 own)
-  of_driver Alarm = of_alarm
-  of_driver Console = of_console
-  of_driver Leds = of_leds
-  of_driver Random = of_random
-  of_driver Storage = of_storage
+  of_driver : (d : Driver) → number_of_driver d ≡ driver → P (handler_by d around number a2 a3 own)
+  of_driver Alarm is = of_alarm is
+  of_driver Console is = of_console
+  of_driver Leds is = of_leds
+  of_driver Random is = of_random
+  of_driver Storage is = of_storage
 
 -- of any command to any driver
 pub of_command : (P : CommandContext → Own → Commanded → Type 0) (driver : ℕ) (taker : CommandHandler)
     → handler_of driver ≡ Some taker → (around : CommandContext) (number a2 a3 : ℕ) (own : Own)
-    → OfEachOutcome around own (P around own) → P around own (taker around number a2 a3 own)
+    → OfEachOutcome driver number around own (P around own) → P around own (taker around number a2 a3 own)
 of_command P driver taker is around number a2 a3 own each =
     taken (λ t. P around own (t around number a2 a3 own)) driver taker is
-    (of_driver (P around own) around number a2 a3 own each)
+    (of_driver (P around own) driver around number a2 a3 own each)

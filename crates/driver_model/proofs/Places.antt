@@ -47,6 +47,7 @@ commands_stay_in_place driver taker is around number a2 a3 own =
       refuses = λ rule. refl;
       replies = λ reply. refl;
       lights = λ led switch. refl;
+      shows = λ is. refl;
       arms = λ alarm room. ap (with_alarm (Some alarm)) (entering_stays 0 own);
       stops = refl;
       cancels = subst (StaysInPlace own) (sym (cancels own).rest) refl;
@@ -64,6 +65,7 @@ command_drops_at_most_one driver taker around number a2 a3 own is =
       refuses = λ rule. none_more own.inbox.dropped;
       replies = λ reply. none_more own.inbox.dropped;
       lights = λ led switch. none_more own.inbox.dropped;
+      shows = λ is. none_more own.inbox.dropped;
       arms = λ alarm room. none_more own.inbox.dropped;
       stops = none_more own.inbox.dropped;
       cancels = record { not_less = (cancels own).dropped.not_less; not_more = (cancels own).dropped.not_more };

@@ -30,6 +30,7 @@ refused_by_any_driver driver taker around number a2 a3 own rule is e =
       refuses = keeps_refused own;
       replies = λ reply. keeps_accepted own _ reply _;
       lights = λ led switch. keeps_accepted own _ Success _;
+      shows = λ is. keeps_accepted own _ _ _;
       arms = λ alarm room. keeps_accepted own _ _ _;
       stops = keeps_accepted own _ Success _;
       cancels = keeps_accepted own _ Success _;

@@ -1,5 +1,6 @@
 -- The one walk over all that drivers do to a process.
-use Rattle.std.proofs.Common.{◌≡◌, true, ℕ, [], ◌∷◌, length, Option, None, Some, option_map, unwrap_or, subst}
+use Rattle.std.proofs.Common.{◌≡◌, true, ℕ, List, [], ◌∷◌, length, Option, None, Some, option_map, unwrap_or, refl, subst}
+use Rattle.tk_base.specs.declared.kinds.PairKind.TheVariants.{ReadWrite}
 use Rattle.grant_values.specs.declared.alarm.Armed.{Armed}
 use Rattle.grant_values.specs.Values.{KeptValue}
 use Rattle.process_model.specs.Own.{Own}
@@ -18,18 +19,18 @@ use Rattle.driver_model.specs.Requests.{waiting_in}
 use Rattle.driver_model.specs.Services.{OfEachService}
 use Rattle.driver_model.proofs.Answering.{serves_progress, serves_served}
 use Rattle.driver_model.proofs.Outcomes.{of_command}
-use Rattle.driver_model.proofs.Scheduled.{Serves, as_before, serves}
-use Rattle.driver_model.proofs.Sizes.{written_size}
+use Rattle.driver_model.proofs.Scheduled.{AsMany, Serves, as_before, serves}
+use Rattle.driver_model.proofs.Sizes.{showing_size, written_size}
 
 -- what holds of a process that was left as it is; of one that keeps another value for a driver; of one that keeps one
--- once
--- the driver was entered; and of one that keeps one once the driver served it
+-- once the driver was entered; of one that keeps one once the driver served it; and of one into whose bytes was written
 pub record OfEachForm (P : Own → Own → Type 0) : Type 0 where
   pub same : (own : Own) → P own own
   pub keeps : (driver : ℕ) (value : KeptValue) (own : Own) → P own (with_kept driver value own)
   pub enters : (driver : ℕ) (value : KeptValue) (own : Own) → has_place driver own ≡ true
       → P own (with_kept driver value (own_entering driver own))
   pub serves : (driver : ℕ) (value : KeptValue) (own o : Own) → Serves own o → P own (with_kept driver value o)
+  pub shows : (own : Own) (ram : List ℕ) → AsMany own ram → P own (record own { ram = ram })
 
 -- what holds of what comes where one waits, and where none does
 pub if_waits : {R X : Type 0} (Q : X → Type 0) (serve : R → X) (none : X) (waiting : Option R) → Q none
@@ -52,6 +53,7 @@ of_services P each = record {
         refuses = λ rule. each.same own;
         replies = λ reply. each.same own;
         lights = λ led switch. each.same own;
+        shows = λ is. each.shows own _ (showing_size around.now own);
         arms = λ alarm room. each.enters 0 _ own room;
         stops = each.keeps 0 _ own;
         cancels = told P each console.console _ (scheduling console.console 2 _ own) own
@@ -74,8 +76,8 @@ of_services P each = record {
       (waiting_in console_reads own) (each.same own)
       (λ read. told P each _ _
       (scheduling console.console 2 (console.read_status own ∷ length bytes ∷ 0 ∷ [])
-      (with_written console.console 1 0 bytes own)) own
-      (serves _ _ _ _ own (written_size console.console 1 0 bytes own)));
+      (with_written ReadWrite console.console 1 0 bytes own)) own
+      (serves _ _ _ _ own (written_size ReadWrite refl console.console 1 0 bytes own)));
   drawn = λ word own.
       if_waits (λ (a : random.RandomAnswered). P own (own_after a.step)) _ _ (waiting_in randoms own) (each.same own)
       (λ request. told P each _ _ (random.progress word request own).step own (serves_progress word request own));
@@ -88,4 +90,5 @@ of_services P each = record {
     fires : (own : Own) (now : ℕ) (due : Option Armed) → P own (own_after (alarm.fired_if now own due))
     fires own now None = each.same own
     fires own now (Some armed) = told P each 0 _
-        (scheduling 0 0 (now ∷ alarm.expiration armed ∷ 0 ∷ []) own) own (serves 0 0 _ own.ram own (as_before own))
+        (scheduling 0 0 (now ∷ alarm.expiration armed ∷ 0 ∷ []) (alarm.showing now own)) own
+        (serves 0 0 _ _ own (showing_size now own))

@@ -6,14 +6,15 @@ use Rattle.std.proofs.lemmas.Bool.{false≢true}
 use Rattle.std.proofs.lemmas.Bool.Decides.{nat_tests}
 use Rattle.std.proofs.lemmas.List.{length-take}
 use Rattle.tk_base.specs.declared.kinds.PairKind.{PairKind}
-use Rattle.tk_base.specs.declared.kinds.PairKind.TheVariants.{Upcall, ReadOnly, ReadWrite}
+use Rattle.tk_base.specs.declared.kinds.PairKind.TheVariants.{Upcall, ReadOnly, ReadWrite, Readable}
 use Rattle.grant_model.specs.Grants.{Grant, grant_of, shape_of}
-use Rattle.tk_base.specs.Kinds.{count_of}
+use Rattle.tk_base.specs.Kinds.{count_of, is_buffer}
+use Rattle.tk_base.proofs.Ranks.{same_kind}
 use Rattle.grant_region.specs.Region.{roomed}
 use Rattle.process_layout.specs.LayoutView.{LayoutView}
 use Rattle.process_layout.specs.Interval.{lies_within}
 use Rattle.process_model.specs.Own.{Own}
-use Rattle.process_model.specs.Handed.{own_entering, handing, has_place, held, lies_in_ram, marked, may_share, raised}
+use Rattle.process_model.specs.Handed.{own_entering, handing, has_place, held, lies_in_ram, marked, may_keep, may_share, raised}
 use Rattle.process_model.specs.Changes.{IsWhole}
 use Rattle.process_model.specs.Pairs.{HandsOne, HandsTheSame, OnlyHandingChangesPairs}
 use Rattle.driver_model.specs.Keeping.{DriversKeepSettled, HoldsBelowMark, IsInOrder, IsSettled, KeepsOrder}
@@ -49,15 +50,15 @@ abbrev LiesToo : ℕ → ℕ → ℕ → ℕ × ℕ → Type 0
 LiesToo start brk to pair = (pair.1 == 0) ≡ false → lies_within start brk pair.0 pair.1 ≡ true
     → lies_within start to pair.0 pair.1 ≡ true
 
-wider_ro : (e : LayoutView) (to : ℕ) (pair : ℕ × ℕ) → LiesToo e.start e.brk to pair → may_share ReadOnly e pair ≡ true
-    → may_share ReadOnly (record e { brk = to }) pair ≡ true
-wider_ro e to pair lies_too may =
+wider : (kind : PairKind) (e : LayoutView) (to : ℕ) (pair : ℕ × ℕ) → LiesToo e.start e.brk to pair
+    → may_keep kind e pair ≡ true → may_keep kind (record e { brk = to }) pair ≡ true
+wider Upcall e to pair lies_too may = refl
+wider ReadOnly e to pair lies_too may =
     or_wider (pair.1 == 0) (lies_in_ram e pair.0 pair.1) (lies_within e.flash_start e.flash_end pair.0 pair.1)
     (lies_within e.start to pair.0 pair.1) lies_too may
-
-wider_rw : (e : LayoutView) (to : ℕ) (pair : ℕ × ℕ) → LiesToo e.start e.brk to pair → may_share ReadWrite e pair ≡ true
-    → may_share ReadWrite (record e { brk = to }) pair ≡ true
-wider_rw e to pair lies_too may =
+wider ReadWrite e to pair lies_too may =
+    or_wider_ram (pair.1 == 0) (lies_in_ram e pair.0 pair.1) (lies_within e.start to pair.0 pair.1) lies_too may
+wider Readable e to pair lies_too may =
     or_wider_ram (pair.1 == 0) (lies_in_ram e pair.0 pair.1) (lies_within e.start to pair.0 pair.1) lies_too may
 
 within : (from to at size : ℕ) → from ≤ at → at + size ≤ to → lies_within from to at size ≡ true
@@ -90,22 +91,20 @@ raised_grows pair e = by_test (pair.1 == 0) (lies_in_ram e pair.0 pair.1)
     by_test false false = omega arith
 
 marked_grows : (kind : PairKind) (pair : ℕ × ℕ) (e : LayoutView) → e.mark ≤ (marked kind pair e).mark
-marked_grows Upcall pair e = omega arith
-marked_grows ReadOnly pair e = raised_grows pair e
-marked_grows ReadWrite pair e = raised_grows pair e
+marked_grows kind pair e = by_test (is_buffer kind)
+  where
+    by_test : (b : Bool) → e.mark ≤ (cond b (raised pair e) e).mark
+    by_test true = raised_grows pair e
+    by_test false = omega arith
 
 whole_of : (own : Own) → IsSettled own → IsWhole own
 whole_of own h = record {
   bytes = h.bytes;
   buffers = record {
-    read_only = λ driver number. let pair = held ReadOnly driver number own in
-        wider_ro (at_mark own.layout) own.layout.brk pair
+    each = λ kind driver number. let pair = held kind driver number own in
+        wider kind (at_mark own.layout) own.layout.brk pair
         (lies_further own.layout.start own.layout.mark own.layout.brk pair h.order.brk)
-        (h.buffers.read_only driver number);
-    read_write = λ driver number. let pair = held ReadWrite driver number own in
-        wider_rw (at_mark own.layout) own.layout.brk pair
-        (lies_further own.layout.start own.layout.mark own.layout.brk pair h.order.brk)
-        (h.buffers.read_write driver number);
+        (h.buffers.each kind driver number);
   };
 }
 
@@ -132,25 +131,14 @@ keep_size =
       enters = λ driver value own room h whole. entering_size driver own whole.bytes;
       serves = λ driver value own o s h whole. s.size whole h.kernel_break ∙ whole.bytes
           ∙ ap (λ (x : Own). x.layout.kernel_break - x.layout.start) (sym s.rest);
+      shows = λ own ram size h whole. size whole h.kernel_break ∙ whole.bytes;
     })
-
--- kinds are the same, or not
-kinds : (a b : PairKind) → (a ≡ b) ⊎ (a ≢ b)
-kinds Upcall Upcall = inl refl
-kinds ReadOnly ReadOnly = inl refl
-kinds ReadWrite ReadWrite = inl refl
-kinds Upcall ReadOnly = inr (λ e. cc)
-kinds Upcall ReadWrite = inr (λ e. cc)
-kinds ReadOnly Upcall = inr (λ e. cc)
-kinds ReadOnly ReadWrite = inr (λ e. cc)
-kinds ReadWrite Upcall = inr (λ e. cc)
-kinds ReadWrite ReadOnly = inr (λ e. cc)
 
 -- what holds of the pair that was handed, and of all that were before, holds of all
 of_handed : (kind : PairKind) (driver number : ℕ) (pair : ℕ × ℕ) (own o : Own) → HandsOne kind driver number pair own o
     → (P : ℕ × ℕ → Type 0) (k : PairKind) (d n : ℕ) → (k ≡ kind → P pair) → P (held k d n own) → P (held k d n o)
 of_handed kind driver number pair own o hands P k d n this before =
-    by_key (kinds k kind) (d == driver) (n == number) refl refl
+    by_key (same_kind kind k) (d == driver) (n == number) refl refl
   where
     by_key : (k ≡ kind) ⊎ (k ≢ kind) → (a b : Bool) → (d == driver) ≡ a → (n == number) ≡ b → P (held k d n o)
     by_key (inr apart) a b e f = subst P (sym (hands.others k d n (λ same. absurd (apart same)))) before
@@ -164,53 +152,56 @@ of_handed kind driver number pair own o hands P k d n this before =
         subst P (sym ((λ i. held (same i) (d_is i) (n_is i) o) ∙ hands.this)) (this same)
 
 -- the pair that was handed lies below the mark afterwards
-this_ro : (kind : PairKind) (pair : ℕ × ℕ) (e : LayoutView) → ReadOnly ≡ kind → may_share kind e pair ≡ true
-    → may_share ReadOnly (at_mark (marked kind pair e)) pair ≡ true
-this_ro ReadOnly pair e same may =
-    subst (λ (f : LayoutView). may_share ReadOnly (at_mark f) pair ≡ true) (sym (marked_rest ReadOnly pair e))
-    (wider_ro e (raised pair e).mark pair (raised_covers pair e) may)
-this_ro Upcall pair e same may = absurd (cc)
-this_ro ReadWrite pair e same may = absurd (cc)
+keeps_shared : (kind : PairKind) (e : LayoutView) (pair : ℕ × ℕ) → may_share kind e pair ≡ true
+    → may_keep kind e pair ≡ true
+keeps_shared kind e pair may = by_test (is_buffer kind)
+  where
+    by_test : (b : Bool) → cond b (may_share kind e pair) true ≡ true
+    by_test true = may
+    by_test false = refl
 
-this_rw : (kind : PairKind) (pair : ℕ × ℕ) (e : LayoutView) → ReadWrite ≡ kind → may_share kind e pair ≡ true
-    → may_share ReadWrite (at_mark (marked kind pair e)) pair ≡ true
-this_rw ReadWrite pair e same may =
-    subst (λ (f : LayoutView). may_share ReadWrite (at_mark f) pair ≡ true) (sym (marked_rest ReadWrite pair e))
-    (wider_rw e (raised pair e).mark pair (raised_covers pair e) may)
-this_rw Upcall pair e same may = absurd (cc)
-this_rw ReadOnly pair e same may = absurd (cc)
+this_kind : (kind : PairKind) (pair : ℕ × ℕ) (e : LayoutView) → may_share kind e pair ≡ true
+    → may_keep kind (at_mark (marked kind pair e)) pair ≡ true
+this_kind kind pair e may =
+    subst (λ (f : LayoutView). may_keep kind (at_mark f) pair ≡ true) (sym (marked_rest kind pair e))
+    (by_kind kind (keeps_shared kind e pair may))
+  where
+    by_kind : (k : PairKind) → may_keep k e pair ≡ true
+        → may_keep k (record e { mark = (marked k pair e).mark; brk = (marked k pair e).mark }) pair ≡ true
+    by_kind Upcall may = refl
+    by_kind ReadOnly may = wider ReadOnly e (raised pair e).mark pair (raised_covers pair e) may
+    by_kind ReadWrite may = wider ReadWrite e (raised pair e).mark pair (raised_covers pair e) may
+    by_kind Readable may = wider Readable e (raised pair e).mark pair (raised_covers pair e) may
+
+-- what a pair may be kept by is accessible RAM and flash alone
+alike : (k : PairKind) (e : LayoutView) (kernel mark : ℕ) (pair : ℕ × ℕ)
+    → may_keep k (record e { kernel_break = kernel; mark = mark }) pair ≡ may_keep k e pair
+alike Upcall e kernel mark pair = refl
+alike ReadOnly e kernel mark pair = refl
+alike ReadWrite e kernel mark pair = refl
+alike Readable e kernel mark pair = refl
 
 -- and so do the others
-other_ro : (kind : PairKind) (pair other : ℕ × ℕ) (e : LayoutView) → may_share ReadOnly (at_mark e) other ≡ true
-    → may_share ReadOnly (at_mark (marked kind pair e)) other ≡ true
-other_ro kind pair other e may =
-    subst (λ (f : LayoutView). may_share ReadOnly (at_mark f) other ≡ true) (sym (marked_rest kind pair e))
-    (wider_ro (at_mark e) (marked kind pair e).mark other
-    (lies_further e.start e.mark (marked kind pair e).mark other (marked_grows kind pair e)) may)
-
-other_rw : (kind : PairKind) (pair other : ℕ × ℕ) (e : LayoutView) → may_share ReadWrite (at_mark e) other ≡ true
-    → may_share ReadWrite (at_mark (marked kind pair e)) other ≡ true
-other_rw kind pair other e may =
-    subst (λ (f : LayoutView). may_share ReadWrite (at_mark f) other ≡ true) (sym (marked_rest kind pair e))
-    (wider_rw (at_mark e) (marked kind pair e).mark other
+other_kind : (kind k : PairKind) (pair other : ℕ × ℕ) (e : LayoutView) → may_keep k (at_mark e) other ≡ true
+    → may_keep k (at_mark (marked kind pair e)) other ≡ true
+other_kind kind k pair other e may =
+    subst (λ (f : LayoutView). may_keep k (at_mark f) other ≡ true) (sym (marked_rest kind pair e))
+    (alike k (record e { brk = (marked kind pair e).mark }) e.kernel_break (marked kind pair e).mark other
+    ∙ wider k (at_mark e) (marked kind pair e).mark other
     (lies_further e.start e.mark (marked kind pair e).mark other (marked_grows kind pair e)) may)
 
 -- room for a grant moves the kernel break alone
-roomed_ro : (driver : ℕ) (e : LayoutView) (g : Option Grant) (pair : ℕ × ℕ) → may_share ReadOnly (at_mark e) pair ≡ true
-    → may_share ReadOnly (at_mark (roomed driver e g)) pair ≡ true
-roomed_ro driver e None pair may = may
-roomed_ro driver e (Some g) pair may = may
-
-roomed_rw : (driver : ℕ) (e : LayoutView) (g : Option Grant) (pair : ℕ × ℕ)
-    → may_share ReadWrite (at_mark e) pair ≡ true → may_share ReadWrite (at_mark (roomed driver e g)) pair ≡ true
-roomed_rw driver e None pair may = may
-roomed_rw driver e (Some g) pair may = may
+roomed_keeps : (k : PairKind) (driver : ℕ) (e : LayoutView) (g : Option Grant) (pair : ℕ × ℕ)
+    → may_keep k (at_mark e) pair ≡ true → may_keep k (at_mark (roomed driver e g)) pair ≡ true
+roomed_keeps k driver e None pair may = alike k (at_mark e) (roomed driver e None).kernel_break e.mark pair ∙ may
+roomed_keeps k driver e (Some g) pair may = may
 
 roomed_may : (kind : PairKind) (driver : ℕ) (e : LayoutView) (g : Option Grant) (pair : ℕ × ℕ)
     → may_share kind e pair ≡ true → may_share kind (roomed driver e g) pair ≡ true
 roomed_may Upcall driver e None pair may = may
 roomed_may ReadOnly driver e None pair may = may
 roomed_may ReadWrite driver e None pair may = may
+roomed_may Readable driver e None pair may = may
 roomed_may kind driver e (Some g) pair may = may
 
 module _ (law : OnlyHandingChangesPairs) where
@@ -218,10 +209,9 @@ module _ (law : OnlyHandingChangesPairs) where
   same_buffers : (own o : Own) (k b : ℕ) → o.layout ≡ record own.layout { kernel_break = k; brk = b }
       → HandsTheSame own o → HoldsBelowMark own → HoldsBelowMark o
   same_buffers own o k b layout pairs h = record {
-    read_only = λ driver number. ap₂ (λ (e : LayoutView) (pair : ℕ × ℕ). may_share ReadOnly (at_mark e) pair) layout
-        (law.held own o pairs ReadOnly driver number) ∙ h.read_only driver number;
-    read_write = λ driver number. ap₂ (λ (e : LayoutView) (pair : ℕ × ℕ). may_share ReadWrite (at_mark e) pair) layout
-        (law.held own o pairs ReadWrite driver number) ∙ h.read_write driver number;
+    each = λ kind driver number. ap₂ (λ (e : LayoutView) (pair : ℕ × ℕ). may_keep kind (at_mark e) pair) layout
+        (law.held own o pairs kind driver number)
+        ∙ alike kind (at_mark own.layout) k own.layout.mark (held kind driver number own) ∙ h.each kind driver number;
   }
 
   settles : (own o : Own) → StaysInPlace own o → HandsTheSame own o → KeepsOrder own o → KeepsSize own o
@@ -248,16 +238,12 @@ module _ (law : OnlyHandingChangesPairs) where
         bytes = entering_size driver own h.bytes
             ∙ ap (λ (f : LayoutView). f.kernel_break - f.start) (sym (marked_rest kind pair e));
         buffers = record {
-          read_only = λ d n. of_handed kind driver number pair own o hands
-              (λ p. may_share ReadOnly (at_mark (marked kind pair e)) p ≡ true) ReadOnly d n
-              (λ same. this_ro kind pair e same may_now)
-              (other_ro kind pair (held ReadOnly d n own) e
-              (roomed_ro driver own.layout g (held ReadOnly d n own) (h.buffers.read_only d n)));
-          read_write = λ d n. of_handed kind driver number pair own o hands
-              (λ p. may_share ReadWrite (at_mark (marked kind pair e)) p ≡ true) ReadWrite d n
-              (λ same. this_rw kind pair e same may_now)
-              (other_rw kind pair (held ReadWrite d n own) e
-              (roomed_rw driver own.layout g (held ReadWrite d n own) (h.buffers.read_write d n)));
+          each = λ k d n. of_handed kind driver number pair own o hands
+              (λ p. may_keep k (at_mark (marked kind pair e)) p ≡ true) k d n
+              (λ same. subst (λ (x : PairKind). may_keep x (at_mark (marked kind pair e)) pair ≡ true) (sym same)
+              (this_kind kind pair e may_now))
+              (other_kind kind k pair (held k d n own) e
+              (roomed_keeps k driver own.layout g (held k d n own) (h.buffers.each k d n)));
         };
         shape = hands.shape;
       }

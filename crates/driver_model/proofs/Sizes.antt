@@ -5,7 +5,11 @@ use Rattle.std.specs.Prelude.{IsTrue}
 use Rattle.std.proofs.lemmas.Bool.{cases_lt}
 use Rattle.std.proofs.lemmas.Bool.Decides.{nat_tests}
 use Rattle.std.proofs.lemmas.List.{length-append, length-drop, length-take}
-use Rattle.tk_base.specs.declared.kinds.PairKind.TheVariants.{ReadWrite}
+use Rattle.tk_base.specs.declared.kinds.PairKind.{PairKind}
+use Rattle.tk_base.specs.declared.kinds.PairKind.TheVariants.{Readable}
+use Rattle.tk_base.specs.Kinds.{is_writable}
+use Rattle.process_model.proofs.Changes.{keeps_in_ram}
+use Rattle.driver_model.specs.Alarm.{alarm_driver, showing}
 use Rattle.process_layout.specs.LayoutView.{LayoutView}
 use Rattle.process_layout.specs.Interval.{lies_within}
 use Rattle.process_model.specs.Own.{Own}
@@ -42,7 +46,7 @@ pub lies : (from to at size : ℕ) → lies_within from to at size ≡ true → 
 lies from to at size e = (grind (arith, nat_tests), grind (arith, nat_tests))
 
 -- a buffer that may be allowed lies in accessible RAM, or has no bytes
-lies_in : (e : LayoutView) (buffer : ℕ × ℕ) → IsTrue (may_share ReadWrite e buffer)
+lies_in : (e : LayoutView) (buffer : ℕ × ℕ) → (buffer.1 == 0 || lies_in_ram e buffer.0 buffer.1) ≡ true
     → ((e.start ≤ buffer.0) × (buffer.0 + buffer.1 ≤ e.brk)) ⊎ (buffer.1 ≡ 0)
 lies_in e buffer may = by_size (buffer.1 == 0) (lies_in_ram e buffer.0 buffer.1) refl refl may
   where
@@ -67,10 +71,14 @@ in_block ram bytes start from size offset brk place low = by_room (cases_lt offs
     by_room (inl room) (inr none) = absurd (omega (arith, room, none))
     by_room (inr full) placed = let short = length-take (size - offset) bytes in inr (omega (arith, full, short))
 
-pub written_size : (driver number offset : ℕ) (bytes : List ℕ) (own : Own)
-    → AsMany own (with_written driver number offset bytes own).ram
-written_size driver number offset bytes own whole low =
-    let buffer = held ReadWrite driver number own in
+pub written_size : (kind : PairKind) → IsTrue (is_writable kind) → (driver number offset : ℕ) (bytes : List ℕ) (own : Own)
+    → AsMany own (with_written kind driver number offset bytes own).ram
+written_size kind can driver number offset bytes own whole low =
+    let buffer = held kind driver number own in
     over_size own.ram _ _
     (in_block own.ram bytes own.layout.start buffer.0 buffer.1 offset own.layout.brk
-    (lies_in own.layout buffer (whole.buffers.read_write driver number)) (omega (arith, whole.bytes, low)))
+    (lies_in own.layout buffer (keeps_in_ram kind own.layout buffer can (whole.buffers.each kind driver number))) (omega (arith, whole.bytes, low)))
+
+-- to show the clock leaves as many bytes
+pub showing_size : (now : ℕ) (own : Own) → AsMany own (showing now own).ram
+showing_size now own = written_size Readable refl alarm_driver 0 0 _ own

@@ -17,4 +17,5 @@ drivers_schedule_held =
             s.upcalls.one;
         each = s.upcalls.each;
       };
+      shows = λ own ram size. schedules_none own _ refl;
     })

@@ -1,8 +1,11 @@
 -- The alarm (Tock's driver 0x0): a process arms one alarm by a reference and a delta, in ticks of a clock of 32 bits.
+-- The clock that it shows in a buffer which the process reads (Tock's userspace-readable allow) is this board's own rule.
 use Rattle.std.specs.Prelude.{ℕ, ◌+◌, ◌-◌, ◌%◌, ◌^◌, min, nat_le, Bool, if◌then◌else◌, List, [], ◌∷◌, find, fold}
 use Rattle.std.specs.Prelude.{slice_get, Option, None, Some, is_some, option_and_then}
+use Rattle.std.specs.Int.{w32, to_le_bytes}
 use Rattle.std.specs.List.{range_with_len}
 use Rattle.tk_base.specs.declared.call.CallRule.TheVariants.{NoRoom, Nothing}
+use Rattle.tk_base.specs.declared.kinds.PairKind.TheVariants.{Readable}
 use Rattle.tk_base.specs.declared.limits.TheConstants.{SLOT_COUNT}
 use Rattle.grant_values.specs.declared.alarm.Armed.{Armed}
 use Rattle.grant_values.specs.declared.drivers.Driver.TheVariants.{Alarm}
@@ -11,7 +14,7 @@ use Rattle.grant_values.specs.Drivers.{number_of_driver}
 use Rattle.syscall_abi.specs.declared.reply.Reply.TheVariants.{Success, SuccessU32}
 use Rattle.process_model.specs.Own.{Own}
 use Rattle.process_model.specs.Handed.{own_entering, has_place}
-use Rattle.process_model.specs.Served.{kept, with_kept}
+use Rattle.process_model.specs.Served.{kept, with_kept, with_written}
 use Rattle.driver_model.specs.Steps.{DriverStep, scheduling, silently}
 use Rattle.driver_model.specs.Commands.{Commanded, accepting, refusing, by_number}
 
@@ -40,6 +43,10 @@ alarm_in own = armed_in (kept alarm_driver own)
 abbrev pub with_alarm : Option Armed → Own → Own
 with_alarm alarm own = with_kept alarm_driver (AlarmValue (record { armed = alarm })) own
 
+-- a process to which the clock is shown: in its readable buffer 0 of the alarm, the lowest byte first, as many as fit
+abbrev pub showing : ℕ → Own → Own
+showing now own = with_written Readable alarm_driver 0 0 (to_le_bytes w32 now) own
+
 -- An alarm is armed in place of the one before, if there is room for the driver's grant; the reply is when it expires.
 abbrev pub arming : Armed → Own → Commanded
 arming alarm own =
@@ -52,13 +59,13 @@ abbrev pub stopping : Option Armed → Own → Commanded
 stopping None own = refusing Nothing own
 stopping (Some alarm) own = accepting Success (with_alarm None own)
 
--- its commands: the driver is there; ticks a second; the clock; stop the alarm; arm it from now on, or from a reference
--- on
+-- its commands: the driver is there; ticks a second; the clock, which is shown too; stop the alarm; arm it from now on,
+-- or from a reference on
 unfoldable pub commands : ℕ → ℕ → ℕ → Own → List (ℕ × Commanded)
 commands now a2 a3 own =
     (0, accepting Success own)
     ∷ (1, accepting (SuccessU32 1000) own)
-    ∷ (2, accepting (SuccessU32 now) own)
+    ∷ (2, accepting (SuccessU32 now) (showing now own))
     ∷ (3, stopping (alarm_in own) own)
     ∷ (5, arming (record { reference = now; delta = a2 }) own)
     ∷ (6, arming (record { reference = a2; delta = a3 }) own)
@@ -77,9 +84,10 @@ if_due now (Some alarm) = if is_due now alarm then Some alarm else None
 abbrev pub due_alarm : ℕ → Own → Option Armed
 due_alarm now own = if own.lives then if_due now (alarm_in own) else None
 
--- An alarm fires: it is stopped, and upcall 0 is scheduled with the clock and the expiration.
+-- An alarm fires: it is stopped, the clock is shown, and upcall 0 is scheduled with the clock and the expiration.
 abbrev pub fired : ℕ → Armed → Own → DriverStep
-fired now alarm own = scheduling alarm_driver 0 (now ∷ expiration alarm ∷ 0 ∷ []) (with_alarm None own)
+fired now alarm own =
+    scheduling alarm_driver 0 (now ∷ expiration alarm ∷ 0 ∷ []) (with_alarm None (showing now own))
 
 -- a process whose alarm fired, if one did
 abbrev pub fired_if : ℕ → Own → Option Armed → DriverStep

@@ -110,7 +110,7 @@ read_status own = if (held ReadWrite console 1 own).1 == 0 then code_of SIZE els
 abbrev pub reading_in : List ℕ → Own → WaitingRead → DriverStep
 reading_in bytes own read =
     scheduling console 2 (read_status own ∷ length bytes ∷ 0 ∷ [])
-    (with_request console_reads None (with_written console 1 0 bytes own))
+    (with_request console_reads None (with_written ReadWrite console 1 0 bytes own))
 
 -- What the UART tells a process: that bytes came in. Nothing changes where no read waits.
 abbrev pub input : List ℕ → Own → DriverStep

@@ -69,13 +69,13 @@ QuietUntilNext =
 abbrev pub DueSlotIsThere : Type 0
 DueSlotIsThere = (now slot : ℕ) (owns : List Own) → due_slot now owns ≡ Some slot → slot < length owns
 
--- what an alarm changes of a process is what waits to be delivered, the count of dropped upcalls, and what it keeps for
--- the alarm; one upcall may be dropped
+-- what an alarm changes of a process is its bytes, where the clock is shown, what waits to be delivered, the count of
+-- dropped upcalls, and what it keeps for the alarm; one upcall may be dropped
 abbrev pub AnAlarmLeavesTheRest : Type 0
 AnAlarmLeavesTheRest =
     (now : ℕ) (own : Own) →
     let o = own_after (answered now own) in
-    (o ≡ record own { inbox = o.inbox; grants = o.grants })
+    (o ≡ record own { ram = o.ram; inbox = o.inbox; grants = o.grants })
     × (own.inbox.dropped ≤ o.inbox.dropped) × (o.inbox.dropped ≤ own.inbox.dropped + 1)
 
 -- each LED of a list is a bit of their number

@@ -63,7 +63,7 @@ completing drawn outcome bytes own =
 -- a process with the first bytes of a word, the lowest first, after those that were written so far
 abbrev pub with_word : ℕ → ℕ → RandomRequest → Own → Own
 with_word word left request own =
-    with_written random 0 request.written (take (min 4 left) (to_le_bytes w32 word)) own
+    with_written ReadWrite random 0 request.written (take (min 4 left) (to_le_bytes w32 word)) own
 
 -- the next word is drawn for a request that wants so many bytes more; it completes where these are no more than
 -- four, and where no word is left

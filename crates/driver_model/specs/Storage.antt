@@ -76,7 +76,7 @@ abbrev pub reading_store : List ℕ → StorageRequest → Own → StorageServed
 reading_store bytes request own =
     let count = min request.length (held ReadWrite storage 0 own).1 in
     let copied = slice_range bytes request.offset (request.offset + count) in
-    record { step = completing Read count 0 (with_written storage 0 0 copied own); written = None }
+    record { step = completing Read count 0 (with_written ReadWrite storage 0 0 copied own); written = None }
 
 -- bytes from the start of the buffer that is held now, and no more than it has, are to be written over the storage
 abbrev pub writing_store : (ℕ → ℕ) → StorageRequest → Own → StorageServed

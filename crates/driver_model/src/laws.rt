@@ -1,6 +1,6 @@
 //! Laws of the definitions, each the contract of a function that does nothing.
 ghost use Rattle.driver_model.specs.Asked.{AskTheirOwn};
-ghost use Rattle.driver_model.specs.Bytes.{AnswersWriteInBuffers, CommandsKeepBytes};
+ghost use Rattle.driver_model.specs.Bytes.{AnswersWriteInBuffers, CommandsWriteInBuffers};
 ghost use Rattle.driver_model.specs.Laws.{AnAlarmLeavesTheRest, CommandsStayInPlace, DueSlotIsThere, IsDueWhereNoneAreLeft, QuietUntilNext, TimeBringsNearer};
 ghost use Rattle.driver_model.specs.Laws.{EachLedIsItsBit, OneLedTurns, TurnedWithItsBit};
 ghost use Rattle.driver_model.specs.Laws.{CommandDropsAtMostOne, RefusedByAnyDriver};
@@ -96,7 +96,7 @@ pub fn drivers_leave_pairs()
 /// changes bytes inside the read-write buffer alone that the process has allowed the driver (TRD 104, "Read-Write
 /// Allow"; Levy et al., SOSP 2017).
 pub fn drivers_write_in_buffers()
-    ensures commands { CommandsKeepBytes }
+    ensures commands { CommandsWriteInBuffers }
     ensures answers { AnswersWriteInBuffers }
 {
     only_writes_change_bytes();

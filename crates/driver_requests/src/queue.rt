@@ -73,9 +73,9 @@ impl<R: Request + Drop> RequestQueue<R> {
     /// process changes.
     ///
     /// It asks that the process is there, and that it is in the line only where it has a request.
-    pub fn ask<const UP: usize, const RO: usize, const RW: usize>(
+    pub fn ask<const UP: usize, const RO: usize, const RW: usize, const UR: usize>(
         &mut self,
-        grants: &Grant<R::Value, UP, RO, RW>,
+        grants: &Grant<R::Value, UP, RO, RW, UR>,
         home: &mut Home,
         id: ProcessId,
         request: R,
@@ -85,7 +85,7 @@ impl<R: Request + Drop> RequestQueue<R> {
         ensures { Obeys R.request_kind.line id (asking R.request_kind request) self.old home.old
             result self.new home.new }
     {
-        if has_request::<R, UP, RO, RW>(grants, home, &id) {
+        if has_request::<R, UP, RO, RW, UR>(grants, home, &id) {
             return Err(CallRule::Busy);
         }
         match grants.enter(home, id, Begin { request }) {

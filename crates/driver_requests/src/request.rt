@@ -29,8 +29,8 @@ pub trait Request: Copy {
 }
 
 /// Whether the process of an id is there, and a request of it waits.
-pub fn has_request<R: Request, const UP: usize, const RO: usize, const RW: usize>(
-    grants: &Grant<R::Value, UP, RO, RW>,
+pub fn has_request<R: Request, const UP: usize, const RO: usize, const RW: usize, const UR: usize>(
+    grants: &Grant<R::Value, UP, RO, RW, UR>,
     home: &Home,
     id: &ProcessId,
 ) -> bool

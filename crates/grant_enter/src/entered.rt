@@ -201,10 +201,11 @@ impl Entered<'_> {
 }
 
 /// Puts bytes into a buffer from an offset on, as many as fit, and says how many.
-fn put_from(buffer: &mut [u8], offset: usize, bytes: &[u8]) -> usize
+pub fn put_from(buffer: &mut [u8], offset: usize, bytes: &[u8]) -> usize
     ensures count { result ≡ min (length bytes.now) (length buffer.old - offset) }
     ensures buffer { buffer.new
         ≡ over buffer.old offset (take (length buffer.old - offset) bytes.now) }
+    ensures long { length buffer.new ≡ length buffer.old }
 {
     if offset >= buffer.len() {
         return 0;

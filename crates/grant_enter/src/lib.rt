@@ -13,7 +13,7 @@ mod laws;
 mod seat;
 mod visit;
 
-pub use entered::Entered;
+pub use entered::{Entered, put_from};
 pub use grant::Grant;
 pub use home::Home;
 pub use laws::{a_buffer_is_written, buffers_are_whole, frames_join};

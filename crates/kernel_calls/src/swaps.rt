@@ -1,5 +1,5 @@
 //! Subscribe and the allows: a process hands upcalls and buffers to drivers (TRD 104, "Subscribe", "Read-Only
-//! Allow", "Read-Write Allow").
+//! Allow", "Read-Write Allow"; the userspace-readable allow of Tock's kernel).
 ghost use Rattle.std.specs.Prelude.{◌≡◌, ◌<◌, length, IfOk, OnOk, OnErr};
 ghost use Rattle.process_model.specs.Handed.{may_share};
 ghost use Rattle.grant_enter.specs.Homes.{own_of, ChangesOnly};
@@ -27,7 +27,7 @@ fn may_share(kind: PairKind, layout: &Layout, pair: (u32, u32)) -> bool
             at == 0 || layout.in_ram(function, 4) || layout.in_flash(function, 4)
         }
         PairKind::ReadOnly => size == 0 || layout.in_ram(at, size) || layout.in_flash(at, size),
-        PairKind::ReadWrite => size == 0 || layout.in_ram(at, size),
+        PairKind::ReadWrite | PairKind::Readable => size == 0 || layout.in_ram(at, size),
     }
 }
 

@@ -51,7 +51,7 @@ pub steps_are_accounted_for : StepsHaveCauses → StepsAreGuarded → RefusalsCh
     → StepsAreAccountedFor
 steps_are_accounted_for causes guarded refused prints = record {
   any = λ w choice whole. with_causes w choice (causes.any w choice whole);
-  turn = λ w slot. with_causes w (Run slot) (causes.turn w slot);
+  turn = λ w slot whole. with_causes w (Run slot) (causes.turn w slot whole);
   stretch = λ k w later is. follows_throughout EachChangeHasACause IsAccountedFor with_causes w (chosen k w)
       (causes.stretch k w later is);
   all = follows_throughout EachChangeHasACause IsAccountedFor with_causes;

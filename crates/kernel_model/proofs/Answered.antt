@@ -41,7 +41,7 @@ pub answer_has_causes : AnswersWriteInBuffers → (settings : Settings) (event :
 unfolding IsAnswer apply
 answer_has_causes law settings (Turn time) r is whole = absurd is
 answer_has_causes law settings (Alarmed now) r is whole =
-    record { own = λ at before after. inl (law.alarmed now r.own at before after); storage = λ k within. inl refl }
+    record { own = law.alarmed now r.own whole; storage = λ k within. inl refl }
 answer_has_causes law settings Taken r is whole =
     record { own = λ at before after. inl (law.taken r.own at before after); storage = λ k within. inl refl }
 answer_has_causes law settings WriteDone r is whole =

@@ -1,6 +1,6 @@
 -- The cause of each change that a step makes of a process's bytes, among its labels.
 use Rattle.std.proofs.Common.{◌≡◌, ◌⊎◌, inl, inr, ℕ, zero, suc, ◌++◌, ◌==◌, Bool, true, false, List, [], ◌∷◌, slice_get}
-use Rattle.std.proofs.Common.{slice_index, Option, None, Some, IfSome, refl, sym, ap, subst, ◌∙◌, arith, eqb-true}
+use Rattle.std.proofs.Common.{slice_index, Option, None, Some, IfSome, is_some, refl, sym, ap, subst, ◌∙◌, arith, eqb-true}
 use Rattle.std.proofs.Common.{eq-eqb}
 use Rattle.std.proofs.Math.Logic.{⊎_map}
 use Rattle.std.specs.List.{Any}
@@ -12,6 +12,7 @@ use Rattle.tk_base.specs.declared.process.Choice.{Choice}
 use Rattle.tk_base.specs.declared.process.Choice.TheVariants.{Run, Device, Pass}
 use Rattle.process_model.specs.Changes.{ChangesAt, IsWhole}
 use Rattle.driver_model.specs.Bytes.{AnswersWriteInBuffers}
+use Rattle.process_record.specs.declared.emit.CallMade.{CallMade}
 use Rattle.kernel_model.specs.Record.{Record}
 use Rattle.kernel_model.specs.Turn.{Event, Turned, apply, turned}
 use Rattle.kernel_model.specs.World.{Answer, Answered, DeviceStep, Label, Stepped, TurnOf, World, after, carried_out}
@@ -55,10 +56,11 @@ module _ (w : World) (slot : ℕ) (r : Record) (is : slice_get w.records slot �
   apart : (a b : ℕ) → (a == b) ≡ false → b ≡ a → ⊥
   apart a b e same = false≢true (sym e ∙ eq-eqb a b (sym same))
 
-  of_ran : ByTurn → (other : ℕ) (o : Option Record) → slice_get w.records other ≡ o → Leads (ran w other o)
+  of_ran : (other : ℕ) → ((other == slot) ≡ true → ByTurn) → (o : Option Record) → slice_get w.records other ≡ o
+      → Leads (ran w other o)
   unfolding apply
-  of_ran turn other None e s f = at_record [] r s _ is f (stays [])
-  of_ran turn other (Some q) e s f = by_slot (other == slot) refl
+  of_ran other turn None e s f = at_record [] r s _ is f (stays [])
+  of_ran other turn (Some q) e s f = by_slot (other == slot) refl
     where
       t : Record → Turned
       t x = turned w.settings w.clock.time x
@@ -72,7 +74,7 @@ module _ (w : World) (slot : ℕ) (r : Record) (is : slice_get w.records slot �
           subst (λ (n : ℕ). P (TurnOf n w.clock.time (t q).told ∷ []) s) (sym same)
           (at_record (TurnOf slot w.clock.time (t q).told ∷ []) (t q).after s _ left f
           (subst (λ (x : Record). P (TurnOf slot w.clock.time (t x).told ∷ []) (t x).after)
-          (same_record _ r q is at_slot) turn))
+          (same_record _ r q is at_slot) (turn same_is)))
       by_slot false e_is = at_record _ r s _ (ran-other w other slot (Some q) (apart other slot e_is) ∙ is) f (stays _)
 
   of_told : ByAnswer → (deed : DeviceStep) (o : Option Answer) → IfSome o (λ a. IsAnswer a.event) → (s : Record)
@@ -103,14 +105,14 @@ module _ (w : World) (slot : ℕ) (r : Record) (is : slice_get w.records slot �
   of_none : Leads (unmade w)
   of_none s f = at_record [] r s _ is f (stays [])
 
-  of_run : ByTurn → (other : ℕ) → Leads (stepped w (Run other))
+  of_run : (other : ℕ) → ((other == slot) ≡ true → ByTurn) → Leads (stepped w (Run other))
   unfolding carried_out
-  of_run turn other =
-      of_stepped Leads w (Run other) of_none (λ ready. of_ran turn other (slice_get w.records other) refl)
+  of_run other turn =
+      of_stepped Leads w (Run other) of_none (λ ready. of_ran other turn (slice_get w.records other) refl)
 
   of_step : ByTurn → ByAnswer → (choice : Choice) → Leads (stepped w choice)
   unfolding carried_out
-  of_step turn answer (Run other) = of_run turn other
+  of_step turn answer (Run other) = of_run other (λ same. turn)
   of_step turn answer (Device device) =
       of_stepped Leads w (Device device) of_none
       (λ ready. of_done answer (device_step_of w device) (deed_tells w device))
@@ -158,13 +160,19 @@ stays_else w choice slot r s is left none =
     (one_step w choice slot ∙ ap (λ (h : List Event). option_map (replay w.settings h) (slice_get w.records slot)) none
     ∙ ap (option_map (replay w.settings [])) is)
 
+no_call : (o : Option CallMade) → o ≡ None → is_some o ≡ true → ⊥
+no_call None none some = false≢true some
+no_call (Some made) none some = cc
+
 -- a step of which all labels are quiet turns answers nobody
 quiet_step : TurnsHaveCauses → (w : World) (choice : Choice) → All IsQuietTurn (labels w choice)
     → EachChangeHasACause w choice
 quiet_step turns w choice quiet slot r s is left =
     let caused = of_step w slot r is (λ ls s. All IsQuietTurn ls → Caused slot r ls s)
     (λ ls each. caused_same slot r ls)
-    (λ each. caused_turn slot w.clock.time r (turned w.settings w.clock.time r) (turns w.settings w.clock.time r))
+    (λ each. let t = turned w.settings w.clock.time r in
+    caused_turn slot w.clock.time r t (turns w.settings w.clock.time r
+    (λ calls. absurd (no_call t.told.call (each 0 (TurnOf slot w.clock.time t.told) (omega arith)).0 calls))))
     (λ event rest tells each. absurd (each 0 (Answered slot event) (omega arith))) choice s left quiet in
     record { own = caused.own; storage = caused.storage; others = stays_else w choice slot r s is left }
 
@@ -191,20 +199,29 @@ quiet_steps turns (suc k) w quiet = by_choice (next w) quiet (λ choice. quiet_s
 
 pub steps_have_causes : TurnsHaveCauses → AnswersWriteInBuffers → StepsHaveCauses
 steps_have_causes turns answers = record {
-  turn = λ w other slot r s is left.
-      let caused = of_run w slot r is (Caused slot r) (caused_same slot r) (by_turn w slot r) other s left in
+  turn = λ w other whole slot r s is left.
+      let caused = of_run w slot r is (Caused slot r) (caused_same slot r) other
+      (λ same. by_turn w slot r (at_slot w other slot r is whole same)) s left in
       record { own = caused.own; storage = caused.storage; others = stays_else w (Run other) slot r s is left };
   any = λ w choice whole slot r s is left.
-      let caused = of_step w slot r is (Caused slot r) (caused_same slot r) (by_turn w slot r)
-      (by_answer w slot r (whole slot r is)) choice s left in
+      let caused = of_step w slot r is (Caused slot r) (caused_same slot r)
+      (by_turn w slot r (whole slot r is)) (by_answer w slot r (whole slot r is)) choice s left in
       record { own = caused.own; storage = caused.storage; others = stays_else w choice slot r s is left };
   stretch = λ k w later stretch. quiet_steps turns k w stretch.quiet;
 }
   where
-    by_turn : (w : World) (slot : ℕ) (r : Record) → let t = turned w.settings w.clock.time r in
+    by_turn : (w : World) (slot : ℕ) (r : Record) → IsWhole r.own → let t = turned w.settings w.clock.time r in
         Caused slot r (TurnOf slot w.clock.time t.told ∷ []) t.after
-    by_turn w slot r =
-        caused_turn slot w.clock.time r (turned w.settings w.clock.time r) (turns w.settings w.clock.time r)
+    by_turn w slot r whole =
+        caused_turn slot w.clock.time r (turned w.settings w.clock.time r)
+        (turns w.settings w.clock.time r (λ calls. whole))
+
+    -- the turn of another slot leaves the record, so what it asks of its own process is asked where it is that of the slot
+    at_slot : (w : World) (other slot : ℕ) (r : Record) → slice_get w.records slot ≡ Some r
+        → IfSome (slice_get w.records other) (λ x. IsWhole x.own) → (other == slot) ≡ true → IsWhole r.own
+    at_slot w other slot r is whole same =
+        subst (λ (o : Option Record). IfSome o (λ x. IsWhole x.own))
+        (ap (slice_get w.records) (eqb-true other slot same) ∙ is) whole
 
     by_answer : (w : World) (slot : ℕ) (r : Record) → IsWhole r.own → (event : Event) (rest : List Label)
         → IsAnswer event → Caused slot r (Answered slot event ∷ rest) (apply w.settings event r)

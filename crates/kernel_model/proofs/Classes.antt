@@ -3,7 +3,7 @@ use Rattle.std.proofs.Common.{◌≡◌, ℕ, ◌==◌, Bool, true, false, cond,
 use Rattle.std.specs.Option.{option_map}
 use Rattle.tk_base.specs.Regs.{Registers}
 use Rattle.tk_base.specs.declared.kinds.PairKind.{PairKind}
-use Rattle.tk_base.specs.declared.kinds.PairKind.TheVariants.{Upcall, ReadOnly, ReadWrite}
+use Rattle.tk_base.specs.declared.kinds.PairKind.TheVariants.{Upcall, ReadOnly, ReadWrite, Readable}
 use Rattle.syscall_abi.specs.declared.call.Call.{Call as SystemCall}
 use Rattle.syscall_abi.specs.declared.call.Call.TheVariants.{Yield, Command, Memop, Exit}
 use Rattle.syscall_abi.specs.declared.form.CallForm.TheVariants as forms
@@ -49,4 +49,4 @@ module _ (P : Option SystemCall → Type 0) (regs : Registers) where
   of_registers yields swaps commands memops exits none =
       row 0 _ _ yields (row 1 _ _ (λ is. swaps Upcall _ is refl)
       (row 2 _ _ commands (row 3 _ _ (λ is. swaps ReadWrite _ is refl) (row 4 _ _ (λ is. swaps ReadOnly _ is refl)
-      (row 5 _ _ memops (row 6 _ _ exits none))))))
+      (row 5 _ _ memops (row 6 _ _ exits (row 7 _ _ (λ is. swaps Readable _ is refl) none)))))))

@@ -17,7 +17,7 @@ use Rattle.fault_policy.specs.declared.Action.{Action}
 use Rattle.fault_policy.specs.declared.Action.TheVariants.{Stop, Restart}
 use Rattle.fault_policy.specs.Policy.{decision}
 use Rattle.tk_base.specs.declared.kinds.PairKind.{PairKind}
-use Rattle.tk_base.specs.declared.kinds.PairKind.TheVariants.{Upcall, ReadOnly, ReadWrite}
+use Rattle.tk_base.specs.declared.kinds.PairKind.TheVariants.{Upcall, ReadOnly, ReadWrite, Readable}
 use Rattle.tk_base.specs.Kinds.{count_of}
 use Rattle.grant_model.specs.Grants.{shape_of}
 use Rattle.rv32_model.specs.declared.turn_end.TurnEnd.{TurnEnd}
@@ -379,6 +379,9 @@ module _ (promise : Promise) (around : CommandContext) (r : Record) where
   of_kind ReadWrite =
       let swap = swap_in ReadWrite r.process.regs in
       of_swap 3 swap (λ lt. by_leaves r 3 _ (of_allowed swap (λ k. cc) (λ pending. refl) lt))
+  of_kind Readable =
+      let swap = swap_in Readable r.process.regs in
+      of_swap 7 swap (λ lt. by_leaves r 7 _ (of_allowed swap (λ k. cc) (λ pending. refl) lt))
 
   -- a command
   of_answer : (c : Commanded) (answer : Result Reply CallRule) → HandsTheSame r.own (own_after c.step)

@@ -12,10 +12,10 @@ use Rattle.tbf_headers.specs.declared.fault.HeaderFault.{HeaderFault}
 use Rattle.tbf_headers.specs.declared.program.Main.{Main}
 use Rattle.tbf_headers.specs.Meaning.{Meaning, header_reading}
 use Rattle.tk_base.specs.declared.kinds.PairKind.{PairKind}
-use Rattle.tk_base.specs.declared.kinds.PairKind.TheVariants.{Upcall, ReadOnly, ReadWrite}
+use Rattle.tk_base.specs.Kinds.{is_buffer}
 use Rattle.grant_model.specs.Grants.{Grant}
 use Rattle.process_layout.specs.LayoutView.{LayoutView, first_break, permits_break}
-use Rattle.upcall_queue.specs.Pending.{is_of}
+use Rattle.upcall_queue.specs.Pending.{is_of, without_key}
 use Rattle.process_model.specs.Own.{Own}
 use Rattle.process_model.specs.Flag.{with_flag}
 use Rattle.process_model.specs.Handed.{lies_in_ram, still_pending}
@@ -408,9 +408,11 @@ without_one (x ∷ xs) = omega arith
 
 fewer : (kind : PairKind) (driver number : ℕ) (pending : List Scheduled)
     → length (still_pending kind driver number pending) ≤ length pending
-fewer Upcall driver number pending = filtered (λ upcall. not (is_of driver number upcall)) pending
-fewer ReadOnly driver number pending = omega arith
-fewer ReadWrite driver number pending = omega arith
+fewer kind driver number pending = by_test (is_buffer kind)
+  where
+    by_test : (b : Bool) → length (cond b pending (without_key driver number pending)) ≤ length pending
+    by_test true = omega arith
+    by_test false = filtered (λ upcall. not (is_of driver number upcall)) pending
 
 pending_again : (r : Record) → HasPendingWithinLimit r → HasPendingWithinLimit (restart r)
 pending_again r h = restart_by HasPendingWithinLimit r h (λ header m is main. omega arith)

@@ -72,7 +72,7 @@ module _ (w : World) (whole : AreWhole w) where
       by_record (Some r) e h =
           subst (λ (q : Option WaitingWrite). IfSome q (λ write. CouldLoad r write.taken (length bytes))) (sym h.waits)
           (λ k less. may_load r.own.layout (console_buffer r) (h.write.taken + k)
-          ((whole slot r e).buffers.read_only console 1) (h.each k less).0)
+          ((whole slot r e).buffers.each ReadOnly console 1) (h.each k less).0)
 
 pub prints_could_be_loaded : OwnsStayWhole → PrintsCouldBeLoaded
 prints_could_be_loaded law w choices choice all =

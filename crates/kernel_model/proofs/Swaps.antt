@@ -22,7 +22,7 @@ use Rattle.rv32_model.specs.declared.turn_end.TurnEnd.{TurnEnd}
 use Rattle.rv32_model.specs.declared.turn_end.TurnEnd.TheVariants as ends
 use Rattle.rv32_model.specs.UserTurn.{MemoryAccess}
 use Rattle.tk_base.specs.declared.kinds.PairKind.{PairKind}
-use Rattle.tk_base.specs.declared.kinds.PairKind.TheVariants.{Upcall, ReadOnly, ReadWrite}
+use Rattle.tk_base.specs.declared.kinds.PairKind.TheVariants.{Upcall, ReadOnly, ReadWrite, Readable}
 use Rattle.grant_model.specs.Grants.{shape_of}
 use Rattle.tk_base.specs.Kinds.{count_of}
 use Rattle.process_model.specs.Own.{Own, own_ended as ended_own}
@@ -104,12 +104,15 @@ both_true false c a b = a
 
 -- kinds are told apart by the classes of their calls
 abbrev kind_of : ℕ → PairKind
-kind_of n = cond (n == class_of Upcall) Upcall (cond (n == class_of ReadOnly) ReadOnly ReadWrite)
+kind_of n =
+    cond (n == class_of Upcall) Upcall
+    (cond (n == class_of ReadOnly) ReadOnly (cond (n == class_of ReadWrite) ReadWrite Readable))
 
 kind_of_class : (kind : PairKind) → kind_of (class_of kind) ≡ kind
 kind_of_class Upcall = refl
 kind_of_class ReadOnly = refl
 kind_of_class ReadWrite = refl
+kind_of_class Readable = refl
 
 same_kind : (a b : PairKind) → (class_of a == class_of b) ≡ true → a ≡ b
 same_kind a b e =
@@ -117,16 +120,26 @@ same_kind a b e =
 
 -- whether a class is that of a swap; one that is not, the one way round and the other
 abbrev pub is_of_swaps : ℕ → Bool
-is_of_swaps n = n == class_of Upcall || (n == class_of ReadOnly || n == class_of ReadWrite)
+is_of_swaps n = n == class_of Upcall || (n == class_of ReadOnly || (n == class_of ReadWrite || n == class_of Readable))
 
 neither : (a b : Bool) → (a || b) ≡ false → (a ≡ false) × (b ≡ false)
 neither true b e = absurd (false≢true (sym e))
 neither false b e = (refl, e)
 
 another_class : (n : ℕ) → is_of_swaps n ≡ false → (kind : PairKind) → (n == class_of kind) ≡ false
-another_class n apart Upcall = (neither (n == 1) (n == 4 || n == 3) apart).0
-another_class n apart ReadOnly = (neither (n == 4) (n == 3) (neither (n == 1) (n == 4 || n == 3) apart).1).0
-another_class n apart ReadWrite = (neither (n == 4) (n == 3) (neither (n == 1) (n == 4 || n == 3) apart).1).1
+another_class n apart kind = by_kind kind
+  where
+    buffers : (n == 4 || (n == 3 || n == 7)) ≡ false
+    buffers = (neither (n == 1) (n == 4 || (n == 3 || n == 7)) apart).1
+
+    written : (n == 3 || n == 7) ≡ false
+    written = (neither (n == 4) (n == 3 || n == 7) buffers).1
+
+    by_kind : (k : PairKind) → (n == class_of k) ≡ false
+    by_kind Upcall = (neither (n == 1) (n == 4 || (n == 3 || n == 7)) apart).0
+    by_kind ReadOnly = (neither (n == 4) (n == 3 || n == 7) buffers).0
+    by_kind ReadWrite = (neither (n == 3) (n == 7) written).0
+    by_kind Readable = (neither (n == 3) (n == 7) written).1
 
 pub no_swap : (n : ℕ) → is_of_swaps n ≡ false → (kind : PairKind) → (class_of kind == n) ≡ false
 no_swap n apart kind =

@@ -8,6 +8,7 @@ use Rattle.tk_base.specs.declared.access.Width.TheVariants.{Byte, Half, Word}
 use Rattle.rv32_model.specs.UserTurn.{Write}
 use Rattle.grant_model.specs.Grants.{Grant}
 use Rattle.process_layout.specs.LayoutView.{LayoutView}
+use Rattle.process_model.proofs.Changes.{keeps_none}
 use Rattle.process_model.specs.Own.{Own}
 use Rattle.process_model.specs.Flag.{with_flag}
 use Rattle.process_model.specs.Handed.{lies_in_ram}
@@ -71,7 +72,7 @@ settled_on own o layout grants size h =
     (record {
       order = record { mark = h.order.mark; brk = h.order.brk; kernel_break = h.order.kernel_break; end = h.order.end };
       bytes = size ∙ h.bytes;
-      buffers = record { read_only = h.buffers.read_only; read_write = h.buffers.read_write };
+      buffers = record { each = h.buffers.each };
       shape = record { counts = h.shape.counts };
     }))
 
@@ -108,8 +109,7 @@ module _ (law : DriversKeep) (pairs : OnlyHandingChangesPairs) (settled : Driver
               order = places;
               bytes = length-replicate (r.own.layout.end - r.own.layout.start) 0;
               buffers = record {
-                read_only = λ driver number. refl;
-                read_write = λ driver number. refl;
+                each = λ kind driver number. keeps_none kind _;
               };
               shape = none.shape;
             }) order.places,
@@ -133,7 +133,7 @@ module _ (law : DriversKeep) (pairs : OnlyHandingChangesPairs) (settled : Driver
           record {
             order = order_moved r new may h.0;
             bytes = h.1.bytes;
-            buffers = record { read_only = h.1.buffers.read_only; read_write = h.1.buffers.read_write };
+            buffers = record { each = h.1.buffers.each };
             shape = record { counts = h.1.shape.counts };
           },
         );

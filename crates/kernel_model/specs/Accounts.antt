@@ -1,8 +1,9 @@
 -- What each step of a board answers for. The accesses are those of Levy et al., SOSP 2017; what a refused call may
 -- change is this board's own rule.
-use Rattle.std.specs.Prelude.{ℕ, List, All}
+use Rattle.std.specs.Prelude.{ℕ, List, All, slice_get, IfSome}
 use Rattle.tk_base.specs.declared.process.Choice.{Choice}
 use Rattle.tk_base.specs.declared.process.Choice.TheVariants.{Run}
+use Rattle.process_model.specs.Changes.{IsWhole}
 use Rattle.kernel_model.specs.World.{World, labels}
 use Rattle.kernel_model.specs.Accesses.{IsGuarded}
 use Rattle.kernel_model.specs.Causes.{AllHaveCauses, AreWhole, EachChangeHasACause}
@@ -25,10 +26,11 @@ pub record IsAccountedFor (w : World) (choice : Choice) : Type 0 where
   pub refused : RefusedChangesLittle w choice
   pub prints : All (PrintsItsBuffer w) (labels w choice)
 
--- So it is with every step of a world in which the owns are whole; in any world with every turn of a process, with all
--- turns of a quiet stretch, and with all choices that change no byte without a cause.
+-- So it is with every step of a world in which the owns are whole; in any world with every turn of a process whose own
+-- is whole, with all turns of a quiet stretch, and with all choices that change no byte without a cause.
 pub record StepsAreAccountedFor : Type 0 where
   pub any : (w : World) (choice : Choice) → AreWhole w → IsAccountedFor w choice
-  pub turn : (w : World) (slot : ℕ) → IsAccountedFor w (Run slot)
+  pub turn : (w : World) (slot : ℕ) → IfSome (slice_get w.records slot) (λ r. IsWhole r.own)
+      → IsAccountedFor w (Run slot)
   pub stretch : (k : ℕ) (w after : World) → IsStretch k w after → Throughout IsAccountedFor w (chosen k w)
   pub all : (w : World) (choices : List Choice) → AllHaveCauses w choices → Throughout IsAccountedFor w choices

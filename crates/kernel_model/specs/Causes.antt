@@ -1,15 +1,16 @@
 -- What changes the bytes of a process: of its own RAM, of its whole block, of its storage (Levy et al., SOSP 2017; TRD
--- 104, "Yield", "Exit", "Read-Write Allow").
-use Rattle.std.specs.Prelude.{◌≡◌, ◌≢◌, ◌⊎◌, ◌≤◌, ◌<◌, ℕ, ◌+◌, true, false, IsTrue, List, [], length, slice_get}
-use Rattle.std.specs.Prelude.{slice_index, Option, None, Some}
+-- 104, "Yield", "Exit", "Read-Write Allow"; the userspace-readable allow of Tock's kernel).
+use Rattle.std.specs.Prelude.{◌≡◌, ◌≢◌, ◌⊎◌, ◌≤◌, ◌<◌, ℕ, ◌+◌, ◌==◌, ◌&&◌, Bool, true, false, IsTrue, List, [], length, slice_get}
+use Rattle.std.specs.Prelude.{slice_index, Option, None, Some, is_none, is_some, IfSome}
 use Rattle.std.specs.List.{Any, list_any}
 use Rattle.tk_base.specs.declared.process.Choice.{Choice}
 use Rattle.tk_base.specs.declared.process.Choice.TheVariants.{Run}
 use Rattle.rv32_model.specs.Laws.{stores_at}
 use Rattle.process_model.specs.Own.{Own}
 use Rattle.process_model.specs.Changes.{ChangesAt, IsInside, IsWhole}
-use Rattle.driver_model.specs.Bytes.{input_buffer, stored_buffer, word_buffer}
+use Rattle.driver_model.specs.Bytes.{clock_buffer, input_buffer, shows_clock, stored_buffer, word_buffer}
 use Rattle.driver_model.specs.Storage as storage
+use Rattle.process_record.specs.declared.emit.CallMade.{CallMade}
 use Rattle.kernel_model.specs.Record.{Record}
 use Rattle.kernel_model.specs.declared.settings.Settings.{Settings}
 use Rattle.kernel_model.specs.Turn.{Event, Turn, Alarmed, Taken, WriteDone, Input, Word, NoWord, Stored, TurnTrace}
@@ -20,16 +21,26 @@ use Rattle.kernel_model.specs.Choices.{Throughout}
 use Rattle.kernel_model.specs.Replay.{chosen, events}
 use Rattle.kernel_model.specs.Stretch.{IsStretch}
 
+-- whether a call showed its process the clock: the command that does so, which broke no rule
+abbrev pub showed_clock : Option CallMade → Bool
+showed_clock None = false
+showed_clock (Some made) =
+    made.class == 2
+    && (shows_clock (slice_index made.args 0) (slice_index made.args 1) && is_none made.rule)
+
 -- A cause in a process's own turn, by what the turn told and by the record before and after it: a store that covers the
--- address; the flag of its yield; that it started again, where the turn told an exit or a denial.
+-- address; the flag of its yield; that it started again, where the turn told an exit or a denial; the clock that was
+-- shown in the buffer which the process held for it.
 abbrev pub IsDoneByTurn : Record → Record → TurnTrace → ℕ → Type 0
 IsDoneByTurn r s told at =
     IsTrue (list_any (stores_at at) told.accesses)
     ⊎ ((told.flag ≡ Some at)
-    ⊎ ((ends_life told ≡ true) × (s.process.restarts ≡ r.process.restarts + 1)))
+    ⊎ (((ends_life told ≡ true) × (s.process.restarts ≡ r.process.restarts + 1))
+    ⊎ ((showed_clock told.call ≡ true) × IsInside (clock_buffer r.own) at)))
 
 -- the buffer that a process holds for the device that answers it so; one without bytes, where the answer moves none
 abbrev pub buffer_for : Event → Own → ℕ × ℕ
+buffer_for (Alarmed now) own = clock_buffer own
 buffer_for (Input bytes) own = input_buffer own
 buffer_for (Word word) own = word_buffer own
 buffer_for (Stored moved) own = stored_buffer own
@@ -91,11 +102,12 @@ AreWhole w = (slot : ℕ) (r : Record) → slice_get w.records slot ≡ Some r �
 abbrev pub AllHaveCauses : World → List Choice → Type 0
 AllHaveCauses w choices = Throughout EachChangeHasACause w choices
 
--- So it is with every step of a world in which the owns are whole; in any world with every turn of a process, and with
--- all turns of a quiet stretch.
+-- So it is with every step of a world in which the owns are whole; in any world with every turn of a process whose own
+-- is whole, and with all turns of a quiet stretch.
 pub record StepsHaveCauses : Type 0 where
   pub any : (w : World) (choice : Choice) → AreWhole w → EachChangeHasACause w choice
-  pub turn : (w : World) (slot : ℕ) → EachChangeHasACause w (Run slot)
+  pub turn : (w : World) (slot : ℕ) → IfSome (slice_get w.records slot) (λ r. IsWhole r.own)
+      → EachChangeHasACause w (Run slot)
   pub stretch : (k : ℕ) (w after : World) → IsStretch k w after → AllHaveCauses w (chosen k w)
 
 -- An answer to a process changes a byte of its own inside the buffer alone that it held for the device, and one of its
@@ -109,7 +121,8 @@ AnswersHaveCauses =
     (settings : Settings) (event : Event) (r : Record) → ((time : ℕ) → event ≢ Turn time) → IsWhole r.own
     → AnswerHasCauses event r (apply settings event r)
 
--- The turn of a process changes no byte of its own without a cause in it, and no storage; whatever its record is.
+-- The turn of a process changes no byte of its own without a cause in it, and no storage; where it makes a call, if its
+-- own is whole.
 pub record TurnHasCauses (r s : Record) (told : TurnTrace) : Type 0 where
   pub own : ChangesAt (IsDoneByTurn r s told) r.own s.own
   pub storage : s.storage ≡ r.storage
@@ -118,4 +131,4 @@ abbrev pub TurnsHaveCauses : Type 0
 TurnsHaveCauses =
     (settings : Settings) (time : ℕ) (r : Record) →
     let t = turned settings time r in
-    TurnHasCauses r t.after t.told
+    (is_some t.told.call ≡ true → IsWhole r.own) → TurnHasCauses r t.after t.told

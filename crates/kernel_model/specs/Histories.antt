@@ -7,7 +7,7 @@ use Rattle.std.specs.List.{flat_map}
 use Rattle.tk_base.specs.declared.process.Choice.{Choice}
 use Rattle.tk_base.specs.declared.process.Choice.TheVariants.{Run}
 use Rattle.tk_base.specs.declared.kinds.PairKind.{PairKind}
-use Rattle.tk_base.specs.declared.kinds.PairKind.TheVariants.{Upcall, ReadOnly, ReadWrite}
+use Rattle.tk_base.specs.declared.kinds.PairKind.TheVariants.{Upcall, ReadOnly, ReadWrite, Readable}
 use Rattle.process_record.specs.declared.emit.CallMade.{CallMade}
 use Rattle.kernel_model.specs.Record.{Record}
 use Rattle.kernel_model.specs.Turn.{TurnTrace}
@@ -27,17 +27,18 @@ turns_of slot w [] = []
 turns_of slot w (choice ∷ choices) =
     flat_map (turns_in slot) (labels w choice) ++ turns_of slot (after w choice) choices
 
--- what a process hands a driver: an upcall, a read-only buffer or a read-write one, by its number
+-- what a process hands a driver: an upcall, a read-only, a read-write or a readable buffer, by its number
 pub record PairKey : Type 0 where
   pub kind : PairKind
   pub driver : ℕ
   pub number : ℕ
 
--- the class of the call that swaps it: subscribe, read-only allow, read-write allow
+-- the class of the call that swaps it: subscribe, read-only allow, read-write allow, userspace-readable allow
 abbrev pub class_of : PairKind → ℕ
 class_of Upcall = 1
 class_of ReadOnly = 4
 class_of ReadWrite = 3
+class_of Readable = 7
 
 -- whether a call is a swap of a key
 abbrev pub is_swap : PairKey → CallMade → Bool

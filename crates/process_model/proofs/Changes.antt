@@ -208,6 +208,13 @@ keeps_in_ram ReadOnly e buffer can may = absurd (cc)
 keeps_in_ram ReadWrite e buffer can may = may
 keeps_in_ram Readable e buffer can may = may
 
+-- a pair of zeros may be kept, whatever its kind
+pub keeps_none : (kind : PairKind) (e : LayoutView) → IsTrue (may_keep kind e (0, 0))
+keeps_none Upcall e = refl
+keeps_none ReadOnly e = refl
+keeps_none ReadWrite e = refl
+keeps_none Readable e = refl
+
 -- such a buffer with bytes begins in the block
 begins : (e : LayoutView) (buffer : ℕ × ℕ) → (buffer.1 == 0 || lies_in_ram e buffer.0 buffer.1) ≡ true → 0 < buffer.1
     → e.start ≤ buffer.0

@@ -1,3 +1,3 @@
 mod Pairs
-mod Changes
+pub mod Changes
 pub mod Scheduling

@@ -17,11 +17,14 @@ const WRITTEN: u32 = 0;
 const NO_WORD: u32 = 1;
 
 /// The grants that processes keep for the source.
+pub(crate) type Randoms = Grant<Random, 1, 0, 1, 0>;
+
+/// Those that there are.
 #[tactic(auto, unfolding(grant_values::specs::Drivers::counts_of, grant_values::specs::Drivers::drivers))]
-pub(crate) fn randoms() -> Grant<Random, 1, 0, 1>
+pub(crate) fn randoms() -> Randoms
     ensures { result.driver ≡ random }
 {
-    Grant::of(Driver::Random.number())
+    Randoms::of(Driver::Random.number())
 }
 
 /// What a step of a request came to.

@@ -23,11 +23,14 @@ const MOVED: u32 = 0;
 const FAULT: u32 = 1;
 
 /// The grants that processes keep for the storage.
+pub(crate) type Storages = Grant<Storage, 2, 1, 1, 0>;
+
+/// Those that there are.
 #[tactic(auto, unfolding(grant_values::specs::Drivers::counts_of, grant_values::specs::Drivers::drivers))]
-pub(crate) fn storages() -> Grant<Storage, 2, 1, 1>
+pub(crate) fn storages() -> Storages
     ensures { result.driver ≡ storage }
 {
-    Grant::of(Driver::Storage.number())
+    Storages::of(Driver::Storage.number())
 }
 
 /// Serves the request that waits, over the storage of a slot; on a fault it moves nothing. It hands the
@@ -78,7 +81,7 @@ fn read(entered: &mut Entered<'_>, stores: &Stores, slot: Slot, request: &Storag
     requires within { request.now.offset + request.now.length ≤ stores.now.size }
     ensures count { result ≡ min request.now.length
         (held ReadWrite storage 0 (own_entered entered.old)).1 }
-    ensures own { own_entered entered.new ≡ with_written storage 0 0
+    ensures own { own_entered entered.new ≡ with_written ReadWrite storage 0 0
         (bytes_from stores.now slot request.now.offset result) (own_entered entered.old) }
     // what a visitor owes
     ensures lent { IsLent entered.new }

@@ -1,11 +1,12 @@
--- The system call interface: TRD 104, "System Call API".
+-- The system call interface: TRD 104, "System Call API"; and class 7, the userspace-readable allow of Tock's kernel.
 use Rattle.std.specs.Prelude.{ℕ, ◌==◌, List, [], ◌∷◌, find, Option, None, Some, option_map}
 use Rattle.tk_base.specs.Regs.{Registers}
 use Rattle.tk_base.specs.Regs.{register}
 use Rattle.tk_base.specs.declared.kinds.PairKind.{PairKind}
-use Rattle.tk_base.specs.declared.kinds.PairKind.TheVariants.{Upcall, ReadOnly, ReadWrite}
+use Rattle.tk_base.specs.declared.kinds.PairKind.TheVariants.{Upcall, ReadOnly, ReadWrite, Readable}
 use Rattle.syscall_abi.specs.declared.call.Call.{Call}
-use Rattle.syscall_abi.specs.declared.call.Call.TheVariants.{Yield, Subscribe, Command, AllowRw, AllowRo, Memop, Exit}
+use Rattle.syscall_abi.specs.declared.call.Call.TheVariants.{Yield, Subscribe, Command, AllowRw, AllowRo, Memop}
+use Rattle.syscall_abi.specs.declared.call.Call.TheVariants.{Exit, AllowUr}
 use Rattle.syscall_abi.specs.declared.form.CallForm.{CallForm}
 use Rattle.syscall_abi.specs.declared.form.CallForm.TheVariants as forms
 
@@ -39,6 +40,7 @@ class_table regs =
     ∷ (4, AllowRo (a0 regs) (a1 regs) (a2 regs) (a3 regs))
     ∷ (5, Memop (a0 regs) (a1 regs))
     ∷ (6, Exit (a0 regs) (a1 regs))
+    ∷ (7, AllowUr (a0 regs) (a1 regs) (a2 regs) (a3 regs))
     ∷ []
 
 -- the call that the registers make, which is that of their class; none for a class that is not in the table
@@ -49,13 +51,15 @@ call_of regs = option_map (λ row. row.1) (find (λ row. row.0 == class regs) (c
 abbrev pub swap_form : PairKind → ℕ → ℕ → ℕ × ℕ → CallForm
 swap_form kind driver number pair = forms.Swap (record { kind = kind; driver = driver; number = number; pair = pair })
 
--- a call by its form: subscribe, the read-write and the read-only allow are swaps, each of its kind of pairs
+-- a call by its form: subscribe, the read-write, the read-only and the readable allow are swaps, each of its kind of
+-- pairs
 abbrev pub form_of : Call → CallForm
 form_of (Yield number a1 a2) = forms.Yield number a1 a2
 form_of (Subscribe driver number function app) = swap_form Upcall driver number (function, app)
 form_of (Command driver command a2 a3) = forms.Command driver command a2 a3
 form_of (AllowRw driver number address size) = swap_form ReadWrite driver number (address, size)
 form_of (AllowRo driver number address size) = swap_form ReadOnly driver number (address, size)
+form_of (AllowUr driver number address size) = swap_form Readable driver number (address, size)
 form_of (Memop operation argument) = forms.Memop operation argument
 form_of (Exit kind code) = forms.Exit kind code
 

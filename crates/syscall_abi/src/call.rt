@@ -42,6 +42,14 @@ pub enum Call {
         address: u32,
         size: u32,
     },
+    /// Class 7, Userspace-Readable Allow: the driver may write the bytes from `address` on, which the process
+    /// may read meanwhile.
+    AllowUr {
+        driver: u32,
+        number: u32,
+        address: u32,
+        size: u32,
+    },
     /// Class 5: the process asks about its memory, or moves its break.
     Memop {
         operation: u32,
@@ -104,6 +112,12 @@ impl Call {
                 address,
                 size,
             } => swap(PairKind::ReadOnly, driver, number, (address, size)),
+            Call::AllowUr {
+                driver,
+                number,
+                address,
+                size,
+            } => swap(PairKind::Readable, driver, number, (address, size)),
             Call::Memop {
                 operation,
                 argument,
@@ -116,11 +130,11 @@ impl Call {
     }
 
     /// The call that the registers make: the class stands in a4, the arguments in a0 to a3. None
-    /// exactly for a class above 6 (TRD 104, "System Call API").
+    /// exactly for a class above 7 (TRD 104, "System Call API"; Tock's kernel has class 7 beside those).
     #[tactic(auto, unfolding(crate::specs::Call::call_of, crate::specs::Call::class_table))]
     pub fn of(regs: &Regs) -> Option<Call>
         ensures call { result ≡ call_of regs.now }
-        ensures none { IsNone result ↔ (6 < class regs.now) }
+        ensures none { IsNone result ↔ (7 < class regs.now) }
     {
         let (a0, a1) = (regs.get(10), regs.get(11));
         let (a2, a3) = (regs.get(12), regs.get(13));
@@ -155,6 +169,12 @@ impl Call {
                 argument: a1,
             }),
             6 => Some(Call::Exit { kind: a0, code: a1 }),
+            7 => Some(Call::AllowUr {
+                driver: a0,
+                number: a1,
+                address: a2,
+                size: a3,
+            }),
             _ => None,
         }
     }
