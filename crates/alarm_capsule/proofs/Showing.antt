@@ -29,8 +29,9 @@ taken_twice (suc n) (x ∷ xs) = ap (λ ys. x ∷ ys) (taken_twice n xs)
 pub front_is_written : (own : Own) (buffer : ℕ × ℕ) (bytes : List ℕ) (n : ℕ) → n ≡ buffer.1
     → own_written buffer 0 (take (n - 0) bytes) own ≡ own_written buffer 0 bytes own
 front_is_written own buffer bytes n same =
-    ap (λ k. own_written buffer 0 (take k bytes) own) same
-    ∙ ap (λ xs. record own { ram = over own.ram (buffer.0 - own.layout.start + 0) xs }) (taken_twice buffer.1 bytes)
+    ap (λ k. own_written buffer 0 (take (k - 0) bytes) own) same
+    ∙ ap (λ xs. record own { ram = over own.ram (buffer.0 - own.layout.start + 0) xs })
+    (taken_twice (buffer.1 - 0) bytes)
 
 -- a value that is kept again changes nothing
 kept_still : (driver : ℕ) (value : KeptValue) (gs : List Grant) → option_map (λ g. g.value) (grant_of driver gs) ≡ Some value
@@ -63,14 +64,14 @@ pub shown : {A : Type 0} (now driver life : ℕ) (counts : Counts) (flash : List
     (leaves : Alarm → Seen → A → Alarm → Own → Type 0) (r : Result (Option A) Stale) → Shows now leaves → driver ≡ 0
     → is_stale life old ≡ false → Visits (grants_of driver counts AlarmValue) leaves life flash old r new
     → new ≡ showing now old
-shown now driver life counts flash old new leaves (Ok (Some answer)) says zero present visits =
+shown now driver life counts flash old new leaves (Ok (Some answer)) says is present visits =
     let v = visits.1 in
     let left = says _ _ _ _ _ v.left in
     v.after
     ∙ ap (λ (a : Alarm). with_kept driver (AlarmValue a) v.own) left.0
     ∙ ap (λ (o : Own). with_kept driver (AlarmValue v.was) o) left.1
     ∙ ap (λ gs. record (showing now old) { grants = gs }) (kept_still driver (AlarmValue v.was) old.grants v.kept)
-shown now driver life counts flash old new leaves (Ok None) says zero present visits =
-    visits.2 ∙ none_shown now old (subst (λ (d : ℕ). kept d old ≡ None) zero visits.1)
-shown now driver life counts flash old new leaves (Err stale) says zero present visits =
+shown now driver life counts flash old new leaves (Ok None) says is present visits =
+    visits.2 ∙ none_shown now old (subst (λ (d : ℕ). kept d old ≡ None) is visits.1)
+shown now driver life counts flash old new leaves (Err stale) says is present visits =
     absurd (not_stale (is_stale life old) visits.0 present)

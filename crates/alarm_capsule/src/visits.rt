@@ -60,7 +60,7 @@ impl Visit<Alarm> for Stop {
 }
 
 /// Shows the clock to a process, in the buffer that it reads.
-fn show(entered: &mut Entered<'_>, now: u32)
+fn show_clock(entered: &mut Entered<'_>, now: u32)
     requires lent { IsLent entered.old }
     requires driver { (seen entered.old).driver ≡ alarm_driver }
     requires number { 0 < (seen entered.old).counts.ur }
@@ -92,7 +92,7 @@ impl Visit<Alarm> for Show {
         (value' ≡ value) × (own ≡ showing shows.now seen.own) };
 
     fn run(self, _value: &mut Alarm, entered: &mut Entered<'_>) {
-        show(entered, self.now);
+        show_clock(entered, self.now);
     }
 }
 
@@ -120,7 +120,7 @@ impl Visit<Alarm> for Fire {
     fn run(self, value: &mut Alarm, entered: &mut Entered<'_>) {
         frames_join();
         value.armed = None;
-        show(entered, self.now);
+        show_clock(entered, self.now);
         entered.schedule(0, [self.now, self.expiration, 0]);
     }
 }
