@@ -114,7 +114,7 @@ def memop(operation, argument=None):
 
 
 def swap(kind, driver, number, first, second):
-    """Subscribe (class 1) or an allow (3 for read-write, 4 for read-only) of a pair."""
+    """Subscribe (class 1) or an allow (3 for read-write, 4 for read-only, 7 for readable) of a pair."""
     pair = li(A2, first) + li(A3, second)
     return li(A4, kind) + li(A0, driver) + li(A1, number) + pair + ecall
 
@@ -309,7 +309,7 @@ CALLS = [
         leds 0000
         end done steps 11 time 11
     """),
-    boot("class-7-is-unknown", "the classes end at 6", app(li(A4, 7), ecall), """
+    boot("class-8-is-unknown", "the classes end at 7", app(li(A4, 8), ecall), """
         ==
         slot 0 - faulted fetch 20000024 unknown-class turns 2 restarts 0
         leds 0000
@@ -320,7 +320,7 @@ CALLS = [
 # What a process hands to drivers. The object starts at FLASH, so its code at FLASH + 32; its block of 1024 bytes
 # starts at RAM, and its break is RAM + 256. After a swap a0 is 130, and a1 and a2 the former pair; after its
 # refusal a0 is 2, a1 the error's code, and a2 and a3 the passed pair.
-SUBSCRIBE, READ_WRITE, READ_ONLY = 1, 3, 4
+SUBSCRIBE, READ_WRITE, READ_ONLY, READABLE = 1, 3, 4, 7
 ALARM, CONSOLE, LED, NO_DRIVER, RANDOM, STORAGE = 0, 1, 2, 3, 0x40001, 0x50001
 CODE, BREAK, TOP = FLASH + 32, RAM + 256, RAM + 1024
 # Three subscribes, of seven, seven and six turns.
@@ -356,7 +356,7 @@ SWAPS = [
     tells("function-past-the-break", "which this one has not", 6, swap(SUBSCRIBE, ALARM, 0, BREAK - 2, 0)),
     tells("subscribe-of-no-driver", "a number without a driver", 11, swap(SUBSCRIBE, NO_DRIVER, 0, CODE, 0)),
     tells("subscribe-of-no-number", "the alarm has one upcall", 10, swap(SUBSCRIBE, ALARM, 1, CODE, 0)),
-    tells("allow-of-no-number", "the alarm takes no buffer", 10, swap(READ_WRITE, ALARM, 0, 0, 0)),
+    tells("allow-of-no-number", "the alarm takes no read-write buffer", 10, swap(READ_WRITE, ALARM, 0, 0, 0)),
     tells("no-number-before-outside", "of two rules the first counts", 10, swap(READ_WRITE, CONSOLE, 2, FLASH, 4)),
     tells("refused-pair", "a refusal gives the passed pair", 99,
           swap(READ_WRITE, CONSOLE, 1, FLASH, 99), mv(A1, A3)),
@@ -383,12 +383,12 @@ SWAPS = [
     tells("break-at-the-buffers-end", "and may come down to it", 128,
           swap(READ_WRITE, CONSOLE, 1, RAM, 16), memop(0, RAM + 16), mv(A1, A0)),
     tells("no-room-for-a-grant", "a grant lies above the break", 9, memop(0, TOP), FIRST),
-    tells("room-for-a-grant", "the alarm's has 40 bytes, which may begin at the break", 0, memop(0, TOP - 40), FIRST),
-    tells("room-for-all-but-4-bytes", "and not below it", 9, memop(0, TOP - 36), FIRST),
+    tells("room-for-a-grant", "the alarm's has 48 bytes, which may begin at the break", 0, memop(0, TOP - 48), FIRST),
+    tells("room-for-all-but-4-bytes", "and not below it", 9, memop(0, TOP - 44), FIRST),
     tells("outside-before-no-room", "a function that is not the process's is told first", 6, memop(0, TOP),
           swap(SUBSCRIBE, ALARM, 0, FLASH, 0)),
-    tells("break-to-a-grant", "the break may come up to the grants", 128, FIRST, memop(0, TOP - 40), mv(A1, A0)),
-    tells("break-into-a-grant", "and not past their start", 9, FIRST, memop(0, TOP - 36)),
+    tells("break-to-a-grant", "the break may come up to the grants", 128, FIRST, memop(0, TOP - 48), mv(A1, A0)),
+    tells("break-into-a-grant", "and not past their start", 9, FIRST, memop(0, TOP - 44)),
     boot("a-restart-drops-the-grants", "each life finds nothing subscribed, and starts the next", turns=1000,
          flash=app(FIRST, bne(A1, ZERO, "kept"), exits(1), "kept", exits()), text="""
         ==
@@ -490,6 +490,73 @@ ALARMS = [
         end done steps 9 time 9
     """),
 ]
+
+def time_after(*parts):
+    """When the last instruction of these has its turn, of a process that is alone and begins with them."""
+    return len(assemble(parts)) // 4 - 1
+
+
+# A process reads a buffer while the kernel writes it: the alarm shows the clock there, at its command 2 and where it
+# answers. Each of these loads the first word of RAM at its end.
+SHOWS, TIME, FIRST_WORD = swap(READABLE, ALARM, 0, RAM, 4), command(ALARM, 2), li(T0, RAM) + lw(A1, T0)
+ALL_ONES = li(T0, RAM) + li(T1, -1) + sw(T1, T0)
+IN_TWO_BYTES = swap(READABLE, ALARM, 0, RAM, 2)
+LATER = 0x12345678
+# A request for a random word into the same word of RAM; and a readable buffer that begins two bytes later.
+DRAWS_HERE = swap(READ_WRITE, RANDOM, 0, RAM, 4), command(RANDOM, 1, 4)
+SHOWS_THERE = swap(READABLE, ALARM, 0, RAM + 2, 4), TIME
+
+READABLES = [
+    tells("clock-in-a-readable-buffer", "command 2 shows the clock where its process reads it",
+          time_after(SHOWS, TIME), SHOWS, TIME, FIRST_WORD),
+    tells("clock-without-a-buffer", "and nowhere, where no buffer was allowed", 0, TIME, FIRST_WORD),
+    tells("clock-in-no-bytes", "or one without bytes", 0, swap(READABLE, ALARM, 0, RAM, 0), TIME, FIRST_WORD),
+    tells("clock-in-two-bytes", "the low bytes are shown where the buffer is shorter, and nothing behind it",
+          0xffff0000 + (LATER + time_after(ALL_ONES, IN_TWO_BYTES, TIME)) % 0x10000,
+          ALL_ONES, IN_TWO_BYTES, TIME, FIRST_WORD, script=b"start %d" % LATER),
+    tells("clock-in-a-longer-buffer", "and four bytes where it is longer", 0xffffffff,
+          li(T0, RAM), li(T1, -1), sw(T1, T0, 4), swap(READABLE, ALARM, 0, RAM, 8), TIME, li(T0, RAM), lw(A1, T0, 4)),
+    tells("readable-buffer-comes-back", "an allow gives the former buffer", 4, SHOWS,
+          swap(READABLE, ALARM, 0, 0, 0), mv(A1, A2)),
+    tells("clock-in-a-buffer-taken-back", "and what was taken back shows nothing", 0, SHOWS,
+          swap(READABLE, ALARM, 0, 0, 0), TIME, FIRST_WORD),
+    tells("readable-of-no-number", "the alarm has one", 10, swap(READABLE, ALARM, 1, RAM, 4)),
+    tells("readable-of-another-driver", "and no other driver any", 10, swap(READABLE, CONSOLE, 0, RAM, 4)),
+    tells("readable-of-no-driver", "a number without a driver", 11, swap(READABLE, NO_DRIVER, 0, RAM, 4)),
+    tells("readable-in-flash", "the kernel writes it, so it lies in RAM", 6, swap(READABLE, ALARM, 0, CODE, 4)),
+    tells("break-below-a-readable-buffer", "and the break stays above it", 9,
+          swap(READABLE, ALARM, 0, BREAK - 16, 16), memop(0, BREAK - 4)),
+    tells("no-room-for-a-readable-buffer", "it needs room for the alarm's grant", 9, memop(0, TOP), SHOWS),
+    boot("readable-that-is-not-permitted", "and leave to use the alarm",
+         app(SHOWS, exits(), elements=[permissions_tlv((1, 0, 2))]), """
+        ==
+        slot 0 - terminated 11 turns 9 restarts 0
+        leds 0000
+        end done steps 9 time 9
+    """),
+    boot("clock-at-an-alarm", "an alarm that fires shows the clock, though nobody subscribed its upcall",
+         app(SHOWS, command(ALARM, 5, 3), *counts_down(5), FIRST_WORD, exits()), """
+        ==
+        slot 0 - terminated %d turns 28 restarts 0
+        leds 0000
+        end done steps 29 time 28
+    """ % (time_after(SHOWS, command(ALARM, 5, 3)) + 3)),
+    boot("readable-over-read-write", "buffers of two drivers may overlap: the clock is shown over a random word",
+         app(*DRAWS_HERE, *SHOWS_THERE, FIRST_WORD, exits()), script=b"random 04030201", text="""
+        ==
+        slot 0 - terminated %d turns 32 restarts 0
+        leds 0000
+        end done steps 33 time 32
+    """ % (0x0201 + time_after(*DRAWS_HERE, *SHOWS_THERE) * 0x10000)),
+    boot("read-write-over-readable", "and the word is written over the clock, where it comes later",
+         app(*SHOWS_THERE, *DRAWS_HERE, FIRST_WORD, exits()), script=b"random 04030201", text="""
+        ==
+        slot 0 - terminated %d turns 32 restarts 0
+        leds 0000
+        end done steps 33 time 32
+    """ % 0x04030201),
+]
+
 
 def hands(kind, driver, number, label, second=0):
     """A swap whose first word is the address of a label; s0 holds where the code begins."""
@@ -1169,6 +1236,17 @@ TRACES = [
         leds 0000
         end done steps 24 time 24
     """),
+    trace("trace-of-readable-buffers", "a call of class 7 is told as any other",
+          app(mv(S0, A1), *([li(A4, READABLE), li(A0, ALARM), li(A1, 0), mv(A2, S0), li(A3, 4), ecall]),
+              swap(READABLE, ALARM, 0, 0, 0), li(A1, 5), exits()), """
+        @6 0 call 7 00000000 00000000 80000000 00000004 = 00000082 00000000 00000000 00000004
+        @12 0 call 7 00000000 00000000 00000000 00000000 = 00000082 80000000 00000004 00000000
+        @16 0 call 6 00000000 00000005 00000004 00000000
+        ==
+        slot 0 - terminated 5 turns 17 restarts 0
+        leds 0000
+        end done steps 17 time 17
+    """),
     trace("trace-of-no-room", "a grant has no room below the break, and has it once the break went down",
           app(mv(S0, A1), li(A4, 5), li(A0, 0), addi(A1, S0, 1024), ecall,
               swap(SUBSCRIBE, CONSOLE, 1, 0, 0),
@@ -1269,7 +1347,7 @@ TRACES = [
         leds 0000
         end turns steps 6 time 6
     """),
-    trace("trace-of-an-unknown-class", "a class that there is not is a denial, and no call", app(li(A4, 7), ecall), """
+    trace("trace-of-an-unknown-class", "a class that there is not is a denial, and no call", app(li(A4, 8), ecall), """
         @1 0 denied fetch 20000024 unknown-class
         ==
         slot 0 - faulted fetch 20000024 unknown-class turns 2 restarts 0
@@ -1653,5 +1731,5 @@ COMMAND_LINES = [
                "boot", "flash", "script", "--turns", b"\xff"),
 ]
 
-CASES = RUNS + DENIALS + INSTRUCTIONS + CALLS + SWAPS + YIELDS + ALARMS + CONSOLES + LEDS + RANDOMS + STORAGES + SEVERAL + IMAGES + SCRIPTS + BAD_SCRIPTS + FILES + TRACES + SOAKS
+CASES = RUNS + DENIALS + INSTRUCTIONS + CALLS + SWAPS + YIELDS + ALARMS + READABLES + CONSOLES + LEDS + RANDOMS + STORAGES + SEVERAL + IMAGES + SCRIPTS + BAD_SCRIPTS + FILES + TRACES + SOAKS
 CASES += MADE + README + APPLICATIONS + COMMAND_LINES

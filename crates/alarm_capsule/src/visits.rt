@@ -6,7 +6,7 @@ ghost use Rattle.grant_enter.specs.Seen.{Framed, IsLent, own_entered, seen};
 use grant_enter::{Entered, Grant, Visit, a_buffer_is_written, buffers_are_whole, frames_join, put_from};
 use grant_values::{Alarm, Armed, Driver};
 
-/// The grants that processes keep for the alarm.
+/// The grants that processes keep for the alarm: one upcall, and one readable buffer.
 pub(crate) type Alarms = Grant<Alarm, 1, 0, 0, 1>;
 
 /// Those that there are.
@@ -119,8 +119,9 @@ impl Visit<Alarm> for Fire {
 
     fn run(self, value: &mut Alarm, entered: &mut Entered<'_>) {
         frames_join();
+        let Fire { now, expiration } = self;
         value.armed = None;
-        show_clock(entered, self.now);
-        entered.schedule(0, [self.now, self.expiration, 0]);
+        show_clock(entered, now);
+        entered.schedule(0, [now, expiration, 0]);
     }
 }

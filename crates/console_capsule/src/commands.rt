@@ -7,7 +7,7 @@ ghost use Rattle.driver_model.specs.Console.{cancelling, console, console_reads,
 ghost use Rattle.driver_model.specs.Steps.{own_after};
 ghost use Rattle.driver_requests.specs.Asking.{IsPresent, MayAskAt, MayBeTold, Obeys, waiting_of};
 
-use crate::grants::{READ_ONLY, READ_WRITE, UPCALLS, consoles};
+use crate::grants::consoles;
 use driver_requests::{RequestQueue, has_request};
 use grant_enter::{Entered, Home, Visit, frames_join};
 use grant_values::{Console, WaitingRead};
@@ -82,7 +82,7 @@ pub(crate) fn cancel(
     ensures { Obeys Reads id (λ own. cancelling (request_in console_reads own) own) waiting.old
         home.old result waiting.new home.new }
 {
-    if !has_request::<WaitingRead, UPCALLS, READ_ONLY, READ_WRITE>(&consoles(), home, &id) {
+    if !has_request::<WaitingRead, _, _, _, _>(&consoles(), home, &id) {
         return Err(CallRule::Nothing);
     }
     let slot = id.slot;

@@ -10,7 +10,7 @@ ghost use Rattle.driver_requests.specs.Asking.{MayBeTold, waiting_of};
 ghost use Rattle.console_capsule.specs.Receiving.{told_input, written_input};
 
 use crate::capsule::ConsoleCapsule;
-use crate::grants::{READ_ONLY, READ_WRITE, UPCALLS, consoles};
+use crate::grants::consoles;
 use arrayvec::ArrayVec;
 use board_devices::{Kind, Uart};
 use driver_requests::{Serve, Service, has_request};
@@ -163,7 +163,7 @@ impl Serve<WaitingRead> for ConsoleCapsule {
     /// one.
     #[tactic(auto, unfolding(driver_model::specs::Console::received))]
     fn serve(home: &mut Home, id: &ProcessId, uart: &mut Uart) -> Service {
-        if !has_request::<WaitingRead, UPCALLS, READ_ONLY, READ_WRITE>(&consoles(), home, id) {
+        if !has_request::<WaitingRead, _, _, _, _>(&consoles(), home, id) {
             return Service {
                 kind: Kind::Input(ArrayVec::new()),
                 completed: false,

@@ -11,7 +11,7 @@ ghost use Rattle.console_capsule.specs.Answers.{sending_at};
 ghost use Rattle.console_capsule.specs.Sending.{still_waiting, told_of};
 
 use crate::capsule::ConsoleCapsule;
-use crate::grants::{READ_ONLY, READ_WRITE, UPCALLS, consoles};
+use crate::grants::consoles;
 use arrayvec::ArrayVec;
 use board_devices::{Kind, Uart};
 use driver_requests::{Serve, Service, has_request};
@@ -143,7 +143,7 @@ impl Serve<WaitingWrite> for ConsoleCapsule {
     /// completed.
     #[tactic(auto, unfolding(driver_model::specs::Console::sent))]
     fn serve(home: &mut Home, id: &ProcessId, printed: &mut ArrayVec<u8, PRINT_LIMIT>) -> Service {
-        if !has_request::<WaitingWrite, UPCALLS, READ_ONLY, READ_WRITE>(&consoles(), home, id) {
+        if !has_request::<WaitingWrite, _, _, _, _>(&consoles(), home, id) {
             return Service {
                 kind: Kind::Taken,
                 completed: false,

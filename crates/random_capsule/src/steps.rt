@@ -63,7 +63,7 @@ impl Serve<RandomRequest> for RandomCapsule {
     /// whether the request completed.
     #[tactic(auto, unfolding(driver_model::specs::Random::answered))]
     fn serve(home: &mut Home, id: &ProcessId, words: &mut Words) -> Service {
-        if !has_request::<RandomRequest, 1, 0, 1>(&randoms(), home, id) {
+        if !has_request::<RandomRequest, _, _, _, _>(&randoms(), home, id) {
             return Service {
                 kind: Kind::NoWord,
                 completed: false,

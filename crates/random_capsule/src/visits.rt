@@ -16,7 +16,7 @@ const WRITTEN: u32 = 0;
 /// How it tells that no word was left.
 const NO_WORD: u32 = 1;
 
-/// The grants that processes keep for the source.
+/// The grants that processes keep for the source: one upcall, and one read-write buffer.
 pub(crate) type Randoms = Grant<Random, 1, 0, 1, 0>;
 
 /// Those that there are.

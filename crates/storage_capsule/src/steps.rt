@@ -54,7 +54,7 @@ impl Serve<StorageRequest> for StorageCapsule {
     #[tactic(auto, unfolding(driver_model::specs::Storage::answered))]
     fn serve(home: &mut Home, id: &ProcessId, stores: &mut Stores) -> Service {
         let kind = Kind::Stored(!stores.fails_next());
-        let completed = has_request::<StorageRequest, 2, 1, 1>(&storages(), home, id);
+        let completed = has_request::<StorageRequest, _, _, _, _>(&storages(), home, id);
         if completed {
             count_and_serve(home, *id, stores);
         }

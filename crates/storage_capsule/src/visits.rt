@@ -22,7 +22,7 @@ const MOVED: u32 = 0;
 /// How it tells of a fault.
 const FAULT: u32 = 1;
 
-/// The grants that processes keep for the storage.
+/// The grants that processes keep for the storage: two upcalls, one read-only and one read-write buffer.
 pub(crate) type Storages = Grant<Storage, 2, 1, 1, 0>;
 
 /// Those that there are.
