@@ -24,7 +24,7 @@ use Rattle.driver_model.specs.Random as random
 use Rattle.driver_model.specs.Storage as storage
 use Rattle.driver_model.specs.Leds.{with_switched}
 use Rattle.driver_model.specs.Told.{Telling, drawn_told, received_told, sent_told, stored_told}
-use Rattle.driver_model.specs.Commands.{BoardRequest, Waits, Leaves, Lights, QueueName, Writes, Reads, Randoms, Stores}
+use Rattle.driver_model.specs.Commands.{BoardRequest, Waits, Leaves, Lights, QueueName, Writes, Reads, Randoms, Stores, is_same}
 use Rattle.kernel_model.specs.Turn.{Event, Alarmed, Taken, WriteDone, Input, Word, NoWord, Stored, TurnTrace, Turned}
 use Rattle.kernel_model.specs.Turn.{apply, flash_of, turned, may_turn}
 
@@ -32,14 +32,11 @@ use Rattle.kernel_model.specs.Turn.{apply, flash_of, turned, may_turn}
 pub record Pace : Type 0 where
   pub slice : ℕ
 
--- What the devices hold: the slots that wait in each list, the first one first; the LEDs, bit n for LED n; the serial
+-- What the devices hold: the slots that wait in each queue, the first one first; the LEDs, bit n for LED n; the serial
 -- line; the bytes that are still to come in, and when; the random words that are left; how many storage requests were
 -- served, and the numbers of those that fail
 pub record Devices : Type 0 where
-  pub writes : List ℕ
-  pub reads : List ℕ
-  pub randoms : List ℕ
-  pub stores : List ℕ
+  pub waiting : QueueName → List ℕ
   pub leds : ℕ
   pub line : SerialLine
   pub arrivals : List Arrival
@@ -105,6 +102,11 @@ queue_without slot slots = filter (λ s. not (s == slot)) slots
 abbrev pub queue_after_answer : Bool → ℕ → List ℕ → List ℕ
 queue_after_answer completed slot slots = if completed then queue_without slot slots else slots
 
+-- one queue changes, and no other
+abbrev pub with_queue : QueueName → (List ℕ → List ℕ) → Devices → Devices
+with_queue name change d =
+    record d { waiting = λ queue. if is_same name queue then change (d.waiting queue) else d.waiting queue }
+
 -- bytes come in: of those in the ring the newest are kept
 abbrev pub arriving : Devices → Arrival → List Arrival → DeviceStep
 arriving d arrival rest = record {
@@ -141,8 +143,7 @@ transmitting w slot r =
     record {
       told = Some (record { slot = slot; event = sent_told as_events s });
       printed = s.printed;
-      devices = record d {
-        writes = queue_after_answer s.completed slot d.writes;
+      devices = record (with_queue Writes (queue_after_answer s.completed slot) d) {
         line = record d.line { free = console.free_after w.clock.time d.line.ticks s.printed d.line.free };
       };
     }
@@ -155,8 +156,7 @@ receive_step w slot r =
     record {
       told = Some (record { slot = slot; event = received_told as_events s });
       printed = [];
-      devices = record d {
-        reads = queue_after_answer s.completed slot d.reads;
+      devices = record (with_queue Reads (queue_after_answer s.completed slot) d) {
         line = record d.line { ring = drop (length s.moved) d.line.ring };
       };
     }
@@ -169,8 +169,7 @@ random_step w slot r =
     record {
       told = Some (record { slot = slot; event = drawn_told as_events a.drawn });
       printed = [];
-      devices = record d {
-        randoms = queue_after_answer a.completed slot d.randoms;
+      devices = record (with_queue Randoms (queue_after_answer a.completed slot) d) {
         words = random.words_after a.drawn d.words;
       };
     }
@@ -184,8 +183,7 @@ storing w slot r =
     record {
       told = Some (record { slot = slot; event = stored_told as_events fails });
       printed = [];
-      devices = record d {
-        stores = queue_after_answer a.completed slot d.stores;
+      devices = record (with_queue Stores (queue_after_answer a.completed slot) d) {
         served = if a.completed then d.served + 1 else d.served;
       };
     }
@@ -204,10 +202,10 @@ arrived d (arrival ∷ rest) = Some (arriving d arrival rest)
 abbrev pub device_step_of : World → Dev → Option DeviceStep
 device_step_of w dev.Event = arrived w.devices w.devices.arrivals
 device_step_of w dev.Alarm = option_map (alarmed w) (alarm.due_slot (now_in w) (owns_in w))
-device_step_of w dev.Uart = first_waiting transmitting w w.devices.writes
-device_step_of w dev.Receive = first_waiting receive_step w w.devices.reads
-device_step_of w dev.Random = first_waiting random_step w w.devices.randoms
-device_step_of w dev.Store = first_waiting storing w w.devices.stores
+device_step_of w dev.Uart = first_waiting transmitting w (w.devices.waiting Writes)
+device_step_of w dev.Receive = first_waiting receive_step w (w.devices.waiting Reads)
+device_step_of w dev.Random = first_waiting random_step w (w.devices.waiting Randoms)
+device_step_of w dev.Store = first_waiting storing w (w.devices.waiting Stores)
 
 -- whether one waits
 abbrev pub is_waited_for : List ℕ → Bool
@@ -218,10 +216,10 @@ is_waited_for slots = not (length slots == 0)
 abbrev pub can_act : World → Dev → Bool
 can_act w dev.Event = is_time w.clock.time w.devices.arrivals
 can_act w dev.Alarm = is_some (alarm.due_slot (now_in w) (owns_in w))
-can_act w dev.Uart = is_waited_for w.devices.writes && nat_le w.devices.line.free w.clock.time
-can_act w dev.Receive = is_waited_for w.devices.reads && not (length w.devices.line.ring == 0)
-can_act w dev.Random = is_waited_for w.devices.randoms
-can_act w dev.Store = is_waited_for w.devices.stores
+can_act w dev.Uart = is_waited_for (w.devices.waiting Writes) && nat_le w.devices.line.free w.clock.time
+can_act w dev.Receive = is_waited_for (w.devices.waiting Reads) && not (length w.devices.line.ring == 0)
+can_act w dev.Random = is_waited_for (w.devices.waiting Randoms)
+can_act w dev.Store = is_waited_for (w.devices.waiting Stores)
 
 -- whether a choice may be made: below the limit of steps a slot whose process can have a turn, a device step that is
 -- ready, and a pass of some ticks
@@ -234,24 +232,11 @@ may_be_made w (Pass ticks) = nat_lt 0 ticks
 abbrev pub is_ready : World → Choice → Bool
 is_ready w choice = nat_lt w.clock.steps STEP_LIMIT && may_be_made w choice
 
--- a slot waits in a list, as its last one
-abbrev pub begin_wait : ℕ → QueueName → Devices → Devices
-begin_wait slot Writes d = record d { writes = d.writes ++ slot ∷ [] }
-begin_wait slot Reads d = record d { reads = d.reads ++ slot ∷ [] }
-begin_wait slot Randoms d = record d { randoms = d.randoms ++ slot ∷ [] }
-begin_wait slot Stores d = record d { stores = d.stores ++ slot ∷ [] }
-
--- a slot waits in a list no more
-abbrev pub stop_wait : ℕ → QueueName → Devices → Devices
-stop_wait slot Writes d = record d { writes = queue_without slot d.writes }
-stop_wait slot Reads d = record d { reads = queue_without slot d.reads }
-stop_wait slot Randoms d = record d { randoms = queue_without slot d.randoms }
-stop_wait slot Stores d = record d { stores = queue_without slot d.stores }
-
--- what an act of a process changes of the devices: it waits, or waits no more, or switches an LED
+-- what an act of a process changes of the devices: it waits in a queue, as its last one, or waits there no more, or
+-- switches an LED
 abbrev pub acted : ℕ → BoardRequest → Devices → Devices
-acted slot (Waits line) d = begin_wait slot line d
-acted slot (Leaves line) d = stop_wait slot line d
+acted slot (Waits queue) d = with_queue queue (λ slots. slots ++ slot ∷ []) d
+acted slot (Leaves queue) d = with_queue queue (queue_without slot) d
 acted slot (Lights led switch) d = record d { leds = with_switched d.leds led switch }
 
 -- what a turn asks the board to do, one after another
