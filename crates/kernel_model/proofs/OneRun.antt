@@ -19,6 +19,7 @@ use Rattle.driver_model.specs.Laws.{IsDueWhereNoneAreLeft}
 use Rattle.script_text.specs.Settings.{ScriptEvent as Arrival}
 use Rattle.board_devices.specs.Arriving.{first_arrival_time as arrival_time}
 use Rattle.process_model.specs.Own.{Own}
+use Rattle.driver_model.specs.Commands.{Writes}
 use Rattle.kernel_model.specs.Record.{Record}
 use Rattle.kernel_model.specs.Turn.{may_turn}
 use Rattle.kernel_model.specs.World.{World, after, can_act, can_run, is_ready, is_waited_for, now_in, owns_in, stepped}
@@ -298,7 +299,7 @@ nothing_left w few e =
       arrivals = no_arrivals w.devices.arrivals times.0;
       alarms = λ slot. within_or_beyond w slot (λ o. IfSome o HasNoAlarm) few tt
           (λ h. no_alarm w slot (alarms slot (omega arith) (omega (arith, h))));
-      writes = no_writes w.devices.writes w.devices.line.free later.1;
+      writes = no_writes (w.devices.waiting Writes) w.devices.line.free later.1;
     }
 
 is_done : (w : World) → NothingIsLeft w → next w ≡ None

@@ -16,6 +16,7 @@ use Rattle.driver_model.specs.Alarm.{due_slot}
 use Rattle.driver_model.specs.Console as console
 use Rattle.driver_model.specs.Console.{Sent, console_writes}
 use Rattle.driver_model.specs.Requests.{request_in, waiting_in}
+use Rattle.driver_model.specs.Commands.{Writes, Reads, Randoms, Stores}
 use Rattle.kernel_model.specs.Record.{Record}
 use Rattle.kernel_model.specs.Turn.{flash_of}
 use Rattle.kernel_model.specs.World.{Answer, DeviceStep, Printed, Stepped, World, alarmed, arrived, carried_out}
@@ -118,15 +119,15 @@ module _ (w : World) where
   deed_tells : (device : Dev) → Tells (device_step_of w device)
   deed_tells dev.Event = arrival_tells w.devices.arrivals
   deed_tells dev.Alarm = alarm_tells (due_slot (now_in w) (owns_in w))
-  deed_tells dev.Uart = first_tells transmitting w.devices.writes sends
+  deed_tells dev.Uart = first_tells transmitting (w.devices.waiting Writes) sends
   deed_tells dev.Receive =
-      first_tells receive_step w.devices.reads
+      first_tells receive_step (w.devices.waiting Reads)
       (λ slot r is. silent (receive_step w slot r) (receive_step w slot r).told refl)
   deed_tells dev.Random =
-      first_tells random_step w.devices.randoms
+      first_tells random_step (w.devices.waiting Randoms)
       (λ slot r is. silent (random_step w slot r) (random_step w slot r).told refl)
   deed_tells dev.Store =
-      first_tells storing w.devices.stores (λ slot r is. silent (storing w slot r) (storing w slot r).told refl)
+      first_tells storing (w.devices.waiting Stores) (λ slot r is. silent (storing w slot r) (storing w slot r).told refl)
 
   choice_prints : (choice : Choice) → All (PrintsItsBuffer w) (carried_out w choice).labels
   unfolding carried_out

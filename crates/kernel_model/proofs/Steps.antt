@@ -12,6 +12,7 @@ use Rattle.script_text.specs.Settings.{ScriptEvent as Arrival}
 use Rattle.driver_model.specs.Alarm.{due_slot}
 use Rattle.process_model.specs.Own.{Own}
 use Rattle.driver_model.specs.Services.{OfEachService}
+use Rattle.driver_model.specs.Commands.{Writes, Reads, Randoms, Stores}
 use Rattle.kernel_model.specs.declared.settings.Settings.{Settings}
 use Rattle.kernel_model.specs.Record.{Record}
 use Rattle.kernel_model.specs.Turn.{Event, Turn, Alarmed, Taken, WriteDone, Input, Word, NoWord, Stored, TurnTrace}
@@ -101,10 +102,10 @@ pub deed_tells : (w : World) (device : Dev) → TellsNoTurn (device_step_of w de
 unfolding IsAnswer
 deed_tells w dev.Event = arrived_tells w w.devices.arrivals
 deed_tells w dev.Alarm = alarm_tells w (due_slot (now_in w) (owns_in w))
-deed_tells w dev.Uart = first_tells transmitting w w.devices.writes (λ at r. sent_is_answer _)
-deed_tells w dev.Receive = first_tells receive_step w w.devices.reads (λ at r. tt)
-deed_tells w dev.Random = first_tells random_step w w.devices.randoms (λ at r. drawn_is_answer _)
-deed_tells w dev.Store = first_tells storing w w.devices.stores (λ at r. tt)
+deed_tells w dev.Uart = first_tells transmitting w (w.devices.waiting Writes) (λ at r. sent_is_answer _)
+deed_tells w dev.Receive = first_tells receive_step w (w.devices.waiting Reads) (λ at r. tt)
+deed_tells w dev.Random = first_tells random_step w (w.devices.waiting Randoms) (λ at r. drawn_is_answer _)
+deed_tells w dev.Store = first_tells storing w (w.devices.waiting Stores) (λ at r. tt)
 
 answer_tells : (w : World) (device : Dev) → IfSome (answer_told w device) (λ a. IsAnswer a.event)
 answer_tells w device = by_ready (is_ready w (Device device))

@@ -13,6 +13,7 @@ use Rattle.driver_model.specs.Told.{drawn_told}
 use Rattle.driver_model.specs.Commands.{BoardRequest, Waits, Leaves, Lights, Writes, Reads, Randoms, Stores}
 use Rattle.driver_model.specs.Console as console
 use Rattle.driver_model.specs.Random as random
+use Rattle.driver_model.specs.Commands.{Writes, Reads, Randoms, Stores}
 use Rattle.kernel_model.specs.Record.{Record}
 use Rattle.kernel_model.specs.Turn.{WriteDone, Taken, flash_of, turned}
 use Rattle.kernel_model.specs.World.{Answer, DeviceStep, Devices, Label, Printed, Stepped, World, acted, after, alarmed}
@@ -111,12 +112,12 @@ module _ (tell : EventsTellSteps) (w : World) where
   deed_draws dev.Event = arrival_draws w.devices.arrivals
   deed_draws dev.Alarm = alarm_draws (due_slot (now_in w) (owns_in w))
   deed_draws dev.Uart =
-      first_draws transmitting w.devices.writes
+      first_draws transmitting (w.devices.waiting Writes)
       (λ slot r. silent (transmitting w slot r) _ refl
       (sent_none (console.sent (flash_of r) r.own).completed) refl)
-  deed_draws dev.Receive = first_draws receive_step w.devices.reads (λ slot r. refl)
-  deed_draws dev.Random = first_draws random_step w.devices.randoms draws
-  deed_draws dev.Store = first_draws storing w.devices.stores (λ slot r. refl)
+  deed_draws dev.Receive = first_draws receive_step (w.devices.waiting Reads) (λ slot r. refl)
+  deed_draws dev.Random = first_draws random_step (w.devices.waiting Randoms) draws
+  deed_draws dev.Store = first_draws storing (w.devices.waiting Stores) (λ slot r. refl)
 
   -- the words that were left before are those that a step tells, and then those that are left
   abbrev DrawsInOrder : Stepped → Type 0

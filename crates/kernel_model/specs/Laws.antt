@@ -13,12 +13,12 @@ use Rattle.tbf_headers.specs.Meaning.{Meaning, header_reading}
 use Rattle.syscall_abi.specs.Call.{form_of}
 use Rattle.syscall_abi.specs.declared.call.Call.{Call as SystemCall}
 use Rattle.process_model.specs.Own.{Own}
-use Rattle.driver_model.specs.Commands.{BoardRequest}
+use Rattle.driver_model.specs.Commands.{BoardRequest, QueueName}
 use Rattle.driver_model.specs.Drivers.{CommandContext}
 use Rattle.driver_model.specs.Laws.{CommandDropsAtMostOne, CommandsStayInPlace, IsAtMostOneMore, RefusedByAnyDriver}
 use Rattle.driver_model.specs.Keeping.{KeepsLimit}
 use Rattle.driver_model.specs.Services.{OfEachService}
-use Rattle.driver_model.specs.Lines.{IsWithin, LinesFollowCommands, OfEachRequestKind, OnlyDriversMoveLines}
+use Rattle.driver_model.specs.Lines.{IsWithin, LinesFollowCommands, OnlyDriversMoveLines}
 use Rattle.driver_model.specs.Lines.{has_waiting, waits_after, waits_once}
 use Rattle.process_record.specs.declared.outcome.Outcome.TheVariants.{ToDriver}
 use Rattle.kernel_model.specs.Record.{Record}
@@ -98,17 +98,13 @@ main_by (Err fault) = None
 abbrev pub CanStartAgain : Record → Type 0
 CanStartAgain r = is_some (main_by (header_reading r.object)) ≡ true
 
--- What becomes of a process's requests, of which it had some before: it has one of a kind of request exactly where it
--- waits in that
--- list after what was asked of the board, and it is then in the same life. It begins to wait only where it does not
--- wait
--- already. One for storage is for some of so many bytes, as one before it was.
+-- What becomes of a process's requests, of which it had some before: it has one of a kind exactly where it waits in that
+-- queue after what was asked of the board, and it is then in the same life. It begins to wait only where it does not
+-- wait already. One for storage is for some of so many bytes, as one before it was.
 pub record KeepsLines (size : ℕ) (own after : Own) (acts : List BoardRequest) : Type 0 where
-  pub lines : OfEachRequestKind (λ R request_kind.
-      has_waiting request_kind after ≡ waits_after request_kind.line (has_waiting request_kind own) acts)
-  pub once : OfEachRequestKind (λ R request_kind.
-      waits_once request_kind.line (has_waiting request_kind own) acts ≡ true)
-  pub life : OfEachRequestKind (λ R request_kind. has_waiting request_kind after ≡ true → after.life ≡ own.life)
+  pub lines : (queue : QueueName) → has_waiting queue after ≡ waits_after queue (has_waiting queue own) acts
+  pub once : (queue : QueueName) → waits_once queue (has_waiting queue own) acts ≡ true
+  pub life : (queue : QueueName) → has_waiting queue after ≡ true → after.life ≡ own.life
   pub within : IsWithin size own → IsWithin size after
 
 -- so it is with each turn of a process that lives, and whose object is that of an application
