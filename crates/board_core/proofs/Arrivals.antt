@@ -89,10 +89,7 @@ module _ (b : Inside) (events : List ScriptEvent) (line : SerialLine)
     few = h.few;
     guard = h.guard;
     driven = record {
-      writes = h.driven.writes;
-      reads = h.driven.reads;
-      randoms = h.driven.randoms;
-      stores = h.driven.stores;
+      queues = h.driven.queues;
       within = h.driven.within;
       leds = h.driven.leds;
       size = h.driven.size;

@@ -28,10 +28,7 @@ use Rattle.kernel_model.specs.Record.{Record}
 use Rattle.kernel_model.specs.Calls.{restart, restarted_by, restarted_main}
 use Rattle.kernel_model.specs.Laws.{main_by}
 use Rattle.kernel_model.specs.Counts.{CountsAddUp, WaitingAreThere, turns_of_all}
-use Rattle.driver_model.specs.Console.{console_reads, console_writes}
-use Rattle.driver_model.specs.Random.{randoms}
-use Rattle.driver_model.specs.Storage.{storages}
-use Rattle.driver_model.specs.Requests.{RequestKind}
+use Rattle.driver_model.specs.Commands.{QueueName}
 use Rattle.driver_model.specs.Lines.{has_waiting}
 use Rattle.process_model.specs.Pairs.{OnlyHandingChangesPairs}
 use Rattle.driver_model.specs.Keeping.{IsInOrder, IsSettled}
@@ -343,8 +340,7 @@ opens_apart script flash =
 
 pub opens_with_none_waiting : (script : Script) (flash : List ℕ) → WaitingAreThere (opening script flash)
 unfolding opening
-opens_with_none_waiting script flash =
-    record { writes = All-nil _; reads = All-nil _; randoms = All-nil _; stores = All-nil _ }
+opens_with_none_waiting script flash = λ queue. All-nil _
 
 -- all counts are 0 at first
 no_turns : (storage : ℕ) (flash : List ℕ) (low : ℕ) (rs : List Record) → AreOpened storage flash low rs
@@ -364,31 +360,21 @@ counts_from_boot law script flash choices ready =
     record { time = omega (arith, sum.time); steps = omega (arith, sum.steps); turns = omega (arith, sum.turns, none) }
 
 -- no process has a request at first
-record AsksNothing (r : Record) : Type 0 where
-  writes : has_waiting console_writes r.own ≡ false
-  reads : has_waiting console_reads r.own ≡ false
-  randoms : has_waiting randoms r.own ≡ false
-  stores : has_waiting storages r.own ≡ false
+abbrev AsksNothing : Record → Type 0
+AsksNothing r = (queue : QueueName) → has_waiting queue r.own ≡ false
 
 asks_first : (storage : ℕ) (flash : List ℕ) (low : ℕ) (r : Record) → IsOpened storage flash low r → AsksNothing r
 unfolding opening_record
-asks_first storage flash low r o =
-    subst AsksNothing (sym o.is) (record { writes = refl; reads = refl; randoms = refl; stores = refl })
+asks_first storage flash low r o = subst AsksNothing (sym o.is) (λ queue. refl)
 
-asks_none : {R : Type 0} (request_kind : RequestKind R) (o : Option Record) → IfSome o AsksNothing
-    → ((r : Record) → AsksNothing r → has_waiting request_kind r.own ≡ false) → 0 ≡ once_if (asks_at request_kind o)
-asks_none request_kind None nothing each = refl
-asks_none request_kind (Some r) nothing each = ap once_if (sym (each r nothing))
+asks_none : (queue : QueueName) (o : Option Record) → IfSome o AsksNothing → 0 ≡ once_if (asks_at queue o)
+asks_none queue None nothing = refl
+asks_none queue (Some r) nothing = ap once_if (sym (nothing queue))
 
 pub opens_with_lists : (script : Script) (flash : List ℕ) → ListsAreOfRequests (opening script flash)
 unfolding opening
 opens_with_lists script flash = record {
-  each = record {
-    writes = λ slot. asks_none console_writes _ (nothing slot) (λ r a. a.writes);
-    reads = λ slot. asks_none console_reads _ (nothing slot) (λ r a. a.reads);
-    randoms = λ slot. asks_none randoms _ (nothing slot) (λ r a. a.randoms);
-    stores = λ slot. asks_none storages _ (nothing slot) (λ r a. a.stores);
-  };
+  each = λ queue slot. asks_none queue _ (nothing slot);
   lives = opens_living script flash;
 }
   where

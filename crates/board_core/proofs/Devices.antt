@@ -21,12 +21,8 @@ use Rattle.process_record.specs.Emit.{nothing}
 use Rattle.process_record.specs.declared.emit.Emit.{Emit}
 use Rattle.process_record.specs.declared.process.Process.{Process}
 use Rattle.driver_model.specs.Answers.{Remains}
-use Rattle.driver_model.specs.Commands.{Leaves, is_same}
-use Rattle.driver_model.specs.Console.{console_reads, console_writes}
+use Rattle.driver_model.specs.Commands.{Leaves, QueueName, is_same, order_of}
 use Rattle.driver_model.specs.Lines.{IsWithin, has_waiting}
-use Rattle.driver_model.specs.Random.{randoms}
-use Rattle.driver_model.specs.Requests.{RequestKind}
-use Rattle.driver_model.specs.Storage.{storages}
 use Rattle.driver_requests.specs.Waiting.{waiting_still, without}
 use Rattle.grant_enter.specs.Homes.{Homes, ChangesOnly, nobody, own_of}
 use Rattle.kernel_model.specs.Record.{Record}
@@ -156,22 +152,22 @@ printed_shown slot event (byte ∷ bytes) = by_length (length (byte ∷ bytes) =
         e)
 
 -- A list is that of those with a request, after an answer to one of them.
-left_line : {R : Type 0} (request_kind : RequestKind R) (left : Bool) (ids ids' : List ProcessId) (owns : List Own)
-    (slot : ℕ) (own o : Own)
-    → ((x y : List ProcessId) → cond (is_same request_kind.line request_kind.line) x y ≡ x)
-    → ((x y : Bool) → cond (is_same request_kind.line request_kind.line) x y ≡ x)
-    → IsQueueOf request_kind ids owns → slice_get owns slot ≡ Some own
-    → has_waiting request_kind o ≡ (if left then false else has_waiting request_kind own) → o.life ≡ own.life
+left_line : (queue : QueueName) (left : Bool) (ids ids' : List ProcessId) (owns : List Own) (slot : ℕ) (own o : Own)
+    → IsQueueOf queue ids owns → slice_get owns slot ≡ Some own
+    → has_waiting queue o ≡ (if left then false else has_waiting queue own) → o.life ≡ own.life
     → ids' ≡ waiting_still left slot ids
-    → IsQueueOf request_kind ids' (slice_set owns slot o)
-left_line request_kind true ids ids' owns slot own o is is_b line was waits life e =
-    subst (λ (xs : List ProcessId). IsQueueOf request_kind xs (slice_set owns slot o))
-    (is (without slot ids) ids ∙ sym e)
-    (line_after request_kind ids owns slot own o (Leaves request_kind.line ∷ []) line was
-    (waits ∙ sym (is_b false (has_waiting request_kind own))) (λ w. life))
-left_line request_kind false ids ids' owns slot own o is is_b line was waits life e =
-    subst (λ (xs : List ProcessId). IsQueueOf request_kind xs (slice_set owns slot o)) (sym e)
-    (line_after request_kind ids owns slot own o [] line was waits (λ w. life))
+    → IsQueueOf queue ids' (slice_set owns slot o)
+left_line queue true ids ids' owns slot own o line was waits life e =
+    subst (λ (xs : List ProcessId). IsQueueOf queue xs (slice_set owns slot o))
+    (ap (λ (b : Bool). cond b (without slot ids) ids) same ∙ sym e)
+    (line_after queue ids owns slot own o (Leaves queue ∷ []) line was
+    (waits ∙ sym (ap (λ (b : Bool). cond b false (has_waiting queue own)) same)) (λ w. life))
+  where
+    same : is_same queue queue ≡ true
+    same = eq-eqb (order_of queue) (order_of queue) refl
+left_line queue false ids ids' owns slot own o line was waits life e =
+    subst (λ (xs : List ProcessId). IsQueueOf queue xs (slice_set owns slot o)) (sym e)
+    (line_after queue ids owns slot own o [] line was waits (λ w. life))
 
 -- a process that remains is seated a step later
 remains_seated : (flash : List ℕ) (steps : ℕ) (process : Process) (own o : Own) → Remains own o
@@ -259,24 +255,16 @@ module _ (b : Inside) (device : Dev) (slot : ℕ) (printed : List ℕ) (home : H
   own_life = ap (λ (o : Own). o.life) t.serves.follows.rest
 
   -- who waits in a line has a request there then, and no other
-  told_line : {R : Type 0} (request_kind : RequestKind R)
-      → ((x y : List ProcessId) → cond (is_same request_kind.line request_kind.line) x y ≡ x)
-      → ((x y : Bool) → cond (is_same request_kind.line request_kind.line) x y ≡ x)
-      → IsQueueOf request_kind (ids_waiting_in b.drivers request_kind.line) b.home.owns
-      → has_waiting request_kind (own_of home slot)
-      ≡ (if t.serves.left request_kind.line then false else has_waiting request_kind (own_of b.home slot))
-      → IsQueueOf request_kind (ids_waiting_in d request_kind.line) (slice_set b.home.owns slot (own_of home slot))
-  told_line request_kind is is_b line waits =
-      left_line request_kind (t.serves.left request_kind.line) (ids_waiting_in b.drivers request_kind.line)
-      (ids_waiting_in d request_kind.line) b.home.owns slot (own_of b.home slot) (own_of home slot) is is_b line
-      own_was waits own_life (t.serves.lines request_kind.line)
+  told_line : (queue : QueueName)
+      → IsQueueOf queue (ids_waiting_in d queue) (slice_set b.home.owns slot (own_of home slot))
+  told_line queue =
+      left_line queue (t.serves.left queue) (ids_waiting_in b.drivers queue) (ids_waiting_in d queue) b.home.owns slot
+      (own_of b.home slot) (own_of home slot) (h.driven.queues queue) own_was (t.serves.follows.lines queue) own_life
+      (t.serves.lines queue)
 
   told_driven : AreDriven b.moment.settings b.moment.time home.owns d
   told_driven = subst (λ (owns : List Own). AreDriven b.moment.settings b.moment.time owns d) (sym told_owns) (record {
-    writes = told_line console_writes (λ x y. refl) (λ x y. refl) h.driven.writes t.serves.follows.lines.writes;
-    reads = told_line console_reads (λ x y. refl) (λ x y. refl) h.driven.reads t.serves.follows.lines.reads;
-    randoms = told_line randoms (λ x y. refl) (λ x y. refl) h.driven.randoms t.serves.follows.lines.randoms;
-    stores = told_line storages (λ x y. refl) (λ x y. refl) h.driven.stores t.serves.follows.lines.stores;
+    queues = told_line;
     within = All-set (IsWithin b.moment.settings.storage) b.home.owns slot (own_of home slot)
         (t.serves.follows.within b.moment.settings.storage (h.driven.within slot nobody t.there)) h.driven.within;
     leds = t.serves.leds ∙ h.driven.leds;

@@ -29,7 +29,7 @@ use Rattle.grant_values.specs.declared.console.WaitingWrite.{WaitingWrite}
 use Rattle.process_model.specs.Own.{Own}
 use Rattle.process_record.specs.declared.process.Process.{Process}
 use Rattle.driver_model.specs.Answers.{EventsTellSteps, LinesFollowAnswers, queue_left_by}
-use Rattle.driver_model.specs.Commands.{QueueName, Writes, Reads, Randoms, Stores}
+use Rattle.driver_model.specs.Commands.{QueueName, Writes, Reads, Randoms, Stores, is_same}
 use Rattle.driver_model.specs.Console.{Received, Sent, console, console_writes, free_after, input, next_bytes, portion}
 use Rattle.driver_model.specs.Console.{received, sending, sent, taken, taking, unreceived, unsent, write_completing}
 use Rattle.driver_model.specs.Console.{write_done}
@@ -87,21 +87,38 @@ slots_left : (completed : Bool) (slot : ℕ) (ids : List ProcessId)
 slots_left true slot ids = slots_without slot ids
 slots_left false slot ids = refl
 
--- the deed of a device for the first of those that wait, by those that wait afterwards
-first_deed : (deed : World → ℕ → Record → DeviceStep) (w : World) (ids : List ProcessId) (id : ProcessId) (r : Record)
-    (completed : Bool) (shown : List ℕ → DeviceStep)
-    → slice_get ids 0 ≡ Some id → slice_get w.records id.slot ≡ Some r
-    → deed w id.slot r ≡ shown (queue_after_answer completed id.slot (slots_of ids))
-    → first_waiting deed w (slots_of ids) ≡ Some (shown (slots_of (waiting_still completed id.slot ids)))
-first_deed deed w [] id r completed shown e f does = cc
-first_deed deed w (x ∷ ids) id r completed shown e f does =
-    let same : x ≡ id = the_one x id e in
-    ap (λ (y : ProcessId). option_map (deed w y.slot) (slice_get w.records y.slot)) same
-    ∙ ap (option_map (deed w id.slot)) f
-    ∙ ap Some (does ∙ ap shown (sym (slots_left completed id.slot (x ∷ ids))))
+-- and those that wait in each queue
+each_left : (same completed : Bool) (slot : ℕ) (ids : List ProcessId)
+    → slots_of (waiting_still (same && completed) slot ids)
+    ≡ (if same then queue_after_answer completed slot (slots_of ids) else slots_of ids)
+each_left true completed slot ids = slots_left completed slot ids
+each_left false completed slot ids = refl
+
+-- the deed of a device for the first of those that wait in a queue, by those that wait afterwards
+first_deed : (deed : World → ℕ → Record → DeviceStep) (w : World) (here : QueueName)
+    (before after : QueueName → List ProcessId) (id : ProcessId) (r : Record) (completed : Bool)
+    (shown : (QueueName → List ℕ) → DeviceStep)
+    → slice_get (before here) 0 ≡ Some id → slice_get w.records id.slot ≡ Some r
+    → ((queue : QueueName)
+    → after queue ≡ waiting_still (queue_left_by here completed queue) id.slot (before queue))
+    → deed w id.slot r ≡ shown (λ queue. if is_same here queue
+    then queue_after_answer completed id.slot (slots_of (before queue)) else slots_of (before queue))
+    → first_waiting deed w (slots_of (before here)) ≡ Some (shown (λ queue. slots_of (after queue)))
+first_deed deed w here before after id r completed shown e f left does =
+    by_first (before here) e ∙ ap (option_map (deed w id.slot)) f ∙ ap Some (does ∙ sym (ap shown lists))
   where
+    lists : (λ (queue : QueueName). slots_of (after queue)) ≡ (λ queue. if is_same here queue
+        then queue_after_answer completed id.slot (slots_of (before queue)) else slots_of (before queue))
+    lists = λ i queue. (ap slots_of (left queue) ∙ each_left (is_same here queue) completed id.slot (before queue)) i
+
     the_one : (x y : ProcessId) → Some x ≡ Some y → x ≡ y
     the_one x y e = cc
+
+    by_first : (ids : List ProcessId) → slice_get ids 0 ≡ Some id
+        → first_waiting deed w (slots_of ids) ≡ option_map (deed w id.slot) (slice_get w.records id.slot)
+    by_first [] e = cc
+    by_first (x ∷ ids) e =
+        ap (λ (y : ProcessId). option_map (deed w y.slot) (slice_get w.records y.slot)) (the_one x id e)
 
 -- a count that is far from its last value
 counted_next : (n : ℕ) → n < 2 ^ 32 → counted n ≡ n + 1
@@ -194,10 +211,7 @@ Lent home = (slot : ℕ) → slot < length home.owns → HoldsInPlace (own_of ho
 -- whoever waits is there
 waiters_there : (b : Inside) → IsBoard b → (here : QueueName)
     → AllByRecursion (IsThere b.home.owns) (ids_waiting_in b.drivers here)
-waiters_there b h Writes = h.driven.writes.there
-waiters_there b h Reads = h.driven.reads.there
-waiters_there b h Randoms = h.driven.randoms.there
-waiters_there b h Stores = h.driven.stores.there
+waiters_there b h here = (h.driven.queues here).there
 
 -- A device that answers the first of a line: what its answer to a process comes to; the drivers by who waits in the
 -- line
@@ -351,14 +365,16 @@ serves_sent b h lines events law lent id is_there first =
       bytes = bytes_of b.drivers.stores.slots id.slot;
       stores = stores_stay b h id is_there;
       event = if s.completed then WriteDone else Taken;
-      deed = first_deed transmitting (world_of b) b.drivers.console.writes id r s.completed
-          (λ (slots : List ℕ). telling id.slot (if s.completed then WriteDone else Taken) s.printed
+      deed = first_deed transmitting (world_of b) Writes (ids_waiting_in b.drivers) (ids_waiting_in ((sends b).after
+          (waiting_still s.completed id.slot b.drivers.console.writes) (record { items = s.printed }))) id r
+          s.completed (λ (slots : QueueName → List ℕ). telling id.slot (if s.completed then WriteDone else Taken) s.printed
           (record (devices_of b.drivers) {
-            writes = slots;
+            waiting = slots;
             line =
                 sending_at b.moment.time s.printed b.drivers.uart;
           }))
-          first (its_record_was b h id is_there) refl;
+          first (its_record_was b h id is_there)
+          (elim [ Writes ↦ refl | Reads ↦ refl | Randoms ↦ refl | Stores ↦ refl ]) refl;
       tells = sent_applied b.moment.settings s.completed r s.step (events.writes (flash_of r) own);
     })
 
@@ -402,14 +418,17 @@ serves_received b h lines events id is_there first =
       bytes = bytes_of b.drivers.stores.slots id.slot;
       stores = stores_stay b h id is_there;
       event = Input s.moved;
-      deed = first_deed receive_step (world_of b) b.drivers.console.reads id r s.completed
-          (λ (slots : List ℕ). telling id.slot (Input s.moved) []
+      deed = first_deed receive_step (world_of b) Reads (ids_waiting_in b.drivers) (ids_waiting_in ((receives b).after
+          (waiting_still s.completed id.slot b.drivers.console.reads)
+          (record b.drivers.uart { ring = drop (length s.moved) ring }))) id r
+          s.completed (λ (slots : QueueName → List ℕ). telling id.slot (Input s.moved) []
           (record (devices_of b.drivers) {
-            reads = slots;
+            waiting = slots;
             line =
                 record b.drivers.uart { ring = drop (length s.moved) ring };
           }))
-          first (its_record_was b h id is_there) refl;
+          first (its_record_was b h id is_there)
+          (elim [ Writes ↦ refl | Reads ↦ refl | Randoms ↦ refl | Stores ↦ refl ]) refl;
       tells = input_applied b.moment.settings s.moved r s.step (events.reads ring own);
     })
 
@@ -454,10 +473,12 @@ serves_drawn b h lines events id is_there first =
       bytes = bytes_of b.drivers.stores.slots id.slot;
       stores = stores_stay b h id is_there;
       event = drawn_told as_events s.drawn;
-      deed = first_deed random_step (world_of b) b.drivers.random.waiting id r s.completed
-          (λ (slots : List ℕ). telling id.slot (drawn_told as_events s.drawn) []
-          (record (devices_of b.drivers) { randoms = slots; words = random.words_after s.drawn words }))
-          first (its_record_was b h id is_there) refl;
+      deed = first_deed random_step (world_of b) Randoms (ids_waiting_in b.drivers) (ids_waiting_in ((draws b).after
+          (waiting_still s.completed id.slot b.drivers.random.waiting) (random.words_after s.drawn words))) id r
+          s.completed (λ (slots : QueueName → List ℕ). telling id.slot (drawn_told as_events s.drawn) []
+          (record (devices_of b.drivers) { waiting = slots; words = random.words_after s.drawn words }))
+          first (its_record_was b h id is_there)
+          (elim [ Writes ↦ refl | Reads ↦ refl | Randoms ↦ refl | Stores ↦ refl ]) refl;
       tells = drawn_applied b.moment.settings s.drawn r s.step (events.randoms word own);
     })
 
@@ -558,18 +579,20 @@ serves_stored b h lines law lent id is_there first =
             slots_after s id.slot a.completed a.written (not_written fails (flash_of r) bytes own);
       };
       event = Stored (not fails);
-      deed = first_deed storing (world_of b) b.drivers.storage.waiting id r a.completed
-          (λ (slots : List ℕ). telling id.slot (Stored (not fails)) []
+      deed = first_deed storing (world_of b) Stores (ids_waiting_in b.drivers) (ids_waiting_in ((stores b).after
+          (waiting_still a.completed id.slot b.drivers.storage.waiting) s')) id r
+          a.completed (λ (slots : QueueName → List ℕ). telling id.slot (Stored (not fails)) []
           (record (devices_of b.drivers) {
-            stores = slots;
+            waiting = slots;
             served =
                 if a.completed then s.served + 1 else s.served;
           }))
-          first (its_record_was b h id is_there) refl
+          first (its_record_was b h id is_there)
+          (elim [ Writes ↦ refl | Reads ↦ refl | Randoms ↦ refl | Stores ↦ refl ]) refl
           ∙ ap Some (ap₂ (λ (n : ℕ) (faults : List ℕ). telling id.slot (Stored (not fails)) []
           (record (devices_of b.drivers) {
-            stores =
-                slots_of (waiting_still a.completed id.slot b.drivers.storage.waiting);
+            waiting = λ queue. slots_of (ids_waiting_in ((stores b).after
+                (waiting_still a.completed id.slot b.drivers.storage.waiting) s') queue);
             served = n;
             faults = faults;
           }))

@@ -3,6 +3,7 @@ use Rattle.std.specs.Prelude.{◌≡◌, ℕ, true, List, [], Some, slice_get}
 use Rattle.tk_base.specs.declared.process.Dev.{Dev}
 use Rattle.tk_base.specs.declared.process.Dev.TheVariants.{Event, Alarm, Uart, Receive, Random, Store}
 use Rattle.tk_base.specs.declared.process.ProcessId.{ProcessId}
+use Rattle.driver_model.specs.Commands.{Writes, Reads, Randoms, Stores}
 use Rattle.kernel_model.specs.Record.{Record}
 use Rattle.kernel_model.specs.World.{Devices, World}
 
@@ -10,10 +11,10 @@ use Rattle.kernel_model.specs.World.{Devices, World}
 abbrev pub waiting_for : Devices → Dev → List ℕ
 waiting_for d Event = []
 waiting_for d Alarm = []
-waiting_for d Uart = d.writes
-waiting_for d Receive = d.reads
-waiting_for d Random = d.randoms
-waiting_for d Store = d.stores
+waiting_for d Uart = d.waiting Writes
+waiting_for d Receive = d.waiting Reads
+waiting_for d Random = d.waiting Randoms
+waiting_for d Store = d.waiting Stores
 
 -- a process that lives in the slot of an id, in the life of the id
 pub record LivesThere (w : World) (id : ProcessId) : Type 0 where

@@ -26,7 +26,7 @@ use Rattle.kernel_model.specs.Turn.{Event, apply, may_turn, turned}
 use Rattle.kernel_model.specs.World.{Answer, DeviceStep, Devices, Stepped, World, acted, after, alarmed, arrived}
 use Rattle.kernel_model.specs.World.{can_act, can_run, carried_out, device_step_of, done, random_step, first_waiting}
 use Rattle.kernel_model.specs.World.{is_ready, is_waited_for, queue_after_answer, may_be_made, now_in, owns_in, ran}
-use Rattle.kernel_model.specs.World.{receive_step, records_after, routed, storing, told_to, transmitting, queue_without, with_queue}
+use Rattle.kernel_model.specs.World.{receive_step, records_after, routed, storing, told_to, transmitting, queue_without, slots_in, with_queue}
 use Rattle.kernel_model.specs.Choices.{are_ready}
 use Rattle.kernel_model.specs.Replay.{after_all}
 use Rattle.kernel_model.specs.Counts.{AddsUp, CountsAddUp, WaitingAreThere, ticks_passed, turns_made, turns_of_all}
@@ -34,7 +34,7 @@ use Rattle.kernel_model.proofs.Changes.{IsKept, after_turn}
 use Rattle.kernel_model.proofs.Lives.{restart_by}
 use Rattle.kernel_model.proofs.Steps.{IsAnswer, TellsNoTurn, answer_changes, deed_tells}
 use Rattle.kernel_model.proofs.Turns.{step_same}
-use Rattle.kernel_model.proofs.Places.{stepped_ready}
+use Rattle.kernel_model.proofs.Places.{queue_with, stepped_ready}
 
 -- a turn counts, where it can be had
 abbrev Any : Own → Own → Type 0
@@ -98,7 +98,7 @@ turns_set (x ∷ rs) (suc i) r s is = let rest = turns_set rs i r s is in omega 
 
 -- who waits is there
 abbrev AreThere : ℕ → Devices → Type 0
-AreThere n d = (queue : QueueName) → All (λ slot. slot < n) (d.waiting queue)
+AreThere n d = (queue : QueueName) → All (λ slot. slot < n) (slots_in queue d.waiting)
 
 joins : (n slot : ℕ) (line : List ℕ) → slot < n → All (λ s. s < n) line → All (λ s. s < n) (line ++ slot ∷ [])
 joins n slot line less all =
@@ -116,10 +116,11 @@ left n slot false line all = all
 queue_there : (n : ℕ) (name : QueueName) (change : List ℕ → List ℕ) (d : Devices)
     → ((slots : List ℕ) → All (λ slot. slot < n) slots → All (λ slot. slot < n) (change slots)) → AreThere n d
     → AreThere n (with_queue name change d)
-queue_there n name change d all h queue = by_test (is_same name queue)
+queue_there n name change d all h queue =
+    subst (All (λ slot. slot < n)) (sym (queue_with queue name change d)) (by_test (is_same name queue))
   where
-    by_test : (b : Bool) → All (λ slot. slot < n) (cond b (change (d.waiting queue)) (d.waiting queue))
-    by_test true = all (d.waiting queue) (h queue)
+    by_test : (b : Bool) → All (λ slot. slot < n) (cond b (change (slots_in queue d.waiting)) (slots_in queue d.waiting))
+    by_test true = all (slots_in queue d.waiting) (h queue)
     by_test false = h queue
 
 acted_there : (n slot : ℕ) (act : BoardRequest) (d : Devices) → slot < n → AreThere n d → AreThere n (acted slot act d)
@@ -185,13 +186,13 @@ module _ (w : World) (h : AreThere (length w.records) w.devices) where
   deed_made dev.Event e = arrival_made w.devices.arrivals e
   deed_made dev.Alarm e = alarm_made (due_slot (now_in w) (owns_in w)) e
   deed_made dev.Uart e =
-      first_made transmitting (w.devices.waiting Writes) (h Writes) (both _ _ e) (λ slot r. answered Writes slot _)
+      first_made transmitting (slots_in Writes w.devices.waiting) (h Writes) (both _ _ e) (λ slot r. answered Writes slot _)
   deed_made dev.Receive e =
-      first_made receive_step (w.devices.waiting Reads) (h Reads) (both _ _ e) (λ slot r. answered Reads slot _)
+      first_made receive_step (slots_in Reads w.devices.waiting) (h Reads) (both _ _ e) (λ slot r. answered Reads slot _)
   deed_made dev.Random e =
-      first_made random_step (w.devices.waiting Randoms) (h Randoms) e (λ slot r. answered Randoms slot _)
+      first_made random_step (slots_in Randoms w.devices.waiting) (h Randoms) e (λ slot r. answered Randoms slot _)
   deed_made dev.Store e =
-      first_made storing (w.devices.waiting Stores) (h Stores) e (λ slot r. answered Stores slot _)
+      first_made storing (slots_in Stores w.devices.waiting) (h Stores) e (λ slot r. answered Stores slot _)
 
 -- an answer leaves the turns
 told_turns : (w : World) (o : Option Answer) → IfSome o (λ a. IsAnswer a.event)

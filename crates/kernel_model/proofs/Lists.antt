@@ -31,12 +31,12 @@ use Rattle.kernel_model.specs.World.{as_events, Answer, DeviceStep, Devices, Ste
 use Rattle.kernel_model.specs.World.{arrived}
 use Rattle.kernel_model.specs.World.{carried_out, device_step_of, done, random_step}
 use Rattle.kernel_model.specs.World.{first_waiting, now_in, owns_in, ran, receive_step, records_after, routed}
-use Rattle.kernel_model.specs.World.{storing, told_to, transmitting, queue_without}
+use Rattle.kernel_model.specs.World.{slots_in, storing, told_to, transmitting, queue_after_answer, queue_without, with_queue}
 use Rattle.kernel_model.specs.Laws.{TurnsKeepLines}
 use Rattle.kernel_model.specs.Lives.{LivesAsItRuns, HoldsThroughout, is_alive}
 use Rattle.kernel_model.specs.Lists.{ListsStay, asks_at, once_if, times_in}
 use Rattle.kernel_model.proofs.Lives.{over_turn}
-use Rattle.kernel_model.proofs.Places.{of_stepped, ran-other, slice_get-set_same, told-other, told-own}
+use Rattle.kernel_model.proofs.Places.{of_stepped, queue_with, ran-other, slice_get-set_same, told-other, told-own}
 
 -- a list with one more, and without one
 joined : (slot : ℕ) (xs : List ℕ) → times_in slot (xs ++ slot ∷ []) ≡ times_in slot xs + 1
@@ -89,48 +89,52 @@ times_after here times [] = times
 times_after here times (act ∷ acts) = times_after here (times_by here act times) acts
 
 acted_own : (here : QueueName) (slot : ℕ) (act : BoardRequest) (d : Devices)
-    → times_in slot ((acted slot act d).waiting here) ≡ times_by here act (times_in slot (d.waiting here))
-acted_own here slot (Waits line) d = by_same (is_same line here)
+    → times_in slot (slots_in here (acted slot act d).waiting) ≡ times_by here act (times_in slot (slots_in here d.waiting))
+acted_own here slot (Waits line) d =
+    ap (times_in slot) (queue_with here line (λ slots. slots ++ slot ∷ []) d) ∙ by_same (is_same line here)
   where
     by_same : (b : Bool)
-        → times_in slot (cond b (d.waiting here ++ slot ∷ []) (d.waiting here))
-        ≡ cond b (times_in slot (d.waiting here) + 1) (times_in slot (d.waiting here))
-    by_same true = joined slot (d.waiting here)
+        → times_in slot (cond b (slots_in here d.waiting ++ slot ∷ []) (slots_in here d.waiting))
+        ≡ cond b (times_in slot (slots_in here d.waiting) + 1) (times_in slot (slots_in here d.waiting))
+    by_same true = joined slot (slots_in here d.waiting)
     by_same false = refl
-acted_own here slot (Leaves line) d = by_same (is_same line here)
+acted_own here slot (Leaves line) d =
+    ap (times_in slot) (queue_with here line (queue_without slot) d) ∙ by_same (is_same line here)
   where
     by_same : (b : Bool)
-        → times_in slot (cond b (queue_without slot (d.waiting here)) (d.waiting here))
-        ≡ cond b 0 (times_in slot (d.waiting here))
-    by_same true = gone_from slot (d.waiting here)
+        → times_in slot (cond b (queue_without slot (slots_in here d.waiting)) (slots_in here d.waiting))
+        ≡ cond b 0 (times_in slot (slots_in here d.waiting))
+    by_same true = gone_from slot (slots_in here d.waiting)
     by_same false = refl
 acted_own here slot (Lights led switch) d = refl
 
 acted_other : (here : QueueName) (slot other : ℕ) (act : BoardRequest) (d : Devices) → (slot == other) ≡ false
-    → times_in other ((acted slot act d).waiting here) ≡ times_in other (d.waiting here)
-acted_other here slot other (Waits line) d apart = by_same (is_same line here)
+    → times_in other (slots_in here (acted slot act d).waiting) ≡ times_in other (slots_in here d.waiting)
+acted_other here slot other (Waits line) d apart =
+    ap (times_in other) (queue_with here line (λ slots. slots ++ slot ∷ []) d) ∙ by_same (is_same line here)
   where
     by_same : (b : Bool)
-        → times_in other (cond b (d.waiting here ++ slot ∷ []) (d.waiting here)) ≡ times_in other (d.waiting here)
-    by_same true = joined_other slot other (d.waiting here) apart
+        → times_in other (cond b (slots_in here d.waiting ++ slot ∷ []) (slots_in here d.waiting)) ≡ times_in other (slots_in here d.waiting)
+    by_same true = joined_other slot other (slots_in here d.waiting) apart
     by_same false = refl
-acted_other here slot other (Leaves line) d apart = by_same (is_same line here)
+acted_other here slot other (Leaves line) d apart =
+    ap (times_in other) (queue_with here line (queue_without slot) d) ∙ by_same (is_same line here)
   where
     by_same : (b : Bool)
-        → times_in other (cond b (queue_without slot (d.waiting here)) (d.waiting here))
-        ≡ times_in other (d.waiting here)
-    by_same true = gone_other slot other (d.waiting here) apart
+        → times_in other (cond b (queue_without slot (slots_in here d.waiting)) (slots_in here d.waiting))
+        ≡ times_in other (slots_in here d.waiting)
+    by_same true = gone_other slot other (slots_in here d.waiting) apart
     by_same false = refl
 acted_other here slot other (Lights led switch) d apart = refl
 
 routed_own : (here : QueueName) (slot : ℕ) (acts : List BoardRequest) (d : Devices)
-    → times_in slot ((routed slot acts d).waiting here) ≡ times_after here (times_in slot (d.waiting here)) acts
+    → times_in slot (slots_in here (routed slot acts d).waiting) ≡ times_after here (times_in slot (slots_in here d.waiting)) acts
 routed_own here slot [] d = refl
 routed_own here slot (act ∷ acts) d =
     routed_own here slot acts (acted slot act d) ∙ ap (λ (n : ℕ). times_after here n acts) (acted_own here slot act d)
 
 routed_other : (here : QueueName) (slot other : ℕ) (acts : List BoardRequest) (d : Devices) → (slot == other) ≡ false
-    → times_in other ((routed slot acts d).waiting here) ≡ times_in other (d.waiting here)
+    → times_in other (slots_in here (routed slot acts d).waiting) ≡ times_in other (slots_in here d.waiting)
 routed_other here slot other [] d apart = refl
 routed_other here slot other (act ∷ acts) d apart =
     routed_other here slot other acts (acted slot act d) apart ∙ acted_other here slot other act d apart
@@ -212,19 +216,19 @@ module _ (w : World) (slot : ℕ) (r : Record) (is : slice_get w.records slot �
   turn_at : (queue : QueueName)
       → has_waiting queue t.after.own ≡ waits_after queue (has_waiting queue r.own) t.acts
       → waits_once queue (has_waiting queue r.own) t.acts ≡ true
-      → ((k : ℕ) → times_in k (w.devices.waiting queue)
+      → ((k : ℕ) → times_in k (slots_in queue w.devices.waiting)
       ≡ once_if (asks_at queue (slice_get w.records k)))
       → (others : (k : ℕ) → k ≢ slot → slice_get (slice_set w.records slot t.after) k ≡ slice_get w.records k)
-      → (k : ℕ) → times_in k ((routed slot t.acts w.devices).waiting queue)
+      → (k : ℕ) → times_in k (slots_in queue (routed slot t.acts w.devices).waiting)
       ≡ once_if (asks_at queue (slice_get (slice_set w.records slot t.after) k))
   turn_at queue waits once before others k = by_slot (slot == k) refl
     where
       by_slot : (b : Bool) → (slot == k) ≡ b
-          → times_in k ((routed slot t.acts w.devices).waiting queue)
+          → times_in k (slots_in queue (routed slot t.acts w.devices).waiting)
           ≡ once_if (asks_at queue (slice_get (slice_set w.records slot t.after) k))
       by_slot true e =
           let same : slot ≡ k = eqb-true slot k e in
-          subst (λ (n : ℕ). times_in n ((routed slot t.acts w.devices).waiting queue)
+          subst (λ (n : ℕ). times_in n (slots_in queue (routed slot t.acts w.devices).waiting)
           ≡ once_if (asks_at queue (slice_get (slice_set w.records slot t.after) n))) same
           (routed_own queue slot t.acts w.devices
           ∙ ap (λ (n : ℕ). times_after queue n t.acts)
@@ -246,36 +250,36 @@ left_or_not false completed without with = refl
 -- in one queue, after an answer
 module _ (w : World) (a : Answer) (r : Record) (is : slice_get w.records a.slot ≡ Some r) (left : Bool) where
   answer_at : (queue : QueueName) (list : List ℕ)
-      → list ≡ cond left (queue_without a.slot (w.devices.waiting queue))
-      (w.devices.waiting queue)
+      → list ≡ cond left (queue_without a.slot (slots_in queue w.devices.waiting))
+      (slots_in queue w.devices.waiting)
       → has_waiting queue (apply w.settings a.event r).own ≡ cond left false (has_waiting queue r.own)
-      → ((k : ℕ) → times_in k (w.devices.waiting queue)
+      → ((k : ℕ) → times_in k (slots_in queue w.devices.waiting)
       ≡ once_if (asks_at queue (slice_get w.records k)))
       → (k : ℕ) → times_in k list ≡ once_if
       (asks_at queue (slice_get (told_to w a (slice_get w.records a.slot)) k))
   answer_at queue list lists waits before k = ap (times_in k) lists ∙ by_slot (a.slot == k) refl
     where
       own_list : (b : Bool)
-          → times_in a.slot (w.devices.waiting queue) ≡ once_if (has_waiting queue r.own)
-          → times_in a.slot (cond b (queue_without a.slot (w.devices.waiting queue))
-          (w.devices.waiting queue)) ≡ once_if (cond b false (has_waiting queue r.own))
-      own_list true is = gone_from a.slot (w.devices.waiting queue)
+          → times_in a.slot (slots_in queue w.devices.waiting) ≡ once_if (has_waiting queue r.own)
+          → times_in a.slot (cond b (queue_without a.slot (slots_in queue w.devices.waiting))
+          (slots_in queue w.devices.waiting)) ≡ once_if (cond b false (has_waiting queue r.own))
+      own_list true is = gone_from a.slot (slots_in queue w.devices.waiting)
       own_list false is = is
 
       other_list : (b : Bool) → (a.slot == k) ≡ false
-          → times_in k (cond b (queue_without a.slot (w.devices.waiting queue))
-          (w.devices.waiting queue)) ≡ times_in k (w.devices.waiting queue)
-      other_list true e = gone_other a.slot k (w.devices.waiting queue) e
+          → times_in k (cond b (queue_without a.slot (slots_in queue w.devices.waiting))
+          (slots_in queue w.devices.waiting)) ≡ times_in k (slots_in queue w.devices.waiting)
+      other_list true e = gone_other a.slot k (slots_in queue w.devices.waiting) e
       other_list false e = refl
 
       by_slot : (b : Bool) → (a.slot == k) ≡ b
-          → times_in k (cond left (queue_without a.slot (w.devices.waiting queue))
-          (w.devices.waiting queue))
+          → times_in k (cond left (queue_without a.slot (slots_in queue w.devices.waiting))
+          (slots_in queue w.devices.waiting))
           ≡ once_if (asks_at queue (slice_get (told_to w a (slice_get w.records a.slot)) k))
       by_slot true e =
           let same : a.slot ≡ k = eqb-true a.slot k e in
-          subst (λ (n : ℕ). times_in n (cond left (queue_without a.slot (w.devices.waiting queue))
-          (w.devices.waiting queue))
+          subst (λ (n : ℕ). times_in n (cond left (queue_without a.slot (slots_in queue w.devices.waiting))
+          (slots_in queue w.devices.waiting))
           ≡ once_if (asks_at queue (slice_get (told_to w a (slice_get w.records a.slot)) n))) same
           (own_list left (before a.slot ∙ ap (λ (o : Option Record). once_if (asks_at queue o)) is)
           ∙ ap once_if (sym waits)
@@ -290,7 +294,7 @@ module _ (w : World) (a : Answer) (r : Record) (is : slice_get w.records a.slot 
 -- the lists of a world are those of its requests
 abbrev AreLists : World → Type 0
 AreLists v = ((queue : QueueName) (k : ℕ)
-    → times_in k (v.devices.waiting queue) ≡ once_if (asks_at queue (slice_get v.records k)))
+    → times_in k (slots_in queue v.devices.waiting) ≡ once_if (asks_at queue (slice_get v.records k)))
 
 -- what a process is after an answer, by what the device's step made of it
 moved_own : (left : QueueName → Bool) (own o p : Own) → p ≡ o
@@ -336,17 +340,17 @@ module _ (follow : LinesFollowAnswers) (tell : EventsTellSteps) (w : World) (h :
   answered_each : (deed : DeviceStep) (a : Answer) (r : Record) → slice_get w.records a.slot ≡ Some r
       → deed.told ≡ Some a → (left : QueueName → Bool)
       → ((here : QueueName)
-      → deed.devices.waiting here
-      ≡ cond (left here) (queue_without a.slot (w.devices.waiting here)) (w.devices.waiting here))
+      → slots_in here deed.devices.waiting
+      ≡ cond (left here) (queue_without a.slot (slots_in here w.devices.waiting)) (slots_in here w.devices.waiting))
       → ((queue : QueueName) →
       has_waiting queue (apply w.settings a.event r).own
       ≡ cond (left queue) false (has_waiting queue r.own))
       → AreLists (done w (Some deed)).after
   answered_each deed a r is told left lists waits =
       subst (λ (o : Option Answer). ((queue : QueueName) (k : ℕ)
-      → times_in k (deed.devices.waiting queue)
+      → times_in k (slots_in queue deed.devices.waiting)
       ≡ once_if (asks_at queue (slice_get (records_after w o) k)))) (sym told)
-      (λ queue. answer_at w a r is (left queue) queue (deed.devices.waiting queue) (lists queue) (waits queue)
+      (λ queue. answer_at w a r is (left queue) queue (slots_in queue deed.devices.waiting) (lists queue) (waits queue)
       (h queue))
 
   first_lists : (make : World → ℕ → Record → DeviceStep) (line : List ℕ)
@@ -366,8 +370,9 @@ module _ (follow : LinesFollowAnswers) (tell : EventsTellSteps) (w : World) (h :
       let s = console.sent (flash_of r) r.own in
       answered_each (transmitting w slot r) (record { slot = slot; event = cond s.completed WriteDone Taken }) r is refl
       (queue_left_by Writes s.completed)
-      (λ here. left_or_not (is_same Writes here) s.completed (queue_without slot (w.devices.waiting here))
-      (w.devices.waiting here))
+      (λ here. queue_with here Writes (queue_after_answer s.completed slot) w.devices
+      ∙ left_or_not (is_same Writes here) s.completed (queue_without slot (slots_in here w.devices.waiting))
+      (slots_in here w.devices.waiting))
       (moved_own (queue_left_by Writes s.completed) r.own (own_after s.step) _
       (sent_own w.settings r s.step s.completed (tell.writes (flash_of r) r.own))
       (follow.writes (flash_of r) r.own).lines)
@@ -378,8 +383,9 @@ module _ (follow : LinesFollowAnswers) (tell : EventsTellSteps) (w : World) (h :
       let s = console.received w.devices.line.ring r.own in
       answered_each (receive_step w slot r) (record { slot = slot; event = Input s.moved }) r is refl
       (queue_left_by Reads s.completed)
-      (λ here. left_or_not (is_same Reads here) s.completed (queue_without slot (w.devices.waiting here))
-      (w.devices.waiting here))
+      (λ here. queue_with here Reads (queue_after_answer s.completed slot) w.devices
+      ∙ left_or_not (is_same Reads here) s.completed (queue_without slot (slots_in here w.devices.waiting))
+      (slots_in here w.devices.waiting))
       (moved_own (queue_left_by Reads s.completed) r.own (own_after s.step) _
       (input_own w.settings r s.moved ∙ ap own_after (sym (tell.reads w.devices.line.ring r.own)))
       (follow.reads w.devices.line.ring r.own).lines)
@@ -390,8 +396,9 @@ module _ (follow : LinesFollowAnswers) (tell : EventsTellSteps) (w : World) (h :
       let a = random.answered (slice_get w.devices.words 0) r.own in
       answered_each (random_step w slot r) (record { slot = slot; event = drawn_told as_events a.drawn }) r is
       refl (queue_left_by Randoms a.completed)
-      (λ here. left_or_not (is_same Randoms here) a.completed (queue_without slot (w.devices.waiting here))
-      (w.devices.waiting here))
+      (λ here. queue_with here Randoms (queue_after_answer a.completed slot) w.devices
+      ∙ left_or_not (is_same Randoms here) a.completed (queue_without slot (slots_in here w.devices.waiting))
+      (slots_in here w.devices.waiting))
       (moved_own (queue_left_by Randoms a.completed) r.own (own_after a.step) _
       (drawn_own w.settings r a.drawn ∙ ap own_after (sym (tell.randoms (slice_get w.devices.words 0) r.own)))
       (follow.randoms (slice_get w.devices.words 0) r.own).lines)
@@ -403,8 +410,9 @@ module _ (follow : LinesFollowAnswers) (tell : EventsTellSteps) (w : World) (h :
       let a = storage.answered fails (flash_of r) r.storage r.own in
       answered_each (storing w slot r) (record { slot = slot; event = Stored (not fails) }) r is refl
       (queue_left_by Stores a.completed)
-      (λ here. left_or_not (is_same Stores here) a.completed (queue_without slot (w.devices.waiting here))
-      (w.devices.waiting here))
+      (λ here. queue_with here Stores (queue_after_answer a.completed slot) w.devices
+      ∙ left_or_not (is_same Stores here) a.completed (queue_without slot (slots_in here w.devices.waiting))
+      (slots_in here w.devices.waiting))
       (moved_own (queue_left_by Stores a.completed) r.own (own_after a.step) _ (stored_own w.settings r fails)
       (follow.stores fails (flash_of r) r.storage r.own).lines)
 
@@ -414,7 +422,7 @@ module _ (follow : LinesFollowAnswers) (tell : EventsTellSteps) (w : World) (h :
       by_record : (o : Option Record) → slice_get w.records slot ≡ o → AreLists (done w (Some (alarmed w slot))).after
       by_record None e =
           subst (λ (o : Option Record). ((queue : QueueName) (k : ℕ)
-          → times_in k (w.devices.waiting queue)
+          → times_in k (slots_in queue w.devices.waiting)
           ≡ once_if (asks_at queue (slice_get (told_to w (record { slot = slot; event = Alarmed (now_in w) }) o)
           k)))) (sym e) h
       by_record (Some r) e =
@@ -435,10 +443,10 @@ module _ (follow : LinesFollowAnswers) (tell : EventsTellSteps) (w : World) (h :
   deed_lists : (device : Dev) → AreLists (done w (device_step_of w device)).after
   deed_lists dev.Event = arrived_lists w.devices.arrivals
   deed_lists dev.Alarm = due_lists (alarm.due_slot (now_in w) (owns_in w))
-  deed_lists dev.Uart = first_lists transmitting (w.devices.waiting Writes) sends
-  deed_lists dev.Receive = first_lists receive_step (w.devices.waiting Reads) receives
-  deed_lists dev.Random = first_lists random_step (w.devices.waiting Randoms) draws
-  deed_lists dev.Store = first_lists storing (w.devices.waiting Stores) stores
+  deed_lists dev.Uart = first_lists transmitting (slots_in Writes w.devices.waiting) sends
+  deed_lists dev.Receive = first_lists receive_step (slots_in Reads w.devices.waiting) receives
+  deed_lists dev.Random = first_lists random_step (slots_in Randoms w.devices.waiting) draws
+  deed_lists dev.Store = first_lists storing (slots_in Stores w.devices.waiting) stores
 
   turn_lists : TurnsKeepLines → ((slot : ℕ) → IfSome (slice_get w.records slot) LivesAsItRuns)
       → (slot : ℕ) (o : Option Record) → slice_get w.records slot ≡ o → AreLists (ran w slot o).after

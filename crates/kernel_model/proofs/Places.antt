@@ -8,7 +8,8 @@ use Rattle.kernel_model.specs.Record.{Record}
 use Rattle.kernel_model.specs.Turn.{Turn, Turned, apply, turned}
 use Rattle.kernel_model.specs.World.{Answer, DeviceStep, Stepped, World, after, after_deed, after_turn_of, carried_out}
 use Rattle.kernel_model.specs.World.{device_step_of, done, is_ready, passed, ran, records_after, stepped, told_to}
-use Rattle.kernel_model.specs.World.{unmade}
+use Rattle.kernel_model.specs.World.{Devices, slots_in, unmade, with_queue}
+use Rattle.driver_model.specs.Commands.{QueueName, Writes, Reads, Randoms, Stores, is_same}
 use Rattle.kernel_model.specs.Laws.{answer_told}
 use Rattle.tk_base.specs.declared.process.Choice.{Choice}
 use Rattle.tk_base.specs.declared.process.Choice.TheVariants.{Run, Device, Pass}
@@ -32,6 +33,15 @@ stepped_ready w choice e = ap (λ (b : Bool). cond b (carried_out w choice) (unm
 pub stepped_else : (w : World) (choice : Choice) → is_ready w choice ≡ false → stepped w choice ≡ unmade w
 unfolding stepped
 stepped_else w choice e = ap (λ (b : Bool). cond b (carried_out w choice) (unmade w)) e
+
+-- a queue once one has changed
+pub queue_with : (queue name : QueueName) (change : List ℕ → List ℕ) (d : Devices)
+    → slots_in queue (with_queue name change d).waiting
+    ≡ cond (is_same name queue) (change (slots_in queue d.waiting)) (slots_in queue d.waiting)
+queue_with Writes name change d = refl
+queue_with Reads name change d = refl
+queue_with Randoms name change d = refl
+queue_with Stores name change d = refl
 
 pub slice_get-set_same : {X : Type 0} (xs : List X) (i : ℕ) (y : X) → i < length xs
     → slice_get (slice_set xs i y) i ≡ Some y

@@ -21,7 +21,7 @@ use Rattle.kernel_model.specs.Record.{Record}
 use Rattle.kernel_model.specs.Turn.{flash_of}
 use Rattle.kernel_model.specs.World.{Answer, DeviceStep, Printed, Stepped, World, alarmed, arrived, carried_out}
 use Rattle.kernel_model.specs.World.{device_step_of, done, random_step, first_waiting, labels, labels_of, now_in}
-use Rattle.kernel_model.specs.World.{owns_in, printing, ran, receive_step, storing, transmitting}
+use Rattle.kernel_model.specs.World.{owns_in, printing, ran, receive_step, slots_in, storing, transmitting}
 use Rattle.kernel_model.specs.Replay.{after_all}
 use Rattle.kernel_model.specs.Prints.{AreOfItsBuffer, PrintsAreOfBuffers, PrintsItsBuffer, buffer_bytes, console_buffer}
 use Rattle.kernel_model.proofs.Places.{of_stepped}
@@ -119,15 +119,15 @@ module _ (w : World) where
   deed_tells : (device : Dev) → Tells (device_step_of w device)
   deed_tells dev.Event = arrival_tells w.devices.arrivals
   deed_tells dev.Alarm = alarm_tells (due_slot (now_in w) (owns_in w))
-  deed_tells dev.Uart = first_tells transmitting (w.devices.waiting Writes) sends
+  deed_tells dev.Uart = first_tells transmitting (slots_in Writes w.devices.waiting) sends
   deed_tells dev.Receive =
-      first_tells receive_step (w.devices.waiting Reads)
+      first_tells receive_step (slots_in Reads w.devices.waiting)
       (λ slot r is. silent (receive_step w slot r) (receive_step w slot r).told refl)
   deed_tells dev.Random =
-      first_tells random_step (w.devices.waiting Randoms)
+      first_tells random_step (slots_in Randoms w.devices.waiting)
       (λ slot r is. silent (random_step w slot r) (random_step w slot r).told refl)
   deed_tells dev.Store =
-      first_tells storing (w.devices.waiting Stores) (λ slot r is. silent (storing w slot r) (storing w slot r).told refl)
+      first_tells storing (slots_in Stores w.devices.waiting) (λ slot r is. silent (storing w slot r) (storing w slot r).told refl)
 
   choice_prints : (choice : Choice) → All (PrintsItsBuffer w) (carried_out w choice).labels
   unfolding carried_out

@@ -22,7 +22,7 @@ use Rattle.kernel_model.specs.World.{Answer, DeviceStep, Stepped, World, after, 
 use Rattle.kernel_model.specs.World.{carried_out}
 use Rattle.kernel_model.specs.World.{device_step_of, done, random_step, first_waiting, is_ready, labels}
 use Rattle.kernel_model.specs.World.{labels_of, now_in, owns_in, ran, receive_step, records_after, storing}
-use Rattle.kernel_model.specs.World.{transmitting}
+use Rattle.kernel_model.specs.World.{slots_in, transmitting}
 use Rattle.kernel_model.specs.Laws.{answer_told}
 use Rattle.kernel_model.specs.Histories.{turns_in}
 use Rattle.kernel_model.proofs.Replays.{nothing_printed}
@@ -102,10 +102,10 @@ pub deed_tells : (w : World) (device : Dev) → TellsNoTurn (device_step_of w de
 unfolding IsAnswer
 deed_tells w dev.Event = arrived_tells w w.devices.arrivals
 deed_tells w dev.Alarm = alarm_tells w (due_slot (now_in w) (owns_in w))
-deed_tells w dev.Uart = first_tells transmitting w (w.devices.waiting Writes) (λ at r. sent_is_answer _)
-deed_tells w dev.Receive = first_tells receive_step w (w.devices.waiting Reads) (λ at r. tt)
-deed_tells w dev.Random = first_tells random_step w (w.devices.waiting Randoms) (λ at r. drawn_is_answer _)
-deed_tells w dev.Store = first_tells storing w (w.devices.waiting Stores) (λ at r. tt)
+deed_tells w dev.Uart = first_tells transmitting w (slots_in Writes w.devices.waiting) (λ at r. sent_is_answer _)
+deed_tells w dev.Receive = first_tells receive_step w (slots_in Reads w.devices.waiting) (λ at r. tt)
+deed_tells w dev.Random = first_tells random_step w (slots_in Randoms w.devices.waiting) (λ at r. drawn_is_answer _)
+deed_tells w dev.Store = first_tells storing w (slots_in Stores w.devices.waiting) (λ at r. tt)
 
 answer_tells : (w : World) (device : Dev) → IfSome (answer_told w device) (λ a. IsAnswer a.event)
 answer_tells w device = by_ready (is_ready w (Device device))

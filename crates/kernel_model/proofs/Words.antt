@@ -19,7 +19,7 @@ use Rattle.kernel_model.specs.Turn.{WriteDone, Taken, flash_of, turned}
 use Rattle.kernel_model.specs.World.{Answer, DeviceStep, Devices, Label, Printed, Stepped, World, acted, after, alarmed}
 use Rattle.kernel_model.specs.World.{arrived, carried_out, device_step_of, done, as_events, random_step, first_waiting}
 use Rattle.kernel_model.specs.World.{labels, labels_of, now_in, owns_in, printing, ran, receive_step, routed, stepped}
-use Rattle.kernel_model.specs.World.{storing, transmitting}
+use Rattle.kernel_model.specs.World.{slots_in, storing, transmitting}
 use Rattle.kernel_model.specs.Choices.{labels_of_all}
 use Rattle.kernel_model.specs.Replay.{after_all}
 use Rattle.kernel_model.specs.Words.{WordsAreDrawnInOrder, word_in, word_told, words_told}
@@ -112,12 +112,12 @@ module _ (tell : EventsTellSteps) (w : World) where
   deed_draws dev.Event = arrival_draws w.devices.arrivals
   deed_draws dev.Alarm = alarm_draws (due_slot (now_in w) (owns_in w))
   deed_draws dev.Uart =
-      first_draws transmitting (w.devices.waiting Writes)
+      first_draws transmitting (slots_in Writes w.devices.waiting)
       (λ slot r. silent (transmitting w slot r) _ refl
       (sent_none (console.sent (flash_of r) r.own).completed) refl)
-  deed_draws dev.Receive = first_draws receive_step (w.devices.waiting Reads) (λ slot r. refl)
-  deed_draws dev.Random = first_draws random_step (w.devices.waiting Randoms) draws
-  deed_draws dev.Store = first_draws storing (w.devices.waiting Stores) (λ slot r. refl)
+  deed_draws dev.Receive = first_draws receive_step (slots_in Reads w.devices.waiting) (λ slot r. refl)
+  deed_draws dev.Random = first_draws random_step (slots_in Randoms w.devices.waiting) draws
+  deed_draws dev.Store = first_draws storing (slots_in Stores w.devices.waiting) (λ slot r. refl)
 
   -- the words that were left before are those that a step tells, and then those that are left
   abbrev DrawsInOrder : Stepped → Type 0

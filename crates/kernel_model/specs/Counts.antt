@@ -4,7 +4,7 @@ use Rattle.tk_base.specs.declared.process.Choice.{Choice}
 use Rattle.tk_base.specs.declared.process.Choice.TheVariants.{Run, Device, Pass}
 use Rattle.driver_model.specs.Commands.{QueueName}
 use Rattle.kernel_model.specs.Record.{Record}
-use Rattle.kernel_model.specs.World.{World}
+use Rattle.kernel_model.specs.World.{World, slots_in}
 use Rattle.kernel_model.specs.Choices.{are_ready}
 use Rattle.kernel_model.specs.Replay.{after_all}
 
@@ -29,7 +29,7 @@ turns_of_all (r ∷ rs) = r.process.turns + turns_of_all rs
 
 -- those that wait in a queue are slots of the board
 abbrev pub WaitingAreThere : World → Type 0
-WaitingAreThere w = (queue : QueueName) → All (λ slot. slot < length w.records) (w.devices.waiting queue)
+WaitingAreThere w = (queue : QueueName) → All (λ slot. slot < length w.records) (slots_in queue w.devices.waiting)
 
 -- In another world time is later by the turns made and the ticks passed, the steps are more by the choices made, and
 -- the turns of all processes together are more by the turns made.

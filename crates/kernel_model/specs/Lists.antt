@@ -6,7 +6,7 @@ use Rattle.tk_base.specs.declared.process.Choice.{Choice}
 use Rattle.driver_model.specs.Commands.{QueueName}
 use Rattle.driver_model.specs.Lines.{has_waiting}
 use Rattle.kernel_model.specs.Record.{Record}
-use Rattle.kernel_model.specs.World.{World}
+use Rattle.kernel_model.specs.World.{World, slots_in}
 use Rattle.kernel_model.specs.Replay.{after_all}
 use Rattle.kernel_model.specs.Lives.{LivesAsItRuns}
 
@@ -28,7 +28,7 @@ once_if asks = if asks then 1 else 0
 -- lives as it runs.
 pub record ListsAreOfRequests (w : World) : Type 0 where
   pub each : (queue : QueueName) (slot : ℕ) →
-      times_in slot (w.devices.waiting queue) ≡ once_if (asks_at queue (slice_get w.records slot))
+      times_in slot (slots_in queue w.devices.waiting) ≡ once_if (asks_at queue (slice_get w.records slot))
   pub lives : (slot : ℕ) → IfSome (slice_get w.records slot) LivesAsItRuns
 
 -- so it is after any choices

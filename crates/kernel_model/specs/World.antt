@@ -32,11 +32,18 @@ use Rattle.kernel_model.specs.Turn.{apply, flash_of, turned, may_turn}
 pub record Pace : Type 0 where
   pub slice : ℕ
 
--- What the devices hold: the slots that wait in each queue, the first one first; the LEDs, bit n for LED n; the serial
--- line; the bytes that are still to come in, and when; the random words that are left; how many storage requests were
--- served, and the numbers of those that fail
+-- the slots that wait in each queue, the first one first
+pub record WaitingSlots : Type 0 where
+  pub writes : List ℕ
+  pub reads : List ℕ
+  pub randoms : List ℕ
+  pub stores : List ℕ
+
+-- What the devices hold: the slots that wait; the LEDs, bit n for LED n; the serial line; the bytes that are still to
+-- come in, and when; the random words that are left; how many storage requests were served, and the numbers of those
+-- that fail
 pub record Devices : Type 0 where
-  pub waiting : QueueName → List ℕ
+  pub waiting : WaitingSlots
   pub leds : ℕ
   pub line : SerialLine
   pub arrivals : List Arrival
@@ -102,10 +109,23 @@ queue_without slot slots = filter (λ s. not (s == slot)) slots
 abbrev pub queue_after_answer : Bool → ℕ → List ℕ → List ℕ
 queue_after_answer completed slot slots = if completed then queue_without slot slots else slots
 
+-- those that wait in a queue
+abbrev pub slots_in : QueueName → WaitingSlots → List ℕ
+slots_in Writes waiting = waiting.writes
+slots_in Reads waiting = waiting.reads
+slots_in Randoms waiting = waiting.randoms
+slots_in Stores waiting = waiting.stores
+
+-- the table of those that wait, by the name of the queue
+abbrev pub waiting_by : (QueueName → List ℕ) → WaitingSlots
+waiting_by slots =
+    record { writes = slots Writes; reads = slots Reads; randoms = slots Randoms; stores = slots Stores }
+
 -- one queue changes, and no other
 abbrev pub with_queue : QueueName → (List ℕ → List ℕ) → Devices → Devices
-with_queue name change d =
-    record d { waiting = λ queue. if is_same name queue then change (d.waiting queue) else d.waiting queue }
+with_queue name change d = record d {
+  waiting = waiting_by (λ queue. if is_same name queue then change (slots_in queue d.waiting) else slots_in queue d.waiting);
+}
 
 -- bytes come in: of those in the ring the newest are kept
 abbrev pub arriving : Devices → Arrival → List Arrival → DeviceStep
@@ -202,10 +222,10 @@ arrived d (arrival ∷ rest) = Some (arriving d arrival rest)
 abbrev pub device_step_of : World → Dev → Option DeviceStep
 device_step_of w dev.Event = arrived w.devices w.devices.arrivals
 device_step_of w dev.Alarm = option_map (alarmed w) (alarm.due_slot (now_in w) (owns_in w))
-device_step_of w dev.Uart = first_waiting transmitting w (w.devices.waiting Writes)
-device_step_of w dev.Receive = first_waiting receive_step w (w.devices.waiting Reads)
-device_step_of w dev.Random = first_waiting random_step w (w.devices.waiting Randoms)
-device_step_of w dev.Store = first_waiting storing w (w.devices.waiting Stores)
+device_step_of w dev.Uart = first_waiting transmitting w (slots_in Writes w.devices.waiting)
+device_step_of w dev.Receive = first_waiting receive_step w (slots_in Reads w.devices.waiting)
+device_step_of w dev.Random = first_waiting random_step w (slots_in Randoms w.devices.waiting)
+device_step_of w dev.Store = first_waiting storing w (slots_in Stores w.devices.waiting)
 
 -- whether one waits
 abbrev pub is_waited_for : List ℕ → Bool
@@ -216,10 +236,10 @@ is_waited_for slots = not (length slots == 0)
 abbrev pub can_act : World → Dev → Bool
 can_act w dev.Event = is_time w.clock.time w.devices.arrivals
 can_act w dev.Alarm = is_some (alarm.due_slot (now_in w) (owns_in w))
-can_act w dev.Uart = is_waited_for (w.devices.waiting Writes) && nat_le w.devices.line.free w.clock.time
-can_act w dev.Receive = is_waited_for (w.devices.waiting Reads) && not (length w.devices.line.ring == 0)
-can_act w dev.Random = is_waited_for (w.devices.waiting Randoms)
-can_act w dev.Store = is_waited_for (w.devices.waiting Stores)
+can_act w dev.Uart = is_waited_for (slots_in Writes w.devices.waiting) && nat_le w.devices.line.free w.clock.time
+can_act w dev.Receive = is_waited_for (slots_in Reads w.devices.waiting) && not (length w.devices.line.ring == 0)
+can_act w dev.Random = is_waited_for (slots_in Randoms w.devices.waiting)
+can_act w dev.Store = is_waited_for (slots_in Stores w.devices.waiting)
 
 -- whether a choice may be made: below the limit of steps a slot whose process can have a turn, a device step that is
 -- ready, and a pass of some ticks
