@@ -1,7 +1,7 @@
 -- What is so of the processes of an opening world.
 use Rattle.std.proofs.Common.{◌≡◌, ◌≢◌, ◌≤◌, ℕ, zero, suc, ◌+◌, ◌-◌, ◌%◌, ◌==◌, nat_le, nat_lt, Bool, true, false, cond}
 use Rattle.std.proofs.Common.{not, ◌||◌, arith, List, [], ◌∷◌, slice_get, Option, None, Some, is_some, IfSome, Result}
-use Rattle.std.proofs.Common.{Ok, Err, refl, sym, ap, subst, ◌∙◌}
+use Rattle.std.proofs.Common.{Ok, Err, All, length, ◌<◌, refl, sym, ap, subst, ◌∙◌}
 use Rattle.std.specs.List.{cons_option, filter_map}
 use Rattle.std.specs.Option.{option_map}
 use Rattle.std.proofs.lemmas.Bool.{false≢true}
@@ -33,7 +33,8 @@ use Rattle.driver_model.specs.Lines.{has_waiting}
 use Rattle.process_model.specs.Pairs.{OnlyHandingChangesPairs}
 use Rattle.driver_model.specs.Keeping.{IsInOrder, IsSettled}
 use Rattle.kernel_model.specs.Wholes.{HasWholeOwn}
-use Rattle.kernel_model.specs.Lists.{ListsAreOfRequests, asks_at, once_if}
+use Rattle.kernel_model.specs.Lists.{ListsAreOfRequests, asks_at, once_if, times_in}
+use Rattle.board_core.proofs.Routing.{slots_by}
 use Rattle.kernel_model.specs.Lives.{AreApart, BlocksAreApart, HasOrder, HasPendingWithinLimit, IsAsAtFirst, IsAtFirst}
 use Rattle.kernel_model.specs.Lives.{LivesAsItRuns}
 use Rattle.board_core.specs.Certified.{CountsFromBootAddUp}
@@ -340,7 +341,8 @@ opens_apart script flash =
 
 pub opens_with_none_waiting : (script : Script) (flash : List ℕ) → WaitingAreThere (opening script flash)
 unfolding opening
-opens_with_none_waiting script flash = λ queue. All-nil _
+opens_with_none_waiting script flash = λ queue.
+    subst (All (λ slot. slot < length (opening script flash).records)) (sym (slots_by (λ q. []) queue)) (All-nil _)
 
 -- all counts are 0 at first
 no_turns : (storage : ℕ) (flash : List ℕ) (low : ℕ) (rs : List Record) → AreOpened storage flash low rs
@@ -374,7 +376,7 @@ asks_none queue (Some r) nothing = ap once_if (sym (nothing queue))
 pub opens_with_lists : (script : Script) (flash : List ℕ) → ListsAreOfRequests (opening script flash)
 unfolding opening
 opens_with_lists script flash = record {
-  each = λ queue slot. asks_none queue _ (nothing slot);
+  each = λ queue slot. ap (times_in slot) (slots_by (λ q. []) queue) ∙ asks_none queue _ (nothing slot);
   lives = opens_living script flash;
 }
   where

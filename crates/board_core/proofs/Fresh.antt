@@ -15,10 +15,11 @@ use Rattle.driver_model.specs.Commands.{QueueName}
 use Rattle.driver_model.specs.Lines.{IsWithin, has_waiting}
 use Rattle.grant_enter.specs.Homes.{nobody}
 use Rattle.kernel_model.specs.Record.{Record}
-use Rattle.kernel_model.specs.World.{Devices}
+use Rattle.kernel_model.specs.World.{slots_in, waiting_by}
 use Rattle.board_core.specs.declared.drivers.Drivers.{Drivers}
 use Rattle.board_core.specs.Boot.{fresh_record}
-use Rattle.board_core.specs.Driven.{AreDriven, AreFresh, IsQueueOf, devices_of, slots_of}
+use Rattle.board_core.specs.Driven.{AreDriven, AreFresh, IsQueueOf, devices_of, ids_waiting_in, slots_of}
+use Rattle.board_core.proofs.Routing.{devices_same, slots_by}
 use Rattle.board_core.specs.Residents.{Resident, record_of}
 use Rattle.board_core.specs.Settings.{erased, visible_settings}
 
@@ -30,7 +31,7 @@ module _ (script : Script) (d : Drivers) where
   -- the devices that they show
   pub devices_fresh : AreFresh script d
       → devices_of d ≡ record {
-        waiting = λ queue. [];
+        waiting = waiting_by (λ queue. []);
         leds = 0;
         line =
             record { ring = []; ticks = script.uart; free = 0 };
@@ -41,8 +42,17 @@ module _ (script : Script) (d : Drivers) where
         faults = script.faults;
       }
   devices_fresh fresh =
-      devices_same (devices_of d) _
-      (λ queue. ap slots_of (fresh.queues queue))
+      devices_same (devices_of d) (record {
+        waiting = waiting_by (λ queue. []);
+        leds = 0;
+        line = record { ring = []; ticks = script.uart; free = 0 };
+        arrivals = script.events;
+        words = script.words;
+        served = 0;
+        faults = script.faults;
+      })
+      (λ queue. slots_by (λ (q : QueueName). slots_of (ids_waiting_in d q)) queue ∙ ap slots_of (fresh.queues queue)
+      ∙ sym (slots_by (λ q. []) queue))
       (ap led_bits fresh.leds ∙ leds_off script.leds)
       fresh.line
       fresh.arrivals

@@ -2,12 +2,12 @@
 use Rattle.std.proofs.Common.{◌≡◌, ℕ, ◌==◌, Bool, true, false, not, cond, List, [], ◌∷◌, ◌++◌, refl, sym, ap, ap₂, ◌∙◌}
 use Rattle.std.proofs.lemmas.List.{map-append}
 use Rattle.tk_base.specs.declared.process.ProcessId.{ProcessId}
-use Rattle.driver_model.specs.Commands.{BoardRequest, Waits, Leaves, Lights, QueueName}
+use Rattle.driver_model.specs.Commands.{BoardRequest, Waits, Leaves, Lights, QueueName, Writes, Reads, Randoms, Stores}
 use Rattle.driver_model.specs.Commands.{is_same}
 use Rattle.driver_model.specs.Leds.{led_bits, lit_after, lit_by}
 use Rattle.driver_requests.specs.Waiting.{after_act, queue_after, without}
 use Rattle.kernel_model.specs.World as world
-use Rattle.kernel_model.specs.World.{Devices, acted, routed}
+use Rattle.kernel_model.specs.World.{Devices, acted, routed, slots_in, waiting_by}
 use Rattle.board_devices.specs.SerialLine.{SerialLine}
 use Rattle.board_devices.specs.Storage.{StoredSlots}
 use Rattle.script_text.specs.Settings.{ScriptEvent as Arrival}
@@ -59,12 +59,19 @@ slots_acts here id ids (act ∷ acts) =
     slots_acts here id (after_act here id ids act) acts
     ∙ ap (λ (xs : List ℕ). slots_after here id.slot xs acts) (slots_act here id ids act)
 
+-- what is put into the table by a queue's name is found there
+pub slots_by : (slots : QueueName → List ℕ) (queue : QueueName) → slots_in queue (waiting_by slots) ≡ slots queue
+slots_by slots Writes = refl
+slots_by slots Reads = refl
+slots_by slots Randoms = refl
+slots_by slots Stores = refl
+
 -- devices that hold the same
-pub devices_same : (d e : Devices) → ((queue : QueueName) → d.waiting queue ≡ e.waiting queue) → d.leds ≡ e.leds
-    → d.line ≡ e.line → d.arrivals ≡ e.arrivals → d.words ≡ e.words → d.served ≡ e.served → d.faults ≡ e.faults
-    → d ≡ e
+pub devices_same : (d e : Devices) → ((queue : QueueName) → slots_in queue d.waiting ≡ slots_in queue e.waiting)
+    → d.leds ≡ e.leds → d.line ≡ e.line → d.arrivals ≡ e.arrivals → d.words ≡ e.words → d.served ≡ e.served
+    → d.faults ≡ e.faults → d ≡ e
 devices_same d e waiting leds line arrivals words served faults = λ i. record {
-  waiting = λ queue. waiting queue i;
+  waiting = waiting_by (λ queue. waiting queue i);
   leds = leds i;
   line = line i;
   arrivals = arrivals i;
@@ -75,8 +82,10 @@ devices_same d e waiting leds line arrivals words served faults = λ i. record {
 
 -- one act
 abbrev by_act : ℕ → BoardRequest → Devices → Devices
-by_act slot act d =
-    record d { waiting = λ queue. slots_by_act queue slot (d.waiting queue) act; leds = lit_by act d.leds }
+by_act slot act d = record d {
+  waiting = waiting_by (λ queue. slots_by_act queue slot (slots_in queue d.waiting) act);
+  leds = lit_by act d.leds;
+}
 
 acted_is : (slot : ℕ) (act : BoardRequest) (d : Devices) → acted slot act d ≡ by_act slot act d
 acted_is slot (Waits queue) d = refl
@@ -85,8 +94,10 @@ acted_is slot (Lights led switch) d = refl
 
 -- and one after another
 routed_is : (slot : ℕ) (acts : List BoardRequest) (d : Devices)
-    → routed slot acts d
-    ≡ record d { waiting = λ queue. slots_after queue slot (d.waiting queue) acts; leds = lit_after acts d.leds }
+    → routed slot acts d ≡ record d {
+      waiting = waiting_by (λ queue. slots_after queue slot (slots_in queue d.waiting) acts);
+      leds = lit_after acts d.leds;
+    }
 unfolding slots_after
 routed_is slot [] d = refl
 routed_is slot (act ∷ acts) d =
@@ -96,10 +107,11 @@ routed_is slot (act ∷ acts) d =
 pub drives_shown : (id : ProcessId) (acts : List BoardRequest) (d d' : Drivers) → Drives id acts d d'
     → devices_of d' ≡ routed id.slot acts (devices_of d)
 drives_shown id acts d d' t =
-    devices_same (devices_of d') (record (devices_of d) {
-      waiting = λ queue. slots_after queue id.slot (slots_of (ids_waiting_in d queue)) acts;
-      leds = lit_after acts (led_bits d.leds);
-    })
-    (λ queue. ap slots_of (t.queues queue) ∙ slots_acts queue id (ids_waiting_in d queue) acts) t.leds t.line t.arrivals
-    t.words (ap (λ (s : StoredSlots). s.served) t.bytes) (ap (λ (s : StoredSlots). s.faults) t.bytes)
+    devices_same (devices_of d') (record (devices_of d) { waiting = waiting_by after; leds = lit_after acts (led_bits d.leds) })
+    (λ queue. slots_by (λ (q : QueueName). slots_of (ids_waiting_in d' q)) queue ∙ ap slots_of (t.queues queue)
+    ∙ slots_acts queue id (ids_waiting_in d queue) acts ∙ sym (slots_by after queue)) t.leds t.line t.arrivals t.words
+    (ap (λ (s : StoredSlots). s.served) t.bytes) (ap (λ (s : StoredSlots). s.faults) t.bytes)
     ∙ sym (routed_is id.slot acts (devices_of d))
+  where
+    after : QueueName → List ℕ
+    after queue = slots_after queue id.slot (slots_of (ids_waiting_in d queue)) acts

@@ -1,7 +1,7 @@
 -- What each device tells the process that it serves, as a step of the board.
 use Rattle.std.proofs.Common.{◌≡◌, ℕ, zero, suc, ◌+◌, ◌*◌, ◌^◌, ◌==◌, ◌<◌, ◌≤◌, Bool, true, false, not, ◌&&◌, nat_le}
 use Rattle.std.proofs.Common.{if◌then◌else◌, List, [], ◌∷◌, drop, take, length, slice_get, slice_set, Option, None}
-use Rattle.std.proofs.Common.{Some, Result, Ok, Err, is_ok, is_some, OnErr, unwrap_or, refl, sym, ap, ap₂}
+use Rattle.std.proofs.Common.{Some, Result, Ok, Err, is_ok, is_some, All, IfSome, OnErr, unwrap_or, refl, sym, ap, ap₂}
 use Rattle.std.proofs.Common.{subst, ◌∙◌, arith, eq-eqb}
 use Rattle.std.specs.List.{AllByRecursion}
 use Rattle.std.specs.Option.{option_map}
@@ -10,7 +10,7 @@ use Rattle.std.proofs.lemmas.Bool.Decides.{nat_tests}
 use Rattle.std.proofs.lemmas.List.{set-get_or}
 use Rattle.std.proofs.lemmas.Nat.{mul-le}
 use Rattle.std.proofs.lemmas.Option.{slice_get-get_or}
-use Rattle.tk_base.specs.declared.limits.TheConstants.{BYTE_TICKS_LIMIT, PRINT_LIMIT, SENDING_LIMIT}
+use Rattle.tk_base.specs.declared.limits.TheConstants.{BYTE_TICKS_LIMIT, PRINT_LIMIT, SENDING_LIMIT, STEP_LIMIT}
 use Rattle.arrayvec.specs.ArrayVec.{ArrayVec}
 use Rattle.tk_base.specs.declared.process.Dev.{Dev}
 use Rattle.tk_base.specs.declared.process.Dev.TheVariants.{Alarm, Uart, Receive, Random, Store}
@@ -46,7 +46,7 @@ use Rattle.storage_capsule.specs.Answers.{answer_to as storage_to}
 use Rattle.storage_capsule.specs.Serving.{after_count, store_fails_next, storage_after}
 use Rattle.grant_values.specs.declared.storage.StorageRequest.{StorageRequest}
 use Rattle.driver_requests.specs.Answers.{Answered, AnswersFirst, kinds}
-use Rattle.driver_requests.specs.Asking.{in_life}
+use Rattle.driver_requests.specs.Asking.{MayBeTold, in_life}
 use Rattle.driver_requests.specs.Waiting.{waiting_still}
 use Rattle.console_capsule.specs.Answers.{cannot_give, cannot_send, received_by, sending_at, written_by}
 use Rattle.console_capsule.specs.declared.capsule.ConsoleCapsule.{ConsoleCapsule}
@@ -59,15 +59,15 @@ use Rattle.kernel_model.specs.Turn.{Event, Alarmed, Taken, WriteDone, Input, Sto
 use Rattle.kernel_model.specs.Turn.{written_over}
 use Rattle.kernel_model.specs.World.{DeviceStep, Devices, World, alarmed, can_act, as_events, random_step}
 use Rattle.kernel_model.specs.World.{first_waiting, is_waited_for, queue_after_answer, owns_in, receive_step, storing}
-use Rattle.kernel_model.specs.World.{transmitting}
+use Rattle.kernel_model.specs.World.{WaitingSlots, transmitting, waiting_by}
 use Rattle.board_core.specs.declared.board.Board.TheInside.{Inside}
 use Rattle.board_core.specs.declared.drivers.Drivers.{Drivers}
-use Rattle.board_core.specs.Driven.{IsThere, devices_of, ids_waiting_in, slots_of}
-use Rattle.board_core.specs.Residents.{IsResident, record_of}
+use Rattle.board_core.specs.Driven.{AreDriven, IsThere, devices_of, ids_waiting_in, slots_of}
+use Rattle.board_core.specs.Residents.{HasLost, IsResident, record_of}
 use Rattle.board_core.specs.Shows.{IsBoard, world_of}
 use Rattle.board_core.proofs.Changes.{beside, bytes_of, record_found}
 use Rattle.board_core.specs.Tells.{Acted, HoldsFor, IsFreeSoon, DeviceServes, DeviceTold}
-use Rattle.board_core.proofs.Devices.{found_at, seated_there}
+use Rattle.board_core.proofs.Devices.{found_at, lost_there, seated_there}
 use Rattle.board_core.proofs.OwnFlash.{answered_of_own, sent_of_own}
 use Rattle.board_core.proofs.Ready.{owns_in_world}
 use Rattle.board_core.proofs.Routing.{slots_without}
@@ -97,19 +97,20 @@ each_left false completed slot ids = refl
 -- the deed of a device for the first of those that wait in a queue, by those that wait afterwards
 first_deed : (deed : World → ℕ → Record → DeviceStep) (w : World) (here : QueueName)
     (before after : QueueName → List ProcessId) (id : ProcessId) (r : Record) (completed : Bool)
-    (shown : (QueueName → List ℕ) → DeviceStep)
+    (shown : WaitingSlots → DeviceStep)
     → slice_get (before here) 0 ≡ Some id → slice_get w.records id.slot ≡ Some r
     → ((queue : QueueName)
     → after queue ≡ waiting_still (queue_left_by here completed queue) id.slot (before queue))
-    → deed w id.slot r ≡ shown (λ queue. if is_same here queue
-    then queue_after_answer completed id.slot (slots_of (before queue)) else slots_of (before queue))
-    → first_waiting deed w (slots_of (before here)) ≡ Some (shown (λ queue. slots_of (after queue)))
+    → deed w id.slot r ≡ shown (waiting_by (λ queue. if is_same here queue
+    then queue_after_answer completed id.slot (slots_of (before queue)) else slots_of (before queue)))
+    → first_waiting deed w (slots_of (before here)) ≡ Some (shown (waiting_by (λ queue. slots_of (after queue))))
 first_deed deed w here before after id r completed shown e f left does =
     by_first (before here) e ∙ ap (option_map (deed w id.slot)) f ∙ ap Some (does ∙ sym (ap shown lists))
   where
-    lists : (λ (queue : QueueName). slots_of (after queue)) ≡ (λ queue. if is_same here queue
-        then queue_after_answer completed id.slot (slots_of (before queue)) else slots_of (before queue))
-    lists = λ i queue. (ap slots_of (left queue) ∙ each_left (is_same here queue) completed id.slot (before queue)) i
+    lists : ◌≡◌ {A = WaitingSlots} (waiting_by (λ queue. slots_of (after queue))) (waiting_by (λ queue. if is_same here queue
+        then queue_after_answer completed id.slot (slots_of (before queue)) else slots_of (before queue)))
+    lists = λ i. waiting_by (λ queue.
+        (ap slots_of (left queue) ∙ each_left (is_same here queue) completed id.slot (before queue)) i)
 
     the_one : (x y : ProcessId) → Some x ≡ Some y → x ≡ y
     the_one x y e = cc
@@ -212,6 +213,21 @@ Lent home = (slot : ℕ) → slot < length home.owns → HoldsInPlace (own_of ho
 waiters_there : (b : Inside) → IsBoard b → (here : QueueName)
     → AllByRecursion (IsThere b.home.owns) (ids_waiting_in b.drivers here)
 waiters_there b h here = (h.driven.queues here).there
+
+-- and may be told something
+pub first_may_be_told : (queue : QueueName) (settings : Settings) (time steps : ℕ) (home : Homes) (d : Drivers)
+    → AreDriven settings time home.owns d → All (HasLost steps) home.owns → steps < STEP_LIMIT
+    → IfSome (slice_get (ids_waiting_in d queue) 0) (MayBeTold home)
+first_may_be_told queue settings time steps home d driven lost below =
+    by_first (ids_waiting_in d queue) (driven.queues queue).there
+  where
+    by_first : (ids : List ProcessId) → AllByRecursion (IsThere home.owns) ids
+        → IfSome (slice_get ids 0) (MayBeTold home)
+    by_first [] all = tt
+    by_first (id ∷ ids) all = record {
+      slot = all.0.0;
+      dropped = omega (arith, lost_there steps home id.slot lost, below);
+    }
 
 -- A device that answers the first of a line: what its answer to a process comes to; the drivers by who waits in the
 -- line
@@ -367,7 +383,7 @@ serves_sent b h lines events law lent id is_there first =
       event = if s.completed then WriteDone else Taken;
       deed = first_deed transmitting (world_of b) Writes (ids_waiting_in b.drivers) (ids_waiting_in ((sends b).after
           (waiting_still s.completed id.slot b.drivers.console.writes) (record { items = s.printed }))) id r
-          s.completed (λ (slots : QueueName → List ℕ). telling id.slot (if s.completed then WriteDone else Taken) s.printed
+          s.completed (λ (slots : WaitingSlots). telling id.slot (if s.completed then WriteDone else Taken) s.printed
           (record (devices_of b.drivers) {
             waiting = slots;
             line =
@@ -421,7 +437,7 @@ serves_received b h lines events id is_there first =
       deed = first_deed receive_step (world_of b) Reads (ids_waiting_in b.drivers) (ids_waiting_in ((receives b).after
           (waiting_still s.completed id.slot b.drivers.console.reads)
           (record b.drivers.uart { ring = drop (length s.moved) ring }))) id r
-          s.completed (λ (slots : QueueName → List ℕ). telling id.slot (Input s.moved) []
+          s.completed (λ (slots : WaitingSlots). telling id.slot (Input s.moved) []
           (record (devices_of b.drivers) {
             waiting = slots;
             line =
@@ -475,7 +491,7 @@ serves_drawn b h lines events id is_there first =
       event = drawn_told as_events s.drawn;
       deed = first_deed random_step (world_of b) Randoms (ids_waiting_in b.drivers) (ids_waiting_in ((draws b).after
           (waiting_still s.completed id.slot b.drivers.random.waiting) (random.words_after s.drawn words))) id r
-          s.completed (λ (slots : QueueName → List ℕ). telling id.slot (drawn_told as_events s.drawn) []
+          s.completed (λ (slots : WaitingSlots). telling id.slot (drawn_told as_events s.drawn) []
           (record (devices_of b.drivers) { waiting = slots; words = random.words_after s.drawn words }))
           first (its_record_was b h id is_there)
           (elim [ Writes ↦ refl | Reads ↦ refl | Randoms ↦ refl | Stores ↦ refl ]) refl;
@@ -581,7 +597,7 @@ serves_stored b h lines law lent id is_there first =
       event = Stored (not fails);
       deed = first_deed storing (world_of b) Stores (ids_waiting_in b.drivers) (ids_waiting_in ((stores b).after
           (waiting_still a.completed id.slot b.drivers.storage.waiting) s')) id r
-          a.completed (λ (slots : QueueName → List ℕ). telling id.slot (Stored (not fails)) []
+          a.completed (λ (slots : WaitingSlots). telling id.slot (Stored (not fails)) []
           (record (devices_of b.drivers) {
             waiting = slots;
             served =
@@ -591,8 +607,8 @@ serves_stored b h lines law lent id is_there first =
           (elim [ Writes ↦ refl | Reads ↦ refl | Randoms ↦ refl | Stores ↦ refl ]) refl
           ∙ ap Some (ap₂ (λ (n : ℕ) (faults : List ℕ). telling id.slot (Stored (not fails)) []
           (record (devices_of b.drivers) {
-            waiting = λ queue. slots_of (ids_waiting_in ((stores b).after
-                (waiting_still a.completed id.slot b.drivers.storage.waiting) s') queue);
+            waiting = waiting_by (λ queue. slots_of (ids_waiting_in ((stores b).after
+                (waiting_still a.completed id.slot b.drivers.storage.waiting) s') queue));
             served = n;
             faults = faults;
           }))

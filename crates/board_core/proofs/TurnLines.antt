@@ -28,7 +28,7 @@ use Rattle.std.proofs.lemmas.Bool.{false≢true}
 use Rattle.board_core.specs.declared.board.Board.TheInside.{Inside}
 use Rattle.board_core.specs.declared.drivers.Drivers.{Drivers}
 use Rattle.board_core.specs.declared.turn.Shown.{Shown}
-use Rattle.board_core.specs.Driven.{AreDriven, Drives, IsQueueOf, MayServe}
+use Rattle.board_core.specs.Driven.{AreDriven, Drives, IsQueueOf, MayServe, ids_waiting_in}
 use Rattle.board_core.specs.Residents.{IsResident, TurnsAt, id_of, nothing_shown, record_of, resident_turns}
 use Rattle.board_core.specs.Residents.{can_turn_in}
 use Rattle.board_core.specs.Calm.{IsCalm}

@@ -20,7 +20,7 @@ use Rattle.driver_model.specs.Leds.{led_bits, lit_after}
 use Rattle.driver_requests.specs.Waiting.{queue_after, waits}
 use Rattle.grant_enter.specs.Homes.{nobody}
 use Rattle.kernel_model.specs.declared.settings.Settings.{Settings}
-use Rattle.kernel_model.specs.World.{Devices}
+use Rattle.kernel_model.specs.World.{Devices, waiting_by}
 use Rattle.board_core.specs.declared.moment.Moment.{Moment}
 use Rattle.board_core.specs.declared.drivers.Drivers.{Drivers}
 use Rattle.board_core.specs.declared.drivers.Order.{Order}
@@ -39,7 +39,7 @@ ids_waiting_in d Stores = d.storage.waiting
 -- the devices that the drivers show
 abbrev pub devices_of : Drivers → Devices
 devices_of d = record {
-  waiting = λ queue. slots_of (ids_waiting_in d queue);
+  waiting = waiting_by (λ queue. slots_of (ids_waiting_in d queue));
   leds = led_bits d.leds;
   line = d.uart;
   arrivals = d.arrivals;
