@@ -12,9 +12,10 @@ transmit-requires-clause-told c =
     c.args.self.now c.requires.driven c.requires.lost c.requires.limit
 
 pub receive-requires : goal.receive-requires
-receive-requires c =
-    first_may_be_told Reads c.args.moment.now.settings c.args.moment.now.time c.args.moment.now.steps c.args.home.now
-    c.args.self.now c.requires.driven c.requires.lost c.requires.limit
+receive-requires c = record {
+  told = first_may_be_told Reads c.args.moment.now.settings c.args.moment.now.time c.args.moment.now.steps
+      c.args.home.now c.args.self.now c.requires.driven c.requires.lost c.requires.limit;
+}
 
 pub answer-requires-in-Random : goal.answer-requires-in-Random
 answer-requires-in-Random c =
