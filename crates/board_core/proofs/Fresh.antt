@@ -15,10 +15,10 @@ use Rattle.driver_model.specs.Commands.{QueueName}
 use Rattle.driver_model.specs.Lines.{IsWithin, has_waiting}
 use Rattle.grant_enter.specs.Homes.{nobody}
 use Rattle.kernel_model.specs.Record.{Record}
-use Rattle.kernel_model.specs.World.{slots_in, waiting_by}
+use Rattle.kernel_model.specs.World.{slots_in}
 use Rattle.board_core.specs.declared.drivers.Drivers.{Drivers}
 use Rattle.board_core.specs.Boot.{fresh_record}
-use Rattle.board_core.specs.Driven.{AreDriven, AreFresh, IsQueueOf, devices_of, ids_waiting_in, slots_of}
+use Rattle.board_core.specs.Driven.{AreDriven, AreFresh, IsQueueOf, devices_of, ids_waiting_in, slots_of, waiting_by}
 use Rattle.board_core.proofs.Routing.{devices_same, slots_by}
 use Rattle.board_core.specs.Residents.{Resident, record_of}
 use Rattle.board_core.specs.Settings.{erased, visible_settings}

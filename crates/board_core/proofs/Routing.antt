@@ -7,12 +7,12 @@ use Rattle.driver_model.specs.Commands.{is_same}
 use Rattle.driver_model.specs.Leds.{led_bits, lit_after, lit_by}
 use Rattle.driver_requests.specs.Waiting.{after_act, queue_after, without}
 use Rattle.kernel_model.specs.World as world
-use Rattle.kernel_model.specs.World.{Devices, acted, routed, slots_in, waiting_by}
+use Rattle.kernel_model.specs.World.{Devices, acted, routed, slots_in}
 use Rattle.board_devices.specs.SerialLine.{SerialLine}
 use Rattle.board_devices.specs.Storage.{StoredSlots}
 use Rattle.script_text.specs.Settings.{ScriptEvent as Arrival}
 use Rattle.board_core.specs.declared.drivers.Drivers.{Drivers}
-use Rattle.board_core.specs.Driven.{Drives, devices_of, ids_waiting_in, slots_of}
+use Rattle.board_core.specs.Driven.{Drives, devices_of, ids_waiting_in, slots_of, waiting_by}
 
 -- the slots of a list after an act
 abbrev slots_by_act : QueueName → ℕ → List ℕ → BoardRequest → List ℕ
@@ -88,8 +88,14 @@ by_act slot act d = record d {
 }
 
 acted_is : (slot : ℕ) (act : BoardRequest) (d : Devices) → acted slot act d ≡ by_act slot act d
-acted_is slot (Waits queue) d = refl
-acted_is slot (Leaves queue) d = refl
+acted_is slot (Waits Writes) d = refl
+acted_is slot (Waits Reads) d = refl
+acted_is slot (Waits Randoms) d = refl
+acted_is slot (Waits Stores) d = refl
+acted_is slot (Leaves Writes) d = refl
+acted_is slot (Leaves Reads) d = refl
+acted_is slot (Leaves Randoms) d = refl
+acted_is slot (Leaves Stores) d = refl
 acted_is slot (Lights led switch) d = refl
 
 -- and one after another

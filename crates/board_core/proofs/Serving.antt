@@ -57,12 +57,12 @@ use Rattle.kernel_model.specs.declared.settings.Settings.{Settings}
 use Rattle.kernel_model.specs.Record.{Record, record_with_step}
 use Rattle.kernel_model.specs.Turn.{Event, Alarmed, Taken, WriteDone, Input, Stored, apply, flash_of}
 use Rattle.kernel_model.specs.Turn.{written_over}
-use Rattle.kernel_model.specs.World.{DeviceStep, Devices, World, alarmed, can_act, as_events, random_step}
-use Rattle.kernel_model.specs.World.{first_waiting, is_waited_for, queue_after_answer, owns_in, receive_step, storing}
-use Rattle.kernel_model.specs.World.{WaitingSlots, transmitting, waiting_by}
+use Rattle.kernel_model.specs.World.{DeviceAnswer, Devices, World, alarmed, answering, can_act, as_events, random_step}
+use Rattle.kernel_model.specs.World.{is_waited_for, queue_after_answer, owns_in, receive_step, serving, storing}
+use Rattle.kernel_model.specs.World.{WaitingSlots, transmitting}
 use Rattle.board_core.specs.declared.board.Board.TheInside.{Inside}
 use Rattle.board_core.specs.declared.drivers.Drivers.{Drivers}
-use Rattle.board_core.specs.Driven.{AreDriven, IsThere, devices_of, ids_waiting_in, slots_of}
+use Rattle.board_core.specs.Driven.{AreDriven, IsThere, devices_of, ids_waiting_in, slots_of, waiting_by}
 use Rattle.board_core.specs.Residents.{HasLost, IsResident, record_of}
 use Rattle.board_core.specs.Shows.{IsBoard, world_of}
 use Rattle.board_core.proofs.Changes.{beside, bytes_of, record_found}
@@ -95,17 +95,19 @@ each_left true completed slot ids = slots_left completed slot ids
 each_left false completed slot ids = refl
 
 -- the deed of a device for the first of those that wait in a queue, by those that wait afterwards
-first_deed : (deed : World → ℕ → Record → DeviceStep) (w : World) (here : QueueName)
+first_deed : (deed : ℕ → Record → DeviceAnswer) (w : World) (here : QueueName)
     (before after : QueueName → List ProcessId) (id : ProcessId) (r : Record) (completed : Bool)
-    (shown : WaitingSlots → DeviceStep)
+    (shown : WaitingSlots → DeviceAnswer)
     → slice_get (before here) 0 ≡ Some id → slice_get w.records id.slot ≡ Some r
     → ((queue : QueueName)
     → after queue ≡ waiting_still (queue_left_by here completed queue) id.slot (before queue))
-    → deed w id.slot r ≡ shown (waiting_by (λ queue. if is_same here queue
+    → deed id.slot r ≡ shown (waiting_by (λ queue. if is_same here queue
     then queue_after_answer completed id.slot (slots_of (before queue)) else slots_of (before queue)))
-    → first_waiting deed w (slots_of (before here)) ≡ Some (shown (waiting_by (λ queue. slots_of (after queue))))
+    → serving w deed (slice_get (slots_of (before here)) 0)
+    ≡ Some (answering id.slot (shown (waiting_by (λ queue. slots_of (after queue)))))
 first_deed deed w here before after id r completed shown e f left does =
-    by_first (before here) e ∙ ap (option_map (deed w id.slot)) f ∙ ap Some (does ∙ sym (ap shown lists))
+    by_first (before here) e ∙ ap (option_map (λ (x : Record). answering id.slot (deed id.slot x))) f
+    ∙ ap (λ (a : DeviceAnswer). Some (answering id.slot a)) (does ∙ sym (ap shown lists))
   where
     lists : ◌≡◌ {A = WaitingSlots} (waiting_by (λ queue. slots_of (after queue))) (waiting_by (λ queue. if is_same here queue
         then queue_after_answer completed id.slot (slots_of (before queue)) else slots_of (before queue)))
@@ -116,10 +118,11 @@ first_deed deed w here before after id r completed shown e f left does =
     the_one x y e = cc
 
     by_first : (ids : List ProcessId) → slice_get ids 0 ≡ Some id
-        → first_waiting deed w (slots_of ids) ≡ option_map (deed w id.slot) (slice_get w.records id.slot)
+        → serving w deed (slice_get (slots_of ids) 0)
+        ≡ option_map (λ (x : Record). answering id.slot (deed id.slot x)) (slice_get w.records id.slot)
     by_first [] e = cc
     by_first (x ∷ ids) e =
-        ap (λ (y : ProcessId). option_map (deed w y.slot) (slice_get w.records y.slot)) (the_one x id e)
+        ap (λ (y : ProcessId). serving w deed (Some y.slot)) (the_one x id e)
 
 -- a count that is far from its last value
 counted_next : (n : ℕ) → n < 2 ^ 32 → counted n ≡ n + 1
@@ -279,9 +282,8 @@ in_its_life : {X : Type 0} (life : ℕ) (own : Own) (there gone : X) → own.lif
 in_its_life life own there gone is = ap (λ (b : Bool). if b then there else gone) (eq-eqb own.life life is)
 
 -- what a device does that tells a process something
-abbrev telling : ℕ → Event → List ℕ → Devices → DeviceStep
-telling slot event printed devices =
-    record { told = Some (record { slot = slot; event = event }); printed = printed; devices = devices }
+abbrev telling : Event → List ℕ → Devices → DeviceAnswer
+telling event printed devices = record { answer = record { event = event; printed = printed }; devices = devices }
 
 -- what is then its own, as an event tells
 sent_applied : (settings : Settings) (done : Bool) (r : Record) (step : DriverStep)
@@ -381,9 +383,9 @@ serves_sent b h lines events law lent id is_there first =
       bytes = bytes_of b.drivers.stores.slots id.slot;
       stores = stores_stay b h id is_there;
       event = if s.completed then WriteDone else Taken;
-      deed = first_deed transmitting (world_of b) Writes (ids_waiting_in b.drivers) (ids_waiting_in ((sends b).after
+      deed = first_deed (transmitting b.moment.time (devices_of b.drivers)) (world_of b) Writes (ids_waiting_in b.drivers) (ids_waiting_in ((sends b).after
           (waiting_still s.completed id.slot b.drivers.console.writes) (record { items = s.printed }))) id r
-          s.completed (λ (slots : WaitingSlots). telling id.slot (if s.completed then WriteDone else Taken) s.printed
+          s.completed (λ (slots : WaitingSlots). telling (if s.completed then WriteDone else Taken) s.printed
           (record (devices_of b.drivers) {
             waiting = slots;
             line =
@@ -434,10 +436,10 @@ serves_received b h lines events id is_there first =
       bytes = bytes_of b.drivers.stores.slots id.slot;
       stores = stores_stay b h id is_there;
       event = Input s.moved;
-      deed = first_deed receive_step (world_of b) Reads (ids_waiting_in b.drivers) (ids_waiting_in ((receives b).after
+      deed = first_deed (receive_step (devices_of b.drivers)) (world_of b) Reads (ids_waiting_in b.drivers) (ids_waiting_in ((receives b).after
           (waiting_still s.completed id.slot b.drivers.console.reads)
           (record b.drivers.uart { ring = drop (length s.moved) ring }))) id r
-          s.completed (λ (slots : WaitingSlots). telling id.slot (Input s.moved) []
+          s.completed (λ (slots : WaitingSlots). telling (Input s.moved) []
           (record (devices_of b.drivers) {
             waiting = slots;
             line =
@@ -489,9 +491,9 @@ serves_drawn b h lines events id is_there first =
       bytes = bytes_of b.drivers.stores.slots id.slot;
       stores = stores_stay b h id is_there;
       event = drawn_told as_events s.drawn;
-      deed = first_deed random_step (world_of b) Randoms (ids_waiting_in b.drivers) (ids_waiting_in ((draws b).after
+      deed = first_deed (random_step (devices_of b.drivers)) (world_of b) Randoms (ids_waiting_in b.drivers) (ids_waiting_in ((draws b).after
           (waiting_still s.completed id.slot b.drivers.random.waiting) (random.words_after s.drawn words))) id r
-          s.completed (λ (slots : WaitingSlots). telling id.slot (drawn_told as_events s.drawn) []
+          s.completed (λ (slots : WaitingSlots). telling (drawn_told as_events s.drawn) []
           (record (devices_of b.drivers) { waiting = slots; words = random.words_after s.drawn words }))
           first (its_record_was b h id is_there)
           (elim [ Writes ↦ refl | Reads ↦ refl | Randoms ↦ refl | Stores ↦ refl ]) refl;
@@ -595,9 +597,9 @@ serves_stored b h lines law lent id is_there first =
             slots_after s id.slot a.completed a.written (not_written fails (flash_of r) bytes own);
       };
       event = Stored (not fails);
-      deed = first_deed storing (world_of b) Stores (ids_waiting_in b.drivers) (ids_waiting_in ((stores b).after
+      deed = first_deed (storing (devices_of b.drivers)) (world_of b) Stores (ids_waiting_in b.drivers) (ids_waiting_in ((stores b).after
           (waiting_still a.completed id.slot b.drivers.storage.waiting) s')) id r
-          a.completed (λ (slots : WaitingSlots). telling id.slot (Stored (not fails)) []
+          a.completed (λ (slots : WaitingSlots). telling (Stored (not fails)) []
           (record (devices_of b.drivers) {
             waiting = slots;
             served =
@@ -605,7 +607,7 @@ serves_stored b h lines law lent id is_there first =
           }))
           first (its_record_was b h id is_there)
           (elim [ Writes ↦ refl | Reads ↦ refl | Randoms ↦ refl | Stores ↦ refl ]) refl
-          ∙ ap Some (ap₂ (λ (n : ℕ) (faults : List ℕ). telling id.slot (Stored (not fails)) []
+          ∙ ap (λ (a : DeviceAnswer). Some (answering id.slot a)) (ap₂ (λ (n : ℕ) (faults : List ℕ). telling (Stored (not fails)) []
           (record (devices_of b.drivers) {
             waiting = waiting_by (λ queue. slots_of (ids_waiting_in ((stores b).after
                 (waiting_still a.completed id.slot b.drivers.storage.waiting) s') queue));
@@ -642,7 +644,9 @@ serves_alarmed b h id is_there lines due =
       bytes = bytes_of b.drivers.stores.slots id.slot;
       stores = stores_stay b h id is_there;
       event = Alarmed now;
-      deed = ap (option_map (alarmed (world_of b))) due;
+      deed = ap (serving (world_of b) (λ slot r. alarmed b.moment.settings b.moment.time (devices_of b.drivers))) due
+          ∙ ap (option_map (λ (r : Record). answering id.slot
+          (alarmed b.moment.settings b.moment.time (devices_of b.drivers)))) (its_record_was b h id is_there);
       tells = alarm_applied b.moment.settings now (its_record b h id is_there);
     }
 

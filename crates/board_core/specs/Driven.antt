@@ -20,7 +20,7 @@ use Rattle.driver_model.specs.Leds.{led_bits, lit_after}
 use Rattle.driver_requests.specs.Waiting.{queue_after, waits}
 use Rattle.grant_enter.specs.Homes.{nobody}
 use Rattle.kernel_model.specs.declared.settings.Settings.{Settings}
-use Rattle.kernel_model.specs.World.{Devices, waiting_by}
+use Rattle.kernel_model.specs.World.{Devices, WaitingSlots}
 use Rattle.board_core.specs.declared.moment.Moment.{Moment}
 use Rattle.board_core.specs.declared.drivers.Drivers.{Drivers}
 use Rattle.board_core.specs.declared.drivers.Order.{Order}
@@ -35,6 +35,11 @@ ids_waiting_in d Writes = d.console.writes
 ids_waiting_in d Reads = d.console.reads
 ids_waiting_in d Randoms = d.random.waiting
 ids_waiting_in d Stores = d.storage.waiting
+
+-- the table of those that wait, by the name of the queue
+abbrev pub waiting_by : (QueueName → List ℕ) → WaitingSlots
+waiting_by slots =
+    record { writes = slots Writes; reads = slots Reads; randoms = slots Randoms; stores = slots Stores }
 
 -- the devices that the drivers show
 abbrev pub devices_of : Drivers → Devices

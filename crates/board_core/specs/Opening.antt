@@ -16,7 +16,7 @@ use Rattle.process_record.specs.Process.{started}
 use Rattle.process_record.specs.Summary.{Unplaced}
 use Rattle.script_text.specs.Settings.{ScriptSettings as Script}
 use Rattle.kernel_model.specs.Record.{Record}
-use Rattle.kernel_model.specs.World.{World, waiting_by}
+use Rattle.kernel_model.specs.World.{World}
 use Rattle.board_core.specs.Settings.{erased, visible_settings, pace}
 
 -- the first record of an application with these bytes, whose object stands at an address: at its start, its block
@@ -71,7 +71,7 @@ opening script flash = record {
   settings = visible_settings script.leds script.start script.storage script.policy script.strict;
   pace = pace script.slice;
   devices = record {
-    waiting = waiting_by (λ queue. []);
+    waiting = record { writes = []; reads = []; randoms = []; stores = [] };
     leds = 0;
     line = record { ring = []; ticks = script.uart; free = 0 };
     arrivals = script.events;

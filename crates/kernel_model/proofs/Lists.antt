@@ -23,20 +23,19 @@ use Rattle.process_record.specs.declared.process.State.{State}
 use Rattle.process_record.specs.declared.process.State.TheVariants.{Running, Yielded, Faulted, Terminated}
 use Rattle.kernel_model.specs.Record.{Record}
 use Rattle.kernel_model.specs.declared.settings.Settings.{Settings}
-use Rattle.kernel_model.specs.Turn.{Turned, Alarmed, Taken, WriteDone, Input, Stored, apply, flash_of}
+use Rattle.kernel_model.specs.Turn.{Event, Turned, Alarmed, Taken, WriteDone, Input, Stored, apply, flash_of}
 use Rattle.kernel_model.specs.Turn.{turned, turn_in}
 use Rattle.driver_model.specs.Steps.{DriverStep, own_after}
 use Rattle.driver_model.specs.Told.{drawn_told}
-use Rattle.kernel_model.specs.World.{as_events, Answer, DeviceStep, Devices, Stepped, World, acted, after, alarmed}
-use Rattle.kernel_model.specs.World.{arrived}
-use Rattle.kernel_model.specs.World.{carried_out, device_step_of, done, random_step}
-use Rattle.kernel_model.specs.World.{first_waiting, now_in, owns_in, ran, receive_step, records_after, routed}
-use Rattle.kernel_model.specs.World.{slots_in, storing, told_to, transmitting, queue_after_answer, queue_without, with_queue}
+use Rattle.kernel_model.specs.World.{as_events, DeviceAnswer, Devices, Stepped, World, acted, after, alarmed}
+use Rattle.kernel_model.specs.World.{carried_out, device_step_of, done, now_in, queue_after_answer, queue_without}
+use Rattle.kernel_model.specs.World.{ran, random_step, receive_step, routed, slots_in, storing, transmitting, with_queue}
 use Rattle.kernel_model.specs.Laws.{TurnsKeepLines}
 use Rattle.kernel_model.specs.Lives.{LivesAsItRuns, HoldsThroughout, is_alive}
 use Rattle.kernel_model.specs.Lists.{ListsStay, asks_at, once_if, times_in}
 use Rattle.kernel_model.proofs.Lives.{over_turn}
-use Rattle.kernel_model.proofs.Places.{of_stepped, queue_with, ran-other, slice_get-set_same, told-other, told-own}
+use Rattle.kernel_model.proofs.Places.{of_stepped, queue_with, ran-other, set_own, slice_get-set_other, slice_get-set_same}
+use Rattle.kernel_model.proofs.Told.{answered, of_device}
 
 -- a list with one more, and without one
 joined : (slot : ℕ) (xs : List ℕ) → times_in slot (xs ++ slot ∷ []) ≡ times_in slot xs + 1
@@ -248,48 +247,48 @@ left_or_not true completed without with = refl
 left_or_not false completed without with = refl
 
 -- in one queue, after an answer
-module _ (w : World) (a : Answer) (r : Record) (is : slice_get w.records a.slot ≡ Some r) (left : Bool) where
+module _ (w : World) (at : ℕ) (event : Event) (r : Record) (is : slice_get w.records at ≡ Some r) (left : Bool) where
   answer_at : (queue : QueueName) (list : List ℕ)
-      → list ≡ cond left (queue_without a.slot (slots_in queue w.devices.waiting))
+      → list ≡ cond left (queue_without at (slots_in queue w.devices.waiting))
       (slots_in queue w.devices.waiting)
-      → has_waiting queue (apply w.settings a.event r).own ≡ cond left false (has_waiting queue r.own)
+      → has_waiting queue (apply w.settings event r).own ≡ cond left false (has_waiting queue r.own)
       → ((k : ℕ) → times_in k (slots_in queue w.devices.waiting)
       ≡ once_if (asks_at queue (slice_get w.records k)))
       → (k : ℕ) → times_in k list ≡ once_if
-      (asks_at queue (slice_get (told_to w a (slice_get w.records a.slot)) k))
-  answer_at queue list lists waits before k = ap (times_in k) lists ∙ by_slot (a.slot == k) refl
+      (asks_at queue (slice_get (slice_set w.records at (apply w.settings event r)) k))
+  answer_at queue list lists waits before k = ap (times_in k) lists ∙ by_slot (at == k) refl
     where
       own_list : (b : Bool)
-          → times_in a.slot (slots_in queue w.devices.waiting) ≡ once_if (has_waiting queue r.own)
-          → times_in a.slot (cond b (queue_without a.slot (slots_in queue w.devices.waiting))
+          → times_in at (slots_in queue w.devices.waiting) ≡ once_if (has_waiting queue r.own)
+          → times_in at (cond b (queue_without at (slots_in queue w.devices.waiting))
           (slots_in queue w.devices.waiting)) ≡ once_if (cond b false (has_waiting queue r.own))
-      own_list true is = gone_from a.slot (slots_in queue w.devices.waiting)
+      own_list true is = gone_from at (slots_in queue w.devices.waiting)
       own_list false is = is
 
-      other_list : (b : Bool) → (a.slot == k) ≡ false
-          → times_in k (cond b (queue_without a.slot (slots_in queue w.devices.waiting))
+      other_list : (b : Bool) → (at == k) ≡ false
+          → times_in k (cond b (queue_without at (slots_in queue w.devices.waiting))
           (slots_in queue w.devices.waiting)) ≡ times_in k (slots_in queue w.devices.waiting)
-      other_list true e = gone_other a.slot k (slots_in queue w.devices.waiting) e
+      other_list true e = gone_other at k (slots_in queue w.devices.waiting) e
       other_list false e = refl
 
-      by_slot : (b : Bool) → (a.slot == k) ≡ b
-          → times_in k (cond left (queue_without a.slot (slots_in queue w.devices.waiting))
+      by_slot : (b : Bool) → (at == k) ≡ b
+          → times_in k (cond left (queue_without at (slots_in queue w.devices.waiting))
           (slots_in queue w.devices.waiting))
-          ≡ once_if (asks_at queue (slice_get (told_to w a (slice_get w.records a.slot)) k))
+          ≡ once_if (asks_at queue (slice_get (slice_set w.records at (apply w.settings event r)) k))
       by_slot true e =
-          let same : a.slot ≡ k = eqb-true a.slot k e in
-          subst (λ (n : ℕ). times_in n (cond left (queue_without a.slot (slots_in queue w.devices.waiting))
+          let same : at ≡ k = eqb-true at k e in
+          subst (λ (n : ℕ). times_in n (cond left (queue_without at (slots_in queue w.devices.waiting))
           (slots_in queue w.devices.waiting))
-          ≡ once_if (asks_at queue (slice_get (told_to w a (slice_get w.records a.slot)) n))) same
-          (own_list left (before a.slot ∙ ap (λ (o : Option Record). once_if (asks_at queue o)) is)
+          ≡ once_if (asks_at queue (slice_get (slice_set w.records at (apply w.settings event r)) n))) same
+          (own_list left (before at ∙ ap (λ (o : Option Record). once_if (asks_at queue o)) is)
           ∙ ap once_if (sym waits)
           ∙ ap (λ (o : Option Record). once_if (asks_at queue o))
-          (sym (told-own w a (slice_get w.records a.slot) refl ∙ ap (option_map (apply w.settings a.event)) is)))
+          (sym (set_own w.records at (apply w.settings event r) r is)))
       by_slot false e =
           other_list left e ∙ before k
           ∙ ap (λ (o : Option Record). once_if (asks_at queue o))
-          (sym (told-other w a k (slice_get w.records a.slot)
-          (λ same. false≢true (sym e ∙ eq-eqb a.slot k (sym same)))))
+          (sym (slice_get-set_other w.records at k (apply w.settings event r)
+          (λ same. false≢true (sym e ∙ eq-eqb at k (sym same)))))
 
 -- the lists of a world are those of its requests
 abbrev AreLists : World → Type 0
@@ -337,38 +336,23 @@ unfolding apply
 alarmed_own settings r now = refl
 
 module _ (follow : LinesFollowAnswers) (tell : EventsTellSteps) (w : World) (h : AreLists w) where
-  answered_each : (deed : DeviceStep) (a : Answer) (r : Record) → slice_get w.records a.slot ≡ Some r
-      → deed.told ≡ Some a → (left : QueueName → Bool)
+  answered_each : (slot : ℕ) (r : Record) (is : slice_get w.records slot ≡ Some r) (a : DeviceAnswer)
+      (left : QueueName → Bool)
       → ((here : QueueName)
-      → slots_in here deed.devices.waiting
-      ≡ cond (left here) (queue_without a.slot (slots_in here w.devices.waiting)) (slots_in here w.devices.waiting))
-      → ((queue : QueueName) →
-      has_waiting queue (apply w.settings a.event r).own
-      ≡ cond (left queue) false (has_waiting queue r.own))
-      → AreLists (done w (Some deed)).after
-  answered_each deed a r is told left lists waits =
-      subst (λ (o : Option Answer). ((queue : QueueName) (k : ℕ)
-      → times_in k (slots_in queue deed.devices.waiting)
-      ≡ once_if (asks_at queue (slice_get (records_after w o) k)))) (sym told)
-      (λ queue. answer_at w a r is (left queue) queue (slots_in queue deed.devices.waiting) (lists queue) (waits queue)
-      (h queue))
-
-  first_lists : (make : World → ℕ → Record → DeviceStep) (line : List ℕ)
-      → ((slot : ℕ) (r : Record) → slice_get w.records slot ≡ Some r → AreLists (done w (Some (make w slot r))).after)
-      → AreLists (done w (first_waiting make w line)).after
-  first_lists make [] each = h
-  first_lists make (slot ∷ rest) each = by_record (slice_get w.records slot) refl
-    where
-      by_record : (o : Option Record) → slice_get w.records slot ≡ o
-          → AreLists (done w (option_map (make w slot) o)).after
-      by_record None e = h
-      by_record (Some r) e = each slot r e
+      → slots_in here a.devices.waiting
+      ≡ cond (left here) (queue_without slot (slots_in here w.devices.waiting)) (slots_in here w.devices.waiting))
+      → ((queue : QueueName)
+      → has_waiting queue (apply w.settings a.answer.event r).own ≡ cond (left queue) false (has_waiting queue r.own))
+      → AreLists (answered w slot r a).after
+  answered_each slot r is a left lists waits queue =
+      answer_at w slot a.answer.event r is (left queue) queue (slots_in queue a.devices.waiting) (lists queue)
+      (waits queue) (h queue)
 
   sends : (slot : ℕ) (r : Record) → slice_get w.records slot ≡ Some r
-      → AreLists (done w (Some (transmitting w slot r))).after
+      → AreLists (answered w slot r (transmitting w.clock.time w.devices slot r)).after
   sends slot r is =
       let s = console.sent (flash_of r) r.own in
-      answered_each (transmitting w slot r) (record { slot = slot; event = cond s.completed WriteDone Taken }) r is refl
+      answered_each slot r is (transmitting w.clock.time w.devices slot r)
       (queue_left_by Writes s.completed)
       (λ here. queue_with here Writes (queue_after_answer s.completed slot) w.devices
       ∙ left_or_not (is_same Writes here) s.completed (queue_without slot (slots_in here w.devices.waiting))
@@ -378,10 +362,10 @@ module _ (follow : LinesFollowAnswers) (tell : EventsTellSteps) (w : World) (h :
       (follow.writes (flash_of r) r.own).lines)
 
   receives : (slot : ℕ) (r : Record) → slice_get w.records slot ≡ Some r
-      → AreLists (done w (Some (receive_step w slot r))).after
+      → AreLists (answered w slot r (receive_step w.devices slot r)).after
   receives slot r is =
       let s = console.received w.devices.line.ring r.own in
-      answered_each (receive_step w slot r) (record { slot = slot; event = Input s.moved }) r is refl
+      answered_each slot r is (receive_step w.devices slot r)
       (queue_left_by Reads s.completed)
       (λ here. queue_with here Reads (queue_after_answer s.completed slot) w.devices
       ∙ left_or_not (is_same Reads here) s.completed (queue_without slot (slots_in here w.devices.waiting))
@@ -391,11 +375,10 @@ module _ (follow : LinesFollowAnswers) (tell : EventsTellSteps) (w : World) (h :
       (follow.reads w.devices.line.ring r.own).lines)
 
   draws : (slot : ℕ) (r : Record) → slice_get w.records slot ≡ Some r
-      → AreLists (done w (Some (random_step w slot r))).after
+      → AreLists (answered w slot r (random_step w.devices slot r)).after
   draws slot r is =
       let a = random.answered (slice_get w.devices.words 0) r.own in
-      answered_each (random_step w slot r) (record { slot = slot; event = drawn_told as_events a.drawn }) r is
-      refl (queue_left_by Randoms a.completed)
+      answered_each slot r is (random_step w.devices slot r) (queue_left_by Randoms a.completed)
       (λ here. queue_with here Randoms (queue_after_answer a.completed slot) w.devices
       ∙ left_or_not (is_same Randoms here) a.completed (queue_without slot (slots_in here w.devices.waiting))
       (slots_in here w.devices.waiting))
@@ -404,11 +387,11 @@ module _ (follow : LinesFollowAnswers) (tell : EventsTellSteps) (w : World) (h :
       (follow.randoms (slice_get w.devices.words 0) r.own).lines)
 
   stores : (slot : ℕ) (r : Record) → slice_get w.records slot ≡ Some r
-      → AreLists (done w (Some (storing w slot r))).after
+      → AreLists (answered w slot r (storing w.devices slot r)).after
   stores slot r is =
       let fails = is_fault w.devices.faults (w.devices.served + 1) in
       let a = storage.answered fails (flash_of r) r.storage r.own in
-      answered_each (storing w slot r) (record { slot = slot; event = Stored (not fails) }) r is refl
+      answered_each slot r is (storing w.devices slot r)
       (queue_left_by Stores a.completed)
       (λ here. queue_with here Stores (queue_after_answer a.completed slot) w.devices
       ∙ left_or_not (is_same Stores here) a.completed (queue_without slot (slots_in here w.devices.waiting))
@@ -416,37 +399,25 @@ module _ (follow : LinesFollowAnswers) (tell : EventsTellSteps) (w : World) (h :
       (moved_own (queue_left_by Stores a.completed) r.own (own_after a.step) _ (stored_own w.settings r fails)
       (follow.stores fails (flash_of r) r.storage r.own).lines)
 
-  fires : (slot : ℕ) → AreLists (done w (Some (alarmed w slot))).after
-  fires slot = by_record (slice_get w.records slot) refl
-    where
-      by_record : (o : Option Record) → slice_get w.records slot ≡ o → AreLists (done w (Some (alarmed w slot))).after
-      by_record None e =
-          subst (λ (o : Option Record). ((queue : QueueName) (k : ℕ)
-          → times_in k (slots_in queue w.devices.waiting)
-          ≡ once_if (asks_at queue (slice_get (told_to w (record { slot = slot; event = Alarmed (now_in w) }) o)
-          k)))) (sym e) h
-      by_record (Some r) e =
-          answered_each (alarmed w slot) (record { slot = slot; event = Alarmed (now_in w) }) r e refl (λ line. false)
-          (λ here. refl)
-          (moved_own (λ line. false) r.own (own_after (alarm.answered (now_in w) r.own)) _
-          (alarmed_own w.settings r (now_in w))
-          (follow.alarms (now_in w) r.own).lines)
-
-  due_lists : (due : Option ℕ) → AreLists (done w (option_map (alarmed w) due)).after
-  due_lists None = h
-  due_lists (Some slot) = fires slot
-
-  arrived_lists : (arrivals : List Arrival) → AreLists (done w (arrived w.devices arrivals)).after
-  arrived_lists [] = h
-  arrived_lists (a ∷ rest) = h
+  fires : (slot : ℕ) (r : Record) → slice_get w.records slot ≡ Some r
+      → AreLists (answered w slot r (alarmed w.settings w.clock.time w.devices)).after
+  fires slot r is =
+      answered_each slot r is (alarmed w.settings w.clock.time w.devices) (λ line. false) (λ here. refl)
+      (moved_own (λ line. false) r.own (own_after (alarm.answered (now_in w) r.own)) _
+      (alarmed_own w.settings r (now_in w))
+      (follow.alarms (now_in w) r.own).lines)
 
   deed_lists : (device : Dev) → AreLists (done w (device_step_of w device)).after
-  deed_lists dev.Event = arrived_lists w.devices.arrivals
-  deed_lists dev.Alarm = due_lists (alarm.due_slot (now_in w) (owns_in w))
-  deed_lists dev.Uart = first_lists transmitting (slots_in Writes w.devices.waiting) sends
-  deed_lists dev.Receive = first_lists receive_step (slots_in Reads w.devices.waiting) receives
-  deed_lists dev.Random = first_lists random_step (slots_in Randoms w.devices.waiting) draws
-  deed_lists dev.Store = first_lists storing (slots_in Stores w.devices.waiting) stores
+  deed_lists device =
+      of_device w (λ (s : Stepped). AreLists s.after) (record {
+        none = h;
+        arrives = λ a rest. h;
+        alarms = fires;
+        sends = sends;
+        receives = receives;
+        draws = draws;
+        stores = stores;
+      }) device
 
   turn_lists : TurnsKeepLines → ((slot : ℕ) → IfSome (slice_get w.records slot) LivesAsItRuns)
       → (slot : ℕ) (o : Option Record) → slice_get w.records slot ≡ o → AreLists (ran w slot o).after

@@ -12,7 +12,7 @@ use Rattle.process_model.specs.Own.{opened}
 use Rattle.kernel_model.specs.Record.{Record}
 use Rattle.kernel_model.specs.declared.settings.Settings.{Settings}
 use Rattle.kernel_model.specs.Turn.{Turned, turned}
-use Rattle.kernel_model.specs.World.{World, waiting_by}
+use Rattle.kernel_model.specs.World.{World}
 use Rattle.kernel_model.specs.Histories.{PairKey}
 
 -- a process at the start of its object, which has these bytes, with registers and a block of so many bytes, of which it
@@ -78,7 +78,7 @@ board slice records = record {
   settings = worked_settings;
   pace = record { slice = slice };
   devices = record {
-    waiting = waiting_by (λ queue. []);
+    waiting = record { writes = []; reads = []; randoms = []; stores = [] };
     leds = 0;
     line = record { ring = []; ticks = 1; free = 0 };
     arrivals = [];

@@ -1,6 +1,6 @@
 -- The world only routes: a step finds whose turn it is, or whom a device answers, and applies that event to that one
 -- record. Which steps there are, and what the devices do, is this board's own rule.
-use Rattle.std.specs.Prelude.{ℕ, ◌+◌, ◌==◌, Bool, false, not, ◌&&◌, nat_le, nat_lt, if◌then◌else◌, List, [], ◌∷◌, ◌++◌}
+use Rattle.std.specs.Prelude.{ℕ, suc, ◌+◌, ◌==◌, Bool, false, not, ◌&&◌, nat_le, nat_lt, if◌then◌else◌, List, [], ◌∷◌, ◌++◌}
 use Rattle.std.specs.Prelude.{drop, filter, length, map, slice_get, slice_set, Option, None, Some, is_some}
 use Rattle.std.specs.Option.{option_map}
 use Rattle.tk_base.specs.declared.limits.TheConstants.{STEP_LIMIT}
@@ -24,7 +24,7 @@ use Rattle.driver_model.specs.Random as random
 use Rattle.driver_model.specs.Storage as storage
 use Rattle.driver_model.specs.Leds.{with_switched}
 use Rattle.driver_model.specs.Told.{Telling, drawn_told, received_told, sent_told, stored_told}
-use Rattle.driver_model.specs.Commands.{BoardRequest, Waits, Leaves, Lights, QueueName, Writes, Reads, Randoms, Stores, is_same}
+use Rattle.driver_model.specs.Commands.{BoardRequest, Waits, Leaves, Lights, QueueName, Writes, Reads, Randoms, Stores}
 use Rattle.kernel_model.specs.Turn.{Event, Alarmed, Taken, WriteDone, Input, Word, NoWord, Stored, TurnTrace, Turned}
 use Rattle.kernel_model.specs.Turn.{apply, flash_of, turned, may_turn}
 
@@ -90,16 +90,24 @@ now_in w = clock_at w.settings.start w.clock.time
 abbrev pub owns_in : World → List Own
 owns_in w = map (λ r. r.own) w.records
 
--- a process, by its slot, and what a device answers it
+-- what a step tells a process, and what is printed for it
 pub record Answer : Type 0 where
-  pub slot : ℕ
   pub event : Event
-
--- what a device does in a step: what it tells a process, if it tells any; what it prints for it; the devices afterwards
-pub record DeviceStep : Type 0 where
-  pub told : Option Answer
   pub printed : List ℕ
+
+-- what a device does for one process: what it tells it, and the devices afterwards
+pub record DeviceAnswer : Type 0 where
+  pub answer : Answer
   pub devices : Devices
+
+-- what a device does in a step: what it tells the process in each slot, one thing at most; the devices afterwards
+pub record DeviceStep : Type 0 where
+  pub told : ℕ → Option Answer
+  pub devices : Devices
+
+-- the process in one slot is answered, and no other
+abbrev pub answering : ℕ → DeviceAnswer → DeviceStep
+answering slot a = record { told = λ other. if other == slot then Some a.answer else None; devices = a.devices }
 
 -- the slots but one
 abbrev pub queue_without : ℕ → List ℕ → List ℕ
@@ -116,24 +124,16 @@ slots_in Reads waiting = waiting.reads
 slots_in Randoms waiting = waiting.randoms
 slots_in Stores waiting = waiting.stores
 
--- the table of those that wait, by the name of the queue
-abbrev pub waiting_by : (QueueName → List ℕ) → WaitingSlots
-waiting_by slots =
-    record { writes = slots Writes; reads = slots Reads; randoms = slots Randoms; stores = slots Stores }
-
 -- one queue changes, and no other
 abbrev pub with_queue : QueueName → (List ℕ → List ℕ) → Devices → Devices
-with_queue name change d = record d {
-  waiting = waiting_by (λ queue. if is_same name queue then change (slots_in queue d.waiting) else slots_in queue d.waiting);
-}
+with_queue Writes change d = record d { waiting = record d.waiting { writes = change d.waiting.writes } }
+with_queue Reads change d = record d { waiting = record d.waiting { reads = change d.waiting.reads } }
+with_queue Randoms change d = record d { waiting = record d.waiting { randoms = change d.waiting.randoms } }
+with_queue Stores change d = record d { waiting = record d.waiting { stores = change d.waiting.stores } }
 
--- bytes come in: of those in the ring the newest are kept
-abbrev pub arriving : Devices → Arrival → List Arrival → DeviceStep
-arriving d arrival rest = record {
-  told = None;
-  printed = [];
-  devices = record d { line = with_input arrival.bytes d.line; arrivals = rest };
-}
+-- after an answer to the process in a slot, whose request in a queue completed or did not
+abbrev pub after_answer : QueueName → Bool → ℕ → Devices → Devices
+after_answer name completed slot d = with_queue name (queue_after_answer completed slot) d
 
 -- what devices tell, as events of a process
 abbrev pub as_events : Telling Event
@@ -147,85 +147,81 @@ as_events = record {
   stored = Stored;
 }
 
--- the alarm of the process in a slot fires
-abbrev pub alarmed : World → ℕ → DeviceStep
-alarmed w slot = record {
-  told = Some (record { slot = slot; event = as_events.alarmed (now_in w) });
-  printed = [];
-  devices = w.devices;
-}
+-- the alarm of a process fires at a time
+abbrev pub alarmed : Settings → ℕ → Devices → DeviceAnswer
+alarmed settings time d =
+    record { answer = record { event = as_events.alarmed (clock_at settings.start time); printed = [] }; devices = d }
 
 -- the UART takes the next bytes of the write of the process in a slot, or the write completes
-abbrev pub transmitting : World → ℕ → Record → DeviceStep
-transmitting w slot r =
-    let d = w.devices in
+abbrev pub transmitting : ℕ → Devices → ℕ → Record → DeviceAnswer
+transmitting time d slot r =
     let s = console.sent (flash_of r) r.own in
     record {
-      told = Some (record { slot = slot; event = sent_told as_events s });
-      printed = s.printed;
-      devices = record (with_queue Writes (queue_after_answer s.completed slot) d) {
-        line = record d.line { free = console.free_after w.clock.time d.line.ticks s.printed d.line.free };
+      answer = record { event = sent_told as_events s; printed = s.printed };
+      devices = record (after_answer Writes s.completed slot d) {
+        line = record d.line { free = console.free_after time d.line.ticks s.printed d.line.free };
       };
     }
 
 -- the bytes that came in go to the read of the process in a slot
-abbrev pub receive_step : World → ℕ → Record → DeviceStep
-receive_step w slot r =
-    let d = w.devices in
+abbrev pub receive_step : Devices → ℕ → Record → DeviceAnswer
+receive_step d slot r =
     let s = console.received d.line.ring r.own in
     record {
-      told = Some (record { slot = slot; event = received_told as_events s });
-      printed = [];
-      devices = record (with_queue Reads (queue_after_answer s.completed slot) d) {
-        line = record d.line { ring = drop (length s.moved) d.line.ring };
-      };
+      answer = record { event = received_told as_events s; printed = [] };
+      devices =
+          record (after_answer Reads s.completed slot d) { line = record d.line { ring = drop (length s.moved) d.line.ring } };
     }
 
 -- a word is drawn for the request of the process in a slot, or none
-abbrev pub random_step : World → ℕ → Record → DeviceStep
-random_step w slot r =
-    let d = w.devices in
+abbrev pub random_step : Devices → ℕ → Record → DeviceAnswer
+random_step d slot r =
     let a = random.answered (slice_get d.words 0) r.own in
     record {
-      told = Some (record { slot = slot; event = drawn_told as_events a.drawn });
-      printed = [];
-      devices = record (with_queue Randoms (queue_after_answer a.completed slot) d) {
-        words = random.words_after a.drawn d.words;
-      };
+      answer = record { event = drawn_told as_events a.drawn; printed = [] };
+      devices = record (after_answer Randoms a.completed slot d) { words = random.words_after a.drawn d.words };
     }
 
 -- the storage request of the process in a slot is served, or fails, by its number among all that were
-abbrev pub storing : World → ℕ → Record → DeviceStep
-storing w slot r =
-    let d = w.devices in
+abbrev pub storing : Devices → ℕ → Record → DeviceAnswer
+storing d slot r =
     let fails = is_fault d.faults (d.served + 1) in
     let a = storage.answered fails (flash_of r) r.storage r.own in
     record {
-      told = Some (record { slot = slot; event = stored_told as_events fails });
-      printed = [];
-      devices = record (with_queue Stores (queue_after_answer a.completed slot) d) {
-        served = if a.completed then d.served + 1 else d.served;
-      };
+      answer = record { event = stored_told as_events fails; printed = [] };
+      devices = record (after_answer Stores a.completed slot d) { served = if a.completed then d.served + 1 else d.served };
     }
 
--- the first of those that wait, with its record
-abbrev pub first_waiting : (World → ℕ → Record → DeviceStep) → World → List ℕ → Option DeviceStep
-first_waiting deed w [] = None
-first_waiting deed w (slot ∷ slots) = option_map (deed w slot) (slice_get w.records slot)
+-- whom a device serves: the lowest slot whose alarm is due, or the first of those that wait; bytes that come in are
+-- nobody's
+abbrev pub served_by : World → Dev → Option ℕ
+served_by w dev.Event = None
+served_by w dev.Alarm = alarm.due_slot (now_in w) (owns_in w)
+served_by w dev.Uart = slice_get (slots_in Writes w.devices.waiting) 0
+served_by w dev.Receive = slice_get (slots_in Reads w.devices.waiting) 0
+served_by w dev.Random = slice_get (slots_in Randoms w.devices.waiting) 0
+served_by w dev.Store = slice_get (slots_in Stores w.devices.waiting) 0
 
--- what the serial line does where bytes are still to come in
+-- what a device does for the process that it serves, by its record
+abbrev pub serving : World → (ℕ → Record → DeviceAnswer) → Option ℕ → Option DeviceStep
+serving w answer None = None
+serving w answer (Some slot) = option_map (λ r. answering slot (answer slot r)) (slice_get w.records slot)
+
+-- bytes come in, if any are still to, which tells nobody anything: of those in the ring the newest are kept
 abbrev pub arrived : Devices → List Arrival → Option DeviceStep
 arrived d [] = None
-arrived d (arrival ∷ rest) = Some (arriving d arrival rest)
+arrived d (arrival ∷ rest) =
+    Some (record { told = λ slot. None; devices = record d { line = with_input arrival.bytes d.line; arrivals = rest } })
 
 -- what a device does, where it is ready
 abbrev pub device_step_of : World → Dev → Option DeviceStep
 device_step_of w dev.Event = arrived w.devices w.devices.arrivals
-device_step_of w dev.Alarm = option_map (alarmed w) (alarm.due_slot (now_in w) (owns_in w))
-device_step_of w dev.Uart = first_waiting transmitting w (slots_in Writes w.devices.waiting)
-device_step_of w dev.Receive = first_waiting receive_step w (slots_in Reads w.devices.waiting)
-device_step_of w dev.Random = first_waiting random_step w (slots_in Randoms w.devices.waiting)
-device_step_of w dev.Store = first_waiting storing w (slots_in Stores w.devices.waiting)
+device_step_of w dev.Alarm =
+    serving w (λ slot r. alarmed w.settings w.clock.time w.devices) (served_by w dev.Alarm)
+device_step_of w dev.Uart = serving w (transmitting w.clock.time w.devices) (served_by w dev.Uart)
+device_step_of w dev.Receive = serving w (receive_step w.devices) (served_by w dev.Receive)
+device_step_of w dev.Random = serving w (random_step w.devices) (served_by w dev.Random)
+device_step_of w dev.Store = serving w (storing w.devices) (served_by w dev.Store)
 
 -- whether one waits
 abbrev pub is_waited_for : List ℕ → Bool
@@ -235,7 +231,7 @@ is_waited_for slots = not (length slots == 0)
 -- waits and bytes came in; a request for random bytes waits; one for storage waits.
 abbrev pub can_act : World → Dev → Bool
 can_act w dev.Event = is_time w.clock.time w.devices.arrivals
-can_act w dev.Alarm = is_some (alarm.due_slot (now_in w) (owns_in w))
+can_act w dev.Alarm = is_some (served_by w dev.Alarm)
 can_act w dev.Uart = is_waited_for (slots_in Writes w.devices.waiting) && nat_le w.devices.line.free w.clock.time
 can_act w dev.Receive = is_waited_for (slots_in Reads w.devices.waiting) && not (length w.devices.line.ring == 0)
 can_act w dev.Random = is_waited_for (slots_in Randoms w.devices.waiting)
@@ -289,29 +285,35 @@ ran w slot (Some r) =
     let t = turned w.settings w.clock.time r in
     record { after = after_turn_of w slot t; labels = TurnOf slot w.clock.time t.told ∷ [] }
 
--- the records after what a device told a process, of which nothing else changes
-abbrev pub told_to : World → Answer → Option Record → List Record
-told_to w answer None = w.records
-told_to w answer (Some r) = slice_set w.records answer.slot (apply w.settings answer.event r)
+-- a record once its process was told something, or nothing
+abbrev pub happens : Settings → Option Answer → Record → Record
+happens settings None r = r
+happens settings (Some answer) r = apply settings answer.event r
 
--- the records once a device has answered, if it answers anybody
-abbrev pub records_after : World → Option Answer → List Record
-records_after w None = w.records
-records_after w (Some answer) = told_to w answer (slice_get w.records answer.slot)
+-- the records after a step, of the slots in order: each process was told what it was told
+abbrev pub records_told : Settings → (ℕ → Option Answer) → List Record → List Record
+records_told settings told [] = []
+records_told settings told (r ∷ rs) =
+    happens settings (told 0) r ∷ records_told settings (λ slot. told (suc slot)) rs
 
--- what a device step tells: what it told a process, and what it printed for it
+-- what was printed for a process
 abbrev pub printing : ℕ → List ℕ → List Label
 printing slot bytes = if length bytes == 0 then [] else Printed slot bytes ∷ []
 
--- what a device's step tells: whom it answered, and what it printed for it
-abbrev pub labels_of : DeviceStep → Option Answer → List Label
-labels_of deed None = []
-labels_of deed (Some answer) = Answered answer.slot answer.event ∷ printing answer.slot deed.printed
+-- what a step tells of a slot: what its process was told, and what was printed for it
+abbrev pub labels_of : ℕ → Option Answer → List Label
+labels_of slot None = []
+labels_of slot (Some answer) = Answered slot answer.event ∷ printing slot answer.printed
+
+-- and of the slots in order, from one on
+abbrev pub labels_told : (ℕ → Option Answer) → ℕ → List Record → List Label
+labels_told told slot [] = []
+labels_told told slot (r ∷ rs) = labels_of slot (told slot) ++ labels_told told (suc slot) rs
 
 -- the world after a device's step, which takes no time
 abbrev pub after_deed : World → DeviceStep → World
 after_deed w deed = record w {
-  records = records_after w deed.told;
+  records = records_told w.settings deed.told w.records;
   devices = deed.devices;
   clock = record w.clock { steps = w.clock.steps + 1 };
 }
@@ -319,7 +321,7 @@ after_deed w deed = record w {
 -- the step of a device, if it has anything to do
 abbrev pub done : World → Option DeviceStep → Stepped
 done w None = unmade w
-done w (Some deed) = record { after = after_deed w deed; labels = labels_of deed deed.told }
+done w (Some deed) = record { after = after_deed w deed; labels = labels_told deed.told 0 w.records }
 
 -- the world after so many ticks in which nothing acts
 abbrev pub passed : World → ℕ → World
