@@ -9,7 +9,7 @@ use Rattle.tk_base.specs.declared.process.Choice.TheVariants.{Run, Device, Pass}
 use Rattle.process_record.specs.declared.emit.CallMade.{CallMade}
 use Rattle.process_record.specs.declared.emit.Emit.{Emit}
 use Rattle.kernel_model.specs.Record.{Record}
-use Rattle.kernel_model.specs.World.{Label, Printed, Stepped, TurnOf, World, after}
+use Rattle.kernel_model.specs.World.{Answered, Label, Printed, Stepped, TurnOf, World, after}
 use Rattle.kernel_model.specs.World.{carried_out, labels, ran}
 use Rattle.kernel_model.proofs.Told.{of_answered}
 use Rattle.kernel_model.specs.Run.{Ran, next, printed, round}
