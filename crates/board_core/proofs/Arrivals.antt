@@ -11,7 +11,8 @@ use Rattle.board_devices.specs.SerialLine.{SerialLine}
 use Rattle.script_text.specs.Settings.{ScriptEvent}
 use Rattle.process_record.specs.Emit.{nothing}
 use Rattle.kernel_model.specs.Shown.{shown_by}
-use Rattle.kernel_model.specs.World.{DeviceStep, Devices, arrived, carried_out, device_step_of, done}
+use Rattle.kernel_model.specs.World.{DeviceStep, Devices, Stepped, arrived, carried_out, device_step_of, done}
+use Rattle.kernel_model.proofs.Told.{done_quietly}
 use Rattle.board_core.specs.declared.board.Board.TheInside.{Inside}
 use Rattle.board_core.specs.declared.drivers.Drivers.{Drivers}
 use Rattle.board_core.specs.Calm.{IsCalm}
@@ -35,8 +36,7 @@ line_keeps (event ∷ events) line = (refl, refl)
 arrived_deed : (d : Devices) (events : List ScriptEvent) (time : ℕ) → is_time time events ≡ true
     → arrived d events
     ≡ Some (record {
-      told = None;
-      printed = [];
+      told = λ slot. None;
       devices =
           record d { line = with_first_arrived events d.line; arrivals = drop 1 events };
     })
@@ -50,14 +50,14 @@ module _ (b : Inside) (events : List ScriptEvent) (line : SerialLine)
   drivers_then = record b.drivers { arrivals = events; uart = line }
 
   deed_is : device_step_of (world_of b) dev.Event
-      ≡ Some (record { told = None; printed = []; devices = devices_of drivers_then })
+      ≡ Some (record { told = λ slot. None; devices = devices_of drivers_then })
   deed_is =
       arrived_deed (devices_of b.drivers) b.drivers.arrivals b.moment.time may
       ∙ ap₂ (λ (l : SerialLine) (es : List ScriptEvent). Some
       (deed_with (record (devices_of b.drivers) { line = l; arrivals = es }))) (sym with) (sym left)
     where
       deed_with : Devices → DeviceStep
-      deed_with devices = record { told = None; printed = []; devices = devices }
+      deed_with devices = record { told = λ slot. None; devices = devices }
 
   -- the world after they came in
   pub world_arrived : with_step b (world_of b).records (devices_of drivers_then) (a_step_later b.moment) b.present
@@ -65,14 +65,15 @@ module _ (b : Inside) (events : List ScriptEvent) (line : SerialLine)
   unfolding carried_out
   world_arrived =
       let w = world_of b in
-      sym (ap (λ (o : Option DeviceStep). (done w o).after) deed_is)
+      sym (ap (λ (s : Stepped). s.after) (ap (done w) deed_is ∙ done_quietly w (devices_of drivers_then)))
 
   -- nothing is shown
   pub arrived_shown : nothing ≡ shown_by (carried_out (world_of b) (Device dev.Event)).labels
   unfolding carried_out shown_by
   arrived_shown =
       let w = world_of b in
-      sym (ap (λ (o : Option DeviceStep). shown_by (done w o).labels) deed_is)
+      sym (ap (λ (s : Stepped). shown_by s.labels)
+      (ap (done w) deed_is ∙ done_quietly w (devices_of drivers_then)))
 
   pub soon : b.drivers.uart.free ≤ b.moment.time + SENDING_LIMIT → line.free ≤ b.moment.time + SENDING_LIMIT
   soon h = omega (arith, ap (λ (l : SerialLine). l.free) with, (line_keeps b.drivers.arrivals b.drivers.uart).1, h)
@@ -89,10 +90,7 @@ module _ (b : Inside) (events : List ScriptEvent) (line : SerialLine)
     few = h.few;
     guard = h.guard;
     driven = record {
-      writes = h.driven.writes;
-      reads = h.driven.reads;
-      randoms = h.driven.randoms;
-      stores = h.driven.stores;
+      queues = h.driven.queues;
       within = h.driven.within;
       leds = h.driven.leds;
       size = h.driven.size;

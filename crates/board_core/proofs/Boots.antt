@@ -1,7 +1,7 @@
 -- What is so of the processes of an opening world.
 use Rattle.std.proofs.Common.{◌≡◌, ◌≢◌, ◌≤◌, ℕ, zero, suc, ◌+◌, ◌-◌, ◌%◌, ◌==◌, nat_le, nat_lt, Bool, true, false, cond}
 use Rattle.std.proofs.Common.{not, ◌||◌, arith, List, [], ◌∷◌, slice_get, Option, None, Some, is_some, IfSome, Result}
-use Rattle.std.proofs.Common.{Ok, Err, refl, sym, ap, subst, ◌∙◌}
+use Rattle.std.proofs.Common.{Ok, Err, All, length, ◌<◌, refl, sym, ap, subst, ◌∙◌}
 use Rattle.std.specs.List.{cons_option, filter_map}
 use Rattle.std.specs.Option.{option_map}
 use Rattle.std.proofs.lemmas.Bool.{false≢true}
@@ -28,16 +28,14 @@ use Rattle.kernel_model.specs.Record.{Record}
 use Rattle.kernel_model.specs.Calls.{restart, restarted_by, restarted_main}
 use Rattle.kernel_model.specs.Laws.{main_by}
 use Rattle.kernel_model.specs.Counts.{CountsAddUp, WaitingAreThere, turns_of_all}
-use Rattle.driver_model.specs.Console.{console_reads, console_writes}
-use Rattle.driver_model.specs.Random.{randoms}
-use Rattle.driver_model.specs.Storage.{storages}
-use Rattle.driver_model.specs.Requests.{RequestKind}
+use Rattle.driver_model.specs.Commands.{QueueName}
 use Rattle.driver_model.specs.Lines.{has_waiting}
 use Rattle.process_model.proofs.Changes.{keeps_none}
 use Rattle.process_model.specs.Pairs.{OnlyHandingChangesPairs}
 use Rattle.driver_model.specs.Keeping.{IsInOrder, IsSettled}
 use Rattle.kernel_model.specs.Wholes.{HasWholeOwn}
-use Rattle.kernel_model.specs.Lists.{ListsAreOfRequests, asks_at, once_if}
+use Rattle.kernel_model.specs.Lists.{ListsAreOfRequests, asks_at, once_if, times_in}
+use Rattle.board_core.proofs.Routing.{slots_by}
 use Rattle.kernel_model.specs.Lives.{AreApart, BlocksAreApart, HasOrder, HasPendingWithinLimit, IsAsAtFirst, IsAtFirst}
 use Rattle.kernel_model.specs.Lives.{LivesAsItRuns}
 use Rattle.board_core.specs.Certified.{CountsFromBootAddUp}
@@ -344,8 +342,8 @@ opens_apart script flash =
 
 pub opens_with_none_waiting : (script : Script) (flash : List ℕ) → WaitingAreThere (opening script flash)
 unfolding opening
-opens_with_none_waiting script flash =
-    record { writes = All-nil _; reads = All-nil _; randoms = All-nil _; stores = All-nil _ }
+opens_with_none_waiting script flash = λ queue.
+    subst (All (λ slot. slot < length (opening script flash).records)) (sym (slots_by (λ q. []) queue)) (All-nil _)
 
 -- all counts are 0 at first
 no_turns : (storage : ℕ) (flash : List ℕ) (low : ℕ) (rs : List Record) → AreOpened storage flash low rs
@@ -365,31 +363,21 @@ counts_from_boot law script flash choices ready =
     record { time = omega (arith, sum.time); steps = omega (arith, sum.steps); turns = omega (arith, sum.turns, none) }
 
 -- no process has a request at first
-record AsksNothing (r : Record) : Type 0 where
-  writes : has_waiting console_writes r.own ≡ false
-  reads : has_waiting console_reads r.own ≡ false
-  randoms : has_waiting randoms r.own ≡ false
-  stores : has_waiting storages r.own ≡ false
+abbrev AsksNothing : Record → Type 0
+AsksNothing r = (queue : QueueName) → has_waiting queue r.own ≡ false
 
 asks_first : (storage : ℕ) (flash : List ℕ) (low : ℕ) (r : Record) → IsOpened storage flash low r → AsksNothing r
 unfolding opening_record
-asks_first storage flash low r o =
-    subst AsksNothing (sym o.is) (record { writes = refl; reads = refl; randoms = refl; stores = refl })
+asks_first storage flash low r o = subst AsksNothing (sym o.is) (λ queue. refl)
 
-asks_none : {R : Type 0} (request_kind : RequestKind R) (o : Option Record) → IfSome o AsksNothing
-    → ((r : Record) → AsksNothing r → has_waiting request_kind r.own ≡ false) → 0 ≡ once_if (asks_at request_kind o)
-asks_none request_kind None nothing each = refl
-asks_none request_kind (Some r) nothing each = ap once_if (sym (each r nothing))
+asks_none : (queue : QueueName) (o : Option Record) → IfSome o AsksNothing → 0 ≡ once_if (asks_at queue o)
+asks_none queue None nothing = refl
+asks_none queue (Some r) nothing = ap once_if (sym (nothing queue))
 
 pub opens_with_lists : (script : Script) (flash : List ℕ) → ListsAreOfRequests (opening script flash)
 unfolding opening
 opens_with_lists script flash = record {
-  each = record {
-    writes = λ slot. asks_none console_writes _ (nothing slot) (λ r a. a.writes);
-    reads = λ slot. asks_none console_reads _ (nothing slot) (λ r a. a.reads);
-    randoms = λ slot. asks_none randoms _ (nothing slot) (λ r a. a.randoms);
-    stores = λ slot. asks_none storages _ (nothing slot) (λ r a. a.stores);
-  };
+  each = λ queue slot. ap (times_in slot) (slots_by (λ q. []) queue) ∙ asks_none queue _ (nothing slot);
   lives = opens_living script flash;
 }
   where

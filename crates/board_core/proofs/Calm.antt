@@ -16,6 +16,7 @@ use Rattle.board_devices.specs.Clock.{clock_at}
 use Rattle.grant_model.specs.Grants.{Grant, grant_of}
 use Rattle.process_model.specs.Own.{Own}
 use Rattle.driver_model.specs.Alarm.{armed_in, due_slot, has_due, if_due, nearer, next_left}
+use Rattle.driver_model.specs.Commands.{Writes, Reads, Randoms, Stores}
 use Rattle.driver_model.specs.Laws.{QuietUntilNext}
 use Rattle.grant_enter.specs.Homes.{nobody}
 use Rattle.kernel_model.specs.Run.{sending_time}
@@ -144,13 +145,13 @@ idle_calm start from until owns id old new drives calm time low high =
       alarm = at.alarm;
       sends = record {
         event = ap (is_time time) drives.arrivals ∙ at.sends.event;
-        uart = ap₂ (λ (ids : List ProcessId) (free : ℕ). is_waited_for (slots_of ids) && nat_le free time) drives.writes
+        uart = ap₂ (λ (ids : List ProcessId) (free : ℕ). is_waited_for (slots_of ids) && nat_le free time) (drives.queues Writes)
             (ap (λ (line : SerialLine). line.free) drives.line) ∙ at.sends.uart;
       };
       serves = record {
         receive = ap₂ (λ (ids : List ProcessId) (ring : List ℕ). is_waited_for (slots_of ids) && not (length ring == 0))
-            drives.reads (ap (λ (line : SerialLine). line.ring) drives.line) ∙ at.serves.receive;
-        random = ap (λ (ids : List ProcessId). is_waited_for (slots_of ids)) drives.randoms ∙ at.serves.random;
-        store = ap (λ (ids : List ProcessId). is_waited_for (slots_of ids)) drives.stores ∙ at.serves.store;
+            (drives.queues Reads) (ap (λ (line : SerialLine). line.ring) drives.line) ∙ at.serves.receive;
+        random = ap (λ (ids : List ProcessId). is_waited_for (slots_of ids)) (drives.queues Randoms) ∙ at.serves.random;
+        store = ap (λ (ids : List ProcessId). is_waited_for (slots_of ids)) (drives.queues Stores) ∙ at.serves.store;
       };
     }

@@ -1,7 +1,7 @@
 -- Device steps of a board.
 use Rattle.std.proofs.Common.{◌≡◌, ℕ, zero, suc, ◌+◌, ◌==◌, ◌<◌, ◌≤◌, Bool, true, false, cond, ◌&&◌, nat_lt}
 use Rattle.std.proofs.Common.{if◌then◌else◌, List, [], ◌∷◌, ◌++◌, length, map, slice_get, slice_set, slice_index_or}
-use Rattle.std.proofs.Common.{All, Option, None, Some, Ok, Err, IsTrue, refl, sym, ap, subst, ◌∙◌, arith}
+use Rattle.std.proofs.Common.{All, Option, None, Some, Ok, Err, IsTrue, refl, sym, ap, subst, ◌∙◌, arith, eq-eqb}
 use Rattle.std.specs.List.{zip}
 use Rattle.std.proofs.lemmas.Bool.{false≢true}
 use Rattle.std.proofs.lemmas.Bool.Decides.{nat_tests}
@@ -21,19 +21,16 @@ use Rattle.process_record.specs.Emit.{nothing}
 use Rattle.process_record.specs.declared.emit.Emit.{Emit}
 use Rattle.process_record.specs.declared.process.Process.{Process}
 use Rattle.driver_model.specs.Answers.{Remains}
-use Rattle.driver_model.specs.Commands.{Leaves, is_same}
-use Rattle.driver_model.specs.Console.{console_reads, console_writes}
+use Rattle.driver_model.specs.Commands.{Leaves, QueueName, is_same, order_of}
 use Rattle.driver_model.specs.Lines.{IsWithin, has_waiting}
-use Rattle.driver_model.specs.Random.{randoms}
-use Rattle.driver_model.specs.Requests.{RequestKind}
-use Rattle.driver_model.specs.Storage.{storages}
 use Rattle.driver_requests.specs.Waiting.{waiting_still, without}
 use Rattle.grant_enter.specs.Homes.{Homes, ChangesOnly, nobody, own_of}
 use Rattle.kernel_model.specs.Record.{Record}
 use Rattle.kernel_model.specs.Turn.{Event}
-use Rattle.kernel_model.specs.World.{Answer, Answered, DeviceStep, Printed, Stepped, World, can_act, carried_out, done}
-use Rattle.kernel_model.specs.World.{is_ready, may_be_made, printing, records_after, told_to}
+use Rattle.kernel_model.specs.World.{Answered, Printed, Stepped, World, can_act, carried_out, done}
+use Rattle.kernel_model.specs.World.{device_step_of, is_ready, may_be_made, printing}
 use Rattle.kernel_model.specs.Shown.{shown_by}
+use Rattle.kernel_model.proofs.Told.{answered, done_one}
 use Rattle.board_core.specs.declared.board.Board.TheInside.{Inside}
 use Rattle.board_core.specs.declared.drivers.Drivers.{Drivers}
 use Rattle.board_core.specs.declared.guard.ActivePmp.{ActivePmp}
@@ -156,22 +153,22 @@ printed_shown slot event (byte ∷ bytes) = by_length (length (byte ∷ bytes) =
         e)
 
 -- A list is that of those with a request, after an answer to one of them.
-left_line : {R : Type 0} (request_kind : RequestKind R) (left : Bool) (ids ids' : List ProcessId) (owns : List Own)
-    (slot : ℕ) (own o : Own)
-    → ((x y : List ProcessId) → cond (is_same request_kind.line request_kind.line) x y ≡ x)
-    → ((x y : Bool) → cond (is_same request_kind.line request_kind.line) x y ≡ x)
-    → IsQueueOf request_kind ids owns → slice_get owns slot ≡ Some own
-    → has_waiting request_kind o ≡ (if left then false else has_waiting request_kind own) → o.life ≡ own.life
+left_line : (queue : QueueName) (left : Bool) (ids ids' : List ProcessId) (owns : List Own) (slot : ℕ) (own o : Own)
+    → IsQueueOf queue ids owns → slice_get owns slot ≡ Some own
+    → has_waiting queue o ≡ (if left then false else has_waiting queue own) → o.life ≡ own.life
     → ids' ≡ waiting_still left slot ids
-    → IsQueueOf request_kind ids' (slice_set owns slot o)
-left_line request_kind true ids ids' owns slot own o is is_b line was waits life e =
-    subst (λ (xs : List ProcessId). IsQueueOf request_kind xs (slice_set owns slot o))
-    (is (without slot ids) ids ∙ sym e)
-    (line_after request_kind ids owns slot own o (Leaves request_kind.line ∷ []) line was
-    (waits ∙ sym (is_b false (has_waiting request_kind own))) (λ w. life))
-left_line request_kind false ids ids' owns slot own o is is_b line was waits life e =
-    subst (λ (xs : List ProcessId). IsQueueOf request_kind xs (slice_set owns slot o)) (sym e)
-    (line_after request_kind ids owns slot own o [] line was waits (λ w. life))
+    → IsQueueOf queue ids' (slice_set owns slot o)
+left_line queue true ids ids' owns slot own o line was waits life e =
+    subst (λ (xs : List ProcessId). IsQueueOf queue xs (slice_set owns slot o))
+    (ap (λ (b : Bool). cond b (without slot ids) ids) same ∙ sym e)
+    (line_after queue ids owns slot own o (Leaves queue ∷ []) line was
+    (waits ∙ sym (ap (λ (b : Bool). cond b false (has_waiting queue own)) same)) (λ w. life))
+  where
+    same : is_same queue queue ≡ true
+    same = eq-eqb (order_of queue) (order_of queue) refl
+left_line queue false ids ids' owns slot own o line was waits life e =
+    subst (λ (xs : List ProcessId). IsQueueOf queue xs (slice_set owns slot o)) (sym e)
+    (line_after queue ids owns slot own o [] line was waits (λ w. life))
 
 -- a process that remains is seated a step later
 remains_seated : (flash : List ℕ) (steps : ℕ) (process : Process) (own o : Own) → Remains own o
@@ -220,33 +217,35 @@ module _ (b : Inside) (device : Dev) (slot : ℕ) (printed : List ℕ) (home : H
   unfolding told_at
   told_found = found slot b.home home b.processes.items b.processes.items told_at b.drivers.stores.slots few
 
+  -- its process alone was answered
+  answered_so : done (world_of b) (device_step_of (world_of b) device)
+      ≡ answered (world_of b) slot
+      (record_of b.home.flash ((t.process, own_of b.home slot), bytes_of b.drivers.stores.slots slot))
+      (record { answer = record { event = t.serves.event; printed = printed }; devices = devices_of d })
+  answered_so = ap (done (world_of b)) t.serves.deed ∙ done_one (world_of b) slot
+      (record { answer = record { event = t.serves.event; printed = printed }; devices = devices_of d })
+      (record_of b.home.flash ((t.process, own_of b.home slot), bytes_of b.drivers.stores.slots slot)) told_found
+
   -- the world after it
   pub world_told : with_step b (map (record_of home.flash) (zip (zip b.processes.items home.owns) d.stores.slots))
       (devices_of d) (a_step_later b.moment) b.present b.used ≡ (carried_out (world_of b) (Device device)).after
   unfolding carried_out told_at
   world_told =
       let w = world_of b in
-      let answer : Answer = record { slot = slot; event = t.serves.event } in
-      let deed : DeviceStep = record { told = Some answer; printed = printed; devices = devices_of d } in
       let changed : map (record_of home.flash) (zip (zip b.processes.items home.owns) d.stores.slots)
       ≡ slice_set w.records slot (record_of b.home.flash ((t.process, own_of home slot), t.serves.bytes)) =
       ap (λ (s : List (List ℕ)). map (record_of home.flash) (zip (zip b.processes.items home.owns) s))
       t.serves.stores.slots
       ∙ changed_records slot b.home home b.processes.items b.processes.items told_at b.drivers.stores.slots
       t.serves.bytes in
-      let records : map (record_of home.flash) (zip (zip b.processes.items home.owns) d.stores.slots)
-      ≡ records_after w (Some answer) =
-      changed ∙ ap (slice_set w.records slot) (sym t.serves.tells) ∙ sym (ap (told_to w answer) told_found) in
-      ap (λ (rs : List Record). with_step b rs (devices_of d) (a_step_later b.moment) b.present b.used) records
-      ∙ sym (ap (λ (o : Option DeviceStep). (done w o).after) t.serves.deed)
+      ap (λ (rs : List Record). with_step b rs (devices_of d) (a_step_later b.moment) b.present b.used)
+      (changed ∙ ap (slice_set w.records slot) (sym t.serves.tells))
+      ∙ sym (ap (λ (s : Stepped). s.after) answered_so)
 
   -- what it shows
   pub told_shown : shown_printed slot printed ≡ shown_by (carried_out (world_of b) (Device device)).labels
   unfolding carried_out
-  told_shown =
-      let w = world_of b in
-      printed_shown slot t.serves.event printed
-      ∙ sym (ap (λ (o : Option DeviceStep). shown_by (done w o).labels) t.serves.deed)
+  told_shown = printed_shown slot t.serves.event printed ∙ sym (ap (λ (s : Stepped). shown_by s.labels) answered_so)
 
   -- it may be made below the limit of steps
   pub may_tell : b.moment.steps < STEP_LIMIT → IsTrue (is_ready (world_of b) (Device device))
@@ -259,24 +258,16 @@ module _ (b : Inside) (device : Dev) (slot : ℕ) (printed : List ℕ) (home : H
   own_life = ap (λ (o : Own). o.life) t.serves.follows.rest
 
   -- who waits in a line has a request there then, and no other
-  told_line : {R : Type 0} (request_kind : RequestKind R)
-      → ((x y : List ProcessId) → cond (is_same request_kind.line request_kind.line) x y ≡ x)
-      → ((x y : Bool) → cond (is_same request_kind.line request_kind.line) x y ≡ x)
-      → IsQueueOf request_kind (ids_waiting_in b.drivers request_kind.line) b.home.owns
-      → has_waiting request_kind (own_of home slot)
-      ≡ (if t.serves.left request_kind.line then false else has_waiting request_kind (own_of b.home slot))
-      → IsQueueOf request_kind (ids_waiting_in d request_kind.line) (slice_set b.home.owns slot (own_of home slot))
-  told_line request_kind is is_b line waits =
-      left_line request_kind (t.serves.left request_kind.line) (ids_waiting_in b.drivers request_kind.line)
-      (ids_waiting_in d request_kind.line) b.home.owns slot (own_of b.home slot) (own_of home slot) is is_b line
-      own_was waits own_life (t.serves.lines request_kind.line)
+  told_line : (queue : QueueName)
+      → IsQueueOf queue (ids_waiting_in d queue) (slice_set b.home.owns slot (own_of home slot))
+  told_line queue =
+      left_line queue (t.serves.left queue) (ids_waiting_in b.drivers queue) (ids_waiting_in d queue) b.home.owns slot
+      (own_of b.home slot) (own_of home slot) (h.driven.queues queue) own_was (t.serves.follows.lines queue) own_life
+      (t.serves.lines queue)
 
   told_driven : AreDriven b.moment.settings b.moment.time home.owns d
   told_driven = subst (λ (owns : List Own). AreDriven b.moment.settings b.moment.time owns d) (sym told_owns) (record {
-    writes = told_line console_writes (λ x y. refl) (λ x y. refl) h.driven.writes t.serves.follows.lines.writes;
-    reads = told_line console_reads (λ x y. refl) (λ x y. refl) h.driven.reads t.serves.follows.lines.reads;
-    randoms = told_line randoms (λ x y. refl) (λ x y. refl) h.driven.randoms t.serves.follows.lines.randoms;
-    stores = told_line storages (λ x y. refl) (λ x y. refl) h.driven.stores t.serves.follows.lines.stores;
+    queues = told_line;
     within = All-set (IsWithin b.moment.settings.storage) b.home.owns slot (own_of home slot)
         (t.serves.follows.within b.moment.settings.storage (h.driven.within slot nobody t.there)) h.driven.within;
     leds = t.serves.leds ∙ h.driven.leds;

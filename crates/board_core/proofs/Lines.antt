@@ -10,7 +10,6 @@ use Rattle.tk_base.specs.declared.process.ProcessId.{ProcessId}
 use Rattle.process_model.specs.Own.{Own}
 use Rattle.driver_model.specs.Commands.{BoardRequest, Waits, Leaves, Lights, QueueName, is_same}
 use Rattle.driver_model.specs.Lines.{has_waiting, waits_after, waits_by}
-use Rattle.driver_model.specs.Requests.{RequestKind}
 use Rattle.driver_requests.specs.Waiting.{after_act, queue_after, waits, without}
 use Rattle.grant_enter.specs.Homes.{nobody}
 use Rattle.board_core.specs.Driven.{IsQueueOf, IsThere}
@@ -180,16 +179,16 @@ still_there owns slot own o (id ∷ ids) was life all = (
         )
 
 -- Those that wait are those with a request, after a change of one slot's process and what it asks.
-pub line_after : {R : Type 0} (request_kind : RequestKind R) (ids : List ProcessId) (owns : List Own) (slot : ℕ)
+pub line_after : (queue : QueueName) (ids : List ProcessId) (owns : List Own) (slot : ℕ)
     (own o : Own) (acts : List BoardRequest)
-    → IsQueueOf request_kind ids owns → slice_get owns slot ≡ Some own
-    → has_waiting request_kind o ≡ waits_after request_kind.line (has_waiting request_kind own) acts
-    → (has_waiting request_kind o ≡ true → o.life ≡ own.life)
-    → IsQueueOf request_kind (queue_after request_kind.line (record { slot = slot; life = own.life }) ids acts)
+    → IsQueueOf queue ids owns → slice_get owns slot ≡ Some own
+    → has_waiting queue o ≡ waits_after queue (has_waiting queue own) acts
+    → (has_waiting queue o ≡ true → o.life ≡ own.life)
+    → IsQueueOf queue (queue_after queue (record { slot = slot; life = own.life }) ids acts)
     (slice_set owns slot o)
-line_after request_kind ids owns slot own o acts line was follows life = record {
+line_after queue ids owns slot own o acts line was follows life = record {
   there = still_there owns slot own o ids' was (λ waiting. life (sym own_waits ∙ waiting))
-      (all_after (IsThere owns) request_kind.line id ids acts is_there line.there);
+      (all_after (IsThere owns) queue id ids acts is_there line.there);
   each = λ s h. by_slot (s == slot) refl h;
 }
   where
@@ -197,7 +196,7 @@ line_after request_kind ids owns slot own o acts line was follows life = record 
     id = record { slot = slot; life = own.life }
 
     ids' : List ProcessId
-    ids' = queue_after request_kind.line id ids acts
+    ids' = queue_after queue id ids acts
 
     within : slot < length owns
     within = slice_get_within owns slot own was
@@ -208,19 +207,19 @@ line_after request_kind ids owns slot own o acts line was follows life = record 
     is_there : IsThere owns id
     is_there = (within, ap (λ (x : Own). x.life) here)
 
-    own_waits : waits slot ids' ≡ has_waiting request_kind o
-    own_waits = own_after request_kind.line id ids acts
-        ∙ ap (λ (b : Bool). waits_after request_kind.line b acts)
-        (line.each slot within ∙ ap (has_waiting request_kind) here) ∙ sym follows
+    own_waits : waits slot ids' ≡ has_waiting queue o
+    own_waits = own_after queue id ids acts
+        ∙ ap (λ (b : Bool). waits_after queue b acts)
+        (line.each slot within ∙ ap (has_waiting queue) here) ∙ sym follows
 
     by_slot : {s : ℕ} (b : Bool) → (s == slot) ≡ b → s < length (slice_set owns slot o)
-        → waits s ids' ≡ has_waiting request_kind (slice_index_or (slice_set owns slot o) s nobody)
+        → waits s ids' ≡ has_waiting queue (slice_index_or (slice_set owns slot o) s nobody)
     by_slot {s = s} true e h =
         let same : s ≡ slot = eqb-true s slot e in
-        subst (λ (k : ℕ). waits k ids' ≡ has_waiting request_kind (slice_index_or (slice_set owns slot o) k nobody))
+        subst (λ (k : ℕ). waits k ids' ≡ has_waiting queue (slice_index_or (slice_set owns slot o) k nobody))
         (sym same)
-        (own_waits ∙ ap (has_waiting request_kind) (sym (get_or-set_same owns slot o nobody within)))
+        (own_waits ∙ ap (has_waiting queue) (sym (get_or-set_same owns slot o nobody within)))
     by_slot {s = s} false e h =
         let apart : s ≢ slot = λ is. false≢true (sym e ∙ ap (λ (k : ℕ). k == slot) is ∙ same_number slot) in
-        other_after request_kind.line id s ids acts apart ∙ line.each s (omega (arith, h, length-set owns slot o))
-        ∙ ap (has_waiting request_kind) (sym (get_or-set_other owns slot s o nobody apart))
+        other_after queue id s ids acts apart ∙ line.each s (omega (arith, h, length-set owns slot o))
+        ∙ ap (has_waiting queue) (sym (get_or-set_other owns slot s o nobody apart))

@@ -19,9 +19,10 @@ use Rattle.board_core.specs.Shows.{IsBoard, residents, world_of}
 use Rattle.tk_base.specs.declared.process.ProcessId.{ProcessId}
 use Rattle.driver_requests.specs.Waiting.{waits}
 use Rattle.process_model.specs.Own.{Own}
-use Rattle.driver_model.specs.Lines.{has_waiting}
-use Rattle.driver_model.specs.Requests.{RequestKind, request_in}
-use Rattle.board_core.specs.Driven.{IsQueueOf, IsThere}
+use Rattle.driver_model.specs.Lines.{has_waiting, kind_in}
+use Rattle.driver_model.specs.Requests.{request_in}
+use Rattle.driver_model.specs.Commands.{QueueName}
+use Rattle.board_core.specs.Driven.{IsQueueOf, IsThere, ids_waiting_in}
 use Rattle.board_core.specs.Looks.{LivesThere}
 use Rattle.board_core.proofs.Boards.{has_storage, owns_shown}
 use Rattle.board_core.proofs.Pairs.{length-firsts, zip-get}
@@ -110,11 +111,10 @@ module _ (b : Inside) (board : IsBoard b) where
       ∙ slice_get-map (λ (r : Record). r.own) (world_of b).records slot
 
   -- one that waits lives
-  waits_lives : {R : Type 0} (request_kind : RequestKind R) (own : Own) → has_waiting request_kind own ≡ true
-      → own.lives ≡ true
-  waits_lives request_kind own = by_life own.lives
+  waits_lives : (queue : QueueName) (own : Own) → has_waiting queue own ≡ true → own.lives ≡ true
+  waits_lives queue own = by_life own.lives
     where
-      by_life : (b : Bool) → is_some (cond b (request_in request_kind own) None) ≡ true → b ≡ true
+      by_life : (b : Bool) → is_some (cond b (request_in (kind_in queue) own) None) ≡ true → b ≡ true
       by_life true e = refl
       by_life false e = absurd (false≢true e)
 
@@ -140,10 +140,15 @@ module _ (b : Inside) (board : IsBoard b) where
           }
 
   -- so do all that wait in a line
-  pub line_lives : {R : Type 0} (request_kind : RequestKind R) (ids : List ProcessId)
-      → IsQueueOf request_kind ids b.home.owns → All (LivesThere (world_of b)) ids
-  line_lives request_kind ids line = each ids line.there (λ id waits_there. waits_there)
+  pub queue_lives : (queue : QueueName) → All (LivesThere (world_of b)) (ids_waiting_in b.drivers queue)
+  queue_lives queue = each ids line.there (λ id waits_there. waits_there)
     where
+      ids : List ProcessId
+      ids = ids_waiting_in b.drivers queue
+
+      line : IsQueueOf queue ids b.home.owns
+      line = board.driven.queues queue
+
       each : (rest : List ProcessId) → AllByRecursion (IsThere b.home.owns) rest
           → ((id : ProcessId) → waits id.slot rest ≡ true → waits id.slot ids ≡ true)
           → All (LivesThere (world_of b)) rest
@@ -155,7 +160,7 @@ module _ (b : Inside) (board : IsBoard b) where
           within id (ap (λ (t : Bool). t || waits id.slot rest) (eq-eqb id.slot id.slot refl)) in
           All-cons (LivesThere (world_of b)) id rest
           (lives_so id (slice_index_or b.home.owns id.slot nobody) at
-          (waits_lives request_kind (slice_index_or b.home.owns id.slot nobody)
+          (waits_lives queue (slice_index_or b.home.owns id.slot nobody)
           (sym (line.each id.slot there.0.0) ∙ waits_so)) there.0.1)
           (each rest there.1 (λ x later.
           within x (ap (λ (t : Bool). (id.slot == x.slot) || t) later ∙ or_true (id.slot == x.slot))))

@@ -15,14 +15,14 @@ use Rattle.driver_model.specs.Replies.{reply_of}
 use Rattle.driver_model.specs.Asked.{OneOf}
 use Rattle.driver_model.specs.Steps.{own_after, silently}
 use Rattle.driver_model.specs.Commands.{BoardRequest, Commanded, Waits, Leaves, Lights, Switch, On, Off, Toggle}
-use Rattle.driver_model.specs.Commands.{by_number, refusing, row_or_refused, Writes, Reads, Randoms, Stores}
+use Rattle.driver_model.specs.Commands.{by_number, refusing, row_or_refused, QueueName, Writes, Reads, Randoms, Stores}
 use Rattle.driver_model.specs.Drivers.{CommandHandler, handler_by}
 use Rattle.driver_model.specs.Leds as leds
 use Rattle.driver_model.specs.Leds.{led_bits, lit_after}
 use Rattle.driver_requests.specs.Waiting.{queue_after}
 use Rattle.board_core.specs.declared.drivers.Drivers.{Drivers}
 use Rattle.board_core.specs.declared.drivers.Order.{Order}
-use Rattle.board_core.specs.Driven.{Commands, Drives}
+use Rattle.board_core.specs.Driven.{Commands, Drives, ids_waiting_in}
 
 -- a command of which every row leaves what is the process's own as it was does so, too
 rows_keep : (own : Own) (rows : List (ℕ × Commanded)) (number : ℕ) → AllByRecursion
@@ -71,10 +71,7 @@ commands_by driver tick id order d d' own own' answer is does taker found =
 pub drives_nothing : (id : ProcessId) (d : Drivers) → Drives id [] d d
 drives_nothing id d =
     record {
-      writes = refl;
-      reads = refl;
-      randoms = refl;
-      stores = refl;
+      queues = λ queue. refl;
       leds = refl;
       lit = refl;
       line =
@@ -101,15 +98,10 @@ record OthersStay (d d' : Drivers) : Type 0 where
 
 lists_drive : (id : ProcessId) (acts : List BoardRequest) (d d' : Drivers) → OthersStay d d'
     → lit_after acts (led_bits d.leds) ≡ led_bits d.leds
-    → d'.console.writes ≡ queue_after Writes id d.console.writes acts
-    → d'.console.reads ≡ queue_after Reads id d.console.reads acts
-    → d'.random.waiting ≡ queue_after Randoms id d.random.waiting acts
-    → d'.storage.waiting ≡ queue_after Stores id d.storage.waiting acts → Drives id acts d d'
-lists_drive id acts d d' stay unlit writes reads randoms stores = record {
-  writes = writes;
-  reads = reads;
-  randoms = randoms;
-  stores = stores;
+    → ((queue : QueueName) → ids_waiting_in d' queue ≡ queue_after queue id (ids_waiting_in d queue) acts)
+    → Drives id acts d d'
+lists_drive id acts d d' stay unlit queues = record {
+  queues = queues;
   leds = ap led_bits stay.leds ∙ sym unlit;
   lit = ap length stay.leds;
   line = stay.line;
@@ -133,12 +125,12 @@ module _ (id : ProcessId) (d : Drivers) where
       → reads ≡ queue_after Reads id d.console.reads acts
       → Drives id acts d (record d { console = record { writes = writes; reads = reads } })) acts
       ([] ∷ (Waits Writes ∷ []) ∷ (Waits Reads ∷ []) ∷ (Leaves Reads ∷ []) ∷ []) of (
-        λ w r. lists_drive id [] d _ stay refl w r refl refl,
+        λ w r. lists_drive id [] d _ stay refl (elim [ Writes ↦ w | Reads ↦ r | Randoms ↦ refl | Stores ↦ refl ]),
         (
-          λ w r. lists_drive id (Waits Writes ∷ []) d _ stay refl w r refl refl,
+          λ w r. lists_drive id (Waits Writes ∷ []) d _ stay refl (elim [ Writes ↦ w | Reads ↦ r | Randoms ↦ refl | Stores ↦ refl ]),
           (
-            λ w r. lists_drive id (Waits Reads ∷ []) d _ stay refl w r refl refl,
-            (λ w r. lists_drive id (Leaves Reads ∷ []) d _ stay refl w r refl refl, tt),
+            λ w r. lists_drive id (Waits Reads ∷ []) d _ stay refl (elim [ Writes ↦ w | Reads ↦ r | Randoms ↦ refl | Stores ↦ refl ]),
+            (λ w r. lists_drive id (Leaves Reads ∷ []) d _ stay refl (elim [ Writes ↦ w | Reads ↦ r | Randoms ↦ refl | Stores ↦ refl ]), tt),
           ),
         ),
       )
@@ -154,8 +146,8 @@ module _ (id : ProcessId) (d : Drivers) where
       by_list (λ acts. randoms ≡ queue_after Randoms id d.random.waiting acts
       → Drives id acts d (record d { random = record { waiting = randoms } })) acts ([] ∷ (Waits Randoms ∷ []) ∷ [])
       of (
-        λ r. lists_drive id [] d _ stay refl refl refl r refl,
-        (λ r. lists_drive id (Waits Randoms ∷ []) d _ stay refl refl refl r refl, tt),
+        λ r. lists_drive id [] d _ stay refl (elim [ Writes ↦ refl | Reads ↦ refl | Randoms ↦ r | Stores ↦ refl ]),
+        (λ r. lists_drive id (Waits Randoms ∷ []) d _ stay refl (elim [ Writes ↦ refl | Reads ↦ refl | Randoms ↦ r | Stores ↦ refl ]), tt),
       )
     where
       stay : OthersStay d (record d { random = record { waiting = randoms } })
@@ -169,8 +161,8 @@ module _ (id : ProcessId) (d : Drivers) where
       by_list (λ acts. stores ≡ queue_after Stores id d.storage.waiting acts
       → Drives id acts d (record d { storage = record { waiting = stores } })) acts ([] ∷ (Waits Stores ∷ []) ∷ [])
       of (
-        λ r. lists_drive id [] d _ stay refl refl refl refl r,
-        (λ r. lists_drive id (Waits Stores ∷ []) d _ stay refl refl refl refl r, tt),
+        λ r. lists_drive id [] d _ stay refl (elim [ Writes ↦ refl | Reads ↦ refl | Randoms ↦ refl | Stores ↦ r ]),
+        (λ r. lists_drive id (Waits Stores ∷ []) d _ stay refl (elim [ Writes ↦ refl | Reads ↦ refl | Randoms ↦ refl | Stores ↦ r ]), tt),
       )
     where
       stay : OthersStay d (record d { storage = record { waiting = stores } })
@@ -185,32 +177,26 @@ module _ (id : ProcessId) (d : Drivers) where
       by_list (λ acts. led_bits lit ≡ lit_after acts (led_bits d.leds) → length lit ≡ length d.leds
       → Drives id acts d (record d { leds = lit })) acts
       ([] ∷ (Lights led On ∷ []) ∷ (Lights led Off ∷ []) ∷ (Lights led Toggle ∷ []) ∷ []) of (
-        λ b n. switched [] refl refl refl refl b n,
+        λ b n. switched [] (λ queue. refl) b n,
         (
-          λ b n. switched (Lights led On ∷ []) refl refl refl refl b n,
+          λ b n. switched (Lights led On ∷ []) (λ queue. refl) b n,
           (
-            λ b n. switched (Lights led Off ∷ []) refl refl refl refl b n,
-            (λ b n. switched (Lights led Toggle ∷ []) refl refl refl refl b n, tt),
+            λ b n. switched (Lights led Off ∷ []) (λ queue. refl) b n,
+            (λ b n. switched (Lights led Toggle ∷ []) (λ queue. refl) b n, tt),
           ),
         ),
       )
     where
-      switched : (acts : List BoardRequest) → d.console.writes ≡ queue_after Writes id d.console.writes acts
-          → d.console.reads ≡ queue_after Reads id d.console.reads acts
-          → d.random.waiting ≡ queue_after Randoms id d.random.waiting acts
-          → d.storage.waiting ≡ queue_after Stores id d.storage.waiting acts
+      switched : (acts : List BoardRequest)
+          → ((queue : QueueName) → ids_waiting_in d queue ≡ queue_after queue id (ids_waiting_in d queue) acts)
           → led_bits lit ≡ lit_after acts (led_bits d.leds) → length lit ≡ length d.leds
           → Drives id acts d (record d { leds = lit })
-      switched acts writes reads randoms stores b n =
+      switched acts queues b n =
           record {
-            writes = writes;
-            reads = reads;
-            randoms = randoms;
-            stores = stores;
+            queues = queues;
             leds = b;
             lit = n;
-            line =
-                refl;
+            line = refl;
             arrivals = refl;
             words = refl;
             bytes = refl;

@@ -7,12 +7,12 @@ use Rattle.driver_model.specs.Commands.{is_same}
 use Rattle.driver_model.specs.Leds.{led_bits, lit_after, lit_by}
 use Rattle.driver_requests.specs.Waiting.{after_act, queue_after, without}
 use Rattle.kernel_model.specs.World as world
-use Rattle.kernel_model.specs.World.{Devices, acted, routed}
+use Rattle.kernel_model.specs.World.{Devices, acted, routed, slots_in}
 use Rattle.board_devices.specs.SerialLine.{SerialLine}
 use Rattle.board_devices.specs.Storage.{StoredSlots}
 use Rattle.script_text.specs.Settings.{ScriptEvent as Arrival}
 use Rattle.board_core.specs.declared.drivers.Drivers.{Drivers}
-use Rattle.board_core.specs.Driven.{Drives, devices_of, slots_of}
+use Rattle.board_core.specs.Driven.{Drives, devices_of, ids_waiting_in, slots_of, waiting_by}
 
 -- the slots of a list after an act
 abbrev slots_by_act : QueueName → ℕ → List ℕ → BoardRequest → List ℕ
@@ -59,16 +59,35 @@ slots_acts here id ids (act ∷ acts) =
     slots_acts here id (after_act here id ids act) acts
     ∙ ap (λ (xs : List ℕ). slots_after here id.slot xs acts) (slots_act here id ids act)
 
--- devices with other lists and LEDs
-abbrev with_lists : Devices → List ℕ → List ℕ → List ℕ → List ℕ → ℕ → Devices
-with_lists d writes reads randoms stores leds =
-    record d { writes = writes; reads = reads; randoms = randoms; stores = stores; leds = leds }
+-- what is put into the table by a queue's name is found there
+pub slots_by : (slots : QueueName → List ℕ) (queue : QueueName) → slots_in queue (waiting_by slots) ≡ slots queue
+slots_by slots Writes = refl
+slots_by slots Reads = refl
+slots_by slots Randoms = refl
+slots_by slots Stores = refl
+
+-- devices that hold the same
+pub devices_same : (d e : Devices) → ((queue : QueueName) → slots_in queue d.waiting ≡ slots_in queue e.waiting)
+    → d.leds ≡ e.leds → d.line ≡ e.line → d.arrivals ≡ e.arrivals → d.words ≡ e.words → d.served ≡ e.served
+    → d.faults ≡ e.faults → d ≡ e
+devices_same d e waiting leds line arrivals words served faults = λ i. record {
+  waiting = waiting_by (λ queue. waiting queue i);
+  leds = leds i;
+  line = line i;
+  arrivals = arrivals i;
+  words = words i;
+  served = served i;
+  faults = faults i;
+}
 
 -- one act
-acted_is : (slot : ℕ) (act : BoardRequest) (d : Devices)
-    → acted slot act d
-    ≡ with_lists d (slots_by_act Writes slot d.writes act) (slots_by_act Reads slot d.reads act)
-    (slots_by_act Randoms slot d.randoms act) (slots_by_act Stores slot d.stores act) (lit_by act d.leds)
+abbrev by_act : ℕ → BoardRequest → Devices → Devices
+by_act slot act d = record d {
+  waiting = waiting_by (λ queue. slots_by_act queue slot (slots_in queue d.waiting) act);
+  leds = lit_by act d.leds;
+}
+
+acted_is : (slot : ℕ) (act : BoardRequest) (d : Devices) → acted slot act d ≡ by_act slot act d
 acted_is slot (Waits Writes) d = refl
 acted_is slot (Waits Reads) d = refl
 acted_is slot (Waits Randoms) d = refl
@@ -81,44 +100,24 @@ acted_is slot (Lights led switch) d = refl
 
 -- and one after another
 routed_is : (slot : ℕ) (acts : List BoardRequest) (d : Devices)
-    → routed slot acts d
-    ≡ with_lists d (slots_after Writes slot d.writes acts) (slots_after Reads slot d.reads acts)
-    (slots_after Randoms slot d.randoms acts) (slots_after Stores slot d.stores acts) (lit_after acts d.leds)
+    → routed slot acts d ≡ record d {
+      waiting = waiting_by (λ queue. slots_after queue slot (slots_in queue d.waiting) acts);
+      leds = lit_after acts d.leds;
+    }
 unfolding slots_after
 routed_is slot [] d = refl
 routed_is slot (act ∷ acts) d =
-    ap (routed slot acts) (acted_is slot act d)
-    ∙ routed_is slot acts (with_lists d (slots_by_act Writes slot d.writes act) (slots_by_act Reads slot d.reads act)
-    (slots_by_act Randoms slot d.randoms act) (slots_by_act Stores slot d.stores act) (lit_by act d.leds))
+    ap (routed slot acts) (acted_is slot act d) ∙ routed_is slot acts (by_act slot act d)
 
 -- what the drivers show
 pub drives_shown : (id : ProcessId) (acts : List BoardRequest) (d d' : Drivers) → Drives id acts d d'
     → devices_of d' ≡ routed id.slot acts (devices_of d)
 drives_shown id acts d d' t =
-    ap₂ (λ (xs ys : List ℕ). record (devices_of d') { writes = xs; reads = ys })
-    (ap slots_of t.writes ∙ slots_acts Writes id d.console.writes acts)
-    (ap slots_of t.reads ∙ slots_acts Reads id d.console.reads acts)
-    ∙ ap₂ (λ (xs ys : List ℕ). with_lists (devices_of d') (slots_after Writes id.slot (slots_of d.console.writes) acts)
-    (slots_after Reads id.slot (slots_of d.console.reads) acts) xs ys (led_bits d'.leds))
-    (ap slots_of t.randoms ∙ slots_acts Randoms id d.random.waiting acts)
-    (ap slots_of t.stores ∙ slots_acts Stores id d.storage.waiting acts)
-    ∙ ap (λ (n : ℕ). with_lists (devices_of d') (slots_after Writes id.slot (slots_of d.console.writes) acts)
-    (slots_after Reads id.slot (slots_of d.console.reads) acts)
-    (slots_after Randoms id.slot (slots_of d.random.waiting) acts)
-    (slots_after Stores id.slot (slots_of d.storage.waiting) acts) n) t.leds
-    ∙ others
+    devices_same (devices_of d') (record (devices_of d) { waiting = waiting_by after; leds = lit_after acts (led_bits d.leds) })
+    (λ queue. slots_by (λ (q : QueueName). slots_of (ids_waiting_in d' q)) queue ∙ ap slots_of (t.queues queue)
+    ∙ slots_acts queue id (ids_waiting_in d queue) acts ∙ sym (slots_by after queue)) t.leds t.line t.arrivals t.words
+    (ap (λ (s : StoredSlots). s.served) t.bytes) (ap (λ (s : StoredSlots). s.faults) t.bytes)
     ∙ sym (routed_is id.slot acts (devices_of d))
   where
-    lists : Devices → Devices
-    lists x = with_lists x (slots_after Writes id.slot (slots_of d.console.writes) acts)
-        (slots_after Reads id.slot (slots_of d.console.reads) acts)
-        (slots_after Randoms id.slot (slots_of d.random.waiting) acts)
-        (slots_after Stores id.slot (slots_of d.storage.waiting) acts) (lit_after acts (led_bits d.leds))
-
-    others : lists (devices_of d') ≡ lists (devices_of d)
-    others =
-        ap (λ (x : SerialLine). lists (record (devices_of d') { line = x })) t.line
-        ∙ ap (λ (x : List Arrival). lists (record (devices_of d') { line = d.uart; arrivals = x })) t.arrivals
-        ∙ ap (λ (x : List ℕ). lists (record (devices_of d') { line = d.uart; arrivals = d.arrivals; words = x }))
-        t.words
-        ∙ ap (λ (x : StoredSlots). lists (record (devices_of d) { served = x.served; faults = x.faults })) t.bytes
+    after : QueueName → List ℕ
+    after queue = slots_after queue id.slot (slots_of (ids_waiting_in d queue)) acts

@@ -1,7 +1,7 @@
 -- What each device tells the process that it serves, as a step of the board.
 use Rattle.std.proofs.Common.{◌≡◌, ℕ, zero, suc, ◌+◌, ◌*◌, ◌^◌, ◌==◌, ◌<◌, ◌≤◌, Bool, true, false, not, ◌&&◌, nat_le}
 use Rattle.std.proofs.Common.{if◌then◌else◌, List, [], ◌∷◌, drop, take, length, slice_get, slice_set, Option, None}
-use Rattle.std.proofs.Common.{Some, Result, Ok, Err, is_ok, is_some, OnErr, unwrap_or, refl, sym, ap, ap₂}
+use Rattle.std.proofs.Common.{Some, Result, Ok, Err, is_ok, is_some, All, IfSome, OnErr, unwrap_or, refl, sym, ap, ap₂}
 use Rattle.std.proofs.Common.{subst, ◌∙◌, arith, eq-eqb}
 use Rattle.std.specs.List.{AllByRecursion}
 use Rattle.std.specs.Option.{option_map}
@@ -10,7 +10,7 @@ use Rattle.std.proofs.lemmas.Bool.Decides.{nat_tests}
 use Rattle.std.proofs.lemmas.List.{set-get_or}
 use Rattle.std.proofs.lemmas.Nat.{mul-le}
 use Rattle.std.proofs.lemmas.Option.{slice_get-get_or}
-use Rattle.tk_base.specs.declared.limits.TheConstants.{BYTE_TICKS_LIMIT, PRINT_LIMIT, SENDING_LIMIT}
+use Rattle.tk_base.specs.declared.limits.TheConstants.{BYTE_TICKS_LIMIT, PRINT_LIMIT, SENDING_LIMIT, STEP_LIMIT}
 use Rattle.arrayvec.specs.ArrayVec.{ArrayVec}
 use Rattle.tk_base.specs.declared.process.Dev.{Dev}
 use Rattle.tk_base.specs.declared.process.Dev.TheVariants.{Alarm, Uart, Receive, Random, Store}
@@ -29,7 +29,7 @@ use Rattle.grant_values.specs.declared.console.WaitingWrite.{WaitingWrite}
 use Rattle.process_model.specs.Own.{Own}
 use Rattle.process_record.specs.declared.process.Process.{Process}
 use Rattle.driver_model.specs.Answers.{EventsTellSteps, LinesFollowAnswers, queue_left_by}
-use Rattle.driver_model.specs.Commands.{QueueName, Writes, Reads, Randoms, Stores}
+use Rattle.driver_model.specs.Commands.{QueueName, Writes, Reads, Randoms, Stores, is_same}
 use Rattle.driver_model.specs.Console.{Received, Sent, console, console_writes, free_after, input, next_bytes, portion}
 use Rattle.driver_model.specs.Console.{received, sending, sent, taken, taking, unreceived, unsent, write_completing}
 use Rattle.driver_model.specs.Console.{write_done}
@@ -46,7 +46,7 @@ use Rattle.storage_capsule.specs.Answers.{answer_to as storage_to}
 use Rattle.storage_capsule.specs.Serving.{after_count, store_fails_next, storage_after}
 use Rattle.grant_values.specs.declared.storage.StorageRequest.{StorageRequest}
 use Rattle.driver_requests.specs.Answers.{Answered, AnswersFirst, kinds}
-use Rattle.driver_requests.specs.Asking.{in_life}
+use Rattle.driver_requests.specs.Asking.{MayBeTold, in_life}
 use Rattle.driver_requests.specs.Waiting.{waiting_still}
 use Rattle.console_capsule.specs.Answers.{cannot_give, cannot_send, received_by, sending_at, written_by}
 use Rattle.console_capsule.specs.declared.capsule.ConsoleCapsule.{ConsoleCapsule}
@@ -57,17 +57,17 @@ use Rattle.kernel_model.specs.declared.settings.Settings.{Settings}
 use Rattle.kernel_model.specs.Record.{Record, record_with_step}
 use Rattle.kernel_model.specs.Turn.{Event, Alarmed, Taken, WriteDone, Input, Stored, apply, flash_of}
 use Rattle.kernel_model.specs.Turn.{written_over}
-use Rattle.kernel_model.specs.World.{DeviceStep, Devices, World, alarmed, can_act, as_events, random_step}
-use Rattle.kernel_model.specs.World.{first_waiting, is_waited_for, queue_after_answer, owns_in, receive_step, storing}
-use Rattle.kernel_model.specs.World.{transmitting}
+use Rattle.kernel_model.specs.World.{DeviceAnswer, Devices, World, alarmed, answering, can_act, as_events, random_step}
+use Rattle.kernel_model.specs.World.{is_waited_for, queue_after_answer, owns_in, receive_step, serving, storing}
+use Rattle.kernel_model.specs.World.{WaitingSlots, transmitting}
 use Rattle.board_core.specs.declared.board.Board.TheInside.{Inside}
 use Rattle.board_core.specs.declared.drivers.Drivers.{Drivers}
-use Rattle.board_core.specs.Driven.{IsThere, devices_of, ids_waiting_in, slots_of}
-use Rattle.board_core.specs.Residents.{IsResident, record_of}
+use Rattle.board_core.specs.Driven.{AreDriven, IsThere, devices_of, ids_waiting_in, slots_of, waiting_by}
+use Rattle.board_core.specs.Residents.{HasLost, IsResident, record_of}
 use Rattle.board_core.specs.Shows.{IsBoard, world_of}
 use Rattle.board_core.proofs.Changes.{beside, bytes_of, record_found}
 use Rattle.board_core.specs.Tells.{Acted, HoldsFor, IsFreeSoon, DeviceServes, DeviceTold}
-use Rattle.board_core.proofs.Devices.{found_at, seated_there}
+use Rattle.board_core.proofs.Devices.{found_at, lost_there, seated_there}
 use Rattle.board_core.proofs.OwnFlash.{answered_of_own, sent_of_own}
 use Rattle.board_core.proofs.Ready.{owns_in_world}
 use Rattle.board_core.proofs.Routing.{slots_without}
@@ -87,21 +87,42 @@ slots_left : (completed : Bool) (slot : ℕ) (ids : List ProcessId)
 slots_left true slot ids = slots_without slot ids
 slots_left false slot ids = refl
 
--- the deed of a device for the first of those that wait, by those that wait afterwards
-first_deed : (deed : World → ℕ → Record → DeviceStep) (w : World) (ids : List ProcessId) (id : ProcessId) (r : Record)
-    (completed : Bool) (shown : List ℕ → DeviceStep)
-    → slice_get ids 0 ≡ Some id → slice_get w.records id.slot ≡ Some r
-    → deed w id.slot r ≡ shown (queue_after_answer completed id.slot (slots_of ids))
-    → first_waiting deed w (slots_of ids) ≡ Some (shown (slots_of (waiting_still completed id.slot ids)))
-first_deed deed w [] id r completed shown e f does = cc
-first_deed deed w (x ∷ ids) id r completed shown e f does =
-    let same : x ≡ id = the_one x id e in
-    ap (λ (y : ProcessId). option_map (deed w y.slot) (slice_get w.records y.slot)) same
-    ∙ ap (option_map (deed w id.slot)) f
-    ∙ ap Some (does ∙ ap shown (sym (slots_left completed id.slot (x ∷ ids))))
+-- and those that wait in each queue
+each_left : (same completed : Bool) (slot : ℕ) (ids : List ProcessId)
+    → slots_of (waiting_still (same && completed) slot ids)
+    ≡ (if same then queue_after_answer completed slot (slots_of ids) else slots_of ids)
+each_left true completed slot ids = slots_left completed slot ids
+each_left false completed slot ids = refl
+
+-- the deed of a device for the first of those that wait in a queue, by those that wait afterwards
+first_deed : (deed : ℕ → Record → DeviceAnswer) (w : World) (here : QueueName)
+    (before after : QueueName → List ProcessId) (id : ProcessId) (r : Record) (completed : Bool)
+    (shown : WaitingSlots → DeviceAnswer)
+    → slice_get (before here) 0 ≡ Some id → slice_get w.records id.slot ≡ Some r
+    → ((queue : QueueName)
+    → after queue ≡ waiting_still (queue_left_by here completed queue) id.slot (before queue))
+    → deed id.slot r ≡ shown (waiting_by (λ queue. if is_same here queue
+    then queue_after_answer completed id.slot (slots_of (before queue)) else slots_of (before queue)))
+    → serving w deed (slice_get (slots_of (before here)) 0)
+    ≡ Some (answering id.slot (shown (waiting_by (λ queue. slots_of (after queue)))))
+first_deed deed w here before after id r completed shown e f left does =
+    by_first (before here) e ∙ ap (option_map (λ (x : Record). answering id.slot (deed id.slot x))) f
+    ∙ ap (λ (a : DeviceAnswer). Some (answering id.slot a)) (does ∙ sym (ap shown lists))
   where
+    lists : ◌≡◌ {A = WaitingSlots} (waiting_by (λ queue. slots_of (after queue))) (waiting_by (λ queue. if is_same here queue
+        then queue_after_answer completed id.slot (slots_of (before queue)) else slots_of (before queue)))
+    lists = λ i. waiting_by (λ queue.
+        (ap slots_of (left queue) ∙ each_left (is_same here queue) completed id.slot (before queue)) i)
+
     the_one : (x y : ProcessId) → Some x ≡ Some y → x ≡ y
     the_one x y e = cc
+
+    by_first : (ids : List ProcessId) → slice_get ids 0 ≡ Some id
+        → serving w deed (slice_get (slots_of ids) 0)
+        ≡ option_map (λ (x : Record). answering id.slot (deed id.slot x)) (slice_get w.records id.slot)
+    by_first [] e = cc
+    by_first (x ∷ ids) e =
+        ap (λ (y : ProcessId). serving w deed (Some y.slot)) (the_one x id e)
 
 -- a count that is far from its last value
 counted_next : (n : ℕ) → n < 2 ^ 32 → counted n ≡ n + 1
@@ -194,10 +215,22 @@ Lent home = (slot : ℕ) → slot < length home.owns → HoldsInPlace (own_of ho
 -- whoever waits is there
 waiters_there : (b : Inside) → IsBoard b → (here : QueueName)
     → AllByRecursion (IsThere b.home.owns) (ids_waiting_in b.drivers here)
-waiters_there b h Writes = h.driven.writes.there
-waiters_there b h Reads = h.driven.reads.there
-waiters_there b h Randoms = h.driven.randoms.there
-waiters_there b h Stores = h.driven.stores.there
+waiters_there b h here = (h.driven.queues here).there
+
+-- and may be told something
+pub first_may_be_told : (queue : QueueName) (settings : Settings) (time steps : ℕ) (home : Homes) (d : Drivers)
+    → AreDriven settings time home.owns d → All (HasLost steps) home.owns → steps < STEP_LIMIT
+    → IfSome (slice_get (ids_waiting_in d queue) 0) (MayBeTold home)
+first_may_be_told queue settings time steps home d driven lost below =
+    by_first (ids_waiting_in d queue) (driven.queues queue).there
+  where
+    by_first : (ids : List ProcessId) → AllByRecursion (IsThere home.owns) ids
+        → IfSome (slice_get ids 0) (MayBeTold home)
+    by_first [] all = tt
+    by_first (id ∷ ids) all = record {
+      slot = all.0.0;
+      dropped = omega (arith, lost_there steps home id.slot lost, below);
+    }
 
 -- A device that answers the first of a line: what its answer to a process comes to; the drivers by who waits in the
 -- line
@@ -249,9 +282,8 @@ in_its_life : {X : Type 0} (life : ℕ) (own : Own) (there gone : X) → own.lif
 in_its_life life own there gone is = ap (λ (b : Bool). if b then there else gone) (eq-eqb own.life life is)
 
 -- what a device does that tells a process something
-abbrev telling : ℕ → Event → List ℕ → Devices → DeviceStep
-telling slot event printed devices =
-    record { told = Some (record { slot = slot; event = event }); printed = printed; devices = devices }
+abbrev telling : Event → List ℕ → Devices → DeviceAnswer
+telling event printed devices = record { answer = record { event = event; printed = printed }; devices = devices }
 
 -- what is then its own, as an event tells
 sent_applied : (settings : Settings) (done : Bool) (r : Record) (step : DriverStep)
@@ -351,14 +383,16 @@ serves_sent b h lines events law lent id is_there first =
       bytes = bytes_of b.drivers.stores.slots id.slot;
       stores = stores_stay b h id is_there;
       event = if s.completed then WriteDone else Taken;
-      deed = first_deed transmitting (world_of b) b.drivers.console.writes id r s.completed
-          (λ (slots : List ℕ). telling id.slot (if s.completed then WriteDone else Taken) s.printed
+      deed = first_deed (transmitting b.moment.time (devices_of b.drivers)) (world_of b) Writes (ids_waiting_in b.drivers) (ids_waiting_in ((sends b).after
+          (waiting_still s.completed id.slot b.drivers.console.writes) (record { items = s.printed }))) id r
+          s.completed (λ (slots : WaitingSlots). telling (if s.completed then WriteDone else Taken) s.printed
           (record (devices_of b.drivers) {
-            writes = slots;
+            waiting = slots;
             line =
                 sending_at b.moment.time s.printed b.drivers.uart;
           }))
-          first (its_record_was b h id is_there) refl;
+          first (its_record_was b h id is_there)
+          (elim [ Writes ↦ refl | Reads ↦ refl | Randoms ↦ refl | Stores ↦ refl ]) refl;
       tells = sent_applied b.moment.settings s.completed r s.step (events.writes (flash_of r) own);
     })
 
@@ -402,14 +436,17 @@ serves_received b h lines events id is_there first =
       bytes = bytes_of b.drivers.stores.slots id.slot;
       stores = stores_stay b h id is_there;
       event = Input s.moved;
-      deed = first_deed receive_step (world_of b) b.drivers.console.reads id r s.completed
-          (λ (slots : List ℕ). telling id.slot (Input s.moved) []
+      deed = first_deed (receive_step (devices_of b.drivers)) (world_of b) Reads (ids_waiting_in b.drivers) (ids_waiting_in ((receives b).after
+          (waiting_still s.completed id.slot b.drivers.console.reads)
+          (record b.drivers.uart { ring = drop (length s.moved) ring }))) id r
+          s.completed (λ (slots : WaitingSlots). telling (Input s.moved) []
           (record (devices_of b.drivers) {
-            reads = slots;
+            waiting = slots;
             line =
                 record b.drivers.uart { ring = drop (length s.moved) ring };
           }))
-          first (its_record_was b h id is_there) refl;
+          first (its_record_was b h id is_there)
+          (elim [ Writes ↦ refl | Reads ↦ refl | Randoms ↦ refl | Stores ↦ refl ]) refl;
       tells = input_applied b.moment.settings s.moved r s.step (events.reads ring own);
     })
 
@@ -454,10 +491,12 @@ serves_drawn b h lines events id is_there first =
       bytes = bytes_of b.drivers.stores.slots id.slot;
       stores = stores_stay b h id is_there;
       event = drawn_told as_events s.drawn;
-      deed = first_deed random_step (world_of b) b.drivers.random.waiting id r s.completed
-          (λ (slots : List ℕ). telling id.slot (drawn_told as_events s.drawn) []
-          (record (devices_of b.drivers) { randoms = slots; words = random.words_after s.drawn words }))
-          first (its_record_was b h id is_there) refl;
+      deed = first_deed (random_step (devices_of b.drivers)) (world_of b) Randoms (ids_waiting_in b.drivers) (ids_waiting_in ((draws b).after
+          (waiting_still s.completed id.slot b.drivers.random.waiting) (random.words_after s.drawn words))) id r
+          s.completed (λ (slots : WaitingSlots). telling (drawn_told as_events s.drawn) []
+          (record (devices_of b.drivers) { waiting = slots; words = random.words_after s.drawn words }))
+          first (its_record_was b h id is_there)
+          (elim [ Writes ↦ refl | Reads ↦ refl | Randoms ↦ refl | Stores ↦ refl ]) refl;
       tells = drawn_applied b.moment.settings s.drawn r s.step (events.randoms word own);
     })
 
@@ -558,18 +597,20 @@ serves_stored b h lines law lent id is_there first =
             slots_after s id.slot a.completed a.written (not_written fails (flash_of r) bytes own);
       };
       event = Stored (not fails);
-      deed = first_deed storing (world_of b) b.drivers.storage.waiting id r a.completed
-          (λ (slots : List ℕ). telling id.slot (Stored (not fails)) []
+      deed = first_deed (storing (devices_of b.drivers)) (world_of b) Stores (ids_waiting_in b.drivers) (ids_waiting_in ((stores b).after
+          (waiting_still a.completed id.slot b.drivers.storage.waiting) s')) id r
+          a.completed (λ (slots : WaitingSlots). telling (Stored (not fails)) []
           (record (devices_of b.drivers) {
-            stores = slots;
+            waiting = slots;
             served =
                 if a.completed then s.served + 1 else s.served;
           }))
-          first (its_record_was b h id is_there) refl
-          ∙ ap Some (ap₂ (λ (n : ℕ) (faults : List ℕ). telling id.slot (Stored (not fails)) []
+          first (its_record_was b h id is_there)
+          (elim [ Writes ↦ refl | Reads ↦ refl | Randoms ↦ refl | Stores ↦ refl ]) refl
+          ∙ ap (λ (a : DeviceAnswer). Some (answering id.slot a)) (ap₂ (λ (n : ℕ) (faults : List ℕ). telling (Stored (not fails)) []
           (record (devices_of b.drivers) {
-            stores =
-                slots_of (waiting_still a.completed id.slot b.drivers.storage.waiting);
+            waiting = waiting_by (λ queue. slots_of (ids_waiting_in ((stores b).after
+                (waiting_still a.completed id.slot b.drivers.storage.waiting) s') queue));
             served = n;
             faults = faults;
           }))
@@ -603,7 +644,9 @@ serves_alarmed b h id is_there lines due =
       bytes = bytes_of b.drivers.stores.slots id.slot;
       stores = stores_stay b h id is_there;
       event = Alarmed now;
-      deed = ap (option_map (alarmed (world_of b))) due;
+      deed = ap (serving (world_of b) (λ slot r. alarmed b.moment.settings b.moment.time (devices_of b.drivers))) due
+          ∙ ap (option_map (λ (r : Record). answering id.slot
+          (alarmed b.moment.settings b.moment.time (devices_of b.drivers)))) (its_record_was b h id is_there);
       tells = alarm_applied b.moment.settings now (its_record b h id is_there);
     }
 

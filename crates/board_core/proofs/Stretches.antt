@@ -25,11 +25,7 @@ use Rattle.tk_base.specs.declared.process.Dev.{Dev}
 use Rattle.turn_scheduler.specs.RoundRobin.{choice, next_slot, ready_device, used_after}
 use Rattle.process_record.specs.declared.process.State.{State}
 use Rattle.process_record.specs.declared.process.State.TheVariants.{Running, Yielded, Faulted, Terminated}
-use Rattle.driver_model.specs.Console.{console_reads, console_writes}
 use Rattle.driver_model.specs.Lines.{IsWithin}
-use Rattle.driver_model.specs.Random.{randoms}
-use Rattle.driver_model.specs.Requests.{RequestKind}
-use Rattle.driver_model.specs.Storage.{storages}
 use Rattle.grant_enter.specs.Homes.{Homes, nobody}
 use Rattle.kernel_model.specs.declared.settings.Settings.{Settings}
 use Rattle.kernel_model.specs.Laws.{NextLiesAhead}
@@ -41,7 +37,7 @@ use Rattle.board_core.specs.Calm.{HasCome, IsCalm, ServesNobody, coming}
 use Rattle.board_core.specs.declared.board.Board.TheInside.{Inside}
 use Rattle.board_core.specs.declared.drivers.Drivers.{Drivers}
 use Rattle.board_core.specs.declared.moment.Moment.{Moment}
-use Rattle.board_core.specs.Driven.{AreDriven, IsQueueOf, devices_of}
+use Rattle.board_core.specs.Driven.{AreDriven, devices_of, ids_waiting_in}
 use Rattle.board_core.specs.Makes.{ready_in}
 use Rattle.board_core.specs.Shows.{IsBoard, residents, world_of}
 use Rattle.board_core.specs.Residents.{HasLost, IsResident, Resident, record_of}
@@ -157,10 +153,8 @@ pub ram_driven : (settings : Settings) (time later slot : ℕ) (owns : List Own)
     → slice_get owns slot ≡ Some own → time ≤ later → AreDriven settings time owns d
     → AreDriven settings later (slice_set owns slot (record own { ram = ram })) d
 ram_driven settings time later slot owns d own ram was passes h = record {
-  writes = line_is console_writes d.console.writes h.writes;
-  reads = line_is console_reads d.console.reads h.reads;
-  randoms = line_is randoms d.random.waiting h.randoms;
-  stores = line_is storages d.storage.waiting h.stores;
+  queues = λ queue. line_after queue (ids_waiting_in d queue) owns slot own (record own { ram = ram }) []
+      (h.queues queue) was refl (λ waiting. refl);
   within = All-set (IsWithin settings.storage) owns slot (record own { ram = ram })
       (subst (IsWithin settings.storage) (get_or_from_slice_get owns slot own nobody was)
       (h.within slot nobody (slice_get_within owns slot own was))) h.within;
@@ -170,11 +164,6 @@ ram_driven settings time later slot owns d own ram was passes h = record {
   ticks = h.ticks;
   free = omega (arith, h.free, passes);
 }
-  where
-    line_is : {R : Type 0} (request_kind : RequestKind R) (ids : List ProcessId) → IsQueueOf request_kind ids owns
-        → IsQueueOf request_kind ids (slice_set owns slot (record own { ram = ram }))
-    line_is request_kind ids line =
-        line_after request_kind ids owns slot own (record own { ram = ram }) [] line was refl (λ waiting. refl)
 
 -- the first three, and the last three, of six that are not ready
 served_by_none : (a b c d e f : Bool) → ready_device (a ∷ b ∷ c ∷ d ∷ e ∷ f ∷ []) ≡ None

@@ -10,12 +10,9 @@ use Rattle.process_layout.specs.LayoutView.{LayoutView}
 use Rattle.tk_base.specs.declared.process.ProcessId.{ProcessId}
 use Rattle.process_model.specs.Own.{Own}
 use Rattle.process_record.specs.declared.process.Process.{Process}
-use Rattle.driver_model.specs.Commands.{BoardRequest}
-use Rattle.driver_model.specs.Console.{console_reads, console_writes}
-use Rattle.driver_model.specs.Lines.{IsWithin, has_waiting, waits_after}
-use Rattle.driver_model.specs.Random.{randoms}
-use Rattle.driver_model.specs.Requests.{RequestKind, request_in}
-use Rattle.driver_model.specs.Storage.{storages}
+use Rattle.driver_model.specs.Commands.{BoardRequest, QueueName}
+use Rattle.driver_model.specs.Lines.{IsWithin, RequestOf, has_waiting, kind_in}
+use Rattle.driver_model.specs.Requests.{request_in}
 use Rattle.driver_requests.specs.Waiting.{queue_after}
 use Rattle.grant_enter.specs.Homes.{Homes, nobody, own_of}
 use Rattle.kernel_calls.specs.Own.{HasStart, IsApplication}
@@ -31,7 +28,7 @@ use Rattle.std.proofs.lemmas.Bool.{false≢true}
 use Rattle.board_core.specs.declared.board.Board.TheInside.{Inside}
 use Rattle.board_core.specs.declared.drivers.Drivers.{Drivers}
 use Rattle.board_core.specs.declared.turn.Shown.{Shown}
-use Rattle.board_core.specs.Driven.{AreDriven, Drives, IsQueueOf, MayServe}
+use Rattle.board_core.specs.Driven.{AreDriven, Drives, IsQueueOf, MayServe, ids_waiting_in}
 use Rattle.board_core.specs.Residents.{IsResident, TurnsAt, id_of, nothing_shown, record_of, resident_turns}
 use Rattle.board_core.specs.Residents.{can_turn_in}
 use Rattle.board_core.specs.Calm.{IsCalm}
@@ -55,12 +52,11 @@ can_start_again address e (Ok h) a = by_main h.main a
     by_main (Some m) b = refl
 
 -- a process without a request waits in no list
-no_request : {R : Type 0} (request_kind : RequestKind R) (own : Own) → request_in request_kind own ≡ None
-    → has_waiting request_kind own ≡ false
-no_request {R = R} request_kind own none =
-    ap (λ (o : Option R). is_some (if own.lives then o else None)) none ∙ by_life own.lives
+no_request : (queue : QueueName) (own : Own) → request_in (kind_in queue) own ≡ None → has_waiting queue own ≡ false
+no_request queue own none =
+    ap (λ (o : Option (RequestOf queue)). is_some (if own.lives then o else None)) none ∙ by_life own.lives
   where
-    by_life : (b : Bool) → is_some (if◌then◌else◌ {A = Option R} b None None) ≡ false
+    by_life : (b : Bool) → is_some (if◌then◌else◌ {A = Option (RequestOf queue)} b None None) ≡ false
     by_life true = refl
     by_life false = refl
 
@@ -68,12 +64,7 @@ no_request {R = R} request_kind own none =
 pub may_serve : (b : Inside) (slot : ℕ) → IsBoard b → slot < length b.home.owns
     → MayServe b.moment b.drivers slot (own_of b.home slot)
 may_serve b slot h there = record {
-  asks = record {
-    writes = λ none. h.driven.writes.each slot there ∙ no_request console_writes (own_of b.home slot) none;
-    reads = λ none. h.driven.reads.each slot there ∙ no_request console_reads (own_of b.home slot) none;
-    randoms = λ none. h.driven.randoms.each slot there ∙ no_request randoms (own_of b.home slot) none;
-    stores = λ none. h.driven.stores.each slot there ∙ no_request storages (own_of b.home slot) none;
-  };
+  asks = λ queue none. (h.driven.queues queue).each slot there ∙ no_request queue (own_of b.home slot) none;
   lost = lost_there b.moment.steps b.home slot h.lost;
   leds = h.driven.leds;
   size = h.driven.size;
@@ -114,30 +105,19 @@ module _ (b : Inside) (slot : ℕ) (home : Homes) (processes : List Process) (sh
         (can_start_again t.at.before.0.object.address t.at.before.1.layout
         (header_reading (record_of b.home.flash (t.at.before, [])).object) seat.own.object.application))
 
-    line_is : {R : Type 0} (request_kind : RequestKind R) (ids ids' : List ProcessId)
-        → IsQueueOf request_kind ids b.home.owns
-        → has_waiting request_kind t.at.after.1
-        ≡ waits_after request_kind.line (has_waiting request_kind t.at.before.1) turn.acts
-        → (has_waiting request_kind t.at.after.1 ≡ true → t.at.after.1.life ≡ t.at.before.1.life)
-        → ids' ≡ queue_after request_kind.line (id_of slot t.at.before.1) ids turn.acts
-        → IsQueueOf request_kind ids' (slice_set b.home.owns slot t.at.after.1)
-    line_is request_kind ids ids' line follows life e =
-        subst (λ (xs : List ProcessId). IsQueueOf request_kind xs (slice_set b.home.owns slot t.at.after.1)) (sym e)
-        (line_after request_kind ids b.home.owns slot t.at.before.1 t.at.after.1 turn.acts line t.at.own_was follows
-        life)
+    line_is : (queue : QueueName)
+        → IsQueueOf queue (ids_waiting_in d queue) (slice_set b.home.owns slot t.at.after.1)
+    line_is queue =
+        subst (λ (xs : List ProcessId). IsQueueOf queue xs (slice_set b.home.owns slot t.at.after.1))
+        (sym (drives.queues queue))
+        (line_after queue (ids_waiting_in b.drivers queue) b.home.owns slot t.at.before.1 t.at.after.1 turn.acts
+        (h.driven.queues queue) t.at.own_was (keeps.lines queue) (keeps.life queue))
 
     -- who waits has a request then, and no other
     turn_driven : AreDriven b.moment.settings (b.moment.time + 1) home.owns d
     turn_driven = subst (λ (x : Homes). AreDriven b.moment.settings (b.moment.time + 1) x.owns d) (sym t.at.own_is)
         (record {
-          writes = line_is console_writes b.drivers.console.writes d.console.writes h.driven.writes keeps.lines.writes
-              keeps.life.writes drives.writes;
-          reads = line_is console_reads b.drivers.console.reads d.console.reads h.driven.reads keeps.lines.reads
-              keeps.life.reads drives.reads;
-          randoms = line_is randoms b.drivers.random.waiting d.random.waiting h.driven.randoms keeps.lines.randoms
-              keeps.life.randoms drives.randoms;
-          stores = line_is storages b.drivers.storage.waiting d.storage.waiting h.driven.stores keeps.lines.stores
-              keeps.life.stores drives.stores;
+          queues = line_is;
           within = All-set (IsWithin b.moment.settings.storage) b.home.owns slot t.at.after.1
               (keeps.within before_within)
               h.driven.within;

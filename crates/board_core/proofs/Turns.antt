@@ -124,13 +124,7 @@ module _ (m : Moment) (slot : ℕ) (home made : Homes) (p q : Process) (is : IsM
   -- it leaves what the process asks of drivers
   pub may_serve_still : (d : Drivers) → MayServe m d slot (own_of home slot) → MayServe m d slot (own_of made slot)
   may_serve_still d may = subst (λ (r : Resident). MayServe m d slot r.1) (sym is) (record {
-    asks = record {
-      writes = may.asks.writes;
-      reads = may.asks.reads;
-      randoms = may.asks.randoms;
-      stores =
-          may.asks.stores;
-    };
+    asks = may.asks;
     lost = may.lost;
     leds = may.leds;
     size = may.size;

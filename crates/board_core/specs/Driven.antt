@@ -14,16 +14,13 @@ use Rattle.driver_model.specs.Steps.{own_after}
 use Rattle.driver_model.specs.Commands.{BoardRequest, QueueName, Writes, Reads, Randoms, Stores}
 use Rattle.driver_model.specs.Drivers.{CommandHandler, handler_of}
 use Rattle.driver_model.specs.Replies.{reply_of}
-use Rattle.driver_model.specs.Requests.{RequestKind, request_in}
-use Rattle.driver_model.specs.Lines.{IsWithin, has_waiting}
-use Rattle.driver_model.specs.Console.{console_reads, console_writes}
+use Rattle.driver_model.specs.Requests.{request_in}
+use Rattle.driver_model.specs.Lines.{IsWithin, has_waiting, kind_in}
 use Rattle.driver_model.specs.Leds.{led_bits, lit_after}
-use Rattle.driver_model.specs.Random.{randoms}
-use Rattle.driver_model.specs.Storage.{storages}
 use Rattle.driver_requests.specs.Waiting.{queue_after, waits}
 use Rattle.grant_enter.specs.Homes.{nobody}
 use Rattle.kernel_model.specs.declared.settings.Settings.{Settings}
-use Rattle.kernel_model.specs.World.{Devices}
+use Rattle.kernel_model.specs.World.{Devices, WaitingSlots}
 use Rattle.board_core.specs.declared.moment.Moment.{Moment}
 use Rattle.board_core.specs.declared.drivers.Drivers.{Drivers}
 use Rattle.board_core.specs.declared.drivers.Order.{Order}
@@ -39,13 +36,15 @@ ids_waiting_in d Reads = d.console.reads
 ids_waiting_in d Randoms = d.random.waiting
 ids_waiting_in d Stores = d.storage.waiting
 
+-- the table of those that wait, by the name of the queue
+abbrev pub waiting_by : (QueueName → List ℕ) → WaitingSlots
+waiting_by slots =
+    record { writes = slots Writes; reads = slots Reads; randoms = slots Randoms; stores = slots Stores }
+
 -- the devices that the drivers show
 abbrev pub devices_of : Drivers → Devices
 devices_of d = record {
-  writes = slots_of d.console.writes;
-  reads = slots_of d.console.reads;
-  randoms = slots_of d.random.waiting;
-  stores = slots_of d.storage.waiting;
+  waiting = waiting_by (λ queue. slots_of (ids_waiting_in d queue));
   leds = led_bits d.leds;
   line = d.uart;
   arrivals = d.arrivals;
@@ -60,9 +59,7 @@ storage_bytes d = d.stores.slots
 
 -- the drivers under a script before the first step: nobody waits, all LEDs are off, nothing was drawn or served
 pub record AreFresh (script : Script) (d : Drivers) : Type 0 where
-  pub console : d.console ≡ record { writes = []; reads = [] }
-  pub random : d.random.waiting ≡ []
-  pub storage : d.storage.waiting ≡ []
+  pub queues : (queue : QueueName) → ids_waiting_in d queue ≡ []
   pub line : d.uart ≡ record { ring = []; ticks = script.uart; free = 0 }
   pub leds : d.leds ≡ replicate script.leds false
   pub arrivals : d.arrivals ≡ script.events
@@ -73,19 +70,16 @@ pub record AreFresh (script : Script) (d : Drivers) : Type 0 where
 abbrev pub IsThere : List Own → ProcessId → Type 0
 IsThere owns id = (id.slot < length owns) × ((slice_index_or owns id.slot nobody).life ≡ id.life)
 
--- Those that wait in a list are the processes that live and have a request there, each by the id of its life.
-pub record IsQueueOf {R : Type 0} (request_kind : RequestKind R) (ids : List ProcessId) (owns : List Own) : Type 0 where
+-- Those that wait in a queue are the processes that live and have a request there, each by the id of its life.
+pub record IsQueueOf (queue : QueueName) (ids : List ProcessId) (owns : List Own) : Type 0 where
   pub there : AllByRecursion (IsThere owns) ids
   pub each : (slot : ℕ) → slot < length owns
-      → waits slot ids ≡ has_waiting request_kind (slice_index_or owns slot nobody)
+      → waits slot ids ≡ has_waiting queue (slice_index_or owns slot nobody)
 
 -- The drivers of a board with these settings, at a time: who waits has a request that waits; each request for storage
 -- lies in what a slot has; so many LEDs there are; the UART is free soon.
 pub record AreDriven (settings : Settings) (time : ℕ) (owns : List Own) (d : Drivers) : Type 0 where
-  pub writes : IsQueueOf console_writes d.console.writes owns
-  pub reads : IsQueueOf console_reads d.console.reads owns
-  pub randoms : IsQueueOf randoms d.random.waiting owns
-  pub stores : IsQueueOf storages d.storage.waiting owns
+  pub queues : (queue : QueueName) → IsQueueOf queue (ids_waiting_in d queue) owns
   pub within : All (IsWithin settings.storage) owns
   pub leds : length d.leds ≡ settings.leds
   pub size : d.stores.size ≡ settings.storage
@@ -95,10 +89,7 @@ pub record AreDriven (settings : Settings) (time : ℕ) (owns : List Own) (d : D
 
 -- what the drivers do for a process of what is asked of them: who waits where, and the LEDs; nothing else changes
 pub record Drives (id : ProcessId) (acts : List BoardRequest) (old new : Drivers) : Type 0 where
-  pub writes : new.console.writes ≡ queue_after Writes id old.console.writes acts
-  pub reads : new.console.reads ≡ queue_after Reads id old.console.reads acts
-  pub randoms : new.random.waiting ≡ queue_after Randoms id old.random.waiting acts
-  pub stores : new.storage.waiting ≡ queue_after Stores id old.storage.waiting acts
+  pub queues : (queue : QueueName) → ids_waiting_in new queue ≡ queue_after queue id (ids_waiting_in old queue) acts
   pub leds : led_bits new.leds ≡ lit_after acts (led_bits old.leds)
   pub lit : length new.leds ≡ length old.leds
   pub line : new.uart ≡ old.uart
@@ -111,11 +102,9 @@ abbrev pub IsTaken : Order → Type 0
 IsTaken order = is_some (handler_of order.driver) ≡ true
 
 -- a process waits only where it has a request
-pub record MayAsk (d : Drivers) (slot : ℕ) (own : Own) : Type 0 where
-  pub writes : request_in console_writes own ≡ None → waits slot d.console.writes ≡ false
-  pub reads : request_in console_reads own ≡ None → waits slot d.console.reads ≡ false
-  pub randoms : request_in randoms own ≡ None → waits slot d.random.waiting ≡ false
-  pub stores : request_in storages own ≡ None → waits slot d.storage.waiting ≡ false
+abbrev pub MayAsk : Drivers → ℕ → Own → Type 0
+MayAsk d slot own = (queue : QueueName) → request_in (kind_in queue) own ≡ None
+    → waits slot (ids_waiting_in d queue) ≡ false
 
 -- what the drivers ask of a moment at which they serve a call of the process in a slot
 pub record MayServe (m : Moment) (d : Drivers) (slot : ℕ) (own : Own) : Type 0 where

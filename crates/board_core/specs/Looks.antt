@@ -3,17 +3,18 @@ use Rattle.std.specs.Prelude.{◌≡◌, ℕ, true, List, [], Some, slice_get}
 use Rattle.tk_base.specs.declared.process.Dev.{Dev}
 use Rattle.tk_base.specs.declared.process.Dev.TheVariants.{Event, Alarm, Uart, Receive, Random, Store}
 use Rattle.tk_base.specs.declared.process.ProcessId.{ProcessId}
+use Rattle.driver_model.specs.Commands.{Writes, Reads, Randoms, Stores}
 use Rattle.kernel_model.specs.Record.{Record}
-use Rattle.kernel_model.specs.World.{Devices, World}
+use Rattle.kernel_model.specs.World.{Devices, World, slots_in}
 
 -- the slots whose processes wait for a device step, the first one first
 abbrev pub waiting_for : Devices → Dev → List ℕ
 waiting_for d Event = []
 waiting_for d Alarm = []
-waiting_for d Uart = d.writes
-waiting_for d Receive = d.reads
-waiting_for d Random = d.randoms
-waiting_for d Store = d.stores
+waiting_for d Uart = slots_in Writes d.waiting
+waiting_for d Receive = slots_in Reads d.waiting
+waiting_for d Random = slots_in Randoms d.waiting
+waiting_for d Store = slots_in Stores d.waiting
 
 -- a process that lives in the slot of an id, in the life of the id
 pub record LivesThere (w : World) (id : ProcessId) : Type 0 where

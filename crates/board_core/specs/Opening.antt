@@ -71,10 +71,7 @@ opening script flash = record {
   settings = visible_settings script.leds script.start script.storage script.policy script.strict;
   pace = pace script.slice;
   devices = record {
-    writes = [];
-    reads = [];
-    randoms = [];
-    stores = [];
+    waiting = record { writes = []; reads = []; randoms = []; stores = [] };
     leds = 0;
     line = record { ring = []; ticks = script.uart; free = 0 };
     arrivals = script.events;

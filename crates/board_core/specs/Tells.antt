@@ -16,7 +16,7 @@ use Rattle.driver_model.specs.Commands.{QueueName}
 use Rattle.driver_requests.specs.Waiting.{waiting_still}
 use Rattle.grant_enter.specs.Homes.{Homes, ChangesOnly, own_of}
 use Rattle.kernel_model.specs.Turn.{Event, apply}
-use Rattle.kernel_model.specs.World.{can_act, device_step_of}
+use Rattle.kernel_model.specs.World.{answering, can_act, device_step_of}
 use Rattle.board_core.specs.declared.board.Board.TheInside.{Inside}
 use Rattle.board_core.specs.declared.drivers.Drivers.{Drivers}
 use Rattle.board_core.specs.declared.moment.Moment.{Moment}
@@ -57,11 +57,10 @@ pub record DeviceServes (b : Inside) (process : Process) (device : Dev) (slot : 
   pub bytes : List ℕ
   pub stores : HoldsFor slot bytes b.drivers.stores d.stores
   pub event : Event
-  pub deed : device_step_of (world_of b) device ≡ Some (record {
-    told = Some (record { slot = slot; event = event });
-    printed = printed;
+  pub deed : device_step_of (world_of b) device ≡ Some (answering slot (record {
+    answer = record { event = event; printed = printed };
     devices = devices_of d;
-  })
+  }))
   pub tells : apply b.moment.settings event
       (record_of b.home.flash ((process, own_of b.home slot), slice_index_or b.drivers.stores.slots slot []))
       ≡ record_of b.home.flash ((process, own), bytes)

@@ -1,5 +1,5 @@
 -- Who waits after an answer.
-use Rattle.std.proofs.Common.{◌≡◌, ℕ, ◌+◌, ◌-◌, ◌==◌, nat_le, Bool, true, false, cond, List, [], ◌∷◌, length, Option}
+use Rattle.std.proofs.Common.{◌≤◌, ◌&&◌, IfSome, ◌≡◌, ℕ, ◌+◌, ◌-◌, ◌==◌, nat_le, Bool, true, false, cond, List, [], ◌∷◌, length, Option}
 use Rattle.std.proofs.Common.{None, Some, is_some, is_none, option_map, unwrap_or, refl, ap, sym, ◌∙◌, subst}
 use Rattle.std.proofs.Math.Bool.{and-false}
 use Rattle.grant_model.specs.Grants.{Grant, grant_of}
@@ -27,25 +27,25 @@ use Rattle.driver_model.specs.Storage.{storages}
 use Rattle.driver_model.specs.Alarm as alarm
 use Rattle.driver_model.specs.Alarm.{with_alarm}
 use Rattle.driver_model.specs.Laws.{IsAtMostOneMore}
+use Rattle.driver_model.specs.Lines.{IsWithin, RequestOf, kind_in}
 use Rattle.driver_model.specs.Answers.{FollowsAnswer, LinesFollowAnswers, Remains, queue_left_by}
 use Rattle.driver_model.proofs.Requesting.{requesting_commutes}
 use Rattle.driver_model.proofs.Scheduled.{Serves, as_before, none_more, serves, serves_silently}
 use Rattle.driver_model.proofs.Sizes.{showing_size, written_size}
-use Rattle.driver_model.proofs.Asked.{Asked, asked, told_by, asked_randoms, asked_reads, asked_stores, asked_writes}
-use Rattle.driver_model.proofs.Asked.{if_told}
-use Rattle.driver_model.proofs.Waits.{LiesWithin, Moves, each_waits, is_within, stays}
+use Rattle.driver_model.proofs.Asked.{asked, asked_beside, asked_put, if_none, if_told}
+use Rattle.driver_model.proofs.Waits.{Moves, each_waits, moves_one, same_here, within_still}
 use Rattle.driver_model.proofs.Follows.{arms_apart}
 
 -- by what is asked for after the answer
-follows : (left : QueueName → Bool) (own o : Own) (after : Asked) → Remains own o
-    → IsAtMostOneMore own.inbox.dropped o.inbox.dropped → asked o.grants ≡ after
-    → Moves (λ line waits. cond (left line) false waits) (asked own.grants) after
-    → ((size : ℕ) → LiesWithin size (asked own.grants).stores → LiesWithin size after.stores) → FollowsAnswer left own o
-follows left own o after rest dropped is moves lies = record {
+follows : (left : QueueName → Bool) (own o : Own) → Remains own o
+    → IsAtMostOneMore own.inbox.dropped o.inbox.dropped → Moves (λ queue waits. cond (left queue) false waits) own o
+    → ((size : ℕ) → IsWithin size own → IsWithin size o) → FollowsAnswer left own o
+follows left own o rest dropped moves within = record {
   rest = rest;
   dropped = dropped;
-  lines = each_waits _ own o after (ap (λ (x : Own). x.lives) rest) is (λ line ended. none_begins (left line)) moves;
-  within = λ size held. is_within size o after is (lies size held);
+  lines = each_waits (λ queue waits. cond (left queue) false waits) own o (ap (λ (x : Own). x.lives) rest)
+      (λ queue ended. none_begins (left queue)) moves;
+  within = within;
 }
   where
     none_begins : (left : Bool) → cond left false false ≡ false
@@ -56,18 +56,22 @@ follows left own o after rest dropped is moves lies = record {
 remains : (own o : Own) (grants : List Grant) → Serves own o → Remains own (record o { grants = grants })
 remains own o grants served = subst (λ (x : Own). Remains own (record x { grants = grants })) (sym served.rest) refl
 
--- nothing changed
-unmoved : (left : QueueName → Bool) (own : Own) → ((line : QueueName) → left line ≡ false) → FollowsAnswer left own own
-unmoved left own stays =
-    follows left own own (asked own.grants) refl (none_more own.inbox.dropped) refl
-    (record { writes = at Writes _; reads = at Reads _; randoms = at Randoms _; stores = at Stores _ })
-    (λ size held. held)
-  where
-    at : (line : QueueName) (waits : Bool) → waits ≡ cond (left line) false waits
-    at line waits = ap (λ (b : Bool). cond b false waits) (sym (stays line))
+-- the same is asked for, and no queue is left
+stays : (left : QueueName → Bool) (own o : Own) → ((queue : QueueName) → left queue ≡ false)
+    → ((queue : QueueName) → asked queue o.grants ≡ asked queue own.grants)
+    → Moves (λ queue waits. cond (left queue) false waits) own o
+stays left own o none same queue =
+    ap is_some (same queue)
+    ∙ ap (λ (b : Bool). cond b false (is_some (request_in (kind_in queue) own))) (sym (none queue))
 
-never_left : (here line : QueueName) → queue_left_by here false line ≡ false
-never_left here line = and-false (is_same here line)
+-- nothing changed
+unmoved : (left : QueueName → Bool) (own : Own) → ((queue : QueueName) → left queue ≡ false) → FollowsAnswer left own own
+unmoved left own none =
+    follows left own own refl (none_more own.inbox.dropped) (stays left own own none (λ queue. refl))
+    (λ size held. held)
+
+never_left : (here queue : QueueName) → queue_left_by here false queue ≡ false
+never_left here queue = and-false (is_same here queue)
 
 -- where one waited, one waits after it where one is put
 replaced : {R : Type 0} (waiting : R) (before request : Option R) → before ≡ Some waiting
@@ -79,66 +83,48 @@ module _ (own o : Own) (served : Serves own o) where
   same : o.grants ≡ own.grants
   same = ap (λ (x : Own). x.grants) served.rest
 
-  told : {R : Type 0} (request_kind : RequestKind R) (waiting : R) → request_in request_kind own ≡ Some waiting
-      → request_in request_kind o ≡ Some waiting
-  told request_kind waiting is =
-      ap (λ (gs : List Grant). told_by request_kind (grant_of request_kind.driver gs)) same ∙ is
+  -- the request in a queue is another, or there is none any more
+  put : (here : QueueName) (waiting : RequestOf here) (request : Option (RequestOf here))
+      → request_in (kind_in here) own ≡ Some waiting
+      → ((size : ℕ) → IsWithin size own → IsWithin size (with_request (kind_in here) request o))
+      → FollowsAnswer (queue_left_by here (is_none request)) own (with_request (kind_in here) request o)
+  put here waiting request is within =
+      follows _ own _ (remains own o _ served) served.dropped
+      (moves_one here (λ queue waits. cond (queue_left_by here (is_none request) queue) false waits) own
+      (with_request (kind_in here) request o)
+      (λ queue apart. asked_beside here queue apart request o ∙ ap (asked queue) same)
+      (λ queue apart waits. sym (ap (λ (b : Bool). cond (b && is_none request) false waits) apart))
+      (ap is_some put_there ∙ replaced waiting (request_in (kind_in here) own) request is
+      ∙ sym (ap (λ (b : Bool). cond (b && is_none request) false (is_some (request_in (kind_in here) own)))
+      (same_here here)))) within
+    where
+      put_there : asked here (with_request (kind_in here) request o).grants ≡ request
+      put_there = asked_put here request o
+          ∙ if_told (kind_in here) waiting request (grant_of (kind_in here).driver o.grants)
+          (ap (asked here) same ∙ is)
 
-  put_writes : (waiting : WaitingWrite) (request : Option WaitingWrite) → request_in console_writes own ≡ Some waiting
-      → FollowsAnswer (queue_left_by Writes (is_none request)) own (with_request console_writes request o)
-  put_writes waiting request is =
-      follows _ own _ (record (asked own.grants) { writes = request }) (remains own o _ served) served.dropped
-      (asked_writes request o
-      ∙ (λ i. record (asked (same i)) {
-        writes =
-            if_told console_writes waiting request (grant_of console_writes.driver o.grants)
-            (told console_writes waiting is) i;
-      }))
-      (record { writes = replaced waiting _ request is; reads = refl; randoms = refl; stores = refl })
-      (λ size held. held)
-
-  put_reads : (waiting : WaitingRead) (request : Option WaitingRead) → request_in console_reads own ≡ Some waiting
-      → FollowsAnswer (queue_left_by Reads (is_none request)) own (with_request console_reads request o)
-  put_reads waiting request is =
-      follows _ own _ (record (asked own.grants) { reads = request }) (remains own o _ served) served.dropped
-      (asked_reads request o
-      ∙ (λ i. record (asked (same i)) {
-        reads =
-            if_told console_reads waiting request (grant_of console_reads.driver o.grants)
-            (told console_reads waiting is)
-            i;
-      }))
-      (record { writes = refl; reads = replaced waiting _ request is; randoms = refl; stores = refl })
-      (λ size held. held)
-
-  put_randoms : (waiting : RandomRequest) (request : Option RandomRequest) → request_in randoms own ≡ Some waiting
-      → FollowsAnswer (queue_left_by Randoms (is_none request)) own (with_request randoms request o)
-  put_randoms waiting request is =
-      follows _ own _ (record (asked own.grants) { randoms = request }) (remains own o _ served) served.dropped
-      (asked_randoms request o
-      ∙ (λ i. record (asked (same i)) {
-        randoms =
-            if_told randoms waiting request (grant_of randoms.driver o.grants) (told randoms waiting is) i;
-      }))
-      (record { writes = refl; reads = refl; randoms = replaced waiting _ request is; stores = refl })
-      (λ size held. held)
+  -- and that for storage stays
+  put_beside : (here : QueueName) (waiting : RequestOf here) (request : Option (RequestOf here))
+      → is_same here Stores ≡ false → request_in (kind_in here) own ≡ Some waiting
+      → FollowsAnswer (queue_left_by here (is_none request)) own (with_request (kind_in here) request o)
+  put_beside here waiting request apart is =
+      put here waiting request is
+      (λ size. within_still size own (with_request (kind_in here) request o)
+      (asked_beside here Stores apart request o ∙ ap (asked Stores) same))
 
   ends_stores : (waiting : StorageRequest) → request_in storages own ≡ Some waiting
       → FollowsAnswer (queue_left_by Stores true) own (with_request storages None o)
   ends_stores waiting is =
-      follows _ own _ (record (asked own.grants) { stores = None }) (remains own o _ served) served.dropped
-      (asked_stores None o
-      ∙ (λ i. record (asked (same i)) {
-        stores =
-            if_told storages waiting None (grant_of storages.driver o.grants) (told storages waiting is) i;
-      }))
-      (record { writes = refl; reads = refl; randoms = refl; stores = replaced waiting _ None is }) (λ size held. tt)
+      put Stores waiting None is
+      (λ size held. subst (λ (q : Option StorageRequest). IfSome q (λ r. r.offset + r.length ≤ size))
+      (sym (asked_put Stores None o ∙ if_none (grant_of storages.driver o.grants))) tt)
 
-  stops_alarm : FollowsAnswer (λ line. false) own (with_alarm None o)
+  stops_alarm : FollowsAnswer (λ queue. false) own (with_alarm None o)
   stops_alarm =
-      follows _ own _ (asked own.grants) (remains own o _ served) served.dropped (arms_apart None o ∙ ap asked same)
-      (stays (asked own.grants))
-      (λ size held. held)
+      let still = λ (queue : QueueName). arms_apart queue None o ∙ ap (asked queue) same in
+      follows _ own _ (remains own o _ served) served.dropped
+      (stays (λ queue. false) own (with_alarm None o) (λ queue. refl) still)
+      (λ size. within_still size own (with_alarm None o) (still Stores))
 
 -- a request that is kept before an upcall is scheduled, and after
 then_told : {R : Type 0} (left : QueueName → Bool) (request_kind : RequestKind R) (request : Option R)
@@ -169,10 +155,10 @@ sends flash own = by_waiting (waiting_in console_writes own) refl
         (record { step = console.taking own write; printed = console.next_bytes flash write own; completed = false }))
     by_portion write true is =
         then_told _ console_writes None (scheduling console.console 1 (write.taken ∷ 0 ∷ 0 ∷ []) own) own
-        (put_writes own _ (serves _ _ _ own.ram own (as_before own)) write None (asks console_writes own write is))
+        (put_beside own _ (serves _ _ _ own.ram own (as_before own)) Writes write None refl (asks console_writes own write is))
     by_portion write false is =
-        put_writes own _ (serves_silently own.ram own (as_before own)) write
-        (Some (record write { taken = write.taken + console.portion write own })) (asks console_writes own write is)
+        put_beside own _ (serves_silently own.ram own (as_before own)) Writes write
+        (Some (record write { taken = write.taken + console.portion write own })) refl (asks console_writes own write is)
 
     by_waiting : (w : Option WaitingWrite) → waiting_in console_writes own ≡ w
         → Sends own (unwrap_or (option_map (console.sending flash own) w) (console.unsent own))
@@ -195,7 +181,7 @@ receives ring own = by_waiting (waiting_in console_reads own) refl
         then_told _ console_reads None
         (scheduling console.console 2 (console.read_status own ∷ length (bytes read) ∷ 0 ∷ [])
         (with_written ReadWrite console.console 1 0 (bytes read) own)) own
-        (put_reads own _ (serves _ _ _ _ own (written_size ReadWrite refl console.console 1 0 (bytes read) own)) read None
+        (put_beside own _ (serves _ _ _ _ own (written_size ReadWrite refl console.console 1 0 (bytes read) own)) Reads read None refl
         (asks console_reads own read is))
 
 -- a step of a request for random bytes
@@ -230,7 +216,7 @@ draws word own = by_waiting (waiting_in randoms own) refl
     by_waiting (Some request) is =
         let p = random.progress word request own in
         then_told _ randoms p.rest p.step own
-        (put_randoms own _ (serves_progress word request own) request p.rest (asks randoms own request is))
+        (put_beside own _ (serves_progress word request own) Randoms request p.rest refl (asks randoms own request is))
 
 -- a storage request that is served
 pub serves_served : (fault : Bool) (flash : ℕ → ℕ) (bytes : List ℕ) (request : StorageRequest) (own : Own)

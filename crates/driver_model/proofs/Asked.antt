@@ -1,94 +1,68 @@
 -- All that a process asks for, as its grants tell it.
 use Rattle.std.proofs.Common.{◌≡◌, ℕ, ◌==◌, Bool, true, false, List, Option, None, Some, is_some, option_and_then}
-use Rattle.std.proofs.Common.{unwrap_or, refl, ap, ◌∙◌, eqb-true}
+use Rattle.std.proofs.Common.{unwrap_or, refl, sym, ap, ◌∙◌, eqb-true}
 use Rattle.std.proofs.lemmas.Bool.{false≢true}
 use Rattle.std.specs.Option.{option_map}
 use Rattle.tk_base.specs.declared.kinds.PairKind.{PairKind}
-use Rattle.grant_model.specs.Grants.{with_pair, Grant, entered, grant_of, with_grant, with_value, shape_of}
-use Rattle.grant_values.specs.declared.console.WaitingRead.{WaitingRead}
-use Rattle.grant_values.specs.declared.console.WaitingWrite.{WaitingWrite}
-use Rattle.grant_values.specs.declared.random.RandomRequest.{RandomRequest}
-use Rattle.grant_values.specs.declared.storage.StorageRequest.{StorageRequest}
+use Rattle.grant_model.specs.Grants.{with_pair, Grant, entered, fresh, grant_of, with_grant, with_value, shape_of}
 use Rattle.grant_values.specs.Drivers.{counts_of, drivers}
 use Rattle.grant_values.specs.Values.{KeptValue, NoValue}
 use Rattle.process_model.specs.Own.{Own}
 use Rattle.process_model.specs.Handed.{own_entering}
+use Rattle.driver_model.specs.Commands.{QueueName, Writes, Reads, Randoms, Stores, is_same}
 use Rattle.driver_model.specs.Requests.{RequestKind, with_request}
-use Rattle.driver_model.specs.Console.{console, console_reads, console_writes}
-use Rattle.driver_model.specs.Random.{random, randoms}
-use Rattle.driver_model.specs.Storage.{storage, storages}
+use Rattle.driver_model.specs.Console.{console_reads, console_writes}
+use Rattle.driver_model.specs.Lines.{RequestOf, kind_in}
+use Rattle.driver_model.specs.Random.{randoms}
+use Rattle.driver_model.specs.Storage.{storages}
 use Rattle.driver_model.proofs.Grants.{StaysWith, changed, is_there, told_still, unchanged}
-
-pub record Asked : Type 0 where
-  pub writes : Option WaitingWrite
-  pub reads : Option WaitingRead
-  pub randoms : Option RandomRequest
-  pub stores : Option StorageRequest
 
 -- what a grant tells of a kind of request
 abbrev pub told_by : {R : Type 0} → RequestKind R → Option Grant → Option R
 told_by request_kind found = option_and_then request_kind.told (option_map (λ g. g.value) found)
 
-abbrev pub asked : List Grant → Asked
-asked gs = record {
-  writes = told_by console_writes (grant_of console_writes.driver gs);
-  reads = told_by console_reads (grant_of console_reads.driver gs);
-  randoms = told_by randoms (grant_of randoms.driver gs);
-  stores = told_by storages (grant_of storages.driver gs);
-}
-
-all_same : (a b : Asked) → a.writes ≡ b.writes → a.reads ≡ b.reads → a.randoms ≡ b.randoms → a.stores ≡ b.stores → a ≡ b
-all_same a b w r d s = λ i. record { writes = w i; reads = r i; randoms = d i; stores = s i }
+-- what is asked for in a queue
+abbrev pub asked : (queue : QueueName) → List Grant → Option (RequestOf queue)
+asked queue gs = told_by (kind_in queue) (grant_of (kind_in queue).driver gs)
 
 -- another driver's grant may be changed
-pub asked_apart : (driver : ℕ) (change : Grant → Grant) (gs : List Grant) → (driver == console) ≡ false
-    → (driver == random) ≡ false → (driver == storage) ≡ false → StaysWith change
-    → asked (with_grant driver change gs) ≡ asked gs
-asked_apart driver change gs c r s stays =
-    let at = λ (other : ℕ) (apart : (driver == other) ≡ false). unchanged other driver change gs apart stays in
-    all_same _ _ (ap (told_by console_writes) (at console c)) (ap (told_by console_reads) (at console c))
-    (ap (told_by randoms) (at random r)) (ap (told_by storages) (at storage s))
+pub asked_apart : (queue : QueueName) (driver : ℕ) (change : Grant → Grant) (gs : List Grant)
+    → (driver == (kind_in queue).driver) ≡ false → StaysWith change
+    → asked queue (with_grant driver change gs) ≡ asked queue gs
+asked_apart queue driver change gs apart stays =
+    ap (told_by (kind_in queue)) (unchanged (kind_in queue).driver driver change gs apart stays)
 
 -- any may be entered
-pub asked_still : (driver : ℕ) (gs : List Grant) → asked (entered driver gs) ≡ asked gs
+pub asked_still : (queue : QueueName) (driver : ℕ) (gs : List Grant) → asked queue (entered driver gs) ≡ asked queue gs
 unfolding shape_of counts_of drivers
-asked_still driver gs =
-    all_same _ _
-    (told_still (told_by console_writes) console driver gs refl)
-    (told_still (told_by console_reads) console driver gs refl)
-    (told_still (told_by randoms) random driver gs refl)
-    (told_still (told_by storages) storage driver gs refl)
+asked_still queue driver gs =
+    told_still (told_by (kind_in queue)) (kind_in queue).driver driver gs (blank queue)
+  where
+    blank : (q : QueueName)
+        → told_by (kind_in q) (Some (fresh (kind_in q).driver)) ≡ told_by (kind_in q) None
+    blank Writes = refl
+    blank Reads = refl
+    blank Randoms = refl
+    blank Stores = refl
 
 -- a pair may be handed, to any driver
-asked_pair : {R : Type 0} (request_kind : RequestKind R) (kind : PairKind) (driver number : ℕ) (pair : ℕ × ℕ)
-    (gs : List Grant)
-    → told_by request_kind (grant_of request_kind.driver (with_grant driver (with_pair kind number pair) gs))
-    ≡ told_by request_kind (grant_of request_kind.driver gs)
-asked_pair request_kind kind driver number pair gs = by_test (driver == request_kind.driver) refl
+pub asked_handed : (queue : QueueName) (kind : PairKind) (driver number : ℕ) (pair : ℕ × ℕ) (gs : List Grant)
+    → asked queue (with_grant driver (with_pair kind number pair) gs) ≡ asked queue gs
+asked_handed queue kind driver number pair gs = by_test (driver == (kind_in queue).driver) refl
   where
     by_grant : (found : Option Grant)
-        → told_by request_kind (option_map (with_pair kind number pair) found) ≡ told_by request_kind found
+        → told_by (kind_in queue) (option_map (with_pair kind number pair) found) ≡ told_by (kind_in queue) found
     by_grant None = refl
     by_grant (Some g) = refl
 
-    by_test : (b : Bool) → (driver == request_kind.driver) ≡ b
-        → told_by request_kind (grant_of request_kind.driver (with_grant driver (with_pair kind number pair) gs))
-        ≡ told_by request_kind (grant_of request_kind.driver gs)
+    by_test : (b : Bool) → (driver == (kind_in queue).driver) ≡ b
+        → asked queue (with_grant driver (with_pair kind number pair) gs) ≡ asked queue gs
     by_test true e =
-        ap (λ (d : ℕ). told_by request_kind (grant_of request_kind.driver
-        (with_grant d (with_pair kind number pair) gs))) (eqb-true driver request_kind.driver e)
-        ∙ ap (told_by request_kind) (changed request_kind.driver _ gs (λ g. refl))
-        ∙ by_grant (grant_of request_kind.driver gs)
-    by_test false e = ap (told_by request_kind) (unchanged request_kind.driver driver _ gs e (λ g. refl))
-
-pub asked_handed : (kind : PairKind) (driver number : ℕ) (pair : ℕ × ℕ) (gs : List Grant)
-    → asked (with_grant driver (with_pair kind number pair) gs) ≡ asked gs
-asked_handed kind driver number pair gs =
-    all_same _ _
-    (asked_pair console_writes kind driver number pair gs)
-    (asked_pair console_reads kind driver number pair gs)
-    (asked_pair randoms kind driver number pair gs)
-    (asked_pair storages kind driver number pair gs)
+        ap (λ (d : ℕ). asked queue (with_grant d (with_pair kind number pair) gs))
+        (eqb-true driver (kind_in queue).driver e)
+        ∙ ap (told_by (kind_in queue)) (changed (kind_in queue).driver _ gs (λ g. refl))
+        ∙ by_grant (grant_of (kind_in queue).driver gs)
+    by_test false e = asked_apart queue driver _ gs e (λ g. refl)
 
 -- a list of grants where the value of one of them has another request
 abbrev putting : {R : Type 0} → RequestKind R → Option R → List Grant → List Grant
@@ -117,52 +91,48 @@ put_here request_kind other request tells gs reads =
     by_grant None = refl
     by_grant (Some g) = reads g.value
 
+-- a request that is put is then asked for
+pub asked_put : (queue : QueueName) (request : Option (RequestOf queue)) (own : Own)
+    → asked queue (with_request (kind_in queue) request own).grants
+    ≡ if_there request (grant_of (kind_in queue).driver own.grants)
+asked_put queue request own =
+    put_here (kind_in queue) (kind_in queue) request (λ value. request) own.grants (reads queue request)
+  where
+    reads : (q : QueueName) (request : Option (RequestOf q)) (value : KeptValue)
+        → (kind_in q).told ((kind_in q).with_request request value) ≡ request
+    reads Writes request value = refl
+    reads Reads request value = refl
+    reads Randoms request value = refl
+    reads Stores request value = refl
+
 put_elsewhere : {R S : Type 0} (request_kind : RequestKind R) (other : RequestKind S) (request : Option R)
     (gs : List Grant) → (request_kind.driver == other.driver) ≡ false
     → told_by other (grant_of other.driver (putting request_kind request gs)) ≡ told_by other (grant_of other.driver gs)
 put_elsewhere request_kind other request gs apart =
     ap (told_by other) (unchanged other.driver request_kind.driver _ gs apart (λ g. refl))
 
--- each request that is put changes what is asked there
-pub asked_writes : (request : Option WaitingWrite) (own : Own)
-    → asked (with_request console_writes request own).grants
-    ≡ record (asked own.grants) { writes = if_there request (grant_of console own.grants) }
-asked_writes request own =
-    all_same _ _
-    (put_here console_writes console_writes request (λ value. request) own.grants (λ value. refl))
-    (put_here console_writes console_reads request console_reads.told own.grants (λ value. refl))
-    (put_elsewhere console_writes randoms request own.grants refl)
-    (put_elsewhere console_writes storages request own.grants refl)
-
-pub asked_reads : (request : Option WaitingRead) (own : Own)
-    → asked (with_request console_reads request own).grants
-    ≡ record (asked own.grants) { reads = if_there request (grant_of console own.grants) }
-asked_reads request own =
-    all_same _ _
-    (put_here console_reads console_writes request console_writes.told own.grants (λ value. refl))
-    (put_here console_reads console_reads request (λ value. request) own.grants (λ value. refl))
-    (put_elsewhere console_reads randoms request own.grants refl)
-    (put_elsewhere console_reads storages request own.grants refl)
-
-pub asked_randoms : (request : Option RandomRequest) (own : Own)
-    → asked (with_request randoms request own).grants
-    ≡ record (asked own.grants) { randoms = if_there request (grant_of random own.grants) }
-asked_randoms request own =
-    all_same _ _
-    (put_elsewhere randoms console_writes request own.grants refl)
-    (put_elsewhere randoms console_reads request own.grants refl)
-    (put_here randoms randoms request (λ value. request) own.grants (λ value. refl))
-    (put_elsewhere randoms storages request own.grants refl)
-
-pub asked_stores : (request : Option StorageRequest) (own : Own)
-    → asked (with_request storages request own).grants
-    ≡ record (asked own.grants) { stores = if_there request (grant_of storage own.grants) }
-asked_stores request own =
-    all_same _ _
-    (put_elsewhere storages console_writes request own.grants refl)
-    (put_elsewhere storages console_reads request own.grants refl)
-    (put_elsewhere storages randoms request own.grants refl)
-    (put_here storages storages request (λ value. request) own.grants (λ value. refl))
+-- and what is asked for in another queue stays: another driver keeps it, or the console, whose requests stand side by
+-- side
+pub asked_beside : (here queue : QueueName) → is_same here queue ≡ false → (request : Option (RequestOf here))
+    (own : Own) → asked queue (with_request (kind_in here) request own).grants ≡ asked queue own.grants
+asked_beside Writes Writes apart request own = absurd (false≢true (sym apart))
+asked_beside Writes Reads apart request own =
+    put_here console_writes console_reads request console_reads.told own.grants (λ value. refl)
+asked_beside Writes Randoms apart request own = put_elsewhere console_writes randoms request own.grants refl
+asked_beside Writes Stores apart request own = put_elsewhere console_writes storages request own.grants refl
+asked_beside Reads Writes apart request own =
+    put_here console_reads console_writes request console_writes.told own.grants (λ value. refl)
+asked_beside Reads Reads apart request own = absurd (false≢true (sym apart))
+asked_beside Reads Randoms apart request own = put_elsewhere console_reads randoms request own.grants refl
+asked_beside Reads Stores apart request own = put_elsewhere console_reads storages request own.grants refl
+asked_beside Randoms Writes apart request own = put_elsewhere randoms console_writes request own.grants refl
+asked_beside Randoms Reads apart request own = put_elsewhere randoms console_reads request own.grants refl
+asked_beside Randoms Randoms apart request own = absurd (false≢true (sym apart))
+asked_beside Randoms Stores apart request own = put_elsewhere randoms storages request own.grants refl
+asked_beside Stores Writes apart request own = put_elsewhere storages console_writes request own.grants refl
+asked_beside Stores Reads apart request own = put_elsewhere storages console_reads request own.grants refl
+asked_beside Stores Randoms apart request own = put_elsewhere storages randoms request own.grants refl
+asked_beside Stores Stores apart request own = absurd (false≢true (sym apart))
 
 -- where the driver is entered, the request is the one that was put; where none is put, there is none
 if_entered : {R : Type 0} (request : Option R) (driver : ℕ) (gs : List Grant)
@@ -183,30 +153,17 @@ pub if_none : {R : Type 0} (found : Option Grant) → if_there {R = R} None foun
 if_none None = refl
 if_none (Some g) = refl
 
-pub entered_writes : (request : Option WaitingWrite) (own : Own)
-    → asked (with_request console_writes request (own_entering console own)).grants
-    ≡ record (asked own.grants) { writes = request }
-entered_writes request own =
-    asked_writes request (own_entering console own)
-    ∙ (λ i. record (asked_still console own.grants i) { writes = if_entered request console own.grants i })
+-- so it is with a driver that is entered for it
+pub entered_put : (queue : QueueName) (request : Option (RequestOf queue)) (own : Own)
+    → asked queue (with_request (kind_in queue) request (own_entering (kind_in queue).driver own)).grants ≡ request
+entered_put queue request own =
+    asked_put queue request (own_entering (kind_in queue).driver own)
+    ∙ if_entered request (kind_in queue).driver own.grants
 
-pub entered_reads : (request : Option WaitingRead) (own : Own)
-    → asked (with_request console_reads request (own_entering console own)).grants
-    ≡ record (asked own.grants) { reads = request }
-entered_reads request own =
-    asked_reads request (own_entering console own)
-    ∙ (λ i. record (asked_still console own.grants i) { reads = if_entered request console own.grants i })
-
-pub entered_randoms : (request : Option RandomRequest) (own : Own)
-    → asked (with_request randoms request (own_entering random own)).grants
-    ≡ record (asked own.grants) { randoms = request }
-entered_randoms request own =
-    asked_randoms request (own_entering random own)
-    ∙ (λ i. record (asked_still random own.grants i) { randoms = if_entered request random own.grants i })
-
-pub entered_stores : (request : Option StorageRequest) (own : Own)
-    → asked (with_request storages request (own_entering storage own)).grants
-    ≡ record (asked own.grants) { stores = request }
-entered_stores request own =
-    asked_stores request (own_entering storage own)
-    ∙ (λ i. record (asked_still storage own.grants i) { stores = if_entered request storage own.grants i })
+pub entered_beside : (here queue : QueueName) → is_same here queue ≡ false → (request : Option (RequestOf here))
+    (own : Own)
+    → asked queue (with_request (kind_in here) request (own_entering (kind_in here).driver own)).grants
+    ≡ asked queue own.grants
+entered_beside here queue apart request own =
+    asked_beside here queue apart request (own_entering (kind_in here).driver own)
+    ∙ asked_still queue (kind_in here).driver own.grants

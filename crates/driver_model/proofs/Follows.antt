@@ -1,66 +1,108 @@
 -- Who waits after a command.
 use Rattle.std.proofs.Common.{◌≡◌, Bool, true, false, cond, not, ◌&&◌, [], ◌∷◌, Option, None, Some, is_some, Ok, refl}
-use Rattle.std.proofs.Common.{ap, sym, ◌∙◌}
+use Rattle.std.proofs.Common.{ap, sym, subst, ◌∙◌, ◌+◌, ◌≤◌, ◌==◌, IfSome}
 use Rattle.std.proofs.lemmas.Bool.{false≢true}
 use Rattle.tk_base.specs.Call.{code_of}
 use Rattle.tk_base.specs.declared.call.ErrorCode.TheVariants.{CANCEL}
-use Rattle.grant_model.specs.Grants.{grant_of, with_value}
+use Rattle.grant_model.specs.Grants.{Grant, grant_of, with_value}
 use Rattle.grant_values.specs.declared.alarm.Armed.{Armed}
 use Rattle.grant_values.specs.Values.{AlarmValue}
 use Rattle.syscall_abi.specs.declared.reply.Reply.TheVariants.{Success}
 use Rattle.process_model.specs.Own.{Own}
 use Rattle.process_model.specs.Handed.{own_entering}
-use Rattle.driver_model.specs.Steps.{own_after}
-use Rattle.driver_model.specs.Commands.{Commanded, Leaves, Reads}
-use Rattle.driver_model.specs.Requests.{RequestKind, request_in, with_request}
+use Rattle.driver_model.specs.Steps.{own_after, silently}
+use Rattle.driver_model.specs.Commands.{Commanded, Leaves, QueueName, Writes, Reads, Randoms, Stores, Waits, is_same}
+use Rattle.driver_model.specs.Requests.{request_in, with_request}
 use Rattle.driver_model.specs.Alarm.{alarm_driver, with_alarm}
-use Rattle.driver_model.specs.Console.{console, console_reads, console_writes, dropping_read}
-use Rattle.driver_model.specs.Random.{randoms}
-use Rattle.driver_model.specs.Storage.{storages}
-use Rattle.driver_model.specs.Lines.{FollowsCommand, LinesFollowCommands, OfEachRequestKind, has_waiting, waits_after}
-use Rattle.driver_model.specs.Lines.{waits_once}
+use Rattle.driver_model.specs.Console.{console, console_reads, dropping_read}
+use Rattle.driver_model.specs.Lines.{FollowsCommand, IsWithin, LinesFollowCommands, RequestOf, has_waiting, kind_in}
+use Rattle.driver_model.specs.Lines.{waits_after, waits_once}
 use Rattle.driver_model.specs.Drivers.{CommandContext}
 use Rattle.driver_model.proofs.Scheduled.{schedules}
-use Rattle.driver_model.proofs.Asked.{Asked, asked, asked_apart, asked_reads, asked_still, entered_reads}
-use Rattle.driver_model.proofs.Asked.{entered_randoms, entered_stores, entered_writes, if_none}
-use Rattle.driver_model.proofs.Waits.{LiesWithin, Moves, each_waits, is_within, stays}
+use Rattle.driver_model.proofs.Asked.{asked, asked_apart, asked_beside, asked_put, asked_still, entered_beside}
+use Rattle.driver_model.proofs.Asked.{entered_put, if_none}
+use Rattle.driver_model.proofs.Waits.{Moves, each_waits, moves_one, same_here, same_queue, within_still}
 use Rattle.driver_model.proofs.Outcomes.{of_command}
 
--- it begins to wait nowhere twice
-abbrev BeginsOnce : Own → Commanded → Type 0
-BeginsOnce own c =
-    OfEachRequestKind (λ R request_kind. waits_once request_kind.line (has_waiting request_kind own) c.acts ≡ true)
-
--- where no request is kept, it does not wait yet
-not_yet : {R : Type 0} (request_kind : RequestKind R) (own : Own) → request_in request_kind own ≡ None
-    → (not (has_waiting request_kind own) && true) ≡ true
-not_yet {R} request_kind own none =
-    ap (λ (q : Option R). not (is_some (cond own.lives q None)) && true) none ∙ by_lives own.lives
-  where
-    nothing : Option R
-    nothing = None
-
-    by_lives : (b : Bool) → (not (is_some (cond b nothing None)) && true) ≡ true
-    by_lives true = refl
-    by_lives false = refl
-
 -- by what is asked for after the command
-follows : (around : CommandContext) (own : Own) (c : Commanded) (after : Asked) → (own_after c.step).lives ≡ own.lives
-    → asked (own_after c.step).grants ≡ after → Moves (λ line waits. waits_after line waits c.acts)
-    (asked own.grants) after
-    → (LiesWithin around.storage (asked own.grants).stores → LiesWithin around.storage after.stores) → BeginsOnce own c
-    → FollowsCommand around own c
-follows around own c after lives is moves lies once = record {
+follows : (around : CommandContext) (own : Own) (c : Commanded) → (own_after c.step).lives ≡ own.lives
+    → Moves (λ queue waits. waits_after queue waits c.acts) own (own_after c.step)
+    → (IsWithin around.storage own → IsWithin around.storage (own_after c.step))
+    → ((queue : QueueName) → waits_once queue (has_waiting queue own) c.acts ≡ true) → FollowsCommand around own c
+follows around own c lives moves within once = record {
+  lines = λ (l : own.lives ≡ true). each_waits (λ queue waits. waits_after queue waits c.acts) own (own_after c.step)
+      lives (λ queue ended. absurd (false≢true (sym ended ∙ l))) moves;
   once = once;
-  lines = λ (l : own.lives ≡ true). each_waits _ own (own_after c.step) after lives is
-      (λ line ended. absurd (false≢true (sym ended ∙ l))) moves;
-  within = λ held. is_within around.storage (own_after c.step) after is (lies held);
+  within = within;
 }
 
--- another driver than those of the desks is armed, or stopped
-pub arms_apart : (armed : Option Armed) (own : Own) → asked (with_alarm armed own).grants ≡ asked own.grants
-arms_apart armed own =
-    asked_apart alarm_driver (with_value (AlarmValue (record { armed = armed }))) own.grants refl refl refl (λ g. refl)
+-- another driver than those of the queues is armed, or stopped
+pub arms_apart : (queue : QueueName) (armed : Option Armed) (own : Own)
+    → asked queue (with_alarm armed own).grants ≡ asked queue own.grants
+arms_apart queue armed own =
+    asked_apart queue alarm_driver (with_value (AlarmValue (record { armed = armed }))) own.grants (apart queue)
+    (λ g. refl)
+  where
+    apart : (q : QueueName) → (alarm_driver == (kind_in q).driver) ≡ false
+    apart Writes = refl
+    apart Reads = refl
+    apart Randoms = refl
+    apart Stores = refl
+
+-- where no request is kept, it begins to wait once
+begins_once : (here queue : QueueName) (own : Own) → request_in (kind_in here) own ≡ None
+    → waits_once queue (has_waiting queue own) (Waits here ∷ []) ≡ true
+begins_once here queue own none = by_test (is_same here queue) refl
+  where
+    nothing : Option (RequestOf here)
+    nothing = None
+
+    not_yet : (b : Bool) → (not (is_some (cond b nothing None)) && true) ≡ true
+    not_yet true = refl
+    not_yet false = refl
+
+    not_here : (not (has_waiting here own) && true) ≡ true
+    not_here = ap (λ (q : Option (RequestOf here)). not (is_some (cond own.lives q None)) && true) none
+        ∙ not_yet own.lives
+
+    by_test : (b : Bool) → is_same here queue ≡ b → (not (b && has_waiting queue own) && true) ≡ true
+    by_test true e =
+        subst (λ (q : QueueName). (not (has_waiting q own) && true) ≡ true) (same_queue here queue e) not_here
+    by_test false e = refl
+
+-- a request begins to wait
+begins : (around : CommandContext) (here : QueueName) (request : RequestOf here) (own : Own)
+    → request_in (kind_in here) own ≡ None
+    → (let o = with_request (kind_in here) (Some request) (own_entering (kind_in here).driver own) in
+    IsWithin around.storage own → IsWithin around.storage o)
+    → FollowsCommand around own (record {
+      answer = Ok Success;
+      step = silently (with_request (kind_in here) (Some request) (own_entering (kind_in here).driver own));
+      acts = Waits here ∷ [];
+    })
+begins around here request own none within =
+    follows around own _ refl
+    (moves_one here (λ queue waits. cond (is_same here queue) true waits) own
+    (with_request (kind_in here) (Some request) (own_entering (kind_in here).driver own))
+    (λ queue apart. entered_beside here queue apart (Some request) own)
+    (λ queue apart waits. sym (ap (λ (b : Bool). cond b true waits) apart))
+    (ap is_some (entered_put here (Some request) own)
+    ∙ sym (ap (λ (b : Bool). cond b true (is_some (request_in (kind_in here) own))) (same_here here))))
+    within (λ queue. begins_once here queue own none)
+
+-- and where it is none for storage, that one stays
+begins_beside : (around : CommandContext) (here : QueueName) (request : RequestOf here) (own : Own)
+    → is_same here Stores ≡ false → request_in (kind_in here) own ≡ None
+    → FollowsCommand around own (record {
+      answer = Ok Success;
+      step = silently (with_request (kind_in here) (Some request) (own_entering (kind_in here).driver own));
+      acts = Waits here ∷ [];
+    })
+begins_beside around here request own apart none =
+    begins around here request own none
+    (within_still around.storage own
+    (with_request (kind_in here) (Some request) (own_entering (kind_in here).driver own))
+    (entered_beside here Stores apart (Some request) own))
 
 cancels : (around : CommandContext) (own : Own)
     → FollowsCommand around own (record { answer = Ok Success; step = dropping_read own; acts = Leaves Reads ∷ [] })
@@ -69,44 +111,34 @@ cancels around own =
     let after = own_after (dropping_read own) in
     let q = schedules console 2 (code_of CANCEL ∷ 0 ∷ 0 ∷ []) without in
     let lives : after.lives ≡ own.lives = ap (λ (o : Own). o.lives) q.rest in
-    let told : asked after.grants ≡ record (asked own.grants) { reads = None } =
-    ap (λ (o : Own). asked o.grants) q.rest ∙ asked_reads None own
-    ∙ (λ i. record (asked own.grants) { reads = if_none (grant_of console own.grants) i }) in
-    follows around own _ (record (asked own.grants) { reads = None }) lives told
-    (record { writes = refl; reads = refl; randoms = refl; stores = refl }) (λ held. held)
-    (record { writes = refl; reads = refl; randoms = refl; stores = refl })
+    let same : after.grants ≡ without.grants = ap (λ (o : Own). o.grants) q.rest in
+    follows around own _ lives
+    (moves_one Reads (λ queue waits. cond (is_same Reads queue) false waits) own after
+    (λ queue apart. ap (asked queue) same ∙ asked_beside Reads queue apart None own)
+    (λ queue apart waits. sym (ap (λ (b : Bool). cond b false waits) apart))
+    (ap is_some (ap (asked Reads) same ∙ asked_put Reads None own ∙ if_none (grant_of console own.grants))))
+    (within_still around.storage own after (ap (asked Stores) same ∙ asked_beside Reads Stores refl None own))
+    (λ queue. refl)
 
 pub lines_follow_commands : LinesFollowCommands
 lines_follow_commands driver taker is around number a2 a3 own =
-    let before = asked own.grants in
     of_command FollowsCommand driver taker is around number a2 a3 own (record {
-      refuses = λ rule. follows around own _ before refl refl (stays before) (λ held. held)
-          (record { writes = refl; reads = refl; randoms = refl; stores = refl });
-      replies = λ reply. follows around own _ before refl refl (stays before) (λ held. held)
-          (record { writes = refl; reads = refl; randoms = refl; stores = refl });
-      lights = λ led switch. follows around own _ before refl refl (stays before) (λ held. held)
-          (record { writes = refl; reads = refl; randoms = refl; stores = refl });
-      shows = λ is. follows around own _ before refl refl (stays before) (λ held. held)
-          (record { writes = refl; reads = refl; randoms = refl; stores = refl });
+      refuses = λ rule. follows around own _ refl (λ queue. refl) (λ held. held) (λ queue. refl);
+      replies = λ reply. follows around own _ refl (λ queue. refl) (λ held. held) (λ queue. refl);
+      lights = λ led switch. follows around own _ refl (λ queue. refl) (λ held. held) (λ queue. refl);
+      shows = λ is. follows around own _ refl (λ queue. refl) (λ held. held) (λ queue. refl);
       arms = λ alarm room.
-          follows around own _ before refl (arms_apart (Some alarm) (own_entering alarm_driver own)
-          ∙ asked_still alarm_driver own.grants) (stays before) (λ held. held)
-          (record { writes = refl; reads = refl; randoms = refl; stores = refl });
-      stops = follows around own _ before refl (arms_apart None own) (stays before) (λ held. held)
-          (record { writes = refl; reads = refl; randoms = refl; stores = refl });
+          let same = λ (queue : QueueName). arms_apart queue (Some alarm) (own_entering alarm_driver own)
+          ∙ asked_still queue alarm_driver own.grants in
+          follows around own _ refl (λ queue. ap is_some (same queue))
+          (within_still around.storage own (with_alarm (Some alarm) (own_entering alarm_driver own)) (same Stores)) (λ queue. refl);
+      stops = follows around own _ refl (λ queue. ap is_some (arms_apart queue None own))
+          (within_still around.storage own (with_alarm None own) (arms_apart Stores None own)) (λ queue. refl);
       cancels = cancels around own;
-      writes = λ request room none. follows around own _ _ refl (entered_writes (Some request) own)
-          (record { writes = refl; reads = refl; randoms = refl; stores = refl }) (λ held. held)
-          (record { writes = not_yet console_writes own none; reads = refl; randoms = refl; stores = refl });
-      reads = λ request room none.
-          follows around own _ _ refl (entered_reads (Some request) own)
-          (record { writes = refl; reads = refl; randoms = refl; stores = refl }) (λ held. held)
-          (record { writes = refl; reads = not_yet console_reads own none; randoms = refl; stores = refl });
-      draws = λ request room none.
-          follows around own _ _ refl (entered_randoms (Some request) own)
-          (record { writes = refl; reads = refl; randoms = refl; stores = refl }) (λ held. held)
-          (record { writes = refl; reads = refl; randoms = not_yet randoms own none; stores = refl });
-      stores = λ request fits room none. follows around own _ _ refl (entered_stores (Some request) own)
-          (record { writes = refl; reads = refl; randoms = refl; stores = refl }) (λ held. fits)
-          (record { writes = refl; reads = refl; randoms = refl; stores = not_yet storages own none });
+      writes = λ request room none. begins_beside around Writes request own refl none;
+      reads = λ request room none. begins_beside around Reads request own refl none;
+      draws = λ request room none. begins_beside around Randoms request own refl none;
+      stores = λ request fits room none. begins around Stores request own none
+          (λ held. subst (λ (q : Option (RequestOf Stores)). IfSome q (λ r. r.offset + r.length ≤ around.storage))
+          (sym (entered_put Stores (Some request) own)) fits);
     })

@@ -1,58 +1,69 @@
 -- Who waits, by what is asked for before and after.
-use Rattle.std.proofs.Common.{◌≡◌, ◌≤◌, ℕ, ◌+◌, Bool, true, false, cond, Option, None, is_some, IfSome, refl, ap, sym}
-use Rattle.std.proofs.Common.{◌∙◌, subst}
-use Rattle.grant_values.specs.declared.storage.StorageRequest.{StorageRequest}
+use Rattle.std.proofs.Common.{◌≡◌, ◌≤◌, ℕ, zero, suc, ◌+◌, Bool, true, false, cond, Option, None, is_some, IfSome, refl, ap, sym}
+use Rattle.std.proofs.Common.{◌∙◌, subst, eqb-true, eq-eqb}
 use Rattle.process_model.specs.Own.{Own}
-use Rattle.driver_model.specs.Commands.{QueueName, Writes, Reads, Randoms, Stores}
-use Rattle.driver_model.specs.Requests.{RequestKind, request_in}
-use Rattle.driver_model.specs.Console.{console_reads, console_writes}
-use Rattle.driver_model.specs.Random.{randoms}
-use Rattle.driver_model.specs.Storage.{storages}
-use Rattle.driver_model.specs.Lines.{IsWithin, OfEachRequestKind, has_waiting}
-use Rattle.driver_model.proofs.Asked.{Asked, asked}
+use Rattle.driver_model.specs.Commands.{QueueName, Writes, Reads, Randoms, Stores, is_same, order_of}
+use Rattle.driver_model.specs.Requests.{request_in}
+use Rattle.driver_model.specs.Lines.{IsWithin, RequestOf, has_waiting, kind_in}
 
--- of each kind of request one asks after something as a rule says, by whether it did before
-pub record Moves (rule : QueueName → Bool → Bool) (before after : Asked) : Type 0 where
-  pub writes : is_some after.writes ≡ rule Writes (is_some before.writes)
-  pub reads : is_some after.reads ≡ rule Reads (is_some before.reads)
-  pub randoms : is_some after.randoms ≡ rule Randoms (is_some before.randoms)
-  pub stores : is_some after.stores ≡ rule Stores (is_some before.stores)
+-- each queue has its place in the order
+pub same_queue : (here queue : QueueName) → is_same here queue ≡ true → here ≡ queue
+same_queue here queue e =
+    sym (there here) ∙ ap queue_at (eqb-true (order_of here) (order_of queue) e) ∙ there queue
+  where
+    queue_at : ℕ → QueueName
+    queue_at zero = Writes
+    queue_at (suc zero) = Reads
+    queue_at (suc (suc zero)) = Randoms
+    queue_at (suc (suc (suc n))) = Stores
 
--- nothing is asked for, and nothing given up
-pub stays : (before : Asked) → Moves (λ line waits. waits) before before
-stays before = record { writes = refl; reads = refl; randoms = refl; stores = refl }
+    there : (q : QueueName) → queue_at (order_of q) ≡ q
+    there Writes = refl
+    there Reads = refl
+    there Randoms = refl
+    there Stores = refl
 
-module _ (rule : QueueName → Bool → Bool) (own o : Own) (after : Asked) (lives : o.lives ≡ own.lives)
-    (is : asked o.grants ≡ after) where
-  at : {R : Type 0} (request_kind : RequestKind R) (request : Option R)
-      → (own.lives ≡ false → rule request_kind.line false ≡ false) → request_in request_kind o ≡ request
-      → is_some request ≡ rule request_kind.line (is_some (request_in request_kind own))
-      → has_waiting request_kind o ≡ rule request_kind.line (has_waiting request_kind own)
-  at request_kind request ended told moves =
-      ap (λ (b : Bool). is_some (cond b (request_in request_kind o) None)) lives ∙ by_lives own.lives refl
-    where
-      by_lives : (b : Bool) → own.lives ≡ b
-          → is_some (cond b (request_in request_kind o) None)
-          ≡ rule request_kind.line (is_some (cond b (request_in request_kind own) None))
-      by_lives true e = ap is_some told ∙ moves
-      by_lives false e = sym (ended e)
+pub same_here : (queue : QueueName) → is_same queue queue ≡ true
+same_here queue = eq-eqb (order_of queue) (order_of queue) refl
 
-  -- then it waits as the rule says, where none begins to wait that has ended
-  pub each_waits : ((line : QueueName) → own.lives ≡ false → rule line false ≡ false)
-      → Moves rule (asked own.grants) after
-      → OfEachRequestKind (λ R request_kind.
-      has_waiting request_kind o ≡ rule request_kind.line (has_waiting request_kind own))
-  each_waits ended moves = record {
-    writes = at console_writes after.writes (ended Writes) (ap (λ (a : Asked). a.writes) is) moves.writes;
-    reads = at console_reads after.reads (ended Reads) (ap (λ (a : Asked). a.reads) is) moves.reads;
-    randoms = at randoms after.randoms (ended Randoms) (ap (λ (a : Asked). a.randoms) is) moves.randoms;
-    stores = at storages after.stores (ended Stores) (ap (λ (a : Asked). a.stores) is) moves.stores;
-  }
+-- in each queue one asks after something as a rule says, by whether it did before
+abbrev pub Moves : (QueueName → Bool → Bool) → Own → Own → Type 0
+Moves rule own o = (queue : QueueName)
+    → is_some (request_in (kind_in queue) o) ≡ rule queue (is_some (request_in (kind_in queue) own))
 
--- a request that is kept lies in so many bytes
-abbrev pub LiesWithin : ℕ → Option StorageRequest → Type 0
-LiesWithin size request = IfSome request (λ r. r.offset + r.length ≤ size)
+-- the same is asked for in each queue, or in all but one
+abbrev pub AsksBeside : QueueName → Own → Own → Type 0
+AsksBeside here own o = (queue : QueueName) → is_same here queue ≡ false
+    → request_in (kind_in queue) o ≡ request_in (kind_in queue) own
 
-pub is_within : (size : ℕ) (o : Own) (after : Asked) → asked o.grants ≡ after → LiesWithin size after.stores
-    → IsWithin size o
-is_within size o after is lies = subst (λ (a : Asked). LiesWithin size a.stores) (sym is) lies
+-- the rule of a queue is that of all others: one waits as before
+pub moves_one : (here : QueueName) (rule : QueueName → Bool → Bool) (own o : Own) → AsksBeside here own o
+    → ((queue : QueueName) → is_same here queue ≡ false → (waits : Bool) → waits ≡ rule queue waits)
+    → is_some (request_in (kind_in here) o) ≡ rule here (is_some (request_in (kind_in here) own)) → Moves rule own o
+moves_one here rule own o beside stays moves queue = by_test (is_same here queue) refl
+  where
+    by_test : (b : Bool) → is_same here queue ≡ b
+        → is_some (request_in (kind_in queue) o) ≡ rule queue (is_some (request_in (kind_in queue) own))
+    by_test true e =
+        subst (λ (q : QueueName). is_some (request_in (kind_in q) o) ≡ rule q (is_some (request_in (kind_in q) own)))
+        (same_queue here queue e) moves
+    by_test false e = ap is_some (beside queue e) ∙ stays queue e (is_some (request_in (kind_in queue) own))
+
+-- then it waits as the rule says, where none begins to wait that has ended
+pub each_waits : (rule : QueueName → Bool → Bool) (own o : Own) → o.lives ≡ own.lives
+    → ((queue : QueueName) → own.lives ≡ false → rule queue false ≡ false) → Moves rule own o
+    → (queue : QueueName) → has_waiting queue o ≡ rule queue (has_waiting queue own)
+each_waits rule own o lives ended moves queue =
+    ap (λ (b : Bool). is_some (cond b (request_in (kind_in queue) o) None)) lives ∙ by_lives own.lives refl
+  where
+    by_lives : (b : Bool) → own.lives ≡ b
+        → is_some (cond b (request_in (kind_in queue) o) None)
+        ≡ rule queue (is_some (cond b (request_in (kind_in queue) own) None))
+    by_lives true e = moves queue
+    by_lives false e = sym (ended queue e)
+
+-- a storage request that is kept as before lies in as many bytes
+pub within_still : (size : ℕ) (own o : Own) → request_in (kind_in Stores) o ≡ request_in (kind_in Stores) own
+    → IsWithin size own → IsWithin size o
+within_still size own o same =
+    subst (λ (q : Option (RequestOf Stores)). IfSome q (λ r. r.offset + r.length ≤ size)) (sym same)

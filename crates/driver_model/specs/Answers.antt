@@ -8,7 +8,7 @@ use Rattle.driver_model.specs.Console as console
 use Rattle.driver_model.specs.Random as random
 use Rattle.driver_model.specs.Storage as storage
 use Rattle.driver_model.specs.Laws.{IsAtMostOneMore}
-use Rattle.driver_model.specs.Lines.{IsWithin, OfEachRequestKind, has_waiting}
+use Rattle.driver_model.specs.Lines.{IsWithin, has_waiting}
 
 -- a device's answer may change the bytes of a process, its grants, what waits to be delivered and the count of dropped
 -- upcalls; where it lies, its life, and that it lives, stay
@@ -20,8 +20,7 @@ Remains own o = o ≡ record own { ram = o.ram; grants = o.grants; inbox = o.inb
 pub record FollowsAnswer (left : QueueName → Bool) (own o : Own) : Type 0 where
   pub rest : Remains own o
   pub dropped : IsAtMostOneMore own.inbox.dropped o.inbox.dropped
-  pub lines : OfEachRequestKind (λ R request_kind.
-      has_waiting request_kind o ≡ (if left request_kind.line then false else has_waiting request_kind own))
+  pub lines : (queue : QueueName) → has_waiting queue o ≡ (if left queue then false else has_waiting queue own)
   pub within : (size : ℕ) → IsWithin size own → IsWithin size o
 
 -- whether a process left a list by the answer to its request in one, which completed or did not

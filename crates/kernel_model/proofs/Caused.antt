@@ -1,5 +1,5 @@
 -- The cause of each change that a step makes of a process's bytes, among its labels.
-use Rattle.std.proofs.Common.{◌≡◌, ◌⊎◌, inl, inr, ℕ, zero, suc, ◌++◌, ◌==◌, Bool, true, false, List, [], ◌∷◌, slice_get}
+use Rattle.std.proofs.Common.{slice_set, ◌≡◌, ◌⊎◌, inl, inr, ℕ, zero, suc, ◌++◌, ◌==◌, Bool, true, false, List, [], ◌∷◌, slice_get}
 use Rattle.std.proofs.Common.{slice_index, Option, None, Some, IfSome, is_some, refl, sym, ap, subst, ◌∙◌, arith, eqb-true}
 use Rattle.std.proofs.Common.{eq-eqb}
 use Rattle.std.proofs.Math.Logic.{⊎_map}
@@ -15,8 +15,8 @@ use Rattle.driver_model.specs.Bytes.{AnswersWriteInBuffers}
 use Rattle.process_record.specs.declared.emit.CallMade.{CallMade}
 use Rattle.kernel_model.specs.Record.{Record}
 use Rattle.kernel_model.specs.Turn.{Event, Turned, apply, turned}
-use Rattle.kernel_model.specs.World.{Answer, Answered, DeviceStep, Label, Stepped, TurnOf, World, after, carried_out}
-use Rattle.kernel_model.specs.World.{device_step_of, done, labels, labels_of, printing, ran, records_after, stepped}
+use Rattle.kernel_model.specs.World.{Answered, DeviceAnswer, Label, Stepped, TurnOf, World, after, carried_out}
+use Rattle.kernel_model.specs.World.{labels, printing, ran, stepped}
 use Rattle.kernel_model.specs.World.{unmade}
 use Rattle.kernel_model.specs.Run.{next, on_choice, round, stays as stays_at, runs_on}
 use Rattle.kernel_model.specs.Stretch.{IsQuietTurn}
@@ -24,9 +24,10 @@ use Rattle.kernel_model.specs.Replay.{chosen, events, replay}
 use Rattle.kernel_model.specs.Causes.{AllHaveCauses, AnswerHasCauses, EachChangeHasACause, IsCause, IsDoneByTurn}
 use Rattle.kernel_model.specs.Causes.{IsStorageCause, StepsHaveCauses, StorageChangesAt, TurnHasCauses, TurnsHaveCauses}
 use Rattle.kernel_model.proofs.Answered.{answer_has_causes}
-use Rattle.kernel_model.proofs.Places.{of_stepped, ran-other, ran-own, told-other, told-own}
+use Rattle.kernel_model.proofs.Places.{of_stepped, ran-other, ran-own, set_own, slice_get-set_other}
+use Rattle.kernel_model.proofs.Told.{answered}
 use Rattle.kernel_model.proofs.Replays.{one_step}
-use Rattle.kernel_model.proofs.Steps.{IsAnswer, TellsNoTurn, deed_tells}
+use Rattle.kernel_model.proofs.Steps.{IsAnswer, of_answers}
 
 -- two records at one place are one
 same_record : (o : Option Record) (x y : Record) → o ≡ Some x → o ≡ Some y → x ≡ y
@@ -77,30 +78,31 @@ module _ (w : World) (slot : ℕ) (r : Record) (is : slice_get w.records slot �
           (same_record _ r q is at_slot) (turn same_is)))
       by_slot false e_is = at_record _ r s _ (ran-other w other slot (Some q) (apart other slot e_is) ∙ is) f (stays _)
 
-  of_told : ByAnswer → (deed : DeviceStep) (o : Option Answer) → IfSome o (λ a. IsAnswer a.event) → (s : Record)
-      → slice_get (records_after w o) slot ≡ Some s → P (labels_of deed o) s
-  of_told answer deed None tells s f = at_record [] r s _ is f (stays [])
-  of_told answer deed (Some a) tells s f = by_slot (a.slot == slot) refl
+  of_one : ByAnswer → (at : ℕ) (q : Record) → slice_get w.records at ≡ Some q → (a : DeviceAnswer)
+      → IsAnswer a.answer.event → Leads (answered w at q a)
+  of_one answer at q there a tells s f = by_slot (at == slot) refl
     where
+      event : Event
+      event = a.answer.event
+
       rest : List Label
-      rest = printing a.slot deed.printed
+      rest = printing at a.answer.printed
 
-      by_slot : (b : Bool) → (a.slot == slot) ≡ b → P (Answered a.slot a.event ∷ rest) s
+      records : List Record
+      records = slice_set w.records at (apply w.settings event q)
+
+      by_slot : (b : Bool) → (at == slot) ≡ b → P (Answered at event ∷ rest) s
       by_slot true same_is =
-          let same : a.slot ≡ slot = eqb-true a.slot slot same_is in
-          let left : slice_get (records_after w (Some a)) slot ≡ Some (apply w.settings a.event r)
-          = ap (slice_get (records_after w (Some a))) (sym same) ∙ told-own w a (slice_get w.records a.slot) refl
-          ∙ ap (λ (n : ℕ). option_map (apply w.settings a.event) (slice_get w.records n)) same
-          ∙ ap (option_map (apply w.settings a.event)) is in
-          subst (λ (n : ℕ). P (Answered n a.event ∷ rest) s) (sym same)
-          (at_record (Answered slot a.event ∷ rest) (apply w.settings a.event r) s _ left f
-          (answer a.event rest tells))
+          let same : at ≡ slot = eqb-true at slot same_is in
+          let at_slot : slice_get w.records slot ≡ Some q = ap (slice_get w.records) (sym same) ∙ there in
+          let left : slice_get records slot ≡ Some (apply w.settings event r) =
+          ap (slice_get records) (sym same) ∙ set_own w.records at (apply w.settings event q) q there
+          ∙ ap (λ (x : Record). Some (apply w.settings event x)) (sym (same_record _ r q is at_slot)) in
+          subst (λ (n : ℕ). P (Answered n event ∷ rest) s) (sym same)
+          (at_record (Answered slot event ∷ rest) (apply w.settings event r) s _ left f (answer event rest tells))
       by_slot false e =
-          at_record _ r s _ (told-other w a slot (slice_get w.records a.slot) (apart a.slot slot e) ∙ is) f (stays _)
-
-  of_done : ByAnswer → (o : Option DeviceStep) → TellsNoTurn o → Leads (done w o)
-  of_done answer None tells s f = at_record [] r s _ is f (stays [])
-  of_done answer (Some deed) tells s f = of_told answer deed deed.told tells s f
+          at_record _ r s _
+          (slice_get-set_other w.records at slot (apply w.settings event q) (apart at slot e) ∙ is) f (stays _)
 
   of_none : Leads (unmade w)
   of_none s f = at_record [] r s _ is f (stays [])
@@ -115,7 +117,7 @@ module _ (w : World) (slot : ℕ) (r : Record) (is : slice_get w.records slot �
   of_step turn answer (Run other) = of_run other (λ same. turn)
   of_step turn answer (Device device) =
       of_stepped Leads w (Device device) of_none
-      (λ ready. of_done answer (device_step_of w device) (deed_tells w device))
+      (λ ready. of_answers w Leads of_none (λ devices. of_none) (of_one answer) device)
   of_step turn answer (Pass ticks) = of_stepped Leads w (Pass ticks) of_none (λ ready. of_none)
 
 -- the first of some labels has the cause

@@ -1,10 +1,11 @@
 -- Time, steps and turns add up, choice by choice.
-use Rattle.std.proofs.Common.{◌≡◌, ◌<◌, ℕ, zero, suc, ◌+◌, ◌==◌, Bool, true, false, not, ◌&&◌, nat_lt, List, [], ◌∷◌}
+use Rattle.std.proofs.Common.{◌≡◌, ◌<◌, ℕ, zero, suc, ◌+◌, ◌==◌, Bool, true, false, cond, not, ◌&&◌, nat_lt, List, [], ◌∷◌}
 use Rattle.std.proofs.Common.{◌++◌, length, slice_get, slice_set, Option, None, Some, IfSome, is_some, refl, sym, ap}
 use Rattle.std.proofs.Common.{subst, ◌∙◌, arith}
 use Rattle.std.specs.Prelude.{All}
 use Rattle.std.specs.Option.{option_map}
 use Rattle.std.proofs.lemmas.Bool.{false≢true}
+use Rattle.std.proofs.lemmas.List.{length-map}
 use Rattle.std.proofs.lemmas.Option.{slice_get_within}
 use Rattle.std.proofs.lemmas.List.Elements.{All-nil, All-cons, All-append, All-filter, All-head}
 use Rattle.tk_base.specs.declared.limits.TheConstants.{STEP_LIMIT}
@@ -16,24 +17,27 @@ use Rattle.board_devices.specs.Arriving.{is_time}
 use Rattle.script_text.specs.Settings.{ScriptEvent as Arrival}
 use Rattle.process_model.specs.Own.{Own}
 use Rattle.driver_model.specs.Alarm.{due_slot}
-use Rattle.driver_model.specs.Commands.{BoardRequest, Waits, Leaves, Lights, Writes, Reads, Randoms, Stores}
+use Rattle.driver_model.specs.Laws.{DueSlotIsThere}
+use Rattle.driver_model.specs.Commands.{BoardRequest, Waits, Leaves, Lights, QueueName, Writes, Reads, Randoms, Stores}
+use Rattle.driver_model.specs.Commands.{is_same}
 use Rattle.driver_model.specs.Services.{OfEachService}
 use Rattle.kernel_model.specs.Record.{Record}
 use Rattle.kernel_model.specs.declared.settings.Settings.{Settings}
 use Rattle.kernel_model.specs.Calls.{restart}
 use Rattle.kernel_model.specs.Turn.{Event, apply, may_turn, turned}
-use Rattle.kernel_model.specs.World.{Answer, DeviceStep, Devices, Stepped, World, acted, after, alarmed, arrived}
-use Rattle.kernel_model.specs.World.{can_act, can_run, carried_out, device_step_of, done, random_step, first_waiting}
-use Rattle.kernel_model.specs.World.{is_ready, is_waited_for, queue_after_answer, may_be_made, now_in, owns_in, ran}
-use Rattle.kernel_model.specs.World.{receive_step, records_after, routed, storing, told_to, transmitting, queue_without}
+use Rattle.kernel_model.specs.World.{DeviceAnswer, DeviceStep, Devices, Stepped, World, acted, after, alarmed, answering}
+use Rattle.kernel_model.specs.World.{arrived, can_act, can_run, carried_out, device_step_of, done, is_ready}
+use Rattle.kernel_model.specs.World.{is_waited_for, may_be_made, now_in, owns_in, queue_after_answer, queue_without, ran}
+use Rattle.kernel_model.specs.World.{random_step, receive_step, routed, serving, slots_in, storing, transmitting}
+use Rattle.kernel_model.specs.World.{with_queue}
 use Rattle.kernel_model.specs.Choices.{are_ready}
 use Rattle.kernel_model.specs.Replay.{after_all}
 use Rattle.kernel_model.specs.Counts.{AddsUp, CountsAddUp, WaitingAreThere, ticks_passed, turns_made, turns_of_all}
 use Rattle.kernel_model.proofs.Changes.{IsKept, after_turn}
 use Rattle.kernel_model.proofs.Lives.{restart_by}
-use Rattle.kernel_model.proofs.Steps.{IsAnswer, TellsNoTurn, answer_changes, deed_tells}
+use Rattle.kernel_model.proofs.Steps.{IsAnswer, answer_changes, of_answers}
 use Rattle.kernel_model.proofs.Turns.{step_same}
-use Rattle.kernel_model.proofs.Places.{stepped_ready}
+use Rattle.kernel_model.proofs.Places.{queue_with, stepped_ready}
 
 -- a turn counts, where it can be had
 abbrev Any : Own → Own → Type 0
@@ -96,11 +100,8 @@ turns_set (x ∷ rs) zero r s is =
 turns_set (x ∷ rs) (suc i) r s is = let rest = turns_set rs i r s is in omega (arith, rest)
 
 -- who waits is there
-record AreThere (n : ℕ) (d : Devices) : Type 0 where
-  writes : All (λ slot. slot < n) d.writes
-  reads : All (λ slot. slot < n) d.reads
-  randoms : All (λ slot. slot < n) d.randoms
-  stores : All (λ slot. slot < n) d.stores
+abbrev AreThere : ℕ → Devices → Type 0
+AreThere n d = (queue : QueueName) → All (λ slot. slot < n) (slots_in queue d.waiting)
 
 joins : (n slot : ℕ) (line : List ℕ) → slot < n → All (λ s. s < n) line → All (λ s. s < n) (line ++ slot ∷ [])
 joins n slot line less all =
@@ -114,25 +115,22 @@ left : (n slot : ℕ) (completed : Bool) (line : List ℕ) → All (λ s. s < n)
 left n slot true line all = leaves n slot line all
 left n slot false line all = all
 
+-- where one queue changes
+queue_there : (n : ℕ) (name : QueueName) (change : List ℕ → List ℕ) (d : Devices)
+    → ((slots : List ℕ) → All (λ slot. slot < n) slots → All (λ slot. slot < n) (change slots)) → AreThere n d
+    → AreThere n (with_queue name change d)
+queue_there n name change d all h queue =
+    subst (All (λ slot. slot < n)) (sym (queue_with queue name change d)) (by_test (is_same name queue))
+  where
+    by_test : (b : Bool) → All (λ slot. slot < n) (cond b (change (slots_in queue d.waiting)) (slots_in queue d.waiting))
+    by_test true = all (slots_in queue d.waiting) (h queue)
+    by_test false = h queue
+
 acted_there : (n slot : ℕ) (act : BoardRequest) (d : Devices) → slot < n → AreThere n d → AreThere n (acted slot act d)
-acted_there n slot (Waits Writes) d less h =
-    record { writes = joins n slot d.writes less h.writes; reads = h.reads; randoms = h.randoms; stores = h.stores }
-acted_there n slot (Waits Reads) d less h =
-    record { writes = h.writes; reads = joins n slot d.reads less h.reads; randoms = h.randoms; stores = h.stores }
-acted_there n slot (Waits Randoms) d less h =
-    record { writes = h.writes; reads = h.reads; randoms = joins n slot d.randoms less h.randoms; stores = h.stores }
-acted_there n slot (Waits Stores) d less h =
-    record { writes = h.writes; reads = h.reads; randoms = h.randoms; stores = joins n slot d.stores less h.stores }
-acted_there n slot (Leaves Writes) d less h =
-    record { writes = leaves n slot d.writes h.writes; reads = h.reads; randoms = h.randoms; stores = h.stores }
-acted_there n slot (Leaves Reads) d less h =
-    record { writes = h.writes; reads = leaves n slot d.reads h.reads; randoms = h.randoms; stores = h.stores }
-acted_there n slot (Leaves Randoms) d less h =
-    record { writes = h.writes; reads = h.reads; randoms = leaves n slot d.randoms h.randoms; stores = h.stores }
-acted_there n slot (Leaves Stores) d less h =
-    record { writes = h.writes; reads = h.reads; randoms = h.randoms; stores = leaves n slot d.stores h.stores }
-acted_there n slot (Lights led switch) d less h =
-    record { writes = h.writes; reads = h.reads; randoms = h.randoms; stores = h.stores }
+acted_there n slot (Waits queue) d less h =
+    queue_there n queue (λ slots. slots ++ slot ∷ []) d (λ slots. joins n slot slots less) h
+acted_there n slot (Leaves queue) d less h = queue_there n queue (queue_without slot) d (leaves n slot) h
+acted_there n slot (Lights led switch) d less h = h
 
 routed_there : (n slot : ℕ) (acts : List BoardRequest) (d : Devices) → slot < n → AreThere n d
     → AreThere n (routed slot acts d)
@@ -150,21 +148,28 @@ not_none [] i less e = omega (arith, less)
 not_none (x ∷ xs) zero less e = cc
 not_none (x ∷ xs) (suc i) less e = not_none xs i (omega (arith, less)) e
 
-module _ (w : World) (h : AreThere (length w.records) w.devices) where
+module _ (law : DueSlotIsThere) (w : World) (h : AreThere (length w.records) w.devices) where
   n : ℕ
   n = length w.records
 
-  first_made : (make : World → ℕ → Record → DeviceStep) (line : List ℕ) → All (λ s. s < length w.records) line
-      → is_waited_for line ≡ true → ((slot : ℕ) (r : Record) → AreThere (length w.records) (make w slot r).devices)
-      → IsMade (length w.records) (first_waiting make w line)
+  made_there : (make : ℕ → Record → DeviceAnswer) (slot : ℕ) → slot < length w.records
+      → ((slot : ℕ) (r : Record) → AreThere (length w.records) (make slot r).devices)
+      → IsMade (length w.records) (serving w make (Some slot))
   unfolding IsMade
-  first_made make [] all waits each = false≢true waits
-  first_made make (slot ∷ rest) all waits each = by_record (slice_get w.records slot) refl
+  made_there make slot there each = by_record (slice_get w.records slot) refl
     where
       by_record : (o : Option Record) → slice_get w.records slot ≡ o
-          → IsMade (length w.records) (option_map (make w slot) o)
-      by_record None e = not_none w.records slot (All-head (λ s. s < length w.records) slot rest all) e
+          → IsMade (length w.records) (option_map (λ (r : Record). answering slot (make slot r)) o)
+      by_record None e = not_none w.records slot there e
       by_record (Some r) e = each slot r
+
+  first_made : (make : ℕ → Record → DeviceAnswer) (line : List ℕ) → All (λ s. s < length w.records) line
+      → is_waited_for line ≡ true → ((slot : ℕ) (r : Record) → AreThere (length w.records) (make slot r).devices)
+      → IsMade (length w.records) (serving w make (slice_get line 0))
+  unfolding IsMade
+  first_made make [] all waits each = false≢true waits
+  first_made make (slot ∷ rest) all waits each =
+      made_there make slot (All-head (λ s. s < length w.records) slot rest all) each
 
   both : (a b : Bool) → (a && b) ≡ true → a ≡ true
   both true b e = refl
@@ -174,66 +179,44 @@ module _ (w : World) (h : AreThere (length w.records) w.devices) where
       → IsMade (length w.records) (arrived w.devices arrivals)
   unfolding IsMade
   arrival_made [] e = false≢true e
-  arrival_made (a ∷ rest) e = record { writes = h.writes; reads = h.reads; randoms = h.randoms; stores = h.stores }
+  arrival_made (a ∷ rest) e = h
 
-  alarm_made : (due : Option ℕ) → is_some due ≡ true → IsMade (length w.records) (option_map (alarmed w) due)
+  alarm_made : (due : Option ℕ) → ((slot : ℕ) → due ≡ Some slot → slot < length w.records) → is_some due ≡ true
+      → IsMade (length w.records) (serving w (λ slot r. alarmed w.settings w.clock.time w.devices) due)
   unfolding IsMade
-  alarm_made None e = false≢true e
-  alarm_made (Some slot) e = h
+  alarm_made None there e = false≢true e
+  alarm_made (Some slot) there e =
+      made_there (λ slot r. alarmed w.settings w.clock.time w.devices) slot (there slot refl) (λ slot r. h)
+
+  left_there : (name : QueueName) (slot : ℕ) (completed : Bool)
+      → AreThere (length w.records) (with_queue name (queue_after_answer completed slot) w.devices)
+  left_there name slot completed =
+      queue_there (length w.records) name (queue_after_answer completed slot) w.devices
+      (left (length w.records) slot completed) h
 
   deed_made : (device : Dev) → can_act w device ≡ true → IsMade (length w.records) (device_step_of w device)
   deed_made dev.Event e = arrival_made w.devices.arrivals e
-  deed_made dev.Alarm e = alarm_made (due_slot (now_in w) (owns_in w)) e
+  deed_made dev.Alarm e =
+      alarm_made (due_slot (now_in w) (owns_in w))
+      (λ slot due. omega (arith, law (now_in w) slot (owns_in w) due, length-map w.records (λ r. r.own))) e
   deed_made dev.Uart e =
-      first_made transmitting w.devices.writes h.writes (both _ _ e)
-      (λ slot r. record {
-        writes = left _ slot _ w.devices.writes h.writes;
-        reads = h.reads;
-        randoms =
-            h.randoms;
-        stores = h.stores;
-      })
+      first_made (transmitting w.clock.time w.devices) (slots_in Writes w.devices.waiting) (h Writes) (both _ _ e) (λ slot r. left_there Writes slot _)
   deed_made dev.Receive e =
-      first_made receive_step w.devices.reads h.reads (both _ _ e)
-      (λ slot r. record {
-        writes = h.writes;
-        reads = left _ slot _ w.devices.reads h.reads;
-        randoms =
-            h.randoms;
-        stores = h.stores;
-      })
+      first_made (receive_step w.devices) (slots_in Reads w.devices.waiting) (h Reads) (both _ _ e) (λ slot r. left_there Reads slot _)
   deed_made dev.Random e =
-      first_made random_step w.devices.randoms h.randoms e
-      (λ slot r. record {
-        writes = h.writes;
-        reads = h.reads;
-        randoms =
-            left _ slot _ w.devices.randoms h.randoms;
-        stores = h.stores;
-      })
+      first_made (random_step w.devices) (slots_in Randoms w.devices.waiting) (h Randoms) e (λ slot r. left_there Randoms slot _)
   deed_made dev.Store e =
-      first_made storing w.devices.stores h.stores e
-      (λ slot r. record {
-        writes = h.writes;
-        reads = h.reads;
-        randoms = h.randoms;
-        stores =
-            left _ slot _ w.devices.stores h.stores;
-      })
+      first_made (storing w.devices) (slots_in Stores w.devices.waiting) (h Stores) e (λ slot r. left_there Stores slot _)
 
 -- an answer leaves the turns
-told_turns : (w : World) (o : Option Answer) → IfSome o (λ a. IsAnswer a.event)
-    → turns_of_all (records_after w o) ≡ turns_of_all w.records
-told_turns w None is = refl
-told_turns w (Some a) is = by_record (slice_get w.records a.slot) refl
-  where
-    by_record : (o : Option Record) → slice_get w.records a.slot ≡ o
-        → turns_of_all (told_to w a o) ≡ turns_of_all w.records
-    by_record None e = refl
-    by_record (Some r) e =
-        let set = turns_set w.records a.slot r (apply w.settings a.event r) e in
-        let same = answer_counts w.settings a.event r is in
-        omega (arith, set, same)
+told_turns : (w : World) (device : Dev)
+    → turns_of_all (done w (device_step_of w device)).after.records ≡ turns_of_all w.records
+told_turns w device =
+    of_answers w (λ (s : Stepped). turns_of_all s.after.records ≡ turns_of_all w.records) refl (λ devices. refl)
+    (λ slot r there a is.
+    let set = turns_set w.records slot r (apply w.settings a.answer.event r) there in
+    let same = answer_counts w.settings a.answer.event r is in
+    omega (arith, set, same)) device
 
 -- one choice
 record OneMore (w : World) (turns ticks : ℕ) (v : World) : Type 0 where
@@ -261,17 +244,18 @@ run_more w slot h can = by_record (slice_get w.records slot) refl can
           waiting = routed_there (length w.records) slot t.acts w.devices (slice_get_within w.records slot r e) h;
         }
 
-device_more : (w : World) (device : Dev) → AreThere (length w.records) w.devices → can_act w device ≡ true
-    → OneMore w 0 0 (carried_out w (Device device)).after
+device_more : DueSlotIsThere → (w : World) (device : Dev) → AreThere (length w.records) w.devices
+    → can_act w device ≡ true → OneMore w 0 0 (carried_out w (Device device)).after
 unfolding carried_out IsMade
-device_more w device h can = by_deed (device_step_of w device) (deed_made w h device can) (deed_tells w device)
+device_more law w device h can = by_deed (device_step_of w device) (deed_made law w h device can) (told_turns w device)
   where
-    by_deed : (o : Option DeviceStep) → IsMade (length w.records) o → TellsNoTurn o → OneMore w 0 0 (done w o).after
-    by_deed None made tells = absurd made
-    by_deed (Some deed) made tells = record {
+    by_deed : (o : Option DeviceStep) → IsMade (length w.records) o
+        → turns_of_all (done w o).after.records ≡ turns_of_all w.records → OneMore w 0 0 (done w o).after
+    by_deed None made same = absurd made
+    by_deed (Some deed) made same = record {
       time = omega arith;
       steps = refl;
-      sum = let same = told_turns w deed.told tells in omega (arith, same);
+      sum = omega (arith, same);
       waiting = made;
     }
 
@@ -291,13 +275,8 @@ both_true true true e = (refl, refl)
 both_true true false e = absurd (false≢true e)
 both_true false b e = absurd (false≢true e)
 
-there_in : (w : World) → WaitingAreThere w → AreThere (length w.records) w.devices
-there_in w h = record { writes = h.writes; reads = h.reads; randoms = h.randoms; stores = h.stores }
-
 there_after : (w : World) (c : Choice) → AreThere (length w.records) (after w c).devices → WaitingAreThere (after w c)
-there_after w c h =
-    let k = subst (λ (n : ℕ). AreThere n (after w c).devices) (sym (step_same w c).records) h in
-    record { writes = k.writes; reads = k.reads; randoms = k.randoms; stores = k.stores }
+there_after w c h = subst (λ (n : ℕ). AreThere n (after w c).devices) (sym (step_same w c).records) h
 
 -- and then some more
 adds_on : (w : World) (c : Choice) (choices : List Choice) (turns ticks : ℕ)
@@ -311,23 +290,23 @@ adds_on w c choices turns ticks made passed one rest = record {
   waiting = rest.waiting;
 }
 
-pub counts_add_up : CountsAddUp
+pub counts_add_up : DueSlotIsThere → CountsAddUp
 unfolding may_be_made
-counts_add_up w [] h ready = record { time = omega arith; steps = omega arith; turns = omega arith; waiting = h }
-counts_add_up w (Run slot ∷ choices) h ready =
+counts_add_up law w [] h ready = record { time = omega arith; steps = omega arith; turns = omega arith; waiting = h }
+counts_add_up law w (Run slot ∷ choices) h ready =
     let rest = both_true (is_ready w (Run slot)) (are_ready (after w (Run slot)) choices) ready in
     let one = ready_more w (Run slot) 1 0 rest.0
-    (run_more w slot (there_in w h) (both_true (nat_lt w.clock.steps STEP_LIMIT) _ rest.0).1) in
+    (run_more w slot h (both_true (nat_lt w.clock.steps STEP_LIMIT) _ rest.0).1) in
     adds_on w (Run slot) choices 1 0 (omega arith) (omega arith) one
-    (counts_add_up (after w (Run slot)) choices (there_after w (Run slot) one.waiting) rest.1)
-counts_add_up w (Device device ∷ choices) h ready =
+    (counts_add_up law (after w (Run slot)) choices (there_after w (Run slot) one.waiting) rest.1)
+counts_add_up law w (Device device ∷ choices) h ready =
     let rest = both_true (is_ready w (Device device)) (are_ready (after w (Device device)) choices) ready in
     let one = ready_more w (Device device) 0 0 rest.0
-    (device_more w device (there_in w h) (both_true (nat_lt w.clock.steps STEP_LIMIT) _ rest.0).1) in
+    (device_more law w device h (both_true (nat_lt w.clock.steps STEP_LIMIT) _ rest.0).1) in
     adds_on w (Device device) choices 0 0 (omega arith) (omega arith) one
-    (counts_add_up (after w (Device device)) choices (there_after w (Device device) one.waiting) rest.1)
-counts_add_up w (Pass ticks ∷ choices) h ready =
+    (counts_add_up law (after w (Device device)) choices (there_after w (Device device) one.waiting) rest.1)
+counts_add_up law w (Pass ticks ∷ choices) h ready =
     let rest = both_true (is_ready w (Pass ticks)) (are_ready (after w (Pass ticks)) choices) ready in
-    let one = ready_more w (Pass ticks) 0 ticks rest.0 (pass_more w ticks (there_in w h)) in
+    let one = ready_more w (Pass ticks) 0 ticks rest.0 (pass_more w ticks h) in
     adds_on w (Pass ticks) choices 0 ticks (omega arith) (omega arith) one
-    (counts_add_up (after w (Pass ticks)) choices (there_after w (Pass ticks) one.waiting) rest.1)
+    (counts_add_up law (after w (Pass ticks)) choices (there_after w (Pass ticks) one.waiting) rest.1)

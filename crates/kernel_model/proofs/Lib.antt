@@ -1,3 +1,4 @@
+pub mod Told
 pub mod Places
 mod Labels
 pub mod Memops

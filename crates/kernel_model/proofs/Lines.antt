@@ -1,19 +1,18 @@
 -- A process's requests, once what is its own has changed.
-use Rattle.std.proofs.Common.{◌≡◌, ℕ, Bool, true, cond, List, [], Option, None, is_some, IfSome, refl, sym, ap, ap₂}
+use Rattle.std.proofs.Common.{◌≡◌, ℕ, Bool, true, false, cond, List, [], Option, None, is_some, IfSome, refl, sym, ap, ap₂}
 use Rattle.std.proofs.Common.{subst, ◌+◌, ◌≤◌}
+use Rattle.std.proofs.lemmas.Bool.{false≢true}
 use Rattle.std.specs.Option.{option_and_then, option_map}
 use Rattle.grant_values.specs.declared.storage.StorageRequest.{StorageRequest}
 use Rattle.grant_model.specs.Grants.{Grant, grant_of}
 use Rattle.process_model.specs.Own.{Own, own_ended}
 use Rattle.syscall_abi.specs.declared.form.Swap.{Swap}
 use Rattle.driver_model.specs.Steps.{own_after}
-use Rattle.driver_model.specs.Commands.{Commanded, leaving_all}
+use Rattle.driver_model.specs.Commands.{Commanded, QueueName, Writes, Reads, Randoms, Stores, leaving_all}
 use Rattle.driver_model.specs.Drivers.{CommandContext}
 use Rattle.driver_model.specs.Laws.{StaysInPlace}
-use Rattle.driver_model.specs.Lines.{FollowsCommand, IsWithin, OnlyDriversMoveLines, has_waiting}
-use Rattle.driver_model.specs.Requests.{RequestKind, request_in}
-use Rattle.driver_model.specs.Console.{console_reads, console_writes}
-use Rattle.driver_model.specs.Random.{randoms}
+use Rattle.driver_model.specs.Lines.{FollowsCommand, IsWithin, OnlyDriversMoveLines, has_waiting, kind_in, waits_after}
+use Rattle.driver_model.specs.Requests.{request_in}
 use Rattle.driver_model.specs.Storage.{storages}
 use Rattle.kernel_model.specs.Record.{Record}
 use Rattle.kernel_model.specs.Calls.{own_swapped, restart}
@@ -27,12 +26,18 @@ pub record SameKept (own o : Own) : Type 0 where
   pub life : o.life ≡ own.life
   pub dropped : o.inbox.dropped ≡ own.inbox.dropped
 
-same_waiting : {R : Type 0} (request_kind : RequestKind R) (own o : Own) → SameKept own o
-    → has_waiting request_kind o ≡ has_waiting request_kind own
-same_waiting request_kind own o s =
-    ap₂ (λ (gs : List Grant) (b : Bool). is_some
-    (cond b (option_and_then request_kind.told (option_map (λ g. g.value) (grant_of request_kind.driver gs))) None))
+same_waiting : (queue : QueueName) (own o : Own) → SameKept own o → has_waiting queue o ≡ has_waiting queue own
+same_waiting queue own o s =
+    ap₂ (λ (gs : List Grant) (b : Bool). is_some (cond b
+    (option_and_then (kind_in queue).told (option_map (λ g. g.value) (grant_of (kind_in queue).driver gs))) None))
     s.grants s.lives
+
+-- a process that leaves all queues waits in none
+left_all : (queue : QueueName) (waits : Bool) → waits_after queue waits leaving_all ≡ false
+left_all Writes waits = refl
+left_all Reads waits = refl
+left_all Randoms waits = refl
+left_all Stores waits = refl
 
 still_within : (size : ℕ) (own o : Own) → request_in storages o ≡ request_in storages own → IsWithin size own
     → IsWithin size o
@@ -43,14 +48,9 @@ still_within size own o same within =
 -- a process of which drivers keep the same
 pub keeps_same : (size : ℕ) (own o : Own) → SameKept own o → KeepsLines size own o []
 keeps_same size own o s = record {
-  lines = record {
-    writes = same_waiting console_writes own o s;
-    reads = same_waiting console_reads own o s;
-    randoms = same_waiting randoms own o s;
-    stores = same_waiting storages own o s;
-  };
-  once = record { writes = refl; reads = refl; randoms = refl; stores = refl };
-  life = record { writes = λ e. s.life; reads = λ e. s.life; randoms = λ e. s.life; stores = λ e. s.life };
+  lines = λ queue. same_waiting queue own o s;
+  once = λ queue. refl;
+  life = λ queue e. s.life;
   within = still_within size own o (ap (λ (gs : List Grant). option_and_then storages.told
       (option_map (λ g. g.value) (grant_of storages.driver gs))) s.grants);
 }
@@ -58,9 +58,9 @@ keeps_same size own o s = record {
 -- one that ended
 pub keeps_ended : (size : ℕ) (own : Own) → KeepsLines size own (own_ended own) leaving_all
 keeps_ended size own = record {
-  lines = record { writes = refl; reads = refl; randoms = refl; stores = refl };
-  once = record { writes = refl; reads = refl; randoms = refl; stores = refl };
-  life = record { writes = λ e. refl; reads = λ e. refl; randoms = λ e. refl; stores = λ e. refl };
+  lines = λ queue. sym (left_all queue (has_waiting queue own));
+  once = λ queue. refl;
+  life = λ queue e. refl;
   within = λ h. h;
 }
 
@@ -69,15 +69,9 @@ pub keeps_restarted : (size : ℕ) (r : Record) → CanStartAgain r → KeepsLin
 keeps_restarted size r can =
     restarts (λ s. KeepsLines size r.own s.own leaving_all) r can
     (λ h m. record {
-      lines = record { writes = refl; reads = refl; randoms = refl; stores = refl };
-      once = record { writes = refl; reads = refl; randoms = refl; stores = refl };
-      life = record {
-        writes = λ e. absurd (cc);
-        reads = λ e. absurd (cc);
-        randoms = λ e. absurd (cc);
-        stores =
-            λ e. absurd (cc);
-      };
+      lines = λ queue. sym (left_all queue (has_waiting queue r.own));
+      once = λ queue. refl;
+      life = λ queue e. absurd (false≢true e);
       within = λ h. tt;
     })
 
@@ -88,9 +82,9 @@ keeps_handed law size swap own =
     let same = law.handing swap.kind swap.driver swap.number swap.pair own in
     record {
       lines = same.waiting;
-      once = record { writes = refl; reads = refl; randoms = refl; stores = refl };
-      life = record { writes = λ e. refl; reads = λ e. refl; randoms = λ e. refl; stores = λ e. refl };
-      within = still_within size own (own_swapped swap own) same.requests.stores;
+      once = λ queue. refl;
+      life = λ queue e. refl;
+      within = still_within size own (own_swapped swap own) (same.requests Stores);
     }
 
 -- one that gave a command
@@ -102,6 +96,6 @@ keeps_commanded around own c lives follows stays =
     record {
       lines = follows.lines lives;
       once = follows.once;
-      life = record { writes = λ e. life; reads = λ e. life; randoms = λ e. life; stores = λ e. life };
+      life = λ queue e. life;
       within = follows.within;
     }

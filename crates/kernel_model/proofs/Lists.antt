@@ -13,34 +13,29 @@ use Rattle.board_devices.specs.Storage.{is_fault}
 use Rattle.process_model.specs.Own.{Own}
 use Rattle.driver_model.specs.Alarm as alarm
 use Rattle.driver_model.specs.Console as console
-use Rattle.driver_model.specs.Console.{console_reads, console_writes}
 use Rattle.driver_model.specs.Random as random
-use Rattle.driver_model.specs.Random.{randoms}
 use Rattle.driver_model.specs.Storage as storage
-use Rattle.driver_model.specs.Storage.{storages}
 use Rattle.driver_model.specs.Answers.{EventsTellSteps, LinesFollowAnswers, queue_left_by}
 use Rattle.driver_model.specs.Commands.{BoardRequest, Waits, Leaves, Lights, QueueName, Switch, Writes, Reads, Randoms}
 use Rattle.driver_model.specs.Commands.{Stores, is_same}
-use Rattle.driver_model.specs.Requests.{RequestKind}
-use Rattle.driver_model.specs.Lines.{OfEachRequestKind, begins, has_waiting, waits_after, waits_by, waits_once}
+use Rattle.driver_model.specs.Lines.{begins, has_waiting, waits_after, waits_by, waits_once}
 use Rattle.process_record.specs.declared.process.State.{State}
 use Rattle.process_record.specs.declared.process.State.TheVariants.{Running, Yielded, Faulted, Terminated}
 use Rattle.kernel_model.specs.Record.{Record}
 use Rattle.kernel_model.specs.declared.settings.Settings.{Settings}
-use Rattle.kernel_model.specs.Turn.{Turned, Alarmed, Taken, WriteDone, Input, Stored, apply, flash_of}
+use Rattle.kernel_model.specs.Turn.{Event, Turned, Alarmed, Taken, WriteDone, Input, Stored, apply, flash_of}
 use Rattle.kernel_model.specs.Turn.{turned, turn_in}
 use Rattle.driver_model.specs.Steps.{DriverStep, own_after}
 use Rattle.driver_model.specs.Told.{drawn_told}
-use Rattle.kernel_model.specs.World.{as_events, Answer, DeviceStep, Devices, Stepped, World, acted, after, alarmed}
-use Rattle.kernel_model.specs.World.{arrived}
-use Rattle.kernel_model.specs.World.{begin_wait, carried_out, device_step_of, done, random_step}
-use Rattle.kernel_model.specs.World.{first_waiting, now_in, owns_in, ran, receive_step, records_after, routed}
-use Rattle.kernel_model.specs.World.{stop_wait, storing, told_to, transmitting, queue_without}
+use Rattle.kernel_model.specs.World.{as_events, DeviceAnswer, Devices, Stepped, World, acted, after, alarmed}
+use Rattle.kernel_model.specs.World.{carried_out, device_step_of, done, now_in, queue_after_answer, queue_without}
+use Rattle.kernel_model.specs.World.{ran, random_step, receive_step, routed, slots_in, storing, transmitting, with_queue}
 use Rattle.kernel_model.specs.Laws.{TurnsKeepLines}
 use Rattle.kernel_model.specs.Lives.{LivesAsItRuns, HoldsThroughout, is_alive}
-use Rattle.kernel_model.specs.Lists.{ListsStay, asks_at, queue_in, once_if, times_in}
+use Rattle.kernel_model.specs.Lists.{ListsStay, asks_at, once_if, times_in}
 use Rattle.kernel_model.proofs.Lives.{over_turn}
-use Rattle.kernel_model.proofs.Places.{of_stepped, ran-other, slice_get-set_same, told-other, told-own}
+use Rattle.kernel_model.proofs.Places.{of_stepped, queue_with, ran-other, set_own, slice_get-set_other, slice_get-set_same}
+use Rattle.kernel_model.proofs.Told.{answered, of_device}
 
 -- a list with one more, and without one
 joined : (slot : ℕ) (xs : List ℕ) → times_in slot (xs ++ slot ∷ []) ≡ times_in slot xs + 1
@@ -82,53 +77,6 @@ gone_other slot other (x ∷ xs) apart = by_test (x == slot) refl (gone_other sl
         (ap (λ (n : ℕ). n == other) same ∙ apart))
     by_test false e later = ap (λ (n : ℕ). cond (x == other) (n + 1) n) later
 
--- the lists after one act
-began : (line here : QueueName) (slot : ℕ) (d : Devices)
-    → queue_in here (begin_wait slot line d) ≡ cond (is_same line here) (queue_in here d ++ slot ∷ []) (queue_in here d)
-began Writes Writes slot d = refl
-began Writes Reads slot d = refl
-began Writes Randoms slot d = refl
-began Writes Stores slot d = refl
-began Reads Writes slot d = refl
-began Reads Reads slot d = refl
-began Reads Randoms slot d = refl
-began Reads Stores slot d = refl
-began Randoms Writes slot d = refl
-began Randoms Reads slot d = refl
-began Randoms Randoms slot d = refl
-began Randoms Stores slot d = refl
-began Stores Writes slot d = refl
-began Stores Reads slot d = refl
-began Stores Randoms slot d = refl
-began Stores Stores slot d = refl
-
-stopped : (line here : QueueName) (slot : ℕ) (d : Devices)
-    → queue_in here (stop_wait slot line d)
-    ≡ cond (is_same line here) (queue_without slot (queue_in here d)) (queue_in here d)
-stopped Writes Writes slot d = refl
-stopped Writes Reads slot d = refl
-stopped Writes Randoms slot d = refl
-stopped Writes Stores slot d = refl
-stopped Reads Writes slot d = refl
-stopped Reads Reads slot d = refl
-stopped Reads Randoms slot d = refl
-stopped Reads Stores slot d = refl
-stopped Randoms Writes slot d = refl
-stopped Randoms Reads slot d = refl
-stopped Randoms Randoms slot d = refl
-stopped Randoms Stores slot d = refl
-stopped Stores Writes slot d = refl
-stopped Stores Reads slot d = refl
-stopped Stores Randoms slot d = refl
-stopped Stores Stores slot d = refl
-
-lit : (here : QueueName) (slot led : ℕ) (switch : Switch) (d : Devices)
-    → queue_in here (acted slot (Lights led switch) d) ≡ queue_in here d
-lit Writes slot led switch d = refl
-lit Reads slot led switch d = refl
-lit Randoms slot led switch d = refl
-lit Stores slot led switch d = refl
-
 -- how often a slot stands in a list after what its turn asks of the board, by how often it did before
 abbrev times_by : QueueName → BoardRequest → ℕ → ℕ
 times_by here (Waits line) times = cond (is_same line here) (times + 1) times
@@ -140,50 +88,52 @@ times_after here times [] = times
 times_after here times (act ∷ acts) = times_after here (times_by here act times) acts
 
 acted_own : (here : QueueName) (slot : ℕ) (act : BoardRequest) (d : Devices)
-    → times_in slot (queue_in here (acted slot act d)) ≡ times_by here act (times_in slot (queue_in here d))
-acted_own here slot (Waits line) d = ap (times_in slot) (began line here slot d) ∙ by_same (is_same line here)
+    → times_in slot (slots_in here (acted slot act d).waiting) ≡ times_by here act (times_in slot (slots_in here d.waiting))
+acted_own here slot (Waits line) d =
+    ap (times_in slot) (queue_with here line (λ slots. slots ++ slot ∷ []) d) ∙ by_same (is_same line here)
   where
     by_same : (b : Bool)
-        → times_in slot (cond b (queue_in here d ++ slot ∷ []) (queue_in here d))
-        ≡ cond b (times_in slot (queue_in here d) + 1) (times_in slot (queue_in here d))
-    by_same true = joined slot (queue_in here d)
+        → times_in slot (cond b (slots_in here d.waiting ++ slot ∷ []) (slots_in here d.waiting))
+        ≡ cond b (times_in slot (slots_in here d.waiting) + 1) (times_in slot (slots_in here d.waiting))
+    by_same true = joined slot (slots_in here d.waiting)
     by_same false = refl
-acted_own here slot (Leaves line) d = ap (times_in slot) (stopped line here slot d) ∙ by_same (is_same line here)
+acted_own here slot (Leaves line) d =
+    ap (times_in slot) (queue_with here line (queue_without slot) d) ∙ by_same (is_same line here)
   where
     by_same : (b : Bool)
-        → times_in slot (cond b (queue_without slot (queue_in here d)) (queue_in here d))
-        ≡ cond b 0 (times_in slot (queue_in here d))
-    by_same true = gone_from slot (queue_in here d)
+        → times_in slot (cond b (queue_without slot (slots_in here d.waiting)) (slots_in here d.waiting))
+        ≡ cond b 0 (times_in slot (slots_in here d.waiting))
+    by_same true = gone_from slot (slots_in here d.waiting)
     by_same false = refl
-acted_own here slot (Lights led switch) d = ap (times_in slot) (lit here slot led switch d)
+acted_own here slot (Lights led switch) d = refl
 
 acted_other : (here : QueueName) (slot other : ℕ) (act : BoardRequest) (d : Devices) → (slot == other) ≡ false
-    → times_in other (queue_in here (acted slot act d)) ≡ times_in other (queue_in here d)
+    → times_in other (slots_in here (acted slot act d).waiting) ≡ times_in other (slots_in here d.waiting)
 acted_other here slot other (Waits line) d apart =
-    ap (times_in other) (began line here slot d) ∙ by_same (is_same line here)
+    ap (times_in other) (queue_with here line (λ slots. slots ++ slot ∷ []) d) ∙ by_same (is_same line here)
   where
     by_same : (b : Bool)
-        → times_in other (cond b (queue_in here d ++ slot ∷ []) (queue_in here d)) ≡ times_in other (queue_in here d)
-    by_same true = joined_other slot other (queue_in here d) apart
+        → times_in other (cond b (slots_in here d.waiting ++ slot ∷ []) (slots_in here d.waiting)) ≡ times_in other (slots_in here d.waiting)
+    by_same true = joined_other slot other (slots_in here d.waiting) apart
     by_same false = refl
 acted_other here slot other (Leaves line) d apart =
-    ap (times_in other) (stopped line here slot d) ∙ by_same (is_same line here)
+    ap (times_in other) (queue_with here line (queue_without slot) d) ∙ by_same (is_same line here)
   where
     by_same : (b : Bool)
-        → times_in other (cond b (queue_without slot (queue_in here d)) (queue_in here d))
-        ≡ times_in other (queue_in here d)
-    by_same true = gone_other slot other (queue_in here d) apart
+        → times_in other (cond b (queue_without slot (slots_in here d.waiting)) (slots_in here d.waiting))
+        ≡ times_in other (slots_in here d.waiting)
+    by_same true = gone_other slot other (slots_in here d.waiting) apart
     by_same false = refl
-acted_other here slot other (Lights led switch) d apart = ap (times_in other) (lit here slot led switch d)
+acted_other here slot other (Lights led switch) d apart = refl
 
 routed_own : (here : QueueName) (slot : ℕ) (acts : List BoardRequest) (d : Devices)
-    → times_in slot (queue_in here (routed slot acts d)) ≡ times_after here (times_in slot (queue_in here d)) acts
+    → times_in slot (slots_in here (routed slot acts d).waiting) ≡ times_after here (times_in slot (slots_in here d.waiting)) acts
 routed_own here slot [] d = refl
 routed_own here slot (act ∷ acts) d =
     routed_own here slot acts (acted slot act d) ∙ ap (λ (n : ℕ). times_after here n acts) (acted_own here slot act d)
 
 routed_other : (here : QueueName) (slot other : ℕ) (acts : List BoardRequest) (d : Devices) → (slot == other) ≡ false
-    → times_in other (queue_in here (routed slot acts d)) ≡ times_in other (queue_in here d)
+    → times_in other (slots_in here (routed slot acts d).waiting) ≡ times_in other (slots_in here d.waiting)
 routed_other here slot other [] d apart = refl
 routed_other here slot other (act ∷ acts) d apart =
     routed_other here slot other acts (acted slot act d) apart ∙ acted_other here slot other act d apart
@@ -230,23 +180,23 @@ over_acts settings time r over = by_state r.process.state over
 
 -- after a turn of a process it waits as its acts say, and it begins to wait only where it does not wait already
 record WaitsAfter (r : Record) (t : Turned) : Type 0 where
-  lines : OfEachRequestKind (λ R request_kind.
-      has_waiting request_kind t.after.own ≡ waits_after request_kind.line (has_waiting request_kind r.own) t.acts)
-  once : OfEachRequestKind (λ R request_kind.
-      waits_once request_kind.line (has_waiting request_kind r.own) t.acts ≡ true)
+  lines : ((queue : QueueName) →
+      has_waiting queue t.after.own ≡ waits_after queue (has_waiting queue r.own) t.acts)
+  once : ((queue : QueueName) →
+      waits_once queue (has_waiting queue r.own) t.acts ≡ true)
 
 module _ (settings : Settings) (time : ℕ) (r : Record) where
-  idle_waits : {R : Type 0} (request_kind : RequestKind R) → is_alive r.process.state ≡ false
-      → has_waiting request_kind (turned settings time r).after.own
-      ≡ waits_after request_kind.line (has_waiting request_kind r.own) (turned settings time r).acts
-  idle_waits request_kind over =
-      ap (λ (x : Record). has_waiting request_kind x.own) (over_turn settings time r over)
-      ∙ ap (waits_after request_kind.line (has_waiting request_kind r.own)) (sym (over_acts settings time r over))
+  idle_waits : (queue : QueueName) → is_alive r.process.state ≡ false
+      → has_waiting queue (turned settings time r).after.own
+      ≡ waits_after queue (has_waiting queue r.own) (turned settings time r).acts
+  idle_waits queue over =
+      ap (λ (x : Record). has_waiting queue x.own) (over_turn settings time r over)
+      ∙ ap (waits_after queue (has_waiting queue r.own)) (sym (over_acts settings time r over))
 
-  idle_once : {R : Type 0} (request_kind : RequestKind R) → is_alive r.process.state ≡ false
-      → waits_once request_kind.line (has_waiting request_kind r.own) (turned settings time r).acts ≡ true
-  idle_once request_kind over =
-      ap (waits_once request_kind.line (has_waiting request_kind r.own)) (over_acts settings time r over)
+  idle_once : (queue : QueueName) → is_alive r.process.state ≡ false
+      → waits_once queue (has_waiting queue r.own) (turned settings time r).acts ≡ true
+  idle_once queue over =
+      ap (waits_once queue (has_waiting queue r.own)) (over_acts settings time r over)
 
   turn_waits : TurnsKeepLines → LivesAsItRuns r → WaitsAfter r (turned settings time r)
   turn_waits law h = by_lives r.own.lives refl
@@ -256,110 +206,103 @@ module _ (settings : Settings) (time : ℕ) (r : Record) where
       by_lives false e =
           let over = sym h.lives ∙ e in
           record {
-            lines = record {
-              writes = idle_waits console_writes over;
-              reads = idle_waits console_reads over;
-              randoms =
-                  idle_waits randoms over;
-              stores = idle_waits storages over;
-            };
-            once = record {
-              writes = idle_once console_writes over;
-              reads = idle_once console_reads over;
-              randoms =
-                  idle_once randoms over;
-              stores = idle_once storages over;
-            };
+            lines = λ queue. idle_waits queue over;
+            once = λ queue. idle_once queue over;
           }
 
--- of one kind of request, after a turn
+-- in one queue, after a turn
 module _ (w : World) (slot : ℕ) (r : Record) (is : slice_get w.records slot ≡ Some r) (t : Turned) where
-  turn_at : {R : Type 0} (request_kind : RequestKind R)
-      → has_waiting request_kind t.after.own ≡ waits_after request_kind.line (has_waiting request_kind r.own) t.acts
-      → waits_once request_kind.line (has_waiting request_kind r.own) t.acts ≡ true
-      → ((k : ℕ) → times_in k (queue_in request_kind.line w.devices)
-      ≡ once_if (asks_at request_kind (slice_get w.records k)))
+  turn_at : (queue : QueueName)
+      → has_waiting queue t.after.own ≡ waits_after queue (has_waiting queue r.own) t.acts
+      → waits_once queue (has_waiting queue r.own) t.acts ≡ true
+      → ((k : ℕ) → times_in k (slots_in queue w.devices.waiting)
+      ≡ once_if (asks_at queue (slice_get w.records k)))
       → (others : (k : ℕ) → k ≢ slot → slice_get (slice_set w.records slot t.after) k ≡ slice_get w.records k)
-      → (k : ℕ) → times_in k (queue_in request_kind.line (routed slot t.acts w.devices))
-      ≡ once_if (asks_at request_kind (slice_get (slice_set w.records slot t.after) k))
-  turn_at request_kind waits once before others k = by_slot (slot == k) refl
+      → (k : ℕ) → times_in k (slots_in queue (routed slot t.acts w.devices).waiting)
+      ≡ once_if (asks_at queue (slice_get (slice_set w.records slot t.after) k))
+  turn_at queue waits once before others k = by_slot (slot == k) refl
     where
       by_slot : (b : Bool) → (slot == k) ≡ b
-          → times_in k (queue_in request_kind.line (routed slot t.acts w.devices))
-          ≡ once_if (asks_at request_kind (slice_get (slice_set w.records slot t.after) k))
+          → times_in k (slots_in queue (routed slot t.acts w.devices).waiting)
+          ≡ once_if (asks_at queue (slice_get (slice_set w.records slot t.after) k))
       by_slot true e =
           let same : slot ≡ k = eqb-true slot k e in
-          subst (λ (n : ℕ). times_in n (queue_in request_kind.line (routed slot t.acts w.devices))
-          ≡ once_if (asks_at request_kind (slice_get (slice_set w.records slot t.after) n))) same
-          (routed_own request_kind.line slot t.acts w.devices
-          ∙ ap (λ (n : ℕ). times_after request_kind.line n t.acts)
-          (before slot ∙ ap (λ (o : Option Record). once_if (asks_at request_kind o)) is)
-          ∙ once_after request_kind.line (has_waiting request_kind r.own) t.acts once ∙ ap once_if (sym waits)
-          ∙ ap (λ (o : Option Record). once_if (asks_at request_kind o))
+          subst (λ (n : ℕ). times_in n (slots_in queue (routed slot t.acts w.devices).waiting)
+          ≡ once_if (asks_at queue (slice_get (slice_set w.records slot t.after) n))) same
+          (routed_own queue slot t.acts w.devices
+          ∙ ap (λ (n : ℕ). times_after queue n t.acts)
+          (before slot ∙ ap (λ (o : Option Record). once_if (asks_at queue o)) is)
+          ∙ once_after queue (has_waiting queue r.own) t.acts once ∙ ap once_if (sym waits)
+          ∙ ap (λ (o : Option Record). once_if (asks_at queue o))
           (sym (slice_get-set_same w.records slot t.after (slice_get_within w.records slot r is))))
       by_slot false e =
-          routed_other request_kind.line slot k t.acts w.devices e ∙ before k
-          ∙ ap (λ (o : Option Record). once_if (asks_at request_kind o))
+          routed_other queue slot k t.acts w.devices e ∙ before k
+          ∙ ap (λ (o : Option Record). once_if (asks_at queue o))
           (sym (others k (λ same. false≢true (sym e ∙ eq-eqb slot k (sym same)))))
 
--- of one kind of request, after an answer
-module _ (w : World) (a : Answer) (r : Record) (is : slice_get w.records a.slot ≡ Some r) (left : Bool) where
-  answer_at : {R : Type 0} (request_kind : RequestKind R) (list : List ℕ)
-      → list ≡ cond left (queue_without a.slot (queue_in request_kind.line w.devices))
-      (queue_in request_kind.line w.devices)
-      → has_waiting request_kind (apply w.settings a.event r).own ≡ cond left false (has_waiting request_kind r.own)
-      → ((k : ℕ) → times_in k (queue_in request_kind.line w.devices)
-      ≡ once_if (asks_at request_kind (slice_get w.records k)))
+-- a queue after an answer to one that waits in it, or in another
+left_or_not : (same completed : Bool) (without with : List ℕ)
+    → cond same (cond completed without with) with ≡ cond (same && completed) without with
+left_or_not true completed without with = refl
+left_or_not false completed without with = refl
+
+-- in one queue, after an answer
+module _ (w : World) (at : ℕ) (event : Event) (r : Record) (is : slice_get w.records at ≡ Some r) (left : Bool) where
+  answer_at : (queue : QueueName) (list : List ℕ)
+      → list ≡ cond left (queue_without at (slots_in queue w.devices.waiting))
+      (slots_in queue w.devices.waiting)
+      → has_waiting queue (apply w.settings event r).own ≡ cond left false (has_waiting queue r.own)
+      → ((k : ℕ) → times_in k (slots_in queue w.devices.waiting)
+      ≡ once_if (asks_at queue (slice_get w.records k)))
       → (k : ℕ) → times_in k list ≡ once_if
-      (asks_at request_kind (slice_get (told_to w a (slice_get w.records a.slot)) k))
-  answer_at request_kind list lists waits before k = ap (times_in k) lists ∙ by_slot (a.slot == k) refl
+      (asks_at queue (slice_get (slice_set w.records at (apply w.settings event r)) k))
+  answer_at queue list lists waits before k = ap (times_in k) lists ∙ by_slot (at == k) refl
     where
       own_list : (b : Bool)
-          → times_in a.slot (queue_in request_kind.line w.devices) ≡ once_if (has_waiting request_kind r.own)
-          → times_in a.slot (cond b (queue_without a.slot (queue_in request_kind.line w.devices))
-          (queue_in request_kind.line w.devices)) ≡ once_if (cond b false (has_waiting request_kind r.own))
-      own_list true is = gone_from a.slot (queue_in request_kind.line w.devices)
+          → times_in at (slots_in queue w.devices.waiting) ≡ once_if (has_waiting queue r.own)
+          → times_in at (cond b (queue_without at (slots_in queue w.devices.waiting))
+          (slots_in queue w.devices.waiting)) ≡ once_if (cond b false (has_waiting queue r.own))
+      own_list true is = gone_from at (slots_in queue w.devices.waiting)
       own_list false is = is
 
-      other_list : (b : Bool) → (a.slot == k) ≡ false
-          → times_in k (cond b (queue_without a.slot (queue_in request_kind.line w.devices))
-          (queue_in request_kind.line w.devices)) ≡ times_in k (queue_in request_kind.line w.devices)
-      other_list true e = gone_other a.slot k (queue_in request_kind.line w.devices) e
+      other_list : (b : Bool) → (at == k) ≡ false
+          → times_in k (cond b (queue_without at (slots_in queue w.devices.waiting))
+          (slots_in queue w.devices.waiting)) ≡ times_in k (slots_in queue w.devices.waiting)
+      other_list true e = gone_other at k (slots_in queue w.devices.waiting) e
       other_list false e = refl
 
-      by_slot : (b : Bool) → (a.slot == k) ≡ b
-          → times_in k (cond left (queue_without a.slot (queue_in request_kind.line w.devices))
-          (queue_in request_kind.line w.devices))
-          ≡ once_if (asks_at request_kind (slice_get (told_to w a (slice_get w.records a.slot)) k))
+      by_slot : (b : Bool) → (at == k) ≡ b
+          → times_in k (cond left (queue_without at (slots_in queue w.devices.waiting))
+          (slots_in queue w.devices.waiting))
+          ≡ once_if (asks_at queue (slice_get (slice_set w.records at (apply w.settings event r)) k))
       by_slot true e =
-          let same : a.slot ≡ k = eqb-true a.slot k e in
-          subst (λ (n : ℕ). times_in n (cond left (queue_without a.slot (queue_in request_kind.line w.devices))
-          (queue_in request_kind.line w.devices))
-          ≡ once_if (asks_at request_kind (slice_get (told_to w a (slice_get w.records a.slot)) n))) same
-          (own_list left (before a.slot ∙ ap (λ (o : Option Record). once_if (asks_at request_kind o)) is)
+          let same : at ≡ k = eqb-true at k e in
+          subst (λ (n : ℕ). times_in n (cond left (queue_without at (slots_in queue w.devices.waiting))
+          (slots_in queue w.devices.waiting))
+          ≡ once_if (asks_at queue (slice_get (slice_set w.records at (apply w.settings event r)) n))) same
+          (own_list left (before at ∙ ap (λ (o : Option Record). once_if (asks_at queue o)) is)
           ∙ ap once_if (sym waits)
-          ∙ ap (λ (o : Option Record). once_if (asks_at request_kind o))
-          (sym (told-own w a (slice_get w.records a.slot) refl ∙ ap (option_map (apply w.settings a.event)) is)))
+          ∙ ap (λ (o : Option Record). once_if (asks_at queue o))
+          (sym (set_own w.records at (apply w.settings event r) r is)))
       by_slot false e =
           other_list left e ∙ before k
-          ∙ ap (λ (o : Option Record). once_if (asks_at request_kind o))
-          (sym (told-other w a k (slice_get w.records a.slot)
-          (λ same. false≢true (sym e ∙ eq-eqb a.slot k (sym same)))))
+          ∙ ap (λ (o : Option Record). once_if (asks_at queue o))
+          (sym (slice_get-set_other w.records at k (apply w.settings event r)
+          (λ same. false≢true (sym e ∙ eq-eqb at k (sym same)))))
 
 -- the lists of a world are those of its requests
 abbrev AreLists : World → Type 0
-AreLists v = OfEachRequestKind (λ R request_kind. (k : ℕ)
-    → times_in k (queue_in request_kind.line v.devices) ≡ once_if (asks_at request_kind (slice_get v.records k)))
+AreLists v = ((queue : QueueName) (k : ℕ)
+    → times_in k (slots_in queue v.devices.waiting) ≡ once_if (asks_at queue (slice_get v.records k)))
 
 -- what a process is after an answer, by what the device's step made of it
 moved_own : (left : QueueName → Bool) (own o p : Own) → p ≡ o
-    → OfEachRequestKind (λ R request_kind.
-    has_waiting request_kind o ≡ cond (left request_kind.line) false (has_waiting request_kind own))
-    → OfEachRequestKind (λ R request_kind.
-    has_waiting request_kind p ≡ cond (left request_kind.line) false (has_waiting request_kind own))
+    → ((queue : QueueName) →
+    has_waiting queue o ≡ cond (left queue) false (has_waiting queue own))
+    → ((queue : QueueName) →
+    has_waiting queue p ≡ cond (left queue) false (has_waiting queue own))
 moved_own left own o p same lines =
-    subst (λ (x : Own). OfEachRequestKind
-    (λ R request_kind. has_waiting request_kind x ≡ cond (left request_kind.line) false (has_waiting request_kind own)))
+    subst (λ (x : Own). ((queue : QueueName) → has_waiting queue x ≡ cond (left queue) false (has_waiting queue own)))
     (sym same) lines
 
 sent_own : (settings : Settings) (r : Record) (step : DriverStep) (b : Bool)
@@ -393,151 +336,88 @@ unfolding apply
 alarmed_own settings r now = refl
 
 module _ (follow : LinesFollowAnswers) (tell : EventsTellSteps) (w : World) (h : AreLists w) where
-  answered_each : (deed : DeviceStep) (a : Answer) (r : Record) → slice_get w.records a.slot ≡ Some r
-      → deed.told ≡ Some a → (left : QueueName → Bool)
+  answered_each : (slot : ℕ) (r : Record) (is : slice_get w.records slot ≡ Some r) (a : DeviceAnswer)
+      (left : QueueName → Bool)
       → ((here : QueueName)
-      → queue_in here deed.devices
-      ≡ cond (left here) (queue_without a.slot (queue_in here w.devices)) (queue_in here w.devices))
-      → OfEachRequestKind (λ R request_kind.
-      has_waiting request_kind (apply w.settings a.event r).own
-      ≡ cond (left request_kind.line) false (has_waiting request_kind r.own))
-      → AreLists (done w (Some deed)).after
-  answered_each deed a r is told left lists waits =
-      subst (λ (o : Option Answer). OfEachRequestKind
-      (λ R request_kind. (k : ℕ)
-      → times_in k (queue_in request_kind.line deed.devices)
-      ≡ once_if (asks_at request_kind (slice_get (records_after w o) k)))) (sym told)
-      (record {
-        writes = answer_at w a r is (left Writes) console_writes (queue_in Writes deed.devices) (lists Writes)
-            waits.writes h.writes;
-        reads = answer_at w a r is (left Reads) console_reads (queue_in Reads deed.devices) (lists Reads) waits.reads
-            h.reads;
-        randoms = answer_at w a r is (left Randoms) randoms (queue_in Randoms deed.devices) (lists Randoms)
-            waits.randoms h.randoms;
-        stores = answer_at w a r is (left Stores) storages (queue_in Stores deed.devices) (lists Stores) waits.stores
-            h.stores;
-      })
-
-  first_lists : (make : World → ℕ → Record → DeviceStep) (line : List ℕ)
-      → ((slot : ℕ) (r : Record) → slice_get w.records slot ≡ Some r → AreLists (done w (Some (make w slot r))).after)
-      → AreLists (done w (first_waiting make w line)).after
-  first_lists make [] each = h
-  first_lists make (slot ∷ rest) each = by_record (slice_get w.records slot) refl
-    where
-      by_record : (o : Option Record) → slice_get w.records slot ≡ o
-          → AreLists (done w (option_map (make w slot) o)).after
-      by_record None e = h
-      by_record (Some r) e = each slot r e
+      → slots_in here a.devices.waiting
+      ≡ cond (left here) (queue_without slot (slots_in here w.devices.waiting)) (slots_in here w.devices.waiting))
+      → ((queue : QueueName)
+      → has_waiting queue (apply w.settings a.answer.event r).own ≡ cond (left queue) false (has_waiting queue r.own))
+      → AreLists (answered w slot r a).after
+  answered_each slot r is a left lists waits queue =
+      answer_at w slot a.answer.event r is (left queue) queue (slots_in queue a.devices.waiting) (lists queue)
+      (waits queue) (h queue)
 
   sends : (slot : ℕ) (r : Record) → slice_get w.records slot ≡ Some r
-      → AreLists (done w (Some (transmitting w slot r))).after
+      → AreLists (answered w slot r (transmitting w.clock.time w.devices slot r)).after
   sends slot r is =
       let s = console.sent (flash_of r) r.own in
-      answered_each (transmitting w slot r) (record { slot = slot; event = cond s.completed WriteDone Taken }) r is refl
-      (queue_left_by Writes s.completed) lists
+      answered_each slot r is (transmitting w.clock.time w.devices slot r)
+      (queue_left_by Writes s.completed)
+      (λ here. queue_with here Writes (queue_after_answer s.completed slot) w.devices
+      ∙ left_or_not (is_same Writes here) s.completed (queue_without slot (slots_in here w.devices.waiting))
+      (slots_in here w.devices.waiting))
       (moved_own (queue_left_by Writes s.completed) r.own (own_after s.step) _
       (sent_own w.settings r s.step s.completed (tell.writes (flash_of r) r.own))
       (follow.writes (flash_of r) r.own).lines)
-    where
-      lists : (here : QueueName)
-          → queue_in here (transmitting w slot r).devices
-          ≡ cond (queue_left_by Writes (console.sent (flash_of r) r.own).completed here)
-          (queue_without slot (queue_in here w.devices)) (queue_in here w.devices)
-      lists Writes = refl
-      lists Reads = refl
-      lists Randoms = refl
-      lists Stores = refl
 
   receives : (slot : ℕ) (r : Record) → slice_get w.records slot ≡ Some r
-      → AreLists (done w (Some (receive_step w slot r))).after
+      → AreLists (answered w slot r (receive_step w.devices slot r)).after
   receives slot r is =
       let s = console.received w.devices.line.ring r.own in
-      answered_each (receive_step w slot r) (record { slot = slot; event = Input s.moved }) r is refl
-      (queue_left_by Reads s.completed) lists
+      answered_each slot r is (receive_step w.devices slot r)
+      (queue_left_by Reads s.completed)
+      (λ here. queue_with here Reads (queue_after_answer s.completed slot) w.devices
+      ∙ left_or_not (is_same Reads here) s.completed (queue_without slot (slots_in here w.devices.waiting))
+      (slots_in here w.devices.waiting))
       (moved_own (queue_left_by Reads s.completed) r.own (own_after s.step) _
       (input_own w.settings r s.moved ∙ ap own_after (sym (tell.reads w.devices.line.ring r.own)))
       (follow.reads w.devices.line.ring r.own).lines)
-    where
-      lists : (here : QueueName)
-          → queue_in here (receive_step w slot r).devices
-          ≡ cond (queue_left_by Reads (console.received w.devices.line.ring r.own).completed here)
-          (queue_without slot (queue_in here w.devices)) (queue_in here w.devices)
-      lists Writes = refl
-      lists Reads = refl
-      lists Randoms = refl
-      lists Stores = refl
 
   draws : (slot : ℕ) (r : Record) → slice_get w.records slot ≡ Some r
-      → AreLists (done w (Some (random_step w slot r))).after
+      → AreLists (answered w slot r (random_step w.devices slot r)).after
   draws slot r is =
       let a = random.answered (slice_get w.devices.words 0) r.own in
-      answered_each (random_step w slot r) (record { slot = slot; event = drawn_told as_events a.drawn }) r is
-      refl (queue_left_by Randoms a.completed) lists
+      answered_each slot r is (random_step w.devices slot r) (queue_left_by Randoms a.completed)
+      (λ here. queue_with here Randoms (queue_after_answer a.completed slot) w.devices
+      ∙ left_or_not (is_same Randoms here) a.completed (queue_without slot (slots_in here w.devices.waiting))
+      (slots_in here w.devices.waiting))
       (moved_own (queue_left_by Randoms a.completed) r.own (own_after a.step) _
       (drawn_own w.settings r a.drawn ∙ ap own_after (sym (tell.randoms (slice_get w.devices.words 0) r.own)))
       (follow.randoms (slice_get w.devices.words 0) r.own).lines)
-    where
-      lists : (here : QueueName)
-          → queue_in here (random_step w slot r).devices
-          ≡ cond (queue_left_by Randoms (random.answered (slice_get w.devices.words 0) r.own).completed here)
-          (queue_without slot (queue_in here w.devices)) (queue_in here w.devices)
-      lists Writes = refl
-      lists Reads = refl
-      lists Randoms = refl
-      lists Stores = refl
 
   stores : (slot : ℕ) (r : Record) → slice_get w.records slot ≡ Some r
-      → AreLists (done w (Some (storing w slot r))).after
+      → AreLists (answered w slot r (storing w.devices slot r)).after
   stores slot r is =
       let fails = is_fault w.devices.faults (w.devices.served + 1) in
       let a = storage.answered fails (flash_of r) r.storage r.own in
-      answered_each (storing w slot r) (record { slot = slot; event = Stored (not fails) }) r is refl
-      (queue_left_by Stores a.completed) lists
+      answered_each slot r is (storing w.devices slot r)
+      (queue_left_by Stores a.completed)
+      (λ here. queue_with here Stores (queue_after_answer a.completed slot) w.devices
+      ∙ left_or_not (is_same Stores here) a.completed (queue_without slot (slots_in here w.devices.waiting))
+      (slots_in here w.devices.waiting))
       (moved_own (queue_left_by Stores a.completed) r.own (own_after a.step) _ (stored_own w.settings r fails)
       (follow.stores fails (flash_of r) r.storage r.own).lines)
-    where
-      lists : (here : QueueName)
-          → queue_in here (storing w slot r).devices
-          ≡ cond (queue_left_by Stores (storage.answered (is_fault w.devices.faults (w.devices.served + 1)) (flash_of r)
-          r.storage r.own).completed here) (queue_without slot (queue_in here w.devices))
-          (queue_in here w.devices)
-      lists Writes = refl
-      lists Reads = refl
-      lists Randoms = refl
-      lists Stores = refl
 
-  fires : (slot : ℕ) → AreLists (done w (Some (alarmed w slot))).after
-  fires slot = by_record (slice_get w.records slot) refl
-    where
-      by_record : (o : Option Record) → slice_get w.records slot ≡ o → AreLists (done w (Some (alarmed w slot))).after
-      by_record None e =
-          subst (λ (o : Option Record). OfEachRequestKind
-          (λ R request_kind. (k : ℕ)
-          → times_in k (queue_in request_kind.line w.devices)
-          ≡ once_if (asks_at request_kind (slice_get (told_to w (record { slot = slot; event = Alarmed (now_in w) }) o)
-          k)))) (sym e) h
-      by_record (Some r) e =
-          answered_each (alarmed w slot) (record { slot = slot; event = Alarmed (now_in w) }) r e refl (λ line. false)
-          (λ here. refl)
-          (moved_own (λ line. false) r.own (own_after (alarm.answered (now_in w) r.own)) _
-          (alarmed_own w.settings r (now_in w))
-          (follow.alarms (now_in w) r.own).lines)
-
-  due_lists : (due : Option ℕ) → AreLists (done w (option_map (alarmed w) due)).after
-  due_lists None = h
-  due_lists (Some slot) = fires slot
-
-  arrived_lists : (arrivals : List Arrival) → AreLists (done w (arrived w.devices arrivals)).after
-  arrived_lists [] = h
-  arrived_lists (a ∷ rest) = record { writes = h.writes; reads = h.reads; randoms = h.randoms; stores = h.stores }
+  fires : (slot : ℕ) (r : Record) → slice_get w.records slot ≡ Some r
+      → AreLists (answered w slot r (alarmed w.settings w.clock.time w.devices)).after
+  fires slot r is =
+      answered_each slot r is (alarmed w.settings w.clock.time w.devices) (λ line. false) (λ here. refl)
+      (moved_own (λ line. false) r.own (own_after (alarm.answered (now_in w) r.own)) _
+      (alarmed_own w.settings r (now_in w))
+      (follow.alarms (now_in w) r.own).lines)
 
   deed_lists : (device : Dev) → AreLists (done w (device_step_of w device)).after
-  deed_lists dev.Event = arrived_lists w.devices.arrivals
-  deed_lists dev.Alarm = due_lists (alarm.due_slot (now_in w) (owns_in w))
-  deed_lists dev.Uart = first_lists transmitting w.devices.writes sends
-  deed_lists dev.Receive = first_lists receive_step w.devices.reads receives
-  deed_lists dev.Random = first_lists random_step w.devices.randoms draws
-  deed_lists dev.Store = first_lists storing w.devices.stores stores
+  deed_lists device =
+      of_device w (λ (s : Stepped). AreLists s.after) (record {
+        none = h;
+        arrives = λ a rest. h;
+        alarms = fires;
+        sends = sends;
+        receives = receives;
+        draws = draws;
+        stores = stores;
+      }) device
 
   turn_lists : TurnsKeepLines → ((slot : ℕ) → IfSome (slice_get w.records slot) LivesAsItRuns)
       → (slot : ℕ) (o : Option Record) → slice_get w.records slot ≡ o → AreLists (ran w slot o).after
@@ -549,20 +429,14 @@ module _ (follow : LinesFollowAnswers) (tell : EventsTellSteps) (w : World) (h :
       let others : (k : ℕ) → k ≢ slot
       → slice_get (slice_set w.records slot t.after) k ≡ slice_get w.records k =
       λ k ne. ran-other w slot k (Some r) ne in
-      record {
-        writes = turn_at w slot r e t console_writes waits.lines.writes waits.once.writes h.writes others;
-        reads = turn_at w slot r e t console_reads waits.lines.reads waits.once.reads h.reads others;
-        randoms = turn_at w slot r e t randoms waits.lines.randoms waits.once.randoms h.randoms others;
-        stores = turn_at w slot r e t storages waits.lines.stores waits.once.stores h.stores others;
-      }
+      λ queue. turn_at w slot r e t queue (waits.lines queue) (waits.once queue) (h queue) others
 
   choice_lists : TurnsKeepLines → ((slot : ℕ) → IfSome (slice_get w.records slot) LivesAsItRuns) → (choice : Choice)
       → AreLists (carried_out w choice).after
   unfolding carried_out
   choice_lists law lives (Run slot) = turn_lists law lives slot (slice_get w.records slot) refl
   choice_lists law lives (Device device) = deed_lists device
-  choice_lists law lives (Pass ticks) =
-      record { writes = h.writes; reads = h.reads; randoms = h.randoms; stores = h.stores }
+  choice_lists law lives (Pass ticks) = h
 
   step_lists : TurnsKeepLines → ((slot : ℕ) → IfSome (slice_get w.records slot) LivesAsItRuns) → (choice : Choice)
       → AreLists (after w choice)

@@ -19,9 +19,10 @@ use Rattle.driver_model.specs.Laws.{IsDueWhereNoneAreLeft}
 use Rattle.script_text.specs.Settings.{ScriptEvent as Arrival}
 use Rattle.board_devices.specs.Arriving.{first_arrival_time as arrival_time}
 use Rattle.process_model.specs.Own.{Own}
+use Rattle.driver_model.specs.Commands.{Writes}
 use Rattle.kernel_model.specs.Record.{Record}
 use Rattle.kernel_model.specs.Turn.{may_turn}
-use Rattle.kernel_model.specs.World.{World, after, can_act, can_run, is_ready, is_waited_for, now_in, owns_in, stepped}
+use Rattle.kernel_model.specs.World.{World, after, can_act, can_run, is_ready, is_waited_for, now_in, owns_in, slots_in, stepped}
 use Rattle.kernel_model.specs.Run.{alarm_time, runs_on, next, next_time, on_choice, ready_devices, ready_slots, round}
 use Rattle.kernel_model.specs.Run.{sending_time, stays}
 use Rattle.kernel_model.specs.Choices.{are_ready, labels_of_all}
@@ -298,7 +299,7 @@ nothing_left w few e =
       arrivals = no_arrivals w.devices.arrivals times.0;
       alarms = λ slot. within_or_beyond w slot (λ o. IfSome o HasNoAlarm) few tt
           (λ h. no_alarm w slot (alarms slot (omega arith) (omega (arith, h))));
-      writes = no_writes w.devices.writes w.devices.line.free later.1;
+      writes = no_writes (slots_in Writes w.devices.waiting) w.devices.line.free later.1;
     }
 
 is_done : (w : World) → NothingIsLeft w → next w ≡ None

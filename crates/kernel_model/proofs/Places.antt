@@ -6,10 +6,10 @@ use Rattle.std.proofs.lemmas.Option.{slice_get_within, slice_get-get_or}
 use Rattle.std.proofs.lemmas.List.{get_or-set_same, length-set}
 use Rattle.kernel_model.specs.Record.{Record}
 use Rattle.kernel_model.specs.Turn.{Turn, Turned, apply, turned}
-use Rattle.kernel_model.specs.World.{Answer, DeviceStep, Stepped, World, after, after_deed, after_turn_of, carried_out}
-use Rattle.kernel_model.specs.World.{device_step_of, done, is_ready, passed, ran, records_after, stepped, told_to}
-use Rattle.kernel_model.specs.World.{unmade}
-use Rattle.kernel_model.specs.Laws.{answer_told}
+use Rattle.kernel_model.specs.World.{DeviceStep, Stepped, World, after, after_deed, after_turn_of, carried_out}
+use Rattle.kernel_model.specs.World.{device_step_of, done, is_ready, passed, ran, stepped}
+use Rattle.kernel_model.specs.World.{Devices, slots_in, unmade, with_queue}
+use Rattle.driver_model.specs.Commands.{QueueName, Writes, Reads, Randoms, Stores, is_same}
 use Rattle.tk_base.specs.declared.process.Choice.{Choice}
 use Rattle.tk_base.specs.declared.process.Choice.TheVariants.{Run, Device, Pass}
 use Rattle.tk_base.specs.declared.process.Dev.{Dev}
@@ -33,12 +33,33 @@ pub stepped_else : (w : World) (choice : Choice) → is_ready w choice ≡ false
 unfolding stepped
 stepped_else w choice e = ap (λ (b : Bool). cond b (carried_out w choice) (unmade w)) e
 
+-- a queue once one has changed
+pub queue_with : (queue name : QueueName) (change : List ℕ → List ℕ) (d : Devices)
+    → slots_in queue (with_queue name change d).waiting
+    ≡ cond (is_same name queue) (change (slots_in queue d.waiting)) (slots_in queue d.waiting)
+queue_with Writes Writes change d = refl
+queue_with Writes Reads change d = refl
+queue_with Writes Randoms change d = refl
+queue_with Writes Stores change d = refl
+queue_with Reads Writes change d = refl
+queue_with Reads Reads change d = refl
+queue_with Reads Randoms change d = refl
+queue_with Reads Stores change d = refl
+queue_with Randoms Writes change d = refl
+queue_with Randoms Reads change d = refl
+queue_with Randoms Randoms change d = refl
+queue_with Randoms Stores change d = refl
+queue_with Stores Writes change d = refl
+queue_with Stores Reads change d = refl
+queue_with Stores Randoms change d = refl
+queue_with Stores Stores change d = refl
+
 pub slice_get-set_same : {X : Type 0} (xs : List X) (i : ℕ) (y : X) → i < length xs
     → slice_get (slice_set xs i y) i ≡ Some y
 slice_get-set_same xs i y h =
     slice_get-get_or (slice_set xs i y) i y (rw length-set h) ∙ ap Some (get_or-set_same xs i y y h)
 
-slice_get-set_other : {X : Type 0} (xs : List X) (i j : ℕ) (y : X) → j ≢ i
+pub slice_get-set_other : {X : Type 0} (xs : List X) (i j : ℕ) (y : X) → j ≢ i
     → slice_get (slice_set xs i y) j ≡ slice_get xs j
 slice_get-set_other [] i j y ne = refl
 slice_get-set_other (x ∷ xs) zero zero y ne = absurd (ne refl)
@@ -61,35 +82,10 @@ ran-other w slot other None ne = refl
 ran-other w slot other (Some r) ne =
     slice_get-set_other w.records slot other (turned w.settings w.clock.time r).after ne
 
--- the record that a device tells something
-pub told-own : (w : World) (a : Answer) (o : Option Record) → slice_get w.records a.slot ≡ o
-    → slice_get (told_to w a o) a.slot ≡ option_map (apply w.settings a.event) o
-told-own w a None e = e
-told-own w a (Some r) e =
-    slice_get-set_same w.records a.slot (apply w.settings a.event r) (slice_get_within w.records a.slot r e)
-
--- each other record
-pub told-other : (w : World) (a : Answer) (other : ℕ) (o : Option Record) → other ≢ a.slot
-    → slice_get (told_to w a o) other ≡ slice_get w.records other
-told-other w a other None ne = refl
-told-other w a other (Some r) ne = slice_get-set_other w.records a.slot other (apply w.settings a.event r) ne
-
--- what a device step leaves of the records is what it told
-pub acted_records : (w : World) (device : Dev)
-    → (after w (Device device)).records ≡ records_after w (answer_told w device)
-unfolding stepped carried_out
-acted_records w device = by_ready (is_ready w (Device device))
-  where
-    by_deed : (o : Option DeviceStep)
-        → (done w o).after.records ≡ records_after w (option_and_then (λ (deed : DeviceStep). deed.told) o)
-    by_deed None = refl
-    by_deed (Some deed) = refl
-
-    by_ready : (b : Bool)
-        → (cond b (done w (device_step_of w device)) (unmade w)).after.records
-        ≡ records_after w (cond b (option_and_then (λ (deed : DeviceStep). deed.told) (device_step_of w device)) None)
-    by_ready true = by_deed (device_step_of w device)
-    by_ready false = refl
+-- the one record that is another
+pub set_own : {X : Type 0} (xs : List X) (i : ℕ) (y x : X) → slice_get xs i ≡ Some x
+    → slice_get (slice_set xs i y) i ≡ Some y
+set_own xs i y x there = slice_get-set_same xs i y (slice_get_within xs i x there)
 
 -- what holds of a world holds of the one after a step, where it holds after each turn, each deed and each pass of time
 module _ (P : World → Type 0) (w : World) (before : P w) where

@@ -16,11 +16,12 @@ use Rattle.driver_model.specs.Alarm.{due_slot}
 use Rattle.driver_model.specs.Console as console
 use Rattle.driver_model.specs.Console.{Sent, console_writes}
 use Rattle.driver_model.specs.Requests.{request_in, waiting_in}
+use Rattle.driver_model.specs.Commands.{Writes, Reads, Randoms, Stores}
 use Rattle.kernel_model.specs.Record.{Record}
-use Rattle.kernel_model.specs.Turn.{flash_of}
-use Rattle.kernel_model.specs.World.{Answer, DeviceStep, Printed, Stepped, World, alarmed, arrived, carried_out}
-use Rattle.kernel_model.specs.World.{device_step_of, done, random_step, first_waiting, labels, labels_of, now_in}
-use Rattle.kernel_model.specs.World.{owns_in, printing, ran, receive_step, storing, transmitting}
+use Rattle.kernel_model.specs.Turn.{Event, flash_of}
+use Rattle.kernel_model.specs.World.{Answered, Printed, Stepped, World, carried_out, device_step_of, done, labels}
+use Rattle.kernel_model.specs.World.{printing, ran, transmitting}
+use Rattle.kernel_model.proofs.Told.{answered, of_device}
 use Rattle.kernel_model.specs.Replay.{after_all}
 use Rattle.kernel_model.specs.Prints.{AreOfItsBuffer, PrintsAreOfBuffers, PrintsItsBuffer, buffer_bytes, console_buffer}
 use Rattle.kernel_model.proofs.Places.{of_stepped}
@@ -70,16 +71,6 @@ sent_of r = by_waiting (waiting_in console_writes r.own) refl
     by_waiting (Some write) is some = by_portion write (console.portion write r.own == 0) is some
 
 module _ (w : World) where
-  -- what is told of a deed
-  abbrev Tells : Option DeviceStep → Type 0
-  Tells o = All (PrintsItsBuffer w) (done w o).labels
-
-  silent : (deed : DeviceStep) (o : Option Answer) → deed.printed ≡ [] → All (PrintsItsBuffer w) (labels_of deed o)
-  silent deed None none = All-nil (PrintsItsBuffer w)
-  silent deed (Some a) none =
-      All-cons (PrintsItsBuffer w) _ _ tt (subst (λ (bytes : List ℕ). All (PrintsItsBuffer w) (printing a.slot bytes))
-      (sym none) (All-nil (PrintsItsBuffer w)))
-
   printed : (slot : ℕ) (bytes : List ℕ)
       → ((length bytes == 0) ≡ false
       → (is_some (slice_get w.records slot) ≡ true) × IfSome (slice_get w.records slot) (AreOfItsBuffer bytes))
@@ -90,43 +81,32 @@ module _ (w : World) where
       by_length true e = All-nil (PrintsItsBuffer w)
       by_length false e = All-cons (PrintsItsBuffer w) (Printed slot bytes) [] (each e) (All-nil (PrintsItsBuffer w))
 
-  first_tells : (make : World → ℕ → Record → DeviceStep) (line : List ℕ)
-      → ((slot : ℕ) (r : Record) → slice_get w.records slot ≡ Some r → Tells (Some (make w slot r)))
-      → Tells (first_waiting make w line)
-  first_tells make [] each = All-nil (PrintsItsBuffer w)
-  first_tells make (slot ∷ rest) each = by_record (slice_get w.records slot) refl
-    where
-      by_record : (o : Option Record) → slice_get w.records slot ≡ o → Tells (option_map (make w slot) o)
-      by_record None e = All-nil (PrintsItsBuffer w)
-      by_record (Some r) e = each slot r e
+  -- what is told of a device's step
+  abbrev Tells : Stepped → Type 0
+  Tells s = All (PrintsItsBuffer w) s.labels
 
-  sends : (slot : ℕ) (r : Record) → slice_get w.records slot ≡ Some r → Tells (Some (transmitting w slot r))
+  silent : (slot : ℕ) (event : Event) → All (PrintsItsBuffer w) (Answered slot event ∷ [])
+  silent slot event = All-cons (PrintsItsBuffer w) (Answered slot event) [] tt (All-nil (PrintsItsBuffer w))
+
+  sends : (slot : ℕ) (r : Record) → slice_get w.records slot ≡ Some r
+      → Tells (answered w slot r (transmitting w.clock.time w.devices slot r))
   sends slot r is =
       let bytes = (console.sent (flash_of r) r.own).printed in
       All-cons (PrintsItsBuffer w) _ _ tt (printed slot bytes
       (λ some. subst (λ (o : Option Record). (is_some o ≡ true) × IfSome o (AreOfItsBuffer bytes)) (sym is)
       (refl, sent_of r some)))
 
-  arrival_tells : (arrivals : List Arrival) → Tells (arrived w.devices arrivals)
-  arrival_tells [] = All-nil (PrintsItsBuffer w)
-  arrival_tells (a ∷ rest) = All-nil (PrintsItsBuffer w)
-
-  alarm_tells : (due : Option ℕ) → Tells (option_map (alarmed w) due)
-  alarm_tells None = All-nil (PrintsItsBuffer w)
-  alarm_tells (Some slot) = silent (alarmed w slot) (alarmed w slot).told refl
-
-  deed_tells : (device : Dev) → Tells (device_step_of w device)
-  deed_tells dev.Event = arrival_tells w.devices.arrivals
-  deed_tells dev.Alarm = alarm_tells (due_slot (now_in w) (owns_in w))
-  deed_tells dev.Uart = first_tells transmitting w.devices.writes sends
-  deed_tells dev.Receive =
-      first_tells receive_step w.devices.reads
-      (λ slot r is. silent (receive_step w slot r) (receive_step w slot r).told refl)
-  deed_tells dev.Random =
-      first_tells random_step w.devices.randoms
-      (λ slot r is. silent (random_step w slot r) (random_step w slot r).told refl)
-  deed_tells dev.Store =
-      first_tells storing w.devices.stores (λ slot r is. silent (storing w slot r) (storing w slot r).told refl)
+  deed_tells : (device : Dev) → Tells (done w (device_step_of w device))
+  deed_tells device =
+      of_device w Tells (record {
+        none = All-nil (PrintsItsBuffer w);
+        arrives = λ a rest. All-nil (PrintsItsBuffer w);
+        alarms = λ slot r is. silent slot _;
+        sends = sends;
+        receives = λ slot r is. silent slot _;
+        draws = λ slot r is. silent slot _;
+        stores = λ slot r is. silent slot _;
+      }) device
 
   choice_prints : (choice : Choice) → All (PrintsItsBuffer w) (carried_out w choice).labels
   unfolding carried_out

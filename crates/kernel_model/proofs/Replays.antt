@@ -9,12 +9,13 @@ use Rattle.tk_base.specs.declared.process.Choice.TheVariants.{Run, Device, Pass}
 use Rattle.kernel_model.specs.Record.{Record}
 use Rattle.kernel_model.specs.declared.settings.Settings.{Settings}
 use Rattle.kernel_model.specs.Turn.{Event, Turn, apply}
-use Rattle.kernel_model.specs.World.{Answer, DeviceStep, Label, Printed, Stepped, World, after, carried_out}
-use Rattle.kernel_model.specs.World.{device_step_of, done, labels_of, printing, ran, records_after, stepped}
+use Rattle.kernel_model.specs.World.{DeviceAnswer, Label, Printed, Stepped, World, after, carried_out}
+use Rattle.kernel_model.specs.World.{printing, ran, stepped}
 use Rattle.kernel_model.specs.Run.{next, on_choice, round, stays, runs_on}
 use Rattle.kernel_model.specs.Replay.{after_all, chosen, events, happened, history, replay, RecordIsReplay}
 use Rattle.kernel_model.specs.Replay.{RoundFollowsChoices, SameHistorySameRecord}
-use Rattle.kernel_model.proofs.Places.{of_stepped, of_world, ran-other, ran-own, told-other, told-own}
+use Rattle.kernel_model.proofs.Places.{of_stepped, of_world, ran-other, ran-own, set_own, slice_get-set_other}
+use Rattle.kernel_model.proofs.Told.{answered, of_answered}
 
 -- no step changes the settings
 pub kept_settings : (w : World) (choice : Choice) → (after w choice).settings ≡ w.settings
@@ -73,24 +74,22 @@ nothing_printed {X = X} read at bytes none = by_length (length bytes == 0)
     by_length true = refl
     by_length false = ap (λ (read_of : List X). read_of ++ []) none
 
-told_replayed : (w : World) (deed : DeviceStep) (slot : ℕ) (o : Option Answer)
-    → slice_get (records_after w o) slot
-    ≡ option_map (replay w.settings (flat_map (happened slot) (labels_of deed o))) (slice_get w.records slot)
-told_replayed w deed slot None = mapped_none w.settings (slice_get w.records slot)
-told_replayed w deed slot (Some a) =
-    lands w (records_after w (Some a)) a.slot slot a.event (told-own w a (slice_get w.records a.slot) refl)
-    (λ other ne. told-other w a other (slice_get w.records a.slot) ne)
-    ∙ ap (λ (rest : List Event). option_map (replay w.settings (cond (a.slot == slot) (a.event ∷ []) [] ++ rest))
-    (slice_get w.records slot)) (sym (nothing_printed (happened slot) a.slot deed.printed refl))
-
-deed_replayed : (w : World) (slot : ℕ) (o : Option DeviceStep) → replayed w slot (done w o)
-deed_replayed w slot None = mapped_none w.settings (slice_get w.records slot)
-deed_replayed w slot (Some deed) = told_replayed w deed slot deed.told
+answer_replayed : (w : World) (slot at : ℕ) (r : Record) → slice_get w.records at ≡ Some r → (a : DeviceAnswer)
+    → replayed w slot (answered w at r a)
+answer_replayed w slot at r there a =
+    let event = a.answer.event in
+    lands w (answered w at r a).after.records at slot event
+    (set_own w.records at (apply w.settings event r) r there ∙ sym (ap (option_map (apply w.settings event)) there))
+    (λ other ne. slice_get-set_other w.records at other (apply w.settings event r) ne)
+    ∙ ap (λ (rest : List Event). option_map (replay w.settings (cond (at == slot) (event ∷ []) [] ++ rest))
+    (slice_get w.records slot)) (sym (nothing_printed (happened slot) at a.answer.printed refl))
 
 choice_replayed : (w : World) (choice : Choice) (slot : ℕ) → replayed w slot (carried_out w choice)
 unfolding carried_out
 choice_replayed w (Run other) slot = ran_replayed w other slot (slice_get w.records other) refl
-choice_replayed w (Device device) slot = deed_replayed w slot (device_step_of w device)
+choice_replayed w (Device device) slot =
+    let same = mapped_none w.settings (slice_get w.records slot) in
+    of_answered w (replayed w slot) same (λ devices. same) (answer_replayed w slot) device
 choice_replayed w (Pass ticks) slot = mapped_none w.settings (slice_get w.records slot)
 
 -- a step is the replay of what it does to the process

@@ -15,10 +15,11 @@ use Rattle.driver_model.specs.Alarm.{due_slot, nearer, next_left}
 use Rattle.driver_model.specs.Laws.{IsDueWhereNoneAreLeft}
 use Rattle.script_text.specs.Settings.{ScriptEvent as Arrival}
 use Rattle.board_devices.specs.Arriving.{is_time, first_arrival_time as arrival_time}
+use Rattle.driver_model.specs.Commands.{Writes}
 use Rattle.kernel_model.specs.Record.{Record}
 use Rattle.kernel_model.specs.Turn.{may_turn}
 use Rattle.kernel_model.specs.World.{Devices, World, can_act, can_run, is_ready, is_waited_for, may_be_made, now_in}
-use Rattle.kernel_model.specs.World.{owns_in}
+use Rattle.kernel_model.specs.World.{owns_in, slots_in}
 use Rattle.kernel_model.specs.Run.{alarm_time, next, next_time, ready_devices, ready_slots, sending_time}
 
 pub found_passes : {X : Type 0} (p : X → Bool) (xs : List X) (x : X) → find p xs ≡ Some x → p x ≡ true
@@ -117,9 +118,9 @@ alarm_ahead w law none = by_left (next_left (now_in w) (owns_in w)) refl
         absurd (not_both (is_some (due_slot (now_in w) (owns_in w))) ((law (now_in w) (owns_in w)).0 e) none)
     by_left (Some (suc ticks)) e = omega arith
 
-sending_ahead : (time : ℕ) (d : Devices) → (is_waited_for d.writes && nat_le d.line.free time) ≡ false
+sending_ahead : (time : ℕ) (d : Devices) → (is_waited_for (slots_in Writes d.waiting) && nat_le d.line.free time) ≡ false
     → Ahead time (sending_time d)
-sending_ahead time d e = by_waiting (is_waited_for d.writes) e
+sending_ahead time d e = by_waiting (is_waited_for (slots_in Writes d.waiting)) e
   where
     by_waiting : (b : Bool) → (b && nat_le d.line.free time) ≡ false → Ahead time (cond b (Some d.line.free) None)
     by_waiting true f = grind (arith, nat_tests)

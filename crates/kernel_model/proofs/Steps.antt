@@ -1,5 +1,5 @@
 -- What a step does to the process in a slot: nothing, its turn, or what a device tells it.
-use Rattle.std.proofs.Common.{◌≡◌, ℕ, ◌==◌, Bool, true, false, cond, List, [], ◌∷◌, ◌++◌, slice_get, Option}
+use Rattle.std.proofs.Common.{◌≡◌, ℕ, ◌==◌, Bool, true, false, cond, List, [], ◌∷◌, ◌++◌, slice_get, slice_set, Option}
 use Rattle.std.proofs.Common.{None, Some, IfSome, option_and_then, refl, sym, ap, subst, ◌∙◌, eqb-true, eq-eqb}
 use Rattle.std.specs.List.{flat_map}
 use Rattle.std.specs.Option.{option_map}
@@ -8,8 +8,6 @@ use Rattle.tk_base.specs.declared.process.Choice.{Choice}
 use Rattle.tk_base.specs.declared.process.Choice.TheVariants.{Run, Device, Pass}
 use Rattle.tk_base.specs.declared.process.Dev.{Dev}
 use Rattle.tk_base.specs.declared.process.Dev.TheVariants as dev
-use Rattle.script_text.specs.Settings.{ScriptEvent as Arrival}
-use Rattle.driver_model.specs.Alarm.{due_slot}
 use Rattle.process_model.specs.Own.{Own}
 use Rattle.driver_model.specs.Services.{OfEachService}
 use Rattle.kernel_model.specs.declared.settings.Settings.{Settings}
@@ -17,15 +15,13 @@ use Rattle.kernel_model.specs.Record.{Record}
 use Rattle.kernel_model.specs.Turn.{Event, Turn, Alarmed, Taken, WriteDone, Input, Word, NoWord, Stored, TurnTrace}
 use Rattle.kernel_model.specs.Turn.{Turned, apply, turned}
 use Rattle.driver_model.specs.Told.{drawn_told}
-use Rattle.kernel_model.specs.World.{Answer, DeviceStep, Stepped, World, after, alarmed, arrived, as_events}
-use Rattle.kernel_model.specs.World.{carried_out}
-use Rattle.kernel_model.specs.World.{device_step_of, done, random_step, first_waiting, is_ready, labels}
-use Rattle.kernel_model.specs.World.{labels_of, now_in, owns_in, ran, receive_step, records_after, storing}
-use Rattle.kernel_model.specs.World.{transmitting}
-use Rattle.kernel_model.specs.Laws.{answer_told}
+use Rattle.kernel_model.specs.World.{DeviceAnswer, Devices, Stepped, World, after, alarmed, as_events}
+use Rattle.kernel_model.specs.World.{carried_out, device_step_of, done, labels, ran, random_step, receive_step, storing}
+use Rattle.kernel_model.specs.World.{transmitting, unmade}
 use Rattle.kernel_model.specs.Histories.{turns_in}
 use Rattle.kernel_model.proofs.Replays.{nothing_printed}
-use Rattle.kernel_model.proofs.Places.{acted_records, of_stepped, ran-other, ran-own, told-other, told-own}
+use Rattle.kernel_model.proofs.Places.{of_stepped, ran-other, ran-own, set_own, slice_get-set_other}
+use Rattle.kernel_model.proofs.Told.{answered, of_device, quiet, with_arrived}
 
 -- an event that is no turn
 unfoldable pub IsAnswer : Event → Type 0
@@ -65,10 +61,6 @@ answer_changes settings (Word word) r is = refl
 answer_changes settings NoWord r is = refl
 answer_changes settings (Stored moved) r is = refl
 
--- what a device tells in what it does, if it tells anything, is no turn
-abbrev pub TellsNoTurn : Option DeviceStep → Type 0
-TellsNoTurn o = IfSome (option_and_then (λ (deed : DeviceStep). deed.told) o) (λ a. IsAnswer a.event)
-
 sent_is_answer : (completed : Bool) → IsAnswer (cond completed WriteDone Taken)
 unfolding IsAnswer
 sent_is_answer true = tt
@@ -79,56 +71,21 @@ unfolding IsAnswer
 drawn_is_answer None = tt
 drawn_is_answer (Some word) = tt
 
-first_tells : (make : World → ℕ → Record → DeviceStep) (w : World) (line : List ℕ)
-    → ((at : ℕ) (r : Record) → TellsNoTurn (Some (make w at r))) → TellsNoTurn (first_waiting make w line)
-first_tells make w [] tells = tt
-first_tells make w (at ∷ rest) tells = by_record (slice_get w.records at)
-  where
-    by_record : (o : Option Record) → TellsNoTurn (option_map (make w at) o)
-    by_record None = tt
-    by_record (Some r) = tells at r
-
-arrived_tells : (w : World) (arrivals : List Arrival) → TellsNoTurn (arrived w.devices arrivals)
-arrived_tells w [] = tt
-arrived_tells w (arrival ∷ rest) = tt
-
-alarm_tells : (w : World) (due : Option ℕ) → TellsNoTurn (option_map (alarmed w) due)
+-- what holds of each answer that a device may give holds of what a device does
+pub of_answers : (w : World) (P : Stepped → Type 0) → P (unmade w) → ((devices : Devices) → P (quiet w devices))
+    → ((slot : ℕ) (r : Record) → slice_get w.records slot ≡ Some r → (a : DeviceAnswer) → IsAnswer a.answer.event
+    → P (answered w slot r a)) → (device : Dev) → P (done w (device_step_of w device))
 unfolding IsAnswer
-alarm_tells w None = tt
-alarm_tells w (Some at) = tt
-
-pub deed_tells : (w : World) (device : Dev) → TellsNoTurn (device_step_of w device)
-unfolding IsAnswer
-deed_tells w dev.Event = arrived_tells w w.devices.arrivals
-deed_tells w dev.Alarm = alarm_tells w (due_slot (now_in w) (owns_in w))
-deed_tells w dev.Uart = first_tells transmitting w w.devices.writes (λ at r. sent_is_answer _)
-deed_tells w dev.Receive = first_tells receive_step w w.devices.reads (λ at r. tt)
-deed_tells w dev.Random = first_tells random_step w w.devices.randoms (λ at r. drawn_is_answer _)
-deed_tells w dev.Store = first_tells storing w w.devices.stores (λ at r. tt)
-
-answer_tells : (w : World) (device : Dev) → IfSome (answer_told w device) (λ a. IsAnswer a.event)
-answer_tells w device = by_ready (is_ready w (Device device))
-  where
-    by_ready : (b : Bool)
-        → IfSome (cond b (option_and_then (λ (deed : DeviceStep). deed.told) (device_step_of w device)) None)
-        (λ a. IsAnswer a.event)
-    by_ready true = deed_tells w device
-    by_ready false = tt
-
--- no label of a device's step is a turn
-answered_no_turn : (slot : ℕ) (deed : DeviceStep) (o : Option Answer) → flat_map (turns_in slot) (labels_of deed o) ≡ []
-answered_no_turn slot deed None = refl
-answered_no_turn slot deed (Some a) = nothing_printed (turns_in slot) a.slot deed.printed refl
-
-done_no_turn : (slot : ℕ) (w : World) (o : Option DeviceStep) → flat_map (turns_in slot) (done w o).labels ≡ []
-done_no_turn slot w None = refl
-done_no_turn slot w (Some deed) = answered_no_turn slot deed deed.told
-
-acted_no_turn : (slot : ℕ) (w : World) (device : Dev) → flat_map (turns_in slot) (labels w (Device device)) ≡ []
-unfolding carried_out
-acted_no_turn slot w device =
-    of_stepped (λ (s : Stepped). flat_map (turns_in slot) s.labels ≡ []) w (Device device) refl
-    (λ ready. done_no_turn slot w (device_step_of w device))
+of_answers w P none quietly each device =
+    of_device w P (record {
+      none = none;
+      arrives = λ a rest. quietly (with_arrived w.devices a rest);
+      alarms = λ slot r is. each slot r is (alarmed w.settings w.clock.time w.devices) tt;
+      sends = λ slot r is. each slot r is (transmitting w.clock.time w.devices slot r) (sent_is_answer _);
+      receives = λ slot r is. each slot r is (receive_step w.devices slot r) tt;
+      draws = λ slot r is. each slot r is (random_step w.devices slot r) (drawn_is_answer _);
+      stores = λ slot r is. each slot r is (storing w.devices slot r) tt;
+    }) device
 
 -- what holds of each thing that a step may do to the process in a slot: of what its turn tells, if it has one, and of
 -- its
@@ -161,24 +118,24 @@ module _ (w : World) (slot : ℕ) (P : List TurnTrace → Option Record → Type
           subst (P []) (sym (ran-other w other slot (Some r)
           (λ same. false≢true (sym e ∙ eq-eqb other slot (sym same))))) each.stays
 
-  of_told : (o : Option Answer) → IfSome o (λ a. IsAnswer a.event) → P [] (slice_get (records_after w o) slot)
-  of_told None is = each.stays
-  of_told (Some a) is = by_slot (a.slot == slot) refl
+  of_answer_at : (at : ℕ) (r : Record) → slice_get w.records at ≡ Some r → (a : DeviceAnswer)
+      → IsAnswer a.answer.event
+      → P (flat_map (turns_in slot) (answered w at r a).labels) (slice_get (answered w at r a).after.records slot)
+  of_answer_at at r there a is =
+      subst (λ (tolds : List TurnTrace). P tolds (slice_get (answered w at r a).after.records slot))
+      (sym (nothing_printed (turns_in slot) at a.answer.printed refl)) (by_slot (at == slot) refl)
     where
-      by_record : (o : Option Record) → slice_get w.records slot ≡ o → P [] (option_map (apply w.settings a.event) o)
-      by_record None e = subst (P []) e each.stays
-      by_record (Some r) e = each.answer r e a.event is
+      s : Record
+      s = apply w.settings a.answer.event r
 
-      by_slot : (b : Bool) → (a.slot == slot) ≡ b → P [] (slice_get (records_after w (Some a)) slot)
+      by_slot : (b : Bool) → (at == slot) ≡ b → P [] (slice_get (slice_set w.records at s) slot)
       by_slot true e =
-          let same : a.slot ≡ slot = eqb-true a.slot slot e in
-          subst (λ (s : ℕ). P [] (slice_get (records_after w (Some a)) s)) same
-          (subst (P []) (sym (told-own w a (slice_get w.records a.slot) refl
-          ∙ ap (λ (s : ℕ). option_map (apply w.settings a.event) (slice_get w.records s)) same))
-          (by_record (slice_get w.records slot) refl))
+          let same : at ≡ slot = eqb-true at slot e in
+          subst (P []) (sym (ap (slice_get (slice_set w.records at s)) (sym same) ∙ set_own w.records at s r there))
+          (each.answer r (ap (slice_get w.records) (sym same) ∙ there) a.answer.event is)
       by_slot false e =
-          subst (P []) (sym (told-other w a slot (slice_get w.records a.slot)
-          (λ same. false≢true (sym e ∙ eq-eqb a.slot slot (sym same))))) each.stays
+          subst (P []) (sym (slice_get-set_other w.records at slot s
+          (λ same. false≢true (sym e ∙ eq-eqb at slot (sym same))))) each.stays
 
   abbrev Does : Stepped → Type 0
   Does s = P (flat_map (turns_in slot) s.labels) (slice_get s.after.records slot)
@@ -189,8 +146,6 @@ module _ (w : World) (slot : ℕ) (P : List TurnTrace → Option Record → Type
   of_step (Run other) =
       of_stepped Does w (Run other) each.stays (λ ready. of_ran other (slice_get w.records other) refl)
   of_step (Device device) =
-      subst (λ (tolds : List TurnTrace). P tolds (slice_get (after w (Device device)).records slot))
-      (sym (acted_no_turn slot w device))
-      (subst (λ (rs : List Record). P [] (slice_get rs slot)) (sym (acted_records w device))
-      (of_told (answer_told w device) (answer_tells w device)))
+      of_stepped Does w (Device device) each.stays
+      (λ ready. of_answers w Does each.stays (λ devices. each.stays) of_answer_at device)
   of_step (Pass ticks) = of_stepped Does w (Pass ticks) each.stays (λ ready. each.stays)

@@ -16,13 +16,14 @@ use Rattle.turn_scheduler.specs.RoundRobin.{choice, place_is_ready as is_ready_a
 use Rattle.turn_scheduler.specs.Turns.{AreTurns, GivesTurn, ReadyHasTurn}
 use Rattle.kernel_model.specs.Record.{Record}
 use Rattle.kernel_model.specs.Turn.{may_turn}
-use Rattle.kernel_model.specs.World.{Answer, Pace, Present, Stepped, World, after, can_run, carried_out, is_ready}
-use Rattle.kernel_model.specs.World.{may_be_made, ran, records_after, told_to}
+use Rattle.kernel_model.specs.World.{Pace, Present, Stepped, World, after, can_run, carried_out, is_ready}
+use Rattle.kernel_model.specs.World.{may_be_made, ran}
 use Rattle.kernel_model.specs.Run.{next, on_choice, ready_slots, situation_of}
 use Rattle.kernel_model.specs.Replay.{chosen}
 use Rattle.kernel_model.specs.Fairness.{HasTurn, IsReadyIn, ReadyProcessesHaveTurns, is_turn, makes_turn, turn_worlds}
 use Rattle.kernel_model.specs.Fairness.{worlds}
 use Rattle.kernel_model.proofs.Places.{of_acted, of_stepped, of_world, stepped_else, stepped_ready}
+use Rattle.kernel_model.proofs.Told.{told_length}
 use Rattle.kernel_model.proofs.Runs.{next_slot_ready, ready_runs}
 
 -- a world with as many records as another, and its pace
@@ -34,19 +35,11 @@ same_then : (w v u : World) → SameBoard w v → SameBoard v u → SameBoard w 
 same_then w v u first second = record { records = second.records ∙ first.records; pace = second.pace ∙ first.pace }
 
 -- every step leaves the board as it was
-told_length : (w : World) (a : Answer) (o : Option Record) → length (told_to w a o) ≡ length w.records
-told_length w a None = refl
-told_length w a (Some r) = length-set w.records a.slot _
-
-pub answered_length : (w : World) (o : Option Answer) → length (records_after w o) ≡ length w.records
-answered_length w None = refl
-answered_length w (Some a) = told_length w a (slice_get w.records a.slot)
-
 pub step_same : (w : World) (c : Choice) → SameBoard w (after w c)
 step_same w c =
     of_world (SameBoard w) w (record { records = refl; pace = refl })
     (λ slot t. record { records = length-set w.records slot t.after; pace = refl })
-    (λ deed. record { records = answered_length w deed.told; pace = refl })
+    (λ deed. record { records = told_length w.settings deed.told w.records; pace = refl })
     (λ ticks. record { records = refl; pace = refl }) c
 
 -- and a device's step leaves whose turn the last one was, as a pass of time does

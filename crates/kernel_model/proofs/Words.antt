@@ -10,30 +10,30 @@ use Rattle.script_text.specs.Settings.{ScriptEvent as Arrival}
 use Rattle.driver_model.specs.Alarm.{due_slot}
 use Rattle.driver_model.specs.Answers.{EventsTellSteps}
 use Rattle.driver_model.specs.Told.{drawn_told}
-use Rattle.driver_model.specs.Commands.{BoardRequest, Waits, Leaves, Lights, Writes, Reads, Randoms, Stores}
+use Rattle.driver_model.specs.Commands.{BoardRequest, Waits, Leaves, Lights, QueueName, Writes, Reads, Randoms, Stores}
 use Rattle.driver_model.specs.Console as console
 use Rattle.driver_model.specs.Random as random
 use Rattle.kernel_model.specs.Record.{Record}
 use Rattle.kernel_model.specs.Turn.{WriteDone, Taken, flash_of, turned}
-use Rattle.kernel_model.specs.World.{Answer, DeviceStep, Devices, Label, Printed, Stepped, World, acted, after, alarmed}
-use Rattle.kernel_model.specs.World.{arrived, carried_out, device_step_of, done, as_events, random_step, first_waiting}
-use Rattle.kernel_model.specs.World.{labels, labels_of, now_in, owns_in, printing, ran, receive_step, routed, stepped}
-use Rattle.kernel_model.specs.World.{storing, transmitting}
+use Rattle.kernel_model.specs.World.{Devices, Label, Printed, Stepped, World, acted, after, as_events, carried_out}
+use Rattle.kernel_model.specs.World.{device_step_of, done, labels, printing, ran, random_step, routed, stepped}
+use Rattle.kernel_model.specs.World.{queue_without, transmitting, with_queue}
+use Rattle.kernel_model.proofs.Told.{answered, of_device}
 use Rattle.kernel_model.specs.Choices.{labels_of_all}
 use Rattle.kernel_model.specs.Replay.{after_all}
 use Rattle.kernel_model.specs.Words.{WordsAreDrawnInOrder, word_in, word_told, words_told}
 use Rattle.kernel_model.proofs.Places.{of_stepped}
 
 -- what a turn asks of the board draws none
+queue_words : (name : QueueName) (change : List ℕ → List ℕ) (d : Devices) → (with_queue name change d).words ≡ d.words
+queue_words Writes change d = refl
+queue_words Reads change d = refl
+queue_words Randoms change d = refl
+queue_words Stores change d = refl
+
 acted_words : (slot : ℕ) (act : BoardRequest) (d : Devices) → (acted slot act d).words ≡ d.words
-acted_words slot (Waits Writes) d = refl
-acted_words slot (Waits Reads) d = refl
-acted_words slot (Waits Randoms) d = refl
-acted_words slot (Waits Stores) d = refl
-acted_words slot (Leaves Writes) d = refl
-acted_words slot (Leaves Reads) d = refl
-acted_words slot (Leaves Randoms) d = refl
-acted_words slot (Leaves Stores) d = refl
+acted_words slot (Waits queue) d = queue_words queue (λ slots. slots ++ slot ∷ []) d
+acted_words slot (Leaves queue) d = queue_words queue (queue_without slot) d
 acted_words slot (Lights led switch) d = refl
 
 routed_words : (slot : ℕ) (acts : List BoardRequest) (d : Devices) → (routed slot acts d).words ≡ d.words
@@ -69,29 +69,19 @@ drawn_is (first ∷ words) (Some word) next = ap (λ (w : ℕ). w ∷ words) (th
     the_one x y e = cc
 
 module _ (tell : EventsTellSteps) (w : World) where
-  -- the words that were left are those that a step tells, and then those that are left
-  abbrev Draws : Option DeviceStep → Type 0
-  Draws o = w.devices.words ≡ words_told (done w o).labels ++ (done w o).after.devices.words
+  -- the words that were left before are those that a step tells, and then those that are left
+  abbrev DrawsInOrder : Stepped → Type 0
+  DrawsInOrder s = w.devices.words ≡ words_told s.labels ++ s.after.devices.words
 
   -- an answer that tells no word, and leaves them
-  silent : (deed : DeviceStep) (a : Answer) → deed.told ≡ Some a → word_in a.event ≡ []
-      → deed.devices.words ≡ w.devices.words → Draws (Some deed)
-  silent deed a told none same =
-      sym same ∙ ap (λ (words : List ℕ). words ++ deed.devices.words)
-      (sym (ap (λ (o : Option Answer). words_told (labels_of deed o)) told
-      ∙ ap (λ (words : List ℕ). words ++ words_told (printing a.slot deed.printed)) none
-      ∙ printing_none a.slot deed.printed))
+  sends : (slot : ℕ) (r : Record) → DrawsInOrder (answered w slot r (transmitting w.clock.time w.devices slot r))
+  sends slot r =
+      let s = console.sent (flash_of r) r.own in
+      sym (ap (λ (words : List ℕ). (words ++ words_told (printing slot s.printed)) ++ w.devices.words)
+      (sent_none s.completed)
+      ∙ ap (λ (words : List ℕ). words ++ w.devices.words) (printing_none slot s.printed))
 
-  first_draws : (make : World → ℕ → Record → DeviceStep) (line : List ℕ)
-      → ((slot : ℕ) (r : Record) → Draws (Some (make w slot r))) → Draws (first_waiting make w line)
-  first_draws make [] each = refl
-  first_draws make (slot ∷ rest) each = by_record (slice_get w.records slot)
-    where
-      by_record : (o : Option Record) → Draws (option_map (make w slot) o)
-      by_record None = refl
-      by_record (Some r) = each slot r
-
-  draws : (slot : ℕ) (r : Record) → Draws (Some (random_step w slot r))
+  draws : (slot : ℕ) (r : Record) → DrawsInOrder (answered w slot r (random_step w.devices slot r))
   draws slot r =
       let word = slice_get w.devices.words 0 in
       let drawn = (random.answered word r.own).drawn in
@@ -99,28 +89,17 @@ module _ (tell : EventsTellSteps) (w : World) where
       ∙ ap (λ (words : List ℕ). words ++ random.words_after drawn w.devices.words)
       (sym (append-nil (word_in (drawn_told as_events drawn))))
 
-  arrival_draws : (arrivals : List Arrival) → Draws (arrived w.devices arrivals)
-  arrival_draws [] = refl
-  arrival_draws (a ∷ rest) = refl
-
-  alarm_draws : (due : Option ℕ) → Draws (option_map (alarmed w) due)
-  alarm_draws None = refl
-  alarm_draws (Some slot) = refl
-
-  deed_draws : (device : Dev) → Draws (device_step_of w device)
-  deed_draws dev.Event = arrival_draws w.devices.arrivals
-  deed_draws dev.Alarm = alarm_draws (due_slot (now_in w) (owns_in w))
-  deed_draws dev.Uart =
-      first_draws transmitting w.devices.writes
-      (λ slot r. silent (transmitting w slot r) _ refl
-      (sent_none (console.sent (flash_of r) r.own).completed) refl)
-  deed_draws dev.Receive = first_draws receive_step w.devices.reads (λ slot r. refl)
-  deed_draws dev.Random = first_draws random_step w.devices.randoms draws
-  deed_draws dev.Store = first_draws storing w.devices.stores (λ slot r. refl)
-
-  -- the words that were left before are those that a step tells, and then those that are left
-  abbrev DrawsInOrder : Stepped → Type 0
-  DrawsInOrder s = w.devices.words ≡ words_told s.labels ++ s.after.devices.words
+  deed_draws : (device : Dev) → DrawsInOrder (done w (device_step_of w device))
+  deed_draws device =
+      of_device w DrawsInOrder (record {
+        none = refl;
+        arrives = λ a rest. refl;
+        alarms = λ slot r is. refl;
+        sends = λ slot r is. sends slot r;
+        receives = λ slot r is. refl;
+        draws = λ slot r is. draws slot r;
+        stores = λ slot r is. refl;
+      }) device
 
   choice_draws : (choice : Choice) → DrawsInOrder (carried_out w choice)
   unfolding carried_out

@@ -2,8 +2,9 @@
 use Rattle.std.specs.Prelude.{◌≡◌, ◌<◌, ℕ, ◌+◌, true, List, [], ◌∷◌, length, All}
 use Rattle.tk_base.specs.declared.process.Choice.{Choice}
 use Rattle.tk_base.specs.declared.process.Choice.TheVariants.{Run, Device, Pass}
+use Rattle.driver_model.specs.Commands.{QueueName}
 use Rattle.kernel_model.specs.Record.{Record}
-use Rattle.kernel_model.specs.World.{World}
+use Rattle.kernel_model.specs.World.{World, slots_in}
 use Rattle.kernel_model.specs.Choices.{are_ready}
 use Rattle.kernel_model.specs.Replay.{after_all}
 
@@ -26,12 +27,9 @@ abbrev pub turns_of_all : List Record → ℕ
 turns_of_all [] = 0
 turns_of_all (r ∷ rs) = r.process.turns + turns_of_all rs
 
--- those that wait in the lists are slots of the board
-pub record WaitingAreThere (w : World) : Type 0 where
-  pub writes : All (λ slot. slot < length w.records) w.devices.writes
-  pub reads : All (λ slot. slot < length w.records) w.devices.reads
-  pub randoms : All (λ slot. slot < length w.records) w.devices.randoms
-  pub stores : All (λ slot. slot < length w.records) w.devices.stores
+-- those that wait in a queue are slots of the board
+abbrev pub WaitingAreThere : World → Type 0
+WaitingAreThere w = (queue : QueueName) → All (λ slot. slot < length w.records) (slots_in queue w.devices.waiting)
 
 -- In another world time is later by the turns made and the ticks passed, the steps are more by the choices made, and
 -- the turns of all processes together are more by the turns made.

@@ -1,5 +1,5 @@
 -- Laws over the definitions alone. The calls are those of TRD 104; what a step reaches is this board's own rule.
-use Rattle.std.specs.Prelude.{◌≡◌, ◌≢◌, ◌<◌, ℕ, Bool, true, false, if◌then◌else◌, List, [], Option, None, Some}
+use Rattle.std.specs.Prelude.{◌≡◌, ◌≢◌, ◌<◌, ◌==◌, ℕ, Bool, true, false, if◌then◌else◌, List, [], Option, None, Some}
 use Rattle.std.specs.Prelude.{is_some, IfSome, IsTrue, option_and_then, Result, Ok, Err, slice_get}
 use Rattle.std.specs.Option.{option_map}
 use Rattle.tk_base.specs.declared.limits.TheConstants.{STEP_LIMIT}
@@ -13,44 +13,34 @@ use Rattle.tbf_headers.specs.Meaning.{Meaning, header_reading}
 use Rattle.syscall_abi.specs.Call.{form_of}
 use Rattle.syscall_abi.specs.declared.call.Call.{Call as SystemCall}
 use Rattle.process_model.specs.Own.{Own}
-use Rattle.driver_model.specs.Commands.{BoardRequest}
+use Rattle.driver_model.specs.Commands.{BoardRequest, QueueName}
 use Rattle.driver_model.specs.Drivers.{CommandContext}
 use Rattle.driver_model.specs.Laws.{CommandDropsAtMostOne, CommandsStayInPlace, IsAtMostOneMore, RefusedByAnyDriver}
 use Rattle.driver_model.specs.Keeping.{KeepsLimit}
 use Rattle.driver_model.specs.Services.{OfEachService}
-use Rattle.driver_model.specs.Lines.{IsWithin, LinesFollowCommands, OfEachRequestKind, OnlyDriversMoveLines}
+use Rattle.driver_model.specs.Lines.{IsWithin, LinesFollowCommands, OnlyDriversMoveLines}
 use Rattle.driver_model.specs.Lines.{has_waiting, waits_after, waits_once}
 use Rattle.process_record.specs.declared.outcome.Outcome.TheVariants.{ToDriver}
 use Rattle.kernel_model.specs.Record.{Record}
 use Rattle.kernel_model.specs.declared.settings.Settings.{Settings}
 use Rattle.kernel_model.specs.Calls.{served, refused_with, failure_of}
-use Rattle.kernel_model.specs.Turn.{Turn, apply, rule_shown, turned}
-use Rattle.kernel_model.specs.World.{World, Answer, after, device_step_of, is_ready, labels}
+use Rattle.kernel_model.specs.Turn.{Turn, rule_shown, turned}
+use Rattle.kernel_model.specs.World.{World, Answer, after, device_step_of, happens, is_ready, labels}
 use Rattle.kernel_model.specs.Run.{next, next_time, ready_devices}
 use Rattle.turn_scheduler.specs.RoundRobin.{ready_device}
 
--- what a device tells in a step, if it makes one
-abbrev pub answer_told : World → Dev → Option Answer
-answer_told w device =
-    if is_ready w (Device device) then option_and_then (λ deed. deed.told) (device_step_of w device) else None
+-- what a choice that is ready tells the process in a slot: its turn, or what a device tells it
+abbrev pub answer_by : World → Choice → ℕ → Option Answer
+answer_by w (Run other) slot = if slot == other then Some (record { event = Turn w.clock.time; printed = [] }) else None
+answer_by w (Device device) slot = option_and_then (λ deed. deed.told slot) (device_step_of w device)
+answer_by w (Pass ticks) slot = None
 
--- A turn changes the record of no process but the one whose turn it is, and that one by its turn; what a device does
--- that of no process but the one that it tells something, and that one by what it tells it; a pass of time none. A
--- choice that is not ready changes nothing at all, and tells nothing.
+-- A step changes the record of each process by the one event that it tells it, or not at all. A choice that is not ready
+-- changes nothing, and tells nothing.
 pub record OnlyItsOwnEvents : Type 0 where
-  pub turn : (w : World) (slot : ℕ) → is_ready w (Run slot) ≡ true
-      → slice_get (after w (Run slot)).records slot
-      ≡ option_map (apply w.settings (Turn w.clock.time)) (slice_get w.records slot)
-  pub no_other_turn : (w : World) (slot other : ℕ) → other ≢ slot
-      → slice_get (after w (Run slot)).records other ≡ slice_get w.records other
-  pub answer : (w : World) (device : Dev) (a : Answer) → answer_told w device ≡ Some a
-      → slice_get (after w (Device device)).records a.slot
-      ≡ option_map (apply w.settings a.event) (slice_get w.records a.slot)
-  pub no_other_answer : (w : World) (device : Dev) (a : Answer) (other : ℕ) → answer_told w device ≡ Some a
-      → other ≢ a.slot → slice_get (after w (Device device)).records other ≡ slice_get w.records other
-  pub no_answer : (w : World) (device : Dev) → answer_told w device ≡ None
-      → (after w (Device device)).records ≡ w.records
-  pub pass : (w : World) (ticks : ℕ) → (after w (Pass ticks)).records ≡ w.records
+  pub each : (w : World) (choice : Choice) (slot : ℕ) → is_ready w choice ≡ true →
+      slice_get (after w choice).records slot
+      ≡ option_map (happens w.settings (answer_by w choice slot)) (slice_get w.records slot)
   pub unready : (w : World) (choice : Choice) → is_ready w choice ≡ false
       → (after w choice ≡ w) × (labels w choice ≡ [])
 
@@ -98,17 +88,13 @@ main_by (Err fault) = None
 abbrev pub CanStartAgain : Record → Type 0
 CanStartAgain r = is_some (main_by (header_reading r.object)) ≡ true
 
--- What becomes of a process's requests, of which it had some before: it has one of a kind of request exactly where it
--- waits in that
--- list after what was asked of the board, and it is then in the same life. It begins to wait only where it does not
--- wait
--- already. One for storage is for some of so many bytes, as one before it was.
+-- What becomes of a process's requests, of which it had some before: it has one of a kind exactly where it waits in that
+-- queue after what was asked of the board, and it is then in the same life. It begins to wait only where it does not
+-- wait already. One for storage is for some of so many bytes, as one before it was.
 pub record KeepsLines (size : ℕ) (own after : Own) (acts : List BoardRequest) : Type 0 where
-  pub lines : OfEachRequestKind (λ R request_kind.
-      has_waiting request_kind after ≡ waits_after request_kind.line (has_waiting request_kind own) acts)
-  pub once : OfEachRequestKind (λ R request_kind.
-      waits_once request_kind.line (has_waiting request_kind own) acts ≡ true)
-  pub life : OfEachRequestKind (λ R request_kind. has_waiting request_kind after ≡ true → after.life ≡ own.life)
+  pub lines : (queue : QueueName) → has_waiting queue after ≡ waits_after queue (has_waiting queue own) acts
+  pub once : (queue : QueueName) → waits_once queue (has_waiting queue own) acts ≡ true
+  pub life : (queue : QueueName) → has_waiting queue after ≡ true → after.life ≡ own.life
   pub within : IsWithin size own → IsWithin size after
 
 -- so it is with each turn of a process that lives, and whose object is that of an application

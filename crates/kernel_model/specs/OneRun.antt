@@ -5,8 +5,9 @@ use Rattle.tk_base.specs.declared.limits.TheConstants.{SLOT_COUNT, STEP_LIMIT}
 use Rattle.tk_base.specs.declared.process.Choice.{Choice}
 use Rattle.tk_base.specs.declared.process.Dev.{Dev}
 use Rattle.driver_model.specs.Alarm.{alarm_in}
+use Rattle.driver_model.specs.Commands.{Writes}
 use Rattle.kernel_model.specs.Record.{Record}
-use Rattle.kernel_model.specs.World.{World, can_act, can_run}
+use Rattle.kernel_model.specs.World.{World, can_act, can_run, slots_in}
 use Rattle.kernel_model.specs.Run.{next, round}
 use Rattle.kernel_model.specs.Choices.{are_ready, labels_of_all}
 use Rattle.kernel_model.specs.Replay.{after_all, chosen}
@@ -31,7 +32,7 @@ pub record NothingIsLeft (w : World) : Type 0 where
   pub devices : (device : Dev) → can_act w device ≡ false
   pub arrivals : w.devices.arrivals ≡ []
   pub alarms : (slot : ℕ) → IfSome (slice_get w.records slot) HasNoAlarm
-  pub writes : w.devices.writes ≡ []
+  pub writes : slots_in Writes w.devices.waiting ≡ []
 
 -- on a board of no more processes than slots the round robin is done, after any choices, exactly where nothing is left
 -- to do

@@ -7,11 +7,12 @@ use Rattle.tk_base.specs.declared.process.Choice.{Choice}
 use Rattle.process_model.specs.Own.{Own}
 use Rattle.turn_scheduler.specs.Situation.{Situation}
 use Rattle.turn_scheduler.specs.RoundRobin.{choice as chosen, device_order}
+use Rattle.driver_model.specs.Commands.{Writes}
 use Rattle.kernel_model.specs.Turn.{may_turn}
 use Rattle.board_devices.specs.Arriving.{first_arrival_time as arrival_time}
 use Rattle.driver_model.specs.Alarm.{nearer, next_left}
 use Rattle.kernel_model.specs.World.{World, Label, TurnOf, Answered, Printed, Stepped, Devices, can_act, is_waited_for}
-use Rattle.kernel_model.specs.World.{now_in, owns_in, stepped}
+use Rattle.kernel_model.specs.World.{now_in, owns_in, slots_in, stepped}
 
 -- which slots can have a turn
 abbrev pub ready_slots : World → List Bool
@@ -27,7 +28,7 @@ alarm_time w = option_map (λ left. w.clock.time + left) (next_left (now_in w) (
 
 -- when the UART is free again, where a write waits
 abbrev pub sending_time : Devices → Option ℕ
-sending_time d = if is_waited_for d.writes then Some d.line.free else None
+sending_time d = if is_waited_for (slots_in Writes d.waiting) then Some d.line.free else None
 
 -- the nearest time at which a device step becomes ready by itself, of a time with what the clock shows then: bytes come
 -- in, an alarm becomes due, or the UART is free for a write that waits

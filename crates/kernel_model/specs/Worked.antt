@@ -78,10 +78,7 @@ board slice records = record {
   settings = worked_settings;
   pace = record { slice = slice };
   devices = record {
-    writes = [];
-    reads = [];
-    randoms = [];
-    stores = [];
+    waiting = record { writes = []; reads = []; randoms = []; stores = [] };
     leds = 0;
     line = record { ring = []; ticks = 1; free = 0 };
     arrivals = [];

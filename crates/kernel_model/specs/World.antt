@@ -1,6 +1,6 @@
 -- The world only routes: a step finds whose turn it is, or whom a device answers, and applies that event to that one
 -- record. Which steps there are, and what the devices do, is this board's own rule.
-use Rattle.std.specs.Prelude.{ℕ, ◌+◌, ◌==◌, Bool, false, not, ◌&&◌, nat_le, nat_lt, if◌then◌else◌, List, [], ◌∷◌, ◌++◌}
+use Rattle.std.specs.Prelude.{ℕ, suc, ◌+◌, ◌==◌, Bool, false, not, ◌&&◌, nat_le, nat_lt, if◌then◌else◌, List, [], ◌∷◌, ◌++◌}
 use Rattle.std.specs.Prelude.{drop, filter, length, map, slice_get, slice_set, Option, None, Some, is_some}
 use Rattle.std.specs.Option.{option_map}
 use Rattle.tk_base.specs.declared.limits.TheConstants.{STEP_LIMIT}
@@ -32,14 +32,18 @@ use Rattle.kernel_model.specs.Turn.{apply, flash_of, turned, may_turn}
 pub record Pace : Type 0 where
   pub slice : ℕ
 
--- What the devices hold: the slots that wait in each list, the first one first; the LEDs, bit n for LED n; the serial
--- line; the bytes that are still to come in, and when; the random words that are left; how many storage requests were
--- served, and the numbers of those that fail
-pub record Devices : Type 0 where
+-- the slots that wait in each queue, the first one first
+pub record WaitingSlots : Type 0 where
   pub writes : List ℕ
   pub reads : List ℕ
   pub randoms : List ℕ
   pub stores : List ℕ
+
+-- What the devices hold: the slots that wait; the LEDs, bit n for LED n; the serial line; the bytes that are still to
+-- come in, and when; the random words that are left; how many storage requests were served, and the numbers of those
+-- that fail
+pub record Devices : Type 0 where
+  pub waiting : WaitingSlots
   pub leds : ℕ
   pub line : SerialLine
   pub arrivals : List Arrival
@@ -86,16 +90,24 @@ now_in w = clock_at w.settings.start w.clock.time
 abbrev pub owns_in : World → List Own
 owns_in w = map (λ r. r.own) w.records
 
--- a process, by its slot, and what a device answers it
+-- what a step tells a process, and what is printed for it
 pub record Answer : Type 0 where
-  pub slot : ℕ
   pub event : Event
-
--- what a device does in a step: what it tells a process, if it tells any; what it prints for it; the devices afterwards
-pub record DeviceStep : Type 0 where
-  pub told : Option Answer
   pub printed : List ℕ
+
+-- what a device does for one process: what it tells it, and the devices afterwards
+pub record DeviceAnswer : Type 0 where
+  pub answer : Answer
   pub devices : Devices
+
+-- what a device does in a step: what it tells the process in each slot, one thing at most; the devices afterwards
+pub record DeviceStep : Type 0 where
+  pub told : ℕ → Option Answer
+  pub devices : Devices
+
+-- the process in one slot is answered, and no other
+abbrev pub answering : ℕ → DeviceAnswer → DeviceStep
+answering slot a = record { told = λ other. if other == slot then Some a.answer else None; devices = a.devices }
 
 -- the slots but one
 abbrev pub queue_without : ℕ → List ℕ → List ℕ
@@ -105,13 +117,23 @@ queue_without slot slots = filter (λ s. not (s == slot)) slots
 abbrev pub queue_after_answer : Bool → ℕ → List ℕ → List ℕ
 queue_after_answer completed slot slots = if completed then queue_without slot slots else slots
 
--- bytes come in: of those in the ring the newest are kept
-abbrev pub arriving : Devices → Arrival → List Arrival → DeviceStep
-arriving d arrival rest = record {
-  told = None;
-  printed = [];
-  devices = record d { line = with_input arrival.bytes d.line; arrivals = rest };
-}
+-- those that wait in a queue
+abbrev pub slots_in : QueueName → WaitingSlots → List ℕ
+slots_in Writes waiting = waiting.writes
+slots_in Reads waiting = waiting.reads
+slots_in Randoms waiting = waiting.randoms
+slots_in Stores waiting = waiting.stores
+
+-- one queue changes, and no other
+abbrev pub with_queue : QueueName → (List ℕ → List ℕ) → Devices → Devices
+with_queue Writes change d = record d { waiting = record d.waiting { writes = change d.waiting.writes } }
+with_queue Reads change d = record d { waiting = record d.waiting { reads = change d.waiting.reads } }
+with_queue Randoms change d = record d { waiting = record d.waiting { randoms = change d.waiting.randoms } }
+with_queue Stores change d = record d { waiting = record d.waiting { stores = change d.waiting.stores } }
+
+-- after an answer to the process in a slot, whose request in a queue completed or did not
+abbrev pub after_answer : QueueName → Bool → ℕ → Devices → Devices
+after_answer name completed slot d = with_queue name (queue_after_answer completed slot) d
 
 -- what devices tell, as events of a process
 abbrev pub as_events : Telling Event
@@ -125,89 +147,81 @@ as_events = record {
   stored = Stored;
 }
 
--- the alarm of the process in a slot fires
-abbrev pub alarmed : World → ℕ → DeviceStep
-alarmed w slot = record {
-  told = Some (record { slot = slot; event = as_events.alarmed (now_in w) });
-  printed = [];
-  devices = w.devices;
-}
+-- the alarm of a process fires at a time
+abbrev pub alarmed : Settings → ℕ → Devices → DeviceAnswer
+alarmed settings time d =
+    record { answer = record { event = as_events.alarmed (clock_at settings.start time); printed = [] }; devices = d }
 
 -- the UART takes the next bytes of the write of the process in a slot, or the write completes
-abbrev pub transmitting : World → ℕ → Record → DeviceStep
-transmitting w slot r =
-    let d = w.devices in
+abbrev pub transmitting : ℕ → Devices → ℕ → Record → DeviceAnswer
+transmitting time d slot r =
     let s = console.sent (flash_of r) r.own in
     record {
-      told = Some (record { slot = slot; event = sent_told as_events s });
-      printed = s.printed;
-      devices = record d {
-        writes = queue_after_answer s.completed slot d.writes;
-        line = record d.line { free = console.free_after w.clock.time d.line.ticks s.printed d.line.free };
+      answer = record { event = sent_told as_events s; printed = s.printed };
+      devices = record (after_answer Writes s.completed slot d) {
+        line = record d.line { free = console.free_after time d.line.ticks s.printed d.line.free };
       };
     }
 
 -- the bytes that came in go to the read of the process in a slot
-abbrev pub receive_step : World → ℕ → Record → DeviceStep
-receive_step w slot r =
-    let d = w.devices in
+abbrev pub receive_step : Devices → ℕ → Record → DeviceAnswer
+receive_step d slot r =
     let s = console.received d.line.ring r.own in
     record {
-      told = Some (record { slot = slot; event = received_told as_events s });
-      printed = [];
-      devices = record d {
-        reads = queue_after_answer s.completed slot d.reads;
-        line = record d.line { ring = drop (length s.moved) d.line.ring };
-      };
+      answer = record { event = received_told as_events s; printed = [] };
+      devices =
+          record (after_answer Reads s.completed slot d) { line = record d.line { ring = drop (length s.moved) d.line.ring } };
     }
 
 -- a word is drawn for the request of the process in a slot, or none
-abbrev pub random_step : World → ℕ → Record → DeviceStep
-random_step w slot r =
-    let d = w.devices in
+abbrev pub random_step : Devices → ℕ → Record → DeviceAnswer
+random_step d slot r =
     let a = random.answered (slice_get d.words 0) r.own in
     record {
-      told = Some (record { slot = slot; event = drawn_told as_events a.drawn });
-      printed = [];
-      devices = record d {
-        randoms = queue_after_answer a.completed slot d.randoms;
-        words = random.words_after a.drawn d.words;
-      };
+      answer = record { event = drawn_told as_events a.drawn; printed = [] };
+      devices = record (after_answer Randoms a.completed slot d) { words = random.words_after a.drawn d.words };
     }
 
 -- the storage request of the process in a slot is served, or fails, by its number among all that were
-abbrev pub storing : World → ℕ → Record → DeviceStep
-storing w slot r =
-    let d = w.devices in
+abbrev pub storing : Devices → ℕ → Record → DeviceAnswer
+storing d slot r =
     let fails = is_fault d.faults (d.served + 1) in
     let a = storage.answered fails (flash_of r) r.storage r.own in
     record {
-      told = Some (record { slot = slot; event = stored_told as_events fails });
-      printed = [];
-      devices = record d {
-        stores = queue_after_answer a.completed slot d.stores;
-        served = if a.completed then d.served + 1 else d.served;
-      };
+      answer = record { event = stored_told as_events fails; printed = [] };
+      devices = record (after_answer Stores a.completed slot d) { served = if a.completed then d.served + 1 else d.served };
     }
 
--- the first of those that wait, with its record
-abbrev pub first_waiting : (World → ℕ → Record → DeviceStep) → World → List ℕ → Option DeviceStep
-first_waiting deed w [] = None
-first_waiting deed w (slot ∷ slots) = option_map (deed w slot) (slice_get w.records slot)
+-- whom a device serves: the lowest slot whose alarm is due, or the first of those that wait; bytes that come in are
+-- nobody's
+abbrev pub served_by : World → Dev → Option ℕ
+served_by w dev.Event = None
+served_by w dev.Alarm = alarm.due_slot (now_in w) (owns_in w)
+served_by w dev.Uart = slice_get (slots_in Writes w.devices.waiting) 0
+served_by w dev.Receive = slice_get (slots_in Reads w.devices.waiting) 0
+served_by w dev.Random = slice_get (slots_in Randoms w.devices.waiting) 0
+served_by w dev.Store = slice_get (slots_in Stores w.devices.waiting) 0
 
--- what the serial line does where bytes are still to come in
+-- what a device does for the process that it serves, by its record
+abbrev pub serving : World → (ℕ → Record → DeviceAnswer) → Option ℕ → Option DeviceStep
+serving w answer None = None
+serving w answer (Some slot) = option_map (λ r. answering slot (answer slot r)) (slice_get w.records slot)
+
+-- bytes come in, if any are still to, which tells nobody anything: of those in the ring the newest are kept
 abbrev pub arrived : Devices → List Arrival → Option DeviceStep
 arrived d [] = None
-arrived d (arrival ∷ rest) = Some (arriving d arrival rest)
+arrived d (arrival ∷ rest) =
+    Some (record { told = λ slot. None; devices = record d { line = with_input arrival.bytes d.line; arrivals = rest } })
 
 -- what a device does, where it is ready
 abbrev pub device_step_of : World → Dev → Option DeviceStep
 device_step_of w dev.Event = arrived w.devices w.devices.arrivals
-device_step_of w dev.Alarm = option_map (alarmed w) (alarm.due_slot (now_in w) (owns_in w))
-device_step_of w dev.Uart = first_waiting transmitting w w.devices.writes
-device_step_of w dev.Receive = first_waiting receive_step w w.devices.reads
-device_step_of w dev.Random = first_waiting random_step w w.devices.randoms
-device_step_of w dev.Store = first_waiting storing w w.devices.stores
+device_step_of w dev.Alarm =
+    serving w (λ slot r. alarmed w.settings w.clock.time w.devices) (served_by w dev.Alarm)
+device_step_of w dev.Uart = serving w (transmitting w.clock.time w.devices) (served_by w dev.Uart)
+device_step_of w dev.Receive = serving w (receive_step w.devices) (served_by w dev.Receive)
+device_step_of w dev.Random = serving w (random_step w.devices) (served_by w dev.Random)
+device_step_of w dev.Store = serving w (storing w.devices) (served_by w dev.Store)
 
 -- whether one waits
 abbrev pub is_waited_for : List ℕ → Bool
@@ -217,11 +231,11 @@ is_waited_for slots = not (length slots == 0)
 -- waits and bytes came in; a request for random bytes waits; one for storage waits.
 abbrev pub can_act : World → Dev → Bool
 can_act w dev.Event = is_time w.clock.time w.devices.arrivals
-can_act w dev.Alarm = is_some (alarm.due_slot (now_in w) (owns_in w))
-can_act w dev.Uart = is_waited_for w.devices.writes && nat_le w.devices.line.free w.clock.time
-can_act w dev.Receive = is_waited_for w.devices.reads && not (length w.devices.line.ring == 0)
-can_act w dev.Random = is_waited_for w.devices.randoms
-can_act w dev.Store = is_waited_for w.devices.stores
+can_act w dev.Alarm = is_some (served_by w dev.Alarm)
+can_act w dev.Uart = is_waited_for (slots_in Writes w.devices.waiting) && nat_le w.devices.line.free w.clock.time
+can_act w dev.Receive = is_waited_for (slots_in Reads w.devices.waiting) && not (length w.devices.line.ring == 0)
+can_act w dev.Random = is_waited_for (slots_in Randoms w.devices.waiting)
+can_act w dev.Store = is_waited_for (slots_in Stores w.devices.waiting)
 
 -- whether a choice may be made: below the limit of steps a slot whose process can have a turn, a device step that is
 -- ready, and a pass of some ticks
@@ -234,24 +248,11 @@ may_be_made w (Pass ticks) = nat_lt 0 ticks
 abbrev pub is_ready : World → Choice → Bool
 is_ready w choice = nat_lt w.clock.steps STEP_LIMIT && may_be_made w choice
 
--- a slot waits in a list, as its last one
-abbrev pub begin_wait : ℕ → QueueName → Devices → Devices
-begin_wait slot Writes d = record d { writes = d.writes ++ slot ∷ [] }
-begin_wait slot Reads d = record d { reads = d.reads ++ slot ∷ [] }
-begin_wait slot Randoms d = record d { randoms = d.randoms ++ slot ∷ [] }
-begin_wait slot Stores d = record d { stores = d.stores ++ slot ∷ [] }
-
--- a slot waits in a list no more
-abbrev pub stop_wait : ℕ → QueueName → Devices → Devices
-stop_wait slot Writes d = record d { writes = queue_without slot d.writes }
-stop_wait slot Reads d = record d { reads = queue_without slot d.reads }
-stop_wait slot Randoms d = record d { randoms = queue_without slot d.randoms }
-stop_wait slot Stores d = record d { stores = queue_without slot d.stores }
-
--- what an act of a process changes of the devices: it waits, or waits no more, or switches an LED
+-- what an act of a process changes of the devices: it waits in a queue, as its last one, or waits there no more, or
+-- switches an LED
 abbrev pub acted : ℕ → BoardRequest → Devices → Devices
-acted slot (Waits line) d = begin_wait slot line d
-acted slot (Leaves line) d = stop_wait slot line d
+acted slot (Waits queue) d = with_queue queue (λ slots. slots ++ slot ∷ []) d
+acted slot (Leaves queue) d = with_queue queue (queue_without slot) d
 acted slot (Lights led switch) d = record d { leds = with_switched d.leds led switch }
 
 -- what a turn asks the board to do, one after another
@@ -284,29 +285,35 @@ ran w slot (Some r) =
     let t = turned w.settings w.clock.time r in
     record { after = after_turn_of w slot t; labels = TurnOf slot w.clock.time t.told ∷ [] }
 
--- the records after what a device told a process, of which nothing else changes
-abbrev pub told_to : World → Answer → Option Record → List Record
-told_to w answer None = w.records
-told_to w answer (Some r) = slice_set w.records answer.slot (apply w.settings answer.event r)
+-- a record once its process was told something, or nothing
+abbrev pub happens : Settings → Option Answer → Record → Record
+happens settings None r = r
+happens settings (Some answer) r = apply settings answer.event r
 
--- the records once a device has answered, if it answers anybody
-abbrev pub records_after : World → Option Answer → List Record
-records_after w None = w.records
-records_after w (Some answer) = told_to w answer (slice_get w.records answer.slot)
+-- the records after a step, of the slots in order: each process was told what it was told
+abbrev pub records_told : Settings → (ℕ → Option Answer) → List Record → List Record
+records_told settings told [] = []
+records_told settings told (r ∷ rs) =
+    happens settings (told 0) r ∷ records_told settings (λ slot. told (suc slot)) rs
 
--- what a device step tells: what it told a process, and what it printed for it
+-- what was printed for a process
 abbrev pub printing : ℕ → List ℕ → List Label
 printing slot bytes = if length bytes == 0 then [] else Printed slot bytes ∷ []
 
--- what a device's step tells: whom it answered, and what it printed for it
-abbrev pub labels_of : DeviceStep → Option Answer → List Label
-labels_of deed None = []
-labels_of deed (Some answer) = Answered answer.slot answer.event ∷ printing answer.slot deed.printed
+-- what a step tells of a slot: what its process was told, and what was printed for it
+abbrev pub labels_of : ℕ → Option Answer → List Label
+labels_of slot None = []
+labels_of slot (Some answer) = Answered slot answer.event ∷ printing slot answer.printed
+
+-- and of the slots in order, from one on
+abbrev pub labels_told : (ℕ → Option Answer) → ℕ → List Record → List Label
+labels_told told slot [] = []
+labels_told told slot (r ∷ rs) = labels_of slot (told slot) ++ labels_told told (suc slot) rs
 
 -- the world after a device's step, which takes no time
 abbrev pub after_deed : World → DeviceStep → World
 after_deed w deed = record w {
-  records = records_after w deed.told;
+  records = records_told w.settings deed.told w.records;
   devices = deed.devices;
   clock = record w.clock { steps = w.clock.steps + 1 };
 }
@@ -314,7 +321,7 @@ after_deed w deed = record w {
 -- the step of a device, if it has anything to do
 abbrev pub done : World → Option DeviceStep → Stepped
 done w None = unmade w
-done w (Some deed) = record { after = after_deed w deed; labels = labels_of deed deed.told }
+done w (Some deed) = record { after = after_deed w deed; labels = labels_told deed.told 0 w.records }
 
 -- the world after so many ticks in which nothing acts
 abbrev pub passed : World → ℕ → World

@@ -11,7 +11,7 @@ ghost use Rattle.kernel_model.specs.Words.{WordsAreDrawnInOrder};
 use crate::bytes::steps_have_causes;
 use crate::laws::{drivers_promise, turns_keep_lines};
 use driver_model::{
-    an_alarm_is_due_where_no_ticks_are_left, drivers_keep_buffers_below_the_mark,
+    a_due_slot_is_there, an_alarm_is_due_where_no_ticks_are_left, drivers_keep_buffers_below_the_mark,
     drivers_keep_places_and_order, events_tell_steps, lines_follow_answers,
 };
 use process_model::only_handing_changes_pairs;
@@ -57,7 +57,9 @@ pub fn places_never_change()
 /// together are more by the turns made.
 pub fn time_steps_and_turns_add_up()
     ensures { CountsAddUp }
-{}
+{
+    a_due_slot_is_there();
+}
 
 /// Whatever choices are made: a step that starts a process again leaves it as it was opened, but for its turns, its
 /// restarts and its life, its dropped upcalls, its last denial, its last refusal and its storage (TRD 104, "Exit").

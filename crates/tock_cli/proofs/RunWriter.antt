@@ -9,8 +9,9 @@ use Rattle.tk_base.specs.declared.process.Choice.TheVariants.{Run, Device, Pass}
 use Rattle.process_record.specs.declared.emit.CallMade.{CallMade}
 use Rattle.process_record.specs.declared.emit.Emit.{Emit}
 use Rattle.kernel_model.specs.Record.{Record}
-use Rattle.kernel_model.specs.World.{Answer, Answered, DeviceStep, Label, Printed, Stepped, TurnOf, World, after}
-use Rattle.kernel_model.specs.World.{carried_out, device_step_of, done, labels, labels_of, ran}
+use Rattle.kernel_model.specs.World.{Answered, Label, Printed, Stepped, TurnOf, World, after}
+use Rattle.kernel_model.specs.World.{carried_out, labels, ran}
+use Rattle.kernel_model.proofs.Told.{of_answered}
 use Rattle.kernel_model.specs.Run.{Ran, next, printed, round}
 use Rattle.kernel_model.specs.Stretch.{IsQuietTurn, IsStretch}
 use Rattle.kernel_model.specs.Shown.{shown_by}
@@ -36,23 +37,15 @@ trace_text-carried_out time w (Run slot) = of_record (slice_get w.records slot)
         → trace_text time (shown_by (ran w slot o).labels) ≡ flat_map (label_lines time) (ran w slot o).labels
     of_record None = refl
     of_record (Some r) = refl
-trace_text-carried_out time w (Device device) = of_deed (device_step_of w device)
+trace_text-carried_out time w (Device device) =
+    of_answered w (λ (s : Stepped). trace_text time (shown_by s.labels) ≡ flat_map (label_lines time) s.labels) refl
+    (λ devices. refl) (λ slot r there a. of_bytes slot a.answer.printed (length a.answer.printed == 0)) device
   where
     of_bytes : (slot : ℕ) (bytes : List ℕ) (b : Bool)
         → trace_text time (shown_by (cond b [] (Printed slot bytes ∷ [])))
         ≡ flat_map (label_lines time) (cond b [] (Printed slot bytes ∷ []))
     of_bytes slot bytes true = refl
     of_bytes slot bytes false = ap (out_text time slot) (append-nil bytes) ∙ sym (append-nil (out_text time slot bytes))
-
-    of_answer : (deed : DeviceStep) (o : Option Answer)
-        → trace_text time (shown_by (labels_of deed o)) ≡ flat_map (label_lines time) (labels_of deed o)
-    of_answer deed None = refl
-    of_answer deed (Some answer) = of_bytes answer.slot deed.printed (length deed.printed == 0)
-
-    of_deed : (o : Option DeviceStep)
-        → trace_text time (shown_by (done w o).labels) ≡ flat_map (label_lines time) (done w o).labels
-    of_deed None = refl
-    of_deed (Some deed) = of_answer deed deed.told
 trace_text-carried_out time w (Pass ticks) = refl
 
 trace_text-shown_by : (time : ℕ) (w : World) (c : Choice)

@@ -1,38 +1,32 @@
 use Rattle.std.proofs.Common.{List, sym, subst}
 use Rattle.std.specs.Prelude.{All}
 use Rattle.tk_base.specs.declared.process.ProcessId.{ProcessId}
-use Rattle.driver_model.specs.Console.{console_reads, console_writes}
-use Rattle.driver_model.specs.Random.{randoms}
-use Rattle.driver_model.specs.Storage.{storages}
+use Rattle.driver_model.specs.Commands.{Writes, Reads, Randoms, Stores}
 use Rattle.kernel_model.specs.World.{World}
 use Rattle.board_core.specs.Looks.{LivesThere}
-use Rattle.board_core.proofs.Looks.{line_lives}
+use Rattle.board_core.proofs.Looks.{queue_lives}
 use Rattle.board_core.proofs.board.Board.waiting.Goals as goal
 
 pub returns-in-Uart-clause-lives : goal.returns-in-Uart-clause-lives
 returns-in-Uart-clause-lives c =
     subst (λ (ids : List ProcessId). All (LivesThere c.args.self.now) ids) (sym c.as_slice.ensures)
     (subst (λ (w : World). All (LivesThere w) c.self.inside.drivers.console.writes) c.self.view_is
-    (line_lives c.self.inside c.self.invariant console_writes c.self.inside.drivers.console.writes
-    c.self.invariant.driven.writes))
+    (queue_lives c.self.inside c.self.invariant Writes))
 
 pub returns-in-Receive-clause-lives : goal.returns-in-Receive-clause-lives
 returns-in-Receive-clause-lives c =
     subst (λ (ids : List ProcessId). All (LivesThere c.args.self.now) ids) (sym c.as_slice-in-Receive.ensures)
     (subst (λ (w : World). All (LivesThere w) c.self.inside.drivers.console.reads) c.self.view_is
-    (line_lives c.self.inside c.self.invariant console_reads c.self.inside.drivers.console.reads
-    c.self.invariant.driven.reads))
+    (queue_lives c.self.inside c.self.invariant Reads))
 
 pub returns-in-Random-clause-lives : goal.returns-in-Random-clause-lives
 returns-in-Random-clause-lives c =
     subst (λ (ids : List ProcessId). All (LivesThere c.args.self.now) ids) (sym c.as_slice-in-Random.ensures)
     (subst (λ (w : World). All (LivesThere w) c.self.inside.drivers.random.waiting) c.self.view_is
-    (line_lives c.self.inside c.self.invariant randoms c.self.inside.drivers.random.waiting
-    c.self.invariant.driven.randoms))
+    (queue_lives c.self.inside c.self.invariant Randoms))
 
 pub returns-in-Store-clause-lives : goal.returns-in-Store-clause-lives
 returns-in-Store-clause-lives c =
     subst (λ (ids : List ProcessId). All (LivesThere c.args.self.now) ids) (sym c.as_slice-in-Store.ensures)
     (subst (λ (w : World). All (LivesThere w) c.self.inside.drivers.storage.waiting) c.self.view_is
-    (line_lives c.self.inside c.self.invariant storages c.self.inside.drivers.storage.waiting
-    c.self.invariant.driven.stores))
+    (queue_lives c.self.inside c.self.invariant Stores))

@@ -2,8 +2,30 @@ use Rattle.std.proofs.Common.{ℕ, subst}
 use Rattle.tk_base.specs.declared.process.Dev.TheVariants.{Alarm, Uart, Receive, Random, Store}
 use Rattle.alarm_capsule.specs.Answers as alarm_capsule
 use Rattle.board_core.specs.declared.board.Board.TheInside.{Inside}
-use Rattle.board_core.proofs.Serving.{acted_by, acts_alarmed, acts_drawn, acts_received, acts_sent, acts_stored}
+use Rattle.driver_model.specs.Commands.{Writes, Reads, Randoms, Stores}
+use Rattle.board_core.proofs.Serving.{first_may_be_told, acted_by, acts_alarmed, acts_drawn, acts_received, acts_sent, acts_stored}
 use Rattle.board_core.proofs.drivers.Drivers.act.Goals as goal
+
+pub transmit-requires-clause-told : goal.transmit-requires-clause-told
+transmit-requires-clause-told c =
+    first_may_be_told Writes c.args.moment.now.settings c.args.moment.now.time c.args.moment.now.steps c.args.home.now
+    c.args.self.now c.requires.driven c.requires.lost c.requires.limit
+
+pub receive-requires : goal.receive-requires
+receive-requires c = record {
+  told = first_may_be_told Reads c.args.moment.now.settings c.args.moment.now.time c.args.moment.now.steps
+      c.args.home.now c.args.self.now c.requires.driven c.requires.lost c.requires.limit;
+}
+
+pub answer-requires-in-Random : goal.answer-requires-in-Random
+answer-requires-in-Random c =
+    first_may_be_told Randoms c.args.moment.now.settings c.args.moment.now.time c.args.moment.now.steps c.args.home.now
+    c.args.self.now c.requires.driven c.requires.lost c.requires.limit
+
+pub answer-requires-in-Store-clause-told : goal.answer-requires-in-Store-clause-told
+answer-requires-in-Store-clause-told c =
+    first_may_be_told Stores c.args.moment.now.settings c.args.moment.now.time c.args.moment.now.steps c.args.home.now
+    c.args.self.now c.requires.driven c.requires.lost c.requires.limit
 
 pub returns-in-Alarm : goal.returns-in-Alarm
 returns-in-Alarm c b h =

@@ -2,7 +2,7 @@ use Rattle.std.proofs.Common.{◌≡◌, ℕ, Some, rules, ap, sym, ◌∙◌}
 use Rattle.grant_values.specs.declared.drivers.Driver.TheVariants.{Alarm, Console, Leds, Random, Storage}
 use Rattle.grant_values.specs.Drivers.{driver_of}
 use Rattle.driver_model.specs.Steps.{own_after}
-use Rattle.driver_model.specs.Commands.{Stores}
+use Rattle.driver_model.specs.Commands.{Writes, Reads, Randoms, Stores}
 use Rattle.driver_model.specs.Replies.{reply_of}
 use Rattle.driver_model.specs.Storage as storage
 use Rattle.driver_requests.specs.Waiting.{queue_after}
@@ -10,6 +10,34 @@ use Rattle.grant_enter.specs.Homes.{own_of}
 use Rattle.board_core.proofs.Orders.{alarm_drives, commands_by, console_drives, leds_drive, leds_keep, random_drives}
 use Rattle.board_core.proofs.Orders.{storage_drives}
 use Rattle.board_core.proofs.drivers.Drivers.command.Goals as goal
+
+pub command-requires-in-Some-Console-clause-writes : goal.command-requires-in-Some-Console-clause-writes
+command-requires-in-Some-Console-clause-writes c =
+    record {
+      there = record { slot = c.requires.slot; present = c.requires.present };
+      waits = c.requires.lines Writes;
+    }
+
+pub command-requires-in-Some-Console-clause-reads : goal.command-requires-in-Some-Console-clause-reads
+command-requires-in-Some-Console-clause-reads c =
+    record {
+      there = record { slot = c.requires.slot; present = c.requires.present };
+      waits = c.requires.lines Reads;
+    }
+
+pub command-requires-in-Some-Random : goal.command-requires-in-Some-Random
+command-requires-in-Some-Random c =
+    record {
+      there = record { slot = c.requires.slot; present = c.requires.present };
+      waits = c.requires.lines Randoms;
+    }
+
+pub command-requires-in-Some-Storage : goal.command-requires-in-Some-Storage
+command-requires-in-Some-Storage c =
+    record {
+      there = record { slot = c.requires.slot; present = c.requires.present };
+      waits = c.requires.lines Stores;
+    }
 
 pub returns-in-Some-Alarm-clause-comes : goal.returns-in-Some-Alarm-clause-comes
 returns-in-Some-Alarm-clause-comes c =
