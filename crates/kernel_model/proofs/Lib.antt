@@ -36,3 +36,4 @@ mod Lists
 mod Words
 mod Wholes
 mod Loads
+mod Worked

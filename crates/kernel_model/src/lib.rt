@@ -25,6 +25,3 @@ pub use laws::{
     rounds_join, swaps_give_back_the_last, turns_keep_lines,
 };
 pub use settings::Settings;
-
-#[cfg(test)]
-mod tests;
