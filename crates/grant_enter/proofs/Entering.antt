@@ -1,5 +1,5 @@
 -- Room for a driver's grant in a block, and the process that has entered the driver.
-use Rattle.std.proofs.Common.{◌≡◌, ℕ, ◌-◌, Bool, cond, List, ◌++◌, length, take, drop, Option, None, Some, Result, Ok}
+use Rattle.std.proofs.Common.{◌≡◌, ℕ, Bool, cond, List, ◌++◌, length, Option, None, Some, Result, Ok}
 use Rattle.std.proofs.Common.{Err, refl, sym, ap, ap₂, subst, ◌∙◌, eq-eqb}
 use Rattle.std.specs.Prelude.{OnOk, option_map}
 use Rattle.std.specs.List.{AllByRecursion}
@@ -9,7 +9,7 @@ use Rattle.grant_model.specs.Grants.{Grant, grant_of, entering, entered, fresh}
 use Rattle.grant_model.specs.Encoding.{decode_grants}
 use Rattle.grant_model.specs.Laws.{PairsStandByKind}
 use Rattle.grant_region.specs.Region.{Leaves, Parts, below, roomed}
-use Rattle.board_memory.specs.Memory.{MemoryBytes, ram_between, with_run}
+use Rattle.board_memory.specs.Memory.{MemoryBytes, with_run}
 use Rattle.process_model.specs.Own.{Own}
 use Rattle.process_model.specs.Handed.{own_entering as own_entering}
 use Rattle.process_model.specs.Served.{kept}

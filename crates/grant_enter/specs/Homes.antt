@@ -1,6 +1,6 @@
 -- What contracts see of the memory of all processes: flash, and by slot what is a process's own. A process has its
 -- block and its grants as in Levy et al., SOSP 2017, section 4.
-use Rattle.std.specs.Prelude.{◌≡◌, ◌≢◌, ◌≤◌, ◌<◌, ℕ, zero, suc, ◌+◌, ◌-◌, ◌%◌, ◌^◌, true, if◌then◌else◌, false, List}
+use Rattle.std.specs.Prelude.{◌≡◌, ◌≢◌, ◌≤◌, ◌<◌, ℕ, zero, suc, ◌+◌, ◌-◌, ◌%◌, ◌^◌, if◌then◌else◌, false, List}
 use Rattle.std.specs.Prelude.{[], length, slice_index_or, slice_set, Option, None, Some}
 use Rattle.std.specs.List.{AllByRecursion}
 use Rattle.tk_base.specs.declared.access.TheConstants.{FLASH_START, RAM_START}

@@ -14,7 +14,13 @@ use tk_base::{Counts, ProcessId};
 /// The grants that processes keep for one driver (Levy et al., SOSP 2017, section 4): the type of their
 /// value, and how many upcalls and read-only, read-write and readable buffers they have.
 #[derive(Drop)]
-pub struct Grant<T: GrantValue, const UP: usize, const RO: usize, const RW: usize, const UR: usize> {
+pub struct Grant<
+    T: GrantValue,
+    const UP: usize,
+    const RO: usize,
+    const RW: usize,
+    const UR: usize,
+> {
     /// The driver's number.
     pub driver: u32,
     counts: Counts,
@@ -23,7 +29,13 @@ pub struct Grant<T: GrantValue, const UP: usize, const RO: usize, const RW: usiz
     ghost known: { IsCounted T.driver driver counts T.SIZE },
 }
 
-impl<T: GrantValue, const UP: usize, const RO: usize, const RW: usize, const UR: usize> Grant<T, UP, RO, RW, UR> {
+impl<T: GrantValue, const UP: usize, const RO: usize, const RW: usize, const UR: usize> Grant<
+    T,
+    UP,
+    RO,
+    RW,
+    UR,
+> {
     /// The grants of a driver, whose value and whose counts are those of the type.
     pub fn of(driver: u32) -> Grant<T, UP, RO, RW, UR>
         requires value { driver_of driver ≡ Some T.driver }

@@ -88,7 +88,10 @@ fn note_handed(layout: &mut Layout, inbox: &mut Inbox, handover: Handover)
 {
     match handover.kind {
         PairKind::Upcall => inbox.pending.drop_of(handover.driver, handover.number),
-        PairKind::ReadOnly | PairKind::ReadWrite | PairKind::Readable => raise_mark(layout, handover.pair),
+        PairKind::ReadOnly | PairKind::ReadWrite | PairKind::Readable => raise_mark(
+            layout,
+            handover.pair,
+        ),
     }
 }
 

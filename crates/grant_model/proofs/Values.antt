@@ -3,13 +3,12 @@ use Rattle.std.proofs.Common.{arith, refl, ap, sym, subst, ◌∙◌, ◌≡◌,
 use Rattle.std.proofs.Common.{take, drop, replicate, length-append, append_assoc, Some}
 use Rattle.std.specs.Int.{w32, to_le_bytes}
 use Rattle.std.proofs.lemmas.List.{take_at, drop_at}
-use Rattle.tk_base.specs.declared.upcall.Counts.{Counts}
 use Rattle.tk_base.specs.Kinds.{pair_count}
 use Rattle.grant_values.specs.Words.{WordsInBytes, bytes_of_words, words_of}
 use Rattle.grant_values.specs.Values.{value_words}
 use Rattle.grant_model.specs.declared.places.Area.{Area}
 use Rattle.grant_model.specs.Grants.{Grant, shape_of, with_grant, with_value}
-use Rattle.grant_model.specs.Encoding.{CanBeKept, padding_of, pair_words, body_words, areas, IsSound, EncodesGrants}
+use Rattle.grant_model.specs.Encoding.{CanBeKept, padding_of, pair_words, areas, IsSound, EncodesGrants}
 use Rattle.grant_model.specs.Encoding.{Tells, area_of, decode_grants}
 use Rattle.grant_model.specs.Laws.{IsValue, ValuesAreFound, value_offset, value_bytes}
 use Rattle.grant_model.proofs.Back.{length-pairs, tells}

@@ -11,7 +11,7 @@ use Rattle.tk_base.specs.declared.kinds.PairKind.{PairKind}
 use Rattle.tk_base.specs.declared.upcall.Counts.{Counts}
 use Rattle.tk_base.proofs.Ranks.{same_rank}
 use Rattle.tk_base.specs.Kinds.{count_of, pair_count, pair_counts, pair_place, pairs_before, rank_of}
-use Rattle.grant_model.specs.Grants.{Grant, HasPairs, fresh, shape_of, pair_of, pairs_of, with_pair}
+use Rattle.grant_model.specs.Grants.{Grant, HasPairs, shape_of, pair_of, pairs_of, with_pair}
 use Rattle.grant_model.specs.Laws.{PairsStandByKind}
 
 -- of windows one after another each ends before the whole does, and before the next begins

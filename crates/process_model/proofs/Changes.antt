@@ -26,7 +26,7 @@ use Rattle.grant_region.specs.Region.{roomed}
 use Rattle.process_model.specs.Own.{Own}
 use Rattle.process_model.specs.Permission.{denied}
 use Rattle.process_model.specs.Instruction.{instruction_of, ram_after, with_write}
-use Rattle.process_model.specs.Handed.{may_keep, own_entering, handing, held, lies_in_ram, marked, may_share, raised}
+use Rattle.process_model.specs.Handed.{may_keep, own_entering, handing, held, lies_in_ram, marked, raised}
 use Rattle.process_model.specs.Flag.{flag_place, with_flag}
 use Rattle.process_model.specs.Served.{with_written}
 use Rattle.tk_base.specs.Bytes.{over}

@@ -1,11 +1,10 @@
 -- The pairs that a process has handed, once what is its own has changed.
-use Rattle.std.proofs.Common.{◌≡◌, ◌≢◌, ◌<◌, ℕ, ◌+◌, ◌-◌, ◌==◌, Bool, true, false, cond, List, [], ◌∷◌, ◌++◌, length}
+use Rattle.std.proofs.Common.{◌≡◌, ◌≢◌, ◌<◌, ℕ, ◌-◌, ◌==◌, Bool, true, false, cond, List, [], ◌∷◌, length}
 use Rattle.std.proofs.Common.{Option, None, Some, is_some, IfSome, refl, ap, sym, subst, ◌∙◌, eqb-true, eq-eqb, ne_eqb}
 use Rattle.std.specs.Prelude.{slice_set}
 use Rattle.std.specs.Option.{option_map}
 use Rattle.std.proofs.lemmas.Bool.{false≢true}
 use Rattle.tk_base.specs.declared.upcall.Upcall.{Upcall as Scheduled}
-use Rattle.upcall_queue.specs.Pending.{has_room}
 use Rattle.tk_base.specs.declared.kinds.PairKind.{PairKind}
 use Rattle.tk_base.specs.Kinds.{count_of, pair_count}
 use Rattle.grant_values.specs.Values.{KeptValue}

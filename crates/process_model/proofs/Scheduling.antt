@@ -5,7 +5,7 @@ use Rattle.grant_values.specs.Values.{KeptValue}
 use Rattle.grant_model.specs.Grants.{Grant, grant_of, pair_of, with_value}
 use Rattle.process_model.specs.Own.{Own}
 use Rattle.process_model.specs.Handed.{held}
-use Rattle.process_model.specs.Served.{ScheduledUpcall, own_scheduling, queueing, with_kept}
+use Rattle.process_model.specs.Served.{queueing, with_kept}
 use Rattle.process_model.specs.Laws.{KeepingCommutes}
 use Rattle.process_model.proofs.Pairs.{at}
 

@@ -6,7 +6,7 @@ use Rattle.grant_model.specs.Laws.{IsValue, value_bytes}
 use Rattle.board_memory.specs.Memory.{MemoryBytes}
 use Rattle.grant_enter.specs.Seats.{Reseats, kernel_in, own_in}
 use Rattle.grant_enter.specs.Seen.{IsLentTo}
-use Rattle.grant_enter.specs.Visits.{GrantsOf, Visited, grants_of}
+use Rattle.grant_enter.specs.Visits.{Visited, grants_of}
 use Rattle.grant_enter.proofs.Keeping.{asks_by, can_be_kept, size_of, told_is, value_again, visited_by, visit_reseats}
 use Rattle.grant_enter.proofs.visit.visit_at.Goals as goal
 use Rattle.grant_enter.proofs.visit.visit_at.Given.{Over}
