@@ -3,7 +3,7 @@ ghost use Rattle.kernel_model.specs.Histories.{SwapsGiveBackTheLast};
 ghost use Rattle.kernel_model.specs.Laws.{DriversPromise, DropsAtMostOne, GrantsChangeAtCalls, NextIsReady, NextLiesAhead, NoneIsLeft};
 ghost use Rattle.kernel_model.specs.Laws.{OnlyItsOwnEvents, RefusedChangesNothingElse, TurnsActAtCalls, TurnsKeepLines};
 ghost use Rattle.kernel_model.specs.Refused.{RefusalsChangeLittle};
-ghost use Rattle.kernel_model.specs.Stretch.{NoneIsStretch, PresentStaysOn, RoundIsStretch, RoundsJoin, StretchesJoin};
+ghost use Rattle.kernel_model.specs.Stretch.{NoneIsStretch, PresentIsNextOnTheWay, PresentStaysOn, RoundIsStretch, RoundsJoin, StretchesJoin};
 ghost use Rattle.kernel_model.specs.Replay.{RecordIsReplay, RoundFollowsChoices, SameHistorySameRecord};
 
 use driver_model::{
@@ -108,11 +108,13 @@ pub fn swaps_give_back_the_last()
     only_handing_changes_pairs();
     drivers_leave_pairs();
 }
-/// As long as no device step is ready, the round robin makes the instructions of the process that has the next turn,
-/// those that go, one after another, up to the end of its slice. Such a stretch may be followed by another.
-#[tactic(auto, using(crate::proofs::Stretch::round_is_stretch, crate::proofs::Stretch::none_is_stretch, crate::proofs::Stretch::stays_on))]
+/// As long as a slot is the next choice, a run makes the instructions of its process, those that go, one after another,
+/// up to the end of its slice; and the round robin chooses the present slot as long as no device step is ready. Such a
+/// stretch may be followed by another.
+#[tactic(auto, using(crate::proofs::Stretch::round_is_stretch, crate::proofs::Stretch::present_is_next_on_the_way, crate::proofs::Stretch::none_is_stretch, crate::proofs::Stretch::stays_on))]
 pub fn round_is_stretch()
     ensures round { RoundIsStretch }
+    ensures chosen { PresentIsNextOnTheWay }
     ensures stays { PresentStaysOn }
     ensures none { NoneIsStretch }
     ensures join { StretchesJoin }
