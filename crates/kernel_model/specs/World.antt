@@ -227,15 +227,20 @@ device_step_of w dev.Store = serving w (storing w.devices) (served_by w dev.Stor
 abbrev pub is_waited_for : List ℕ → Bool
 is_waited_for slots = not (length slots == 0)
 
--- Whether a device step is ready: bytes are to come in; an alarm is due; a write waits and the UART is free; a read
--- waits and bytes came in; a request for random bytes waits; one for storage waits.
+-- Whether a device step is ready at a time, when the alarm's clock shows a tick: bytes are to come in; an alarm is due; a
+-- write waits and the UART is free; a read waits and bytes came in; a request for random bytes waits; one for storage
+-- waits.
+abbrev pub can_act_at : ℕ → ℕ → List Own → Devices → Dev → Bool
+can_act_at time now owns d dev.Event = is_time time d.arrivals
+can_act_at time now owns d dev.Alarm = is_some (alarm.due_slot now owns)
+can_act_at time now owns d dev.Uart = is_waited_for (slots_in Writes d.waiting) && nat_le d.line.free time
+can_act_at time now owns d dev.Receive = is_waited_for (slots_in Reads d.waiting) && not (length d.line.ring == 0)
+can_act_at time now owns d dev.Random = is_waited_for (slots_in Randoms d.waiting)
+can_act_at time now owns d dev.Store = is_waited_for (slots_in Stores d.waiting)
+
+-- whether one is in a world
 abbrev pub can_act : World → Dev → Bool
-can_act w dev.Event = is_time w.clock.time w.devices.arrivals
-can_act w dev.Alarm = is_some (served_by w dev.Alarm)
-can_act w dev.Uart = is_waited_for (slots_in Writes w.devices.waiting) && nat_le w.devices.line.free w.clock.time
-can_act w dev.Receive = is_waited_for (slots_in Reads w.devices.waiting) && not (length w.devices.line.ring == 0)
-can_act w dev.Random = is_waited_for (slots_in Randoms w.devices.waiting)
-can_act w dev.Store = is_waited_for (slots_in Stores w.devices.waiting)
+can_act w device = can_act_at w.clock.time (now_in w) (owns_in w) w.devices device
 
 -- whether a choice may be made: below the limit of steps a slot whose process can have a turn, a device step that is
 -- ready, and a pass of some ticks
