@@ -72,15 +72,14 @@ calm_since start from time owns d next law serves is low more =
     let all = before_both time (first_arrival_time d.arrivals) (nearer alarm (sending_time (devices_of d)))
     (subst (λ (o : Option ℕ). IfSome o (λ at. time < at)) is more) in
     let others = before_both time alarm (sending_time (devices_of d)) all.1 in
-    let now = clock_at start time in
     elim [
-      Event ↦ no_arrival time d.arrivals all.0
+      | Event ↦ no_arrival time d.arrivals all.0
       | Alarm ↦ ap is_some (alarm_calm start from time owns law low
           (ticks_before from time (next_left (clock_at start from) owns) low others.0))
       | Uart ↦ no_sending (is_waited_for (slots_of d.console.writes)) d.uart.free time others.1
-      | Receive ↦ serves Receive refl time now owns
-      | Random ↦ serves Random refl time now owns
-      | Store ↦ serves Store refl time now owns
+      | Receive ↦ serves.receive
+      | Random ↦ serves.random
+      | Store ↦ serves.store
     ]
 
 -- what an alarm has of a process
@@ -129,7 +128,7 @@ unfolding alarms_of
 kept_calm start from until slot owns d own o was grants lives calm time low high =
     let at = calm time low high in
     elim [
-      Event ↦ at Event
+      | Event ↦ at Event
       | Alarm ↦ ap is_some (same_due (clock_at start time) (slice_set owns slot o) owns
           (map-set_same alarms_of owns slot o nobody
           (ap₂ (λ (b : Bool) (gs : List Grant). (b, gs)) lives grants
@@ -147,7 +146,7 @@ pub idle_calm : (start from until : ℕ) (owns : List Own) (id : ProcessId) (old
 idle_calm start from until owns id old new drives calm time low high =
     let at = calm time low high in
     elim [
-      Event ↦ ap (is_time time) drives.arrivals ∙ at Event
+      | Event ↦ ap (is_time time) drives.arrivals ∙ at Event
       | Alarm ↦ at Alarm
       | Uart ↦ ap₂ (λ (ids : List ProcessId) (free : ℕ). is_waited_for (slots_of ids) && nat_le free time)
           (drives.queues Writes) (ap (λ (line : SerialLine). line.free) drives.line) ∙ at Uart

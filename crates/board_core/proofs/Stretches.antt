@@ -22,8 +22,6 @@ use Rattle.tk_base.specs.declared.process.ProcessId.{ProcessId}
 use Rattle.tk_base.specs.declared.process.Choice.{Choice}
 use Rattle.tk_base.specs.declared.process.Choice.TheVariants.{Run, Device, Pass}
 use Rattle.tk_base.specs.declared.process.Dev.{Dev}
-use Rattle.tk_base.specs.declared.process.Dev.TheVariants.{Event, Alarm, Uart, Receive, Random, Store}
-use Rattle.std.proofs.lemmas.Bool.{false≢true}
 use Rattle.turn_scheduler.specs.RoundRobin.{choice, next_slot, ready_device, used_after}
 use Rattle.process_record.specs.declared.process.State.{State}
 use Rattle.process_record.specs.declared.process.State.TheVariants.{Running, Yielded, Faulted, Terminated}
@@ -245,14 +243,7 @@ module _ (b : Inside) (board : IsBoard b) where
   nothing_comes none law comes =
       let idle = served_by_none _ _ _ _ _ _ (ap ready_device (devices_shown b board) ∙ none) in
       not_both _ (sym (next_shown b board)) (law (world_of b) none)
-      (comes (elim [
-        Event ↦ λ at_once. absurd (false≢true at_once)
-        | Alarm ↦ λ at_once. absurd (false≢true at_once)
-        | Uart ↦ λ at_once. absurd (false≢true at_once)
-        | Receive ↦ λ at_once time now owns. idle.0
-        | Random ↦ λ at_once time now owns. idle.1
-        | Store ↦ λ at_once time now owns. idle.2
-      ]))
+      (comes (record { receive = idle.0; random = idle.1; store = idle.2 }))
     where
       not_both : (at : Option ℕ) → world_next_time (world_of b) ≡ at
           → IfSome (world_next_time (world_of b)) (λ n. b.moment.time < n) → HasCome b.moment.time at → ⊥

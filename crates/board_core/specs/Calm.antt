@@ -1,5 +1,5 @@
 -- As long as no device step is ready. Only proofs use this.
-use Rattle.std.specs.Prelude.{◌≡◌, ◌≤◌, ◌<◌, ℕ, ◌+◌, Bool, true, false, List, Option, None, Some}
+use Rattle.std.specs.Prelude.{◌≡◌, ◌≤◌, ◌<◌, ℕ, ◌+◌, Bool, false, List, [], Option, None, Some}
 use Rattle.std.specs.Option.{option_map}
 use Rattle.tk_base.specs.declared.process.Dev.{Dev}
 use Rattle.tk_base.specs.declared.process.Dev.TheVariants.{Receive, Random, Store}
@@ -13,17 +13,15 @@ use Rattle.board_core.specs.declared.drivers.Drivers.{Drivers}
 use Rattle.board_core.specs.declared.moment.Moment.{Moment}
 use Rattle.board_core.specs.Driven.{devices_of}
 
--- the devices that serve at once: one to whose read bytes came in, the source of random bytes, the storage
-abbrev pub serves_at_once : Dev → Bool
-serves_at_once Receive = true
-serves_at_once Random = true
-serves_at_once Store = true
-serves_at_once other = false
+-- whether a device is ready that looks neither at the time nor at what processes keep
+abbrev pub can_act_at_once : Drivers → Dev → Bool
+can_act_at_once d device = can_act_at 0 0 [] (devices_of d) device
 
--- none of these is ready, whatever time it is and whatever processes keep
-abbrev pub ServesNobody : Drivers → Type 0
-ServesNobody d = (device : Dev) → serves_at_once device ≡ true → (time now : ℕ) (owns : List Own)
-    → can_act_at time now owns (devices_of d) device ≡ false
+-- nobody waits for bytes that came in, for random bytes or for the storage
+pub record ServesNobody (d : Drivers) : Type 0 where
+  pub receive : can_act_at_once d Receive ≡ false
+  pub random : can_act_at_once d Random ≡ false
+  pub store : can_act_at_once d Store ≡ false
 
 -- no device step is ready at a time
 abbrev pub IsCalmAt : ℕ → ℕ → List Own → Drivers → Type 0

@@ -24,7 +24,7 @@ use Rattle.kernel_model.specs.Causes.{AllHaveCauses, AnswerHasCauses, EachChange
 use Rattle.kernel_model.specs.Causes.{IsStorageCause, StepsHaveCauses, StorageChangesAt, TurnHasCauses, TurnsHaveCauses}
 use Rattle.kernel_model.proofs.Answered.{answer_has_causes}
 use Rattle.kernel_model.proofs.Places.{of_stepped, ran-other, ran-own, set_own, slice_get-set_other}
-use Rattle.kernel_model.proofs.Told.{answered}
+use Rattle.kernel_model.specs.Laws.{answered}
 use Rattle.kernel_model.proofs.Replays.{one_step}
 use Rattle.kernel_model.proofs.Steps.{IsAnswer, of_answers}
 

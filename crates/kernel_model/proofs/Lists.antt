@@ -35,7 +35,8 @@ use Rattle.kernel_model.specs.Lives.{LivesAsItRuns, HoldsThroughout, is_alive}
 use Rattle.kernel_model.specs.Lists.{ListsStay, asks_at, once_if, times_in}
 use Rattle.kernel_model.proofs.Lives.{over_turn}
 use Rattle.kernel_model.proofs.Places.{of_stepped, queue_with, ran-other, set_own, slice_get-set_other, slice_get-set_same}
-use Rattle.kernel_model.proofs.Told.{answered, of_device}
+use Rattle.kernel_model.specs.Laws.{answered}
+use Rattle.kernel_model.proofs.Told.{of_device}
 
 -- a list with one more, and without one
 joined : (slot : ℕ) (xs : List ℕ) → times_in slot (xs ++ slot ∷ []) ≡ times_in slot xs + 1

@@ -21,7 +21,8 @@ use Rattle.kernel_model.specs.Record.{Record}
 use Rattle.kernel_model.specs.Turn.{Event, flash_of}
 use Rattle.kernel_model.specs.World.{Answered, Printed, Stepped, World, carried_out, device_step_of, done, labels}
 use Rattle.kernel_model.specs.World.{printing, ran, transmitting}
-use Rattle.kernel_model.proofs.Told.{answered, of_device}
+use Rattle.kernel_model.specs.Laws.{answered}
+use Rattle.kernel_model.proofs.Told.{of_device}
 use Rattle.kernel_model.specs.Replay.{after_all}
 use Rattle.kernel_model.specs.Prints.{AreOfItsBuffer, PrintsAreOfBuffers, PrintsItsBuffer, buffer_bytes, console_buffer}
 use Rattle.kernel_model.proofs.Places.{of_stepped}

@@ -21,7 +21,8 @@ use Rattle.kernel_model.specs.World.{transmitting, unmade}
 use Rattle.kernel_model.specs.Histories.{turns_in}
 use Rattle.kernel_model.proofs.Replays.{nothing_printed}
 use Rattle.kernel_model.proofs.Places.{of_stepped, ran-other, ran-own, set_own, slice_get-set_other}
-use Rattle.kernel_model.proofs.Told.{answered, of_device, quiet, with_arrived}
+use Rattle.kernel_model.specs.Laws.{answered, quiet}
+use Rattle.kernel_model.proofs.Told.{of_device, with_arrived}
 
 -- an event that is no turn
 unfoldable pub IsAnswer : Event → Type 0

@@ -18,7 +18,8 @@ use Rattle.kernel_model.specs.Turn.{WriteDone, Taken, flash_of, turned}
 use Rattle.kernel_model.specs.World.{Devices, Label, Printed, Stepped, World, acted, after, as_events, carried_out}
 use Rattle.kernel_model.specs.World.{device_step_of, done, labels, printing, ran, random_step, routed, stepped}
 use Rattle.kernel_model.specs.World.{queue_without, transmitting, with_queue}
-use Rattle.kernel_model.proofs.Told.{answered, of_device}
+use Rattle.kernel_model.specs.Laws.{answered}
+use Rattle.kernel_model.proofs.Told.{of_device}
 use Rattle.kernel_model.specs.Choices.{labels_of_all}
 use Rattle.kernel_model.specs.Replay.{after_all}
 use Rattle.kernel_model.specs.Words.{WordsAreDrawnInOrder, word_in, word_told, words_told}

@@ -1,6 +1,6 @@
 -- Laws over the definitions alone. The calls are those of TRD 104; what a step reaches is this board's own rule.
 use Rattle.std.specs.Prelude.{◌≡◌, ◌≢◌, ◌<◌, ◌==◌, ℕ, Bool, true, false, if◌then◌else◌, List, [], Option, None, Some}
-use Rattle.std.specs.Prelude.{is_some, IfSome, IsTrue, option_and_then, Result, Ok, Err, slice_get}
+use Rattle.std.specs.Prelude.{is_some, IfSome, IsTrue, option_and_then, Result, Ok, Err, slice_get, slice_set, ◌⊎◌, ◌+◌}
 use Rattle.std.specs.Option.{option_map}
 use Rattle.tk_base.specs.declared.limits.TheConstants.{STEP_LIMIT}
 use Rattle.tk_base.specs.declared.process.Choice.{Choice}
@@ -24,8 +24,9 @@ use Rattle.process_record.specs.declared.outcome.Outcome.TheVariants.{ToDriver}
 use Rattle.kernel_model.specs.Record.{Record}
 use Rattle.kernel_model.specs.declared.settings.Settings.{Settings}
 use Rattle.kernel_model.specs.Calls.{served, refused_with, failure_of}
-use Rattle.kernel_model.specs.Turn.{Turn, rule_shown, turned}
-use Rattle.kernel_model.specs.World.{World, Answer, after, device_step_of, happens, is_ready, labels}
+use Rattle.kernel_model.specs.Turn.{Turn, apply, rule_shown, turned}
+use Rattle.kernel_model.specs.World.{World, Answer, DeviceAnswer, Devices, Stepped, after, answering, device_step_of}
+use Rattle.kernel_model.specs.World.{done, happens, is_ready, labels, labels_of, unmade}
 use Rattle.kernel_model.specs.Run.{next, next_time, ready_devices}
 use Rattle.turn_scheduler.specs.RoundRobin.{ready_device}
 
@@ -43,6 +44,44 @@ pub record OnlyItsOwnEvents : Type 0 where
       ≡ option_map (happens w.settings (answer_by w choice slot)) (slice_get w.records slot)
   pub unready : (w : World) (choice : Choice) → is_ready w choice ≡ false
       → (after w choice ≡ w) × (labels w choice ≡ [])
+
+-- a step that tells nobody anything, and leaves these devices
+abbrev pub quiet : World → Devices → Stepped
+quiet w devices = record {
+  after = record w { devices = devices; clock = record w.clock { steps = w.clock.steps + 1 } };
+  labels = [];
+}
+
+-- a step that answers one process, which has this record
+abbrev pub answered : World → ℕ → Record → DeviceAnswer → Stepped
+answered w slot r a = record {
+  after = record w {
+    records = slice_set w.records slot (apply w.settings a.answer.event r);
+    devices = a.devices;
+    clock = record w.clock { steps = w.clock.steps + 1 };
+  };
+  labels = labels_of slot (Some a.answer);
+}
+
+-- a step is one that answers a process
+pub record IsAnswered (w : World) (s : Stepped) : Type 0 where
+  pub slot : ℕ
+  pub there : Record
+  pub is_there : slice_get w.records slot ≡ Some there
+  pub answer : DeviceAnswer
+  pub is : s ≡ answered w slot there answer
+
+-- it is none, or one that tells nobody anything, or one that answers a process
+abbrev pub ComesTo : World → Stepped → Type 0
+ComesTo w s = (s ≡ unmade w) ⊎ (((devices : Devices) × (s ≡ quiet w devices)) ⊎ IsAnswered w s)
+
+-- A device's step that answers one process, or nobody, is that; and each is one of these, or none.
+pub record DevicesAnswerOne : Type 0 where
+  pub one : (w : World) (slot : ℕ) (a : DeviceAnswer) (r : Record) → slice_get w.records slot ≡ Some r →
+      done w (Some (answering slot a)) ≡ answered w slot r a
+  pub nobody : (w : World) (devices : Devices) →
+      done w (Some (record { told = λ slot. None; devices = devices })) ≡ quiet w devices
+  pub each : (w : World) (device : Dev) → ComesTo w (done w (device_step_of w device))
 
 -- below the limit of steps the next choice of the round robin may be made
 abbrev pub NextIsReady : Type 0
