@@ -60,7 +60,8 @@ module _ (b : Inside) (events : List ScriptEvent) (line : SerialLine)
       deed_with devices = record { told = λ slot. None; devices = devices }
 
   -- the world after they came in
-  pub world_arrived : DevicesAnswerOne → with_step b (world_of b).records (devices_of drivers_then) (a_step_later b.moment) b.present
+  pub world_arrived : DevicesAnswerOne → with_step b (world_of b).records (devices_of drivers_then) (a_step_later
+      b.moment) b.present
       b.used ≡ (carried_out (world_of b) (Device dev.Event)).after
   unfolding carried_out
   world_arrived law =

@@ -227,7 +227,8 @@ module _ (b : Inside) (device : Dev) (slot : ℕ) (printed : List ℕ) (home : H
       (record_of b.home.flash ((t.process, own_of b.home slot), bytes_of b.drivers.stores.slots slot)) told_found
 
   -- the world after it
-  pub world_told : DevicesAnswerOne → with_step b (map (record_of home.flash) (zip (zip b.processes.items home.owns) d.stores.slots))
+  pub world_told : DevicesAnswerOne → with_step b (map (record_of home.flash) (zip (zip b.processes.items home.owns)
+      d.stores.slots))
       (devices_of d) (a_step_later b.moment) b.present b.used ≡ (carried_out (world_of b) (Device device)).after
   unfolding carried_out told_at
   world_told law =
@@ -243,9 +244,11 @@ module _ (b : Inside) (device : Dev) (slot : ℕ) (printed : List ℕ) (home : H
       ∙ sym (ap (λ (s : Stepped). s.after) (answered_so law))
 
   -- what it shows
-  pub told_shown : DevicesAnswerOne → shown_printed slot printed ≡ shown_by (carried_out (world_of b) (Device device)).labels
+  pub told_shown : DevicesAnswerOne → shown_printed slot printed
+      ≡ shown_by (carried_out (world_of b) (Device device)).labels
   unfolding carried_out
-  told_shown law = printed_shown slot t.serves.event printed ∙ sym (ap (λ (s : Stepped). shown_by s.labels) (answered_so law))
+  told_shown law = printed_shown slot t.serves.event printed ∙ sym (ap (λ (s : Stepped). shown_by s.labels)
+      (answered_so law))
 
   -- it may be made below the limit of steps
   pub may_tell : b.moment.steps < STEP_LIMIT → IsTrue (is_ready (world_of b) (Device device))

@@ -372,7 +372,8 @@ module _ (b : Inside) (board : IsBoard b) where
               (slice_set (world_of b).records slot (after_instructions k before)) (devices_of b.drivers)
               (turns_later k b.moment) o n) (some more).0 ((some more).1 ∙ ap (λ (n : ℕ). n + k) begins)
 
-      by_count : RoundIsStretch → PresentIsNextOnTheWay → NoneIsStretch → (n : ℕ) → n ≡ k → IsStretch k (world_of b) world_then
+      by_count : RoundIsStretch → PresentIsNextOnTheWay → NoneIsStretch → (n : ℕ) → n ≡ k
+          → IsStretch k (world_of b) world_then
       by_count law chooses law_none zero e =
           subst (λ (n : ℕ). IsStretch n (world_of b) world_then) e
           (law_none (world_of b) world_then (none_left (sym e) (none (sym e)).0 (none (sym e)).1))

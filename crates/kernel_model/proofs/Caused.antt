@@ -1,6 +1,7 @@
 -- The cause of each change that a step makes of a process's bytes, among its labels.
-use Rattle.std.proofs.Common.{slice_set, ◌≡◌, ◌⊎◌, inl, inr, ℕ, zero, suc, ◌++◌, ◌==◌, Bool, true, false, List, [], ◌∷◌, slice_get}
-use Rattle.std.proofs.Common.{slice_index, Option, None, Some, IfSome, refl, sym, ap, subst, ◌∙◌, arith, eqb-true}
+use Rattle.std.proofs.Common.{slice_set, ◌≡◌, ◌⊎◌, inl, inr, ℕ, zero, suc, ◌++◌, ◌==◌, Bool, true, false, List, []}
+use Rattle.std.proofs.Common.{◌∷◌, slice_get}
+use Rattle.std.proofs.Common.{slice_index, Option, None, Some, refl, sym, ap, subst, ◌∙◌, arith, eqb-true}
 use Rattle.std.proofs.Common.{eq-eqb}
 use Rattle.std.proofs.Math.Logic.{⊎_map}
 use Rattle.std.specs.List.{Any}

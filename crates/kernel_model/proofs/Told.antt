@@ -1,6 +1,7 @@
 -- What a device's step leaves and tells, slot by slot: nothing but its devices where it tells nobody anything, and one
 -- record and its labels where it answers one process.
-use Rattle.std.proofs.Common.{◌≡◌, ◌≢◌, inl, inr, ◌<◌, ◌≤◌, ℕ, zero, suc, ◌+◌, ◌==◌, Bool, true, false, cond, List, [], ◌∷◌, ◌++◌}
+use Rattle.std.proofs.Common.{◌≡◌, ◌≢◌, inl, inr, ◌≤◌, ℕ, zero, suc, ◌+◌, ◌==◌, Bool, true, false, cond, List, []}
+use Rattle.std.proofs.Common.{◌∷◌, ◌++◌}
 use Rattle.std.proofs.Common.{length, slice_get, slice_set, Option, None, Some, refl, sym, ap, ap₂, subst, ◌∙◌, arith}
 use Rattle.std.proofs.Common.{eq-eqb, eqb-true}
 use Rattle.std.specs.Option.{option_map}
@@ -13,7 +14,7 @@ use Rattle.kernel_model.specs.Record.{Record}
 use Rattle.kernel_model.specs.declared.settings.Settings.{Settings}
 use Rattle.kernel_model.specs.Turn.{apply}
 use Rattle.kernel_model.specs.Laws.{ComesTo, DevicesAnswerOne, answered, quiet}
-use Rattle.kernel_model.specs.World.{Answer, DeviceAnswer, DeviceStep, Devices, Label, Stepped, World, alarmed, answering}
+use Rattle.kernel_model.specs.World.{Answer, DeviceAnswer, Devices, Label, Stepped, World, alarmed, answering}
 use Rattle.kernel_model.specs.World.{arrived, device_step_of, done, happens, labels_of, labels_told}
 use Rattle.kernel_model.specs.World.{random_step, receive_step, records_told, served_by, serving, storing, transmitting}
 use Rattle.kernel_model.specs.World.{unmade}
@@ -60,7 +61,8 @@ told_one settings told (suc slot) a (x ∷ rs) r is none there =
     (λ other apart. none (suc other) (λ same. apart (omega (arith, same)))) there)
 
 -- from a slot on nobody is told anything
-labels_none : (told : ℕ → Option Answer) (slot : ℕ) (rs : List Record) → ((other : ℕ) → slot ≤ other → told other ≡ None)
+labels_none : (told : ℕ → Option Answer) (slot : ℕ) (rs : List Record) → ((other : ℕ) → slot ≤ other
+    → told other ≡ None)
     → labels_told told slot rs ≡ []
 labels_none told slot [] none = refl
 labels_none told slot (r ∷ rs) none =

@@ -26,7 +26,7 @@ use Rattle.kernel_model.specs.declared.settings.Settings.{Settings}
 use Rattle.kernel_model.specs.Calls.{served, refused_with, failure_of}
 use Rattle.kernel_model.specs.Turn.{Turn, apply, rule_shown, turned}
 use Rattle.kernel_model.specs.World.{World, Answer, DeviceAnswer, Devices, Stepped, after, answering, device_step_of}
-use Rattle.kernel_model.specs.World.{done, happens, is_ready, labels, labels_of, unmade}
+use Rattle.kernel_model.specs.World.{done, happens, is_ready, labels, labels_of, queue_without, unmade}
 use Rattle.kernel_model.specs.Run.{next, next_time, ready_devices}
 use Rattle.turn_scheduler.specs.RoundRobin.{ready_device}
 
@@ -36,14 +36,18 @@ answer_by w (Run other) slot = if slot == other then Some (record { event = Turn
 answer_by w (Device device) slot = option_and_then (λ deed. deed.told slot) (device_step_of w device)
 answer_by w (Pass ticks) slot = None
 
--- A step changes the record of each process by the one event that it tells it, or not at all. A choice that is not ready
--- changes nothing, and tells nothing.
+-- A step changes the record of each process by the one event that it tells it, or not at all. A choice that is not
+-- ready changes nothing, and tells nothing.
 pub record OnlyItsOwnEvents : Type 0 where
   pub each : (w : World) (choice : Choice) (slot : ℕ) → is_ready w choice ≡ true →
       slice_get (after w choice).records slot
       ≡ option_map (happens w.settings (answer_by w choice slot)) (slice_get w.records slot)
   pub unready : (w : World) (choice : Choice) → is_ready w choice ≡ false
       → (after w choice ≡ w) × (labels w choice ≡ [])
+
+-- those that wait in a queue after an answer to one of them, whose request completed or did not
+abbrev pub queue_after_answer : Bool → ℕ → List ℕ → List ℕ
+queue_after_answer completed slot slots = if completed then queue_without slot slots else slots
 
 -- a step that tells nobody anything, and leaves these devices
 abbrev pub quiet : World → Devices → Stepped
@@ -127,9 +131,9 @@ main_by (Err fault) = None
 abbrev pub CanStartAgain : Record → Type 0
 CanStartAgain r = is_some (main_by (header_reading r.object)) ≡ true
 
--- What becomes of a process's requests, of which it had some before: it has one of a kind exactly where it waits in that
--- queue after what was asked of the board, and it is then in the same life. It begins to wait only where it does not
--- wait already. One for storage is for some of so many bytes, as one before it was.
+-- What becomes of a process's requests, of which it had some before: it has one of a kind exactly where it waits in
+-- that queue after what was asked of the board, and it is then in the same life. It begins to wait only where it does
+-- not wait already. One for storage is for some of so many bytes, as one before it was.
 pub record KeepsLines (size : ℕ) (own after : Own) (acts : List BoardRequest) : Type 0 where
   pub lines : (queue : QueueName) → has_waiting queue after ≡ waits_after queue (has_waiting queue own) acts
   pub once : (queue : QueueName) → waits_once queue (has_waiting queue own) acts ≡ true

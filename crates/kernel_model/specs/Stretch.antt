@@ -85,8 +85,8 @@ PresentIsNextOnTheWay =
     → NoneActs k w slot r
     → IsNextOnTheWay k w slot r
 
--- as long as a slot is the next choice, a run makes the instructions of its process, those that go, up to the end of its
--- slice, where its used turns begin anew, and to the limit of steps
+-- as long as a slot is the next choice, a run makes the instructions of its process, those that go, up to the end of
+-- its slice, where its used turns begin anew, and to the limit of steps
 abbrev pub RoundIsStretch : Type 0
 RoundIsStretch =
     (k slot : ℕ) (w : World) (r : Record)

@@ -1,5 +1,6 @@
 -- What is told of a run, by what its steps show and by their labels.
-use Rattle.std.proofs.Common.{◌≡◌, inl, inr, ℕ, zero, suc, ◌==◌, Bool, true, false, cond, List, [], ◌∷◌, ◌++◌, length, slice_get}
+use Rattle.std.proofs.Common.{◌≡◌, inl, inr, ℕ, zero, suc, ◌==◌, Bool, true, false, cond, List, [], ◌∷◌, ◌++◌, length}
+use Rattle.std.proofs.Common.{slice_get}
 use Rattle.std.proofs.Common.{Option, None, Some, All, refl, sym, ap, ap₂, subst, ◌∙◌, append-nil}
 use Rattle.std.specs.List.{flat_map}
 use Rattle.std.proofs.lemmas.List.Elements.{All-cons, All-head, All-nil, All-tail}
@@ -66,7 +67,8 @@ trace_text-shown_by law time w c =
     (trace_text-carried_out law time w c)
 
 -- so what is told of a step by what it shows is what the mode tells of it
-pub told_text-step : DevicesAnswerOne → (mode : Mode) (w : World) (c : Choice) (bytes : List ℕ) (telling : RunWriter) (step : Emit)
+pub told_text-step : DevicesAnswerOne → (mode : Mode) (w : World) (c : Choice) (bytes : List ℕ) (telling : RunWriter)
+    (step : Emit)
     → telling ≡ telling_of mode w bytes → step ≡ shown_by (labels w c)
     → told_text telling step ≡ step_text mode (step_of w c)
 told_text-step law mode w c bytes telling step t s =

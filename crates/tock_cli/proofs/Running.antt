@@ -94,7 +94,8 @@ module _ {K : Type 0} {tells : K → SinkFacts} {mode : Mode} {n i : ℕ} {from 
   room h k = omega (arith, r.few)
 
   -- one step more
-  pub one_more : WritesCompose tells → DevicesAnswerOne → (c : Choice) (then : World) (later : K) (step : Emit) (kept : RunWriter) → i < n
+  pub one_more : WritesCompose tells → DevicesAnswerOne → (c : Choice) (then : World) (later : K) (step : Emit) (kept
+      : RunWriter) → i < n
       → next here ≡ Some c → then ≡ after here c → step ≡ shown_by (labels here c)
       → WroteAll tells now later (told_text telling step) → kept ≡ told_on telling then step
       → counted_bytes kept ≤ counted_bytes telling + PRINT_LIMIT → RunsOn tells mode n (i + 1) from then old later kept
@@ -160,7 +161,8 @@ module _ {K : Type 0} {tells : K → SinkFacts} {mode : Mode} {n i : ℕ} {from 
           ∙ append-nil (printed_in r.done)
 
   -- a write that failed in a step
-  pub part : WritesCompose tells → DevicesAnswerOne → (c : Choice) (later : K) (step : Emit) → i < n → next here ≡ Some c
+  pub part : WritesCompose tells → DevicesAnswerOne → (c : Choice) (later : K) (step : Emit) → i < n
+      → next here ≡ Some c
       → step ≡ shown_by (labels here c) → WrotePart tells now later (told_text telling step)
       → WrotePart tells old later (steps_text mode (steps n from))
   part law one c later step h e s w =
