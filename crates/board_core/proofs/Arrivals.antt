@@ -12,7 +12,7 @@ use Rattle.script_text.specs.Settings.{ScriptEvent}
 use Rattle.process_record.specs.Emit.{nothing}
 use Rattle.kernel_model.specs.Shown.{shown_by}
 use Rattle.kernel_model.specs.World.{DeviceStep, Devices, Stepped, arrived, carried_out, device_step_of, done}
-use Rattle.kernel_model.proofs.Told.{done_quietly}
+use Rattle.kernel_model.specs.Laws.{DevicesAnswerOne}
 use Rattle.board_core.specs.declared.board.Board.TheInside.{Inside}
 use Rattle.board_core.specs.declared.drivers.Drivers.{Drivers}
 use Rattle.board_core.specs.Calm.{IsCalm}
@@ -60,20 +60,21 @@ module _ (b : Inside) (events : List ScriptEvent) (line : SerialLine)
       deed_with devices = record { told = λ slot. None; devices = devices }
 
   -- the world after they came in
-  pub world_arrived : with_step b (world_of b).records (devices_of drivers_then) (a_step_later b.moment) b.present
+  pub world_arrived : DevicesAnswerOne → with_step b (world_of b).records (devices_of drivers_then) (a_step_later
+      b.moment) b.present
       b.used ≡ (carried_out (world_of b) (Device dev.Event)).after
   unfolding carried_out
-  world_arrived =
+  world_arrived law =
       let w = world_of b in
-      sym (ap (λ (s : Stepped). s.after) (ap (done w) deed_is ∙ done_quietly w (devices_of drivers_then)))
+      sym (ap (λ (s : Stepped). s.after) (ap (done w) deed_is ∙ law.nobody w (devices_of drivers_then)))
 
   -- nothing is shown
-  pub arrived_shown : nothing ≡ shown_by (carried_out (world_of b) (Device dev.Event)).labels
+  pub arrived_shown : DevicesAnswerOne → nothing ≡ shown_by (carried_out (world_of b) (Device dev.Event)).labels
   unfolding carried_out shown_by
-  arrived_shown =
+  arrived_shown law =
       let w = world_of b in
       sym (ap (λ (s : Stepped). shown_by s.labels)
-      (ap (done w) deed_is ∙ done_quietly w (devices_of drivers_then)))
+      (ap (done w) deed_is ∙ law.nobody w (devices_of drivers_then)))
 
   pub soon : b.drivers.uart.free ≤ b.moment.time + SENDING_LIMIT → line.free ≤ b.moment.time + SENDING_LIMIT
   soon h = omega (arith, ap (λ (l : SerialLine). l.free) with, (line_keeps b.drivers.arrivals b.drivers.uart).1, h)

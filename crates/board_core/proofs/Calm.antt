@@ -9,6 +9,7 @@ use Rattle.std.proofs.lemmas.Bool.Decides.{nat_tests}
 use Rattle.std.proofs.lemmas.Option.{slice_get-map, get_or_from_slice_get}
 use Rattle.tk_base.specs.declared.limits.TheConstants.{SLOT_COUNT}
 use Rattle.script_text.specs.Settings.{ScriptEvent}
+use Rattle.tk_base.specs.declared.process.Dev.TheVariants.{Event, Alarm, Uart, Receive, Random, Store}
 use Rattle.tk_base.specs.declared.process.ProcessId.{ProcessId}
 use Rattle.board_devices.specs.Arriving.{is_time, first_arrival_time}
 use Rattle.board_devices.specs.SerialLine.{SerialLine}
@@ -71,15 +72,15 @@ calm_since start from time owns d next law serves is low more =
     let all = before_both time (first_arrival_time d.arrivals) (nearer alarm (sending_time (devices_of d)))
     (subst (λ (o : Option ℕ). IfSome o (λ at. time < at)) is more) in
     let others = before_both time alarm (sending_time (devices_of d)) all.1 in
-    record {
-      alarm = alarm_calm start from time owns law low
-          (ticks_before from time (next_left (clock_at start from) owns) low others.0);
-      sends = record {
-        event = no_arrival time d.arrivals all.0;
-        uart = no_sending (is_waited_for (slots_of d.console.writes)) d.uart.free time others.1;
-      };
-      serves = serves;
-    }
+    elim [
+      | Event ↦ no_arrival time d.arrivals all.0
+      | Alarm ↦ ap is_some (alarm_calm start from time owns law low
+          (ticks_before from time (next_left (clock_at start from) owns) low others.0))
+      | Uart ↦ no_sending (is_waited_for (slots_of d.console.writes)) d.uart.free time others.1
+      | Receive ↦ serves.receive
+      | Random ↦ serves.random
+      | Store ↦ serves.store
+    ]
 
 -- what an alarm has of a process
 abbrev AlarmsOf : Type 0
@@ -126,32 +127,32 @@ pub kept_calm : (start from until slot : ℕ) (owns : List Own) (d : Drivers) (o
 unfolding alarms_of
 kept_calm start from until slot owns d own o was grants lives calm time low high =
     let at = calm time low high in
-    record {
-      alarm = same_due (clock_at start time) (slice_set owns slot o) owns
+    elim [
+      | Event ↦ at Event
+      | Alarm ↦ ap is_some (same_due (clock_at start time) (slice_set owns slot o) owns
           (map-set_same alarms_of owns slot o nobody
           (ap₂ (λ (b : Bool) (gs : List Grant). (b, gs)) lives grants
-          ∙ ap alarms_of (sym (get_or_from_slice_get owns slot own nobody was))))
-          ∙ at.alarm;
-      sends = at.sends;
-      serves = at.serves;
-    }
+          ∙ ap alarms_of (sym (get_or_from_slice_get owns slot own nobody was)))))
+          ∙ at Alarm
+      | Uart ↦ at Uart
+      | Receive ↦ at Receive
+      | Random ↦ at Random
+      | Store ↦ at Store
+    ]
 
 -- and so do drivers of which nothing is asked
 pub idle_calm : (start from until : ℕ) (owns : List Own) (id : ProcessId) (old new : Drivers) → Drives id [] old new
     → IsCalm start from until owns old → IsCalm start from until owns new
 idle_calm start from until owns id old new drives calm time low high =
     let at = calm time low high in
-    record {
-      alarm = at.alarm;
-      sends = record {
-        event = ap (is_time time) drives.arrivals ∙ at.sends.event;
-        uart = ap₂ (λ (ids : List ProcessId) (free : ℕ). is_waited_for (slots_of ids) && nat_le free time) (drives.queues Writes)
-            (ap (λ (line : SerialLine). line.free) drives.line) ∙ at.sends.uart;
-      };
-      serves = record {
-        receive = ap₂ (λ (ids : List ProcessId) (ring : List ℕ). is_waited_for (slots_of ids) && not (length ring == 0))
-            (drives.queues Reads) (ap (λ (line : SerialLine). line.ring) drives.line) ∙ at.serves.receive;
-        random = ap (λ (ids : List ProcessId). is_waited_for (slots_of ids)) (drives.queues Randoms) ∙ at.serves.random;
-        store = ap (λ (ids : List ProcessId). is_waited_for (slots_of ids)) (drives.queues Stores) ∙ at.serves.store;
-      };
-    }
+    elim [
+      | Event ↦ ap (is_time time) drives.arrivals ∙ at Event
+      | Alarm ↦ at Alarm
+      | Uart ↦ ap₂ (λ (ids : List ProcessId) (free : ℕ). is_waited_for (slots_of ids) && nat_le free time)
+          (drives.queues Writes) (ap (λ (line : SerialLine). line.free) drives.line) ∙ at Uart
+      | Receive ↦ ap₂ (λ (ids : List ProcessId) (ring : List ℕ). is_waited_for (slots_of ids)
+          && not (length ring == 0)) (drives.queues Reads) (ap (λ (line : SerialLine). line.ring) drives.line)
+          ∙ at Receive
+      | Random ↦ ap (λ (ids : List ProcessId). is_waited_for (slots_of ids)) (drives.queues Randoms) ∙ at Random
+      | Store ↦ ap (λ (ids : List ProcessId). is_waited_for (slots_of ids)) (drives.queues Stores) ∙ at Store
+    ]

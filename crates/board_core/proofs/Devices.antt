@@ -30,7 +30,7 @@ use Rattle.kernel_model.specs.Turn.{Event}
 use Rattle.kernel_model.specs.World.{Answered, Printed, Stepped, World, can_act, carried_out, done}
 use Rattle.kernel_model.specs.World.{device_step_of, is_ready, may_be_made, printing}
 use Rattle.kernel_model.specs.Shown.{shown_by}
-use Rattle.kernel_model.proofs.Told.{answered, done_one}
+use Rattle.kernel_model.specs.Laws.{DevicesAnswerOne, answered}
 use Rattle.board_core.specs.declared.board.Board.TheInside.{Inside}
 use Rattle.board_core.specs.declared.drivers.Drivers.{Drivers}
 use Rattle.board_core.specs.declared.guard.ActivePmp.{ActivePmp}
@@ -218,19 +218,20 @@ module _ (b : Inside) (device : Dev) (slot : ℕ) (printed : List ℕ) (home : H
   told_found = found slot b.home home b.processes.items b.processes.items told_at b.drivers.stores.slots few
 
   -- its process alone was answered
-  answered_so : done (world_of b) (device_step_of (world_of b) device)
+  answered_so : DevicesAnswerOne → done (world_of b) (device_step_of (world_of b) device)
       ≡ answered (world_of b) slot
       (record_of b.home.flash ((t.process, own_of b.home slot), bytes_of b.drivers.stores.slots slot))
       (record { answer = record { event = t.serves.event; printed = printed }; devices = devices_of d })
-  answered_so = ap (done (world_of b)) t.serves.deed ∙ done_one (world_of b) slot
+  answered_so law = ap (done (world_of b)) t.serves.deed ∙ law.one (world_of b) slot
       (record { answer = record { event = t.serves.event; printed = printed }; devices = devices_of d })
       (record_of b.home.flash ((t.process, own_of b.home slot), bytes_of b.drivers.stores.slots slot)) told_found
 
   -- the world after it
-  pub world_told : with_step b (map (record_of home.flash) (zip (zip b.processes.items home.owns) d.stores.slots))
+  pub world_told : DevicesAnswerOne → with_step b (map (record_of home.flash) (zip (zip b.processes.items home.owns)
+      d.stores.slots))
       (devices_of d) (a_step_later b.moment) b.present b.used ≡ (carried_out (world_of b) (Device device)).after
   unfolding carried_out told_at
-  world_told =
+  world_told law =
       let w = world_of b in
       let changed : map (record_of home.flash) (zip (zip b.processes.items home.owns) d.stores.slots)
       ≡ slice_set w.records slot (record_of b.home.flash ((t.process, own_of home slot), t.serves.bytes)) =
@@ -240,12 +241,14 @@ module _ (b : Inside) (device : Dev) (slot : ℕ) (printed : List ℕ) (home : H
       t.serves.bytes in
       ap (λ (rs : List Record). with_step b rs (devices_of d) (a_step_later b.moment) b.present b.used)
       (changed ∙ ap (slice_set w.records slot) (sym t.serves.tells))
-      ∙ sym (ap (λ (s : Stepped). s.after) answered_so)
+      ∙ sym (ap (λ (s : Stepped). s.after) (answered_so law))
 
   -- what it shows
-  pub told_shown : shown_printed slot printed ≡ shown_by (carried_out (world_of b) (Device device)).labels
+  pub told_shown : DevicesAnswerOne → shown_printed slot printed
+      ≡ shown_by (carried_out (world_of b) (Device device)).labels
   unfolding carried_out
-  told_shown = printed_shown slot t.serves.event printed ∙ sym (ap (λ (s : Stepped). shown_by s.labels) answered_so)
+  told_shown law = printed_shown slot t.serves.event printed ∙ sym (ap (λ (s : Stepped). shown_by s.labels)
+      (answered_so law))
 
   -- it may be made below the limit of steps
   pub may_tell : b.moment.steps < STEP_LIMIT → IsTrue (is_ready (world_of b) (Device device))

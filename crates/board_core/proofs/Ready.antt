@@ -13,6 +13,7 @@ use Rattle.process_record.specs.declared.emit.Emit.{Emit}
 use Rattle.kernel_model.specs.Shown.{shown_by}
 use Rattle.kernel_model.specs.World.{Stepped, World, carried_out, is_ready, owns_in, stepped, unmade}
 use Rattle.kernel_model.specs.Run.{next_time, ready_devices, sending_time}
+use Rattle.tk_base.specs.declared.process.Dev.TheVariants as dev
 use Rattle.board_core.specs.declared.board.Board.TheInside.{Inside}
 use Rattle.board_core.specs.Calm.{IsCalmAt}
 use Rattle.board_core.specs.declared.drivers.Drivers.{Drivers}
@@ -30,8 +31,7 @@ six f g h i j k = cc
 pub calm_ready : (m : Moment) (owns : List Own) (d : Drivers) → IsCalmAt m.settings.start m.time owns d
     → ready_in m owns d ≡ false ∷ false ∷ false ∷ false ∷ false ∷ false ∷ []
 calm_ready m owns d calm =
-    six calm.sends.event (ap is_some calm.alarm) calm.sends.uart calm.serves.receive calm.serves.random
-    calm.serves.store
+    six (calm dev.Event) (calm dev.Alarm) (calm dev.Uart) (calm dev.Receive) (calm dev.Random) (calm dev.Store)
 
 module _ (b : Inside) (board : IsBoard b) where
   -- what the owns of the world that a board shows are

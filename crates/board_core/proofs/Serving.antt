@@ -57,8 +57,9 @@ use Rattle.kernel_model.specs.declared.settings.Settings.{Settings}
 use Rattle.kernel_model.specs.Record.{Record, record_with_step}
 use Rattle.kernel_model.specs.Turn.{Event, Alarmed, Taken, WriteDone, Input, Stored, apply, flash_of}
 use Rattle.kernel_model.specs.Turn.{written_over}
+use Rattle.kernel_model.specs.Laws.{queue_after_answer}
 use Rattle.kernel_model.specs.World.{DeviceAnswer, Devices, World, alarmed, answering, can_act, as_events, random_step}
-use Rattle.kernel_model.specs.World.{is_waited_for, queue_after_answer, owns_in, receive_step, serving, storing}
+use Rattle.kernel_model.specs.World.{is_waited_for, owns_in, receive_step, serving, storing}
 use Rattle.kernel_model.specs.World.{WaitingSlots, transmitting}
 use Rattle.board_core.specs.declared.board.Board.TheInside.{Inside}
 use Rattle.board_core.specs.declared.drivers.Drivers.{Drivers}
@@ -109,7 +110,8 @@ first_deed deed w here before after id r completed shown e f left does =
     by_first (before here) e ∙ ap (option_map (λ (x : Record). answering id.slot (deed id.slot x))) f
     ∙ ap (λ (a : DeviceAnswer). Some (answering id.slot a)) (does ∙ sym (ap shown lists))
   where
-    lists : ◌≡◌ {A = WaitingSlots} (waiting_by (λ queue. slots_of (after queue))) (waiting_by (λ queue. if is_same here queue
+    lists : ◌≡◌ {A = WaitingSlots} (waiting_by (λ queue. slots_of (after queue))) (waiting_by (λ queue. if is_same
+        here queue
         then queue_after_answer completed id.slot (slots_of (before queue)) else slots_of (before queue)))
     lists = λ i. waiting_by (λ queue.
         (ap slots_of (left queue) ∙ each_left (is_same here queue) completed id.slot (before queue)) i)
@@ -383,7 +385,8 @@ serves_sent b h lines events law lent id is_there first =
       bytes = bytes_of b.drivers.stores.slots id.slot;
       stores = stores_stay b h id is_there;
       event = if s.completed then WriteDone else Taken;
-      deed = first_deed (transmitting b.moment.time (devices_of b.drivers)) (world_of b) Writes (ids_waiting_in b.drivers) (ids_waiting_in ((sends b).after
+      deed = first_deed (transmitting b.moment.time (devices_of b.drivers)) (world_of b) Writes (ids_waiting_in
+          b.drivers) (ids_waiting_in ((sends b).after
           (waiting_still s.completed id.slot b.drivers.console.writes) (record { items = s.printed }))) id r
           s.completed (λ (slots : WaitingSlots). telling (if s.completed then WriteDone else Taken) s.printed
           (record (devices_of b.drivers) {
@@ -436,7 +439,8 @@ serves_received b h lines events id is_there first =
       bytes = bytes_of b.drivers.stores.slots id.slot;
       stores = stores_stay b h id is_there;
       event = Input s.moved;
-      deed = first_deed (receive_step (devices_of b.drivers)) (world_of b) Reads (ids_waiting_in b.drivers) (ids_waiting_in ((receives b).after
+      deed = first_deed (receive_step (devices_of b.drivers)) (world_of b) Reads (ids_waiting_in b.drivers)
+          (ids_waiting_in ((receives b).after
           (waiting_still s.completed id.slot b.drivers.console.reads)
           (record b.drivers.uart { ring = drop (length s.moved) ring }))) id r
           s.completed (λ (slots : WaitingSlots). telling (Input s.moved) []
@@ -491,7 +495,8 @@ serves_drawn b h lines events id is_there first =
       bytes = bytes_of b.drivers.stores.slots id.slot;
       stores = stores_stay b h id is_there;
       event = drawn_told as_events s.drawn;
-      deed = first_deed (random_step (devices_of b.drivers)) (world_of b) Randoms (ids_waiting_in b.drivers) (ids_waiting_in ((draws b).after
+      deed = first_deed (random_step (devices_of b.drivers)) (world_of b) Randoms (ids_waiting_in b.drivers)
+          (ids_waiting_in ((draws b).after
           (waiting_still s.completed id.slot b.drivers.random.waiting) (random.words_after s.drawn words))) id r
           s.completed (λ (slots : WaitingSlots). telling (drawn_told as_events s.drawn) []
           (record (devices_of b.drivers) { waiting = slots; words = random.words_after s.drawn words }))
@@ -597,7 +602,8 @@ serves_stored b h lines law lent id is_there first =
             slots_after s id.slot a.completed a.written (not_written fails (flash_of r) bytes own);
       };
       event = Stored (not fails);
-      deed = first_deed (storing (devices_of b.drivers)) (world_of b) Stores (ids_waiting_in b.drivers) (ids_waiting_in ((stores b).after
+      deed = first_deed (storing (devices_of b.drivers)) (world_of b) Stores (ids_waiting_in b.drivers)
+          (ids_waiting_in ((stores b).after
           (waiting_still a.completed id.slot b.drivers.storage.waiting) s')) id r
           a.completed (λ (slots : WaitingSlots). telling (Stored (not fails)) []
           (record (devices_of b.drivers) {
@@ -607,7 +613,8 @@ serves_stored b h lines law lent id is_there first =
           }))
           first (its_record_was b h id is_there)
           (elim [ Writes ↦ refl | Reads ↦ refl | Randoms ↦ refl | Stores ↦ refl ]) refl
-          ∙ ap (λ (a : DeviceAnswer). Some (answering id.slot a)) (ap₂ (λ (n : ℕ) (faults : List ℕ). telling (Stored (not fails)) []
+          ∙ ap (λ (a : DeviceAnswer). Some (answering id.slot a)) (ap₂ (λ (n : ℕ) (faults : List ℕ). telling (Stored
+              (not fails)) []
           (record (devices_of b.drivers) {
             waiting = waiting_by (λ queue. slots_of (ids_waiting_in ((stores b).after
                 (waiting_still a.completed id.slot b.drivers.storage.waiting) s') queue));

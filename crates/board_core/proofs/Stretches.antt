@@ -30,7 +30,8 @@ use Rattle.grant_enter.specs.Homes.{Homes, nobody}
 use Rattle.kernel_model.specs.declared.settings.Settings.{Settings}
 use Rattle.kernel_model.specs.Laws.{NextLiesAhead}
 use Rattle.kernel_model.specs.Run.{next, next_time as world_next_time, ready_devices, ready_slots}
-use Rattle.kernel_model.specs.Stretch.{GoesOn, IsStretch, NoneActs, NoneIsStretch, PresentStaysOn, RoundIsStretch}
+use Rattle.kernel_model.specs.Stretch.{GoesOn, IsStretch, NoneActs, NoneIsStretch}
+use Rattle.kernel_model.specs.Stretch.{PresentIsNextOnTheWay, PresentStaysOn, RoundIsStretch}
 use Rattle.kernel_model.specs.Stretch.{after_stretch, at_turn}
 use Rattle.kernel_model.specs.World.{World, owns_in}
 use Rattle.board_core.specs.Calm.{HasCome, IsCalm, ServesNobody, coming}
@@ -352,12 +353,17 @@ module _ (b : Inside) (board : IsBoard b) where
         (until : b.moment.time + k ≤ b.calm) (limit : b.moment.steps + k ≤ STEP_LIMIT)
         (none : k ≡ 0 → (present ≡ b.present) × (used ≡ b.used))
         (some : 0 < k → (present ≡ Some slot) × (used ≡ first + k)) where
-      stretched : RoundIsStretch → 0 < k → IsStretch k (world_of b) world_then
-      stretched law more =
+      stretched : RoundIsStretch → PresentIsNextOnTheWay → 0 < k → IsStretch k (world_of b) world_then
+      stretched law chooses more =
           subst (IsStretch k (world_of b)) (sym same)
-          (law k slot (world_of b) before more limit f was_there (state_is q.at.before.0.state runs)
-          (subst (λ (n : ℕ). n + k ≤ b.slice) begins lasts) (q.quiet.go storage) (none_acts until))
+          (law k slot (world_of b) before more limit f was_there (state_is q.at.before.0.state runs) lasts_so
+          (q.quiet.go storage)
+          (chooses k slot (at_turn (world_of b) slot) before refl was_there (state_is q.at.before.0.state runs) lasts_so
+          (none_acts until)))
         where
+          lasts_so : (at_turn (world_of b) slot).present.used + k ≤ b.slice
+          lasts_so = subst (λ (n : ℕ). n + k ≤ b.slice) begins lasts
+
           same : world_then ≡ after_stretch k (at_turn (world_of b) slot) slot (after_instructions k before)
           same =
               ap (λ (rs : List Record). with_step b rs (devices_of b.drivers) (turns_later k b.moment) present used)
@@ -366,18 +372,19 @@ module _ (b : Inside) (board : IsBoard b) where
               (slice_set (world_of b).records slot (after_instructions k before)) (devices_of b.drivers)
               (turns_later k b.moment) o n) (some more).0 ((some more).1 ∙ ap (λ (n : ℕ). n + k) begins)
 
-      by_count : RoundIsStretch → NoneIsStretch → (n : ℕ) → n ≡ k → IsStretch k (world_of b) world_then
-      by_count law law_none zero e =
+      by_count : RoundIsStretch → PresentIsNextOnTheWay → NoneIsStretch → (n : ℕ) → n ≡ k
+          → IsStretch k (world_of b) world_then
+      by_count law chooses law_none zero e =
           subst (λ (n : ℕ). IsStretch n (world_of b) world_then) e
           (law_none (world_of b) world_then (none_left (sym e) (none (sym e)).0 (none (sym e)).1))
-      by_count law law_none (suc n) e = stretched law (omega (arith, e))
+      by_count law chooses law_none (suc n) e = stretched law chooses (omega (arith, e))
 
       -- so the round robin's next steps are these turns
-      pub stretch_shown : (ticks : ℕ) (w : World) → RoundIsStretch → NoneIsStretch → ticks ≡ k → world_of b ≡ w
-          → IsStretch k w (world_after_ticks ticks)
-      stretch_shown ticks w law law_none is shown =
+      pub stretch_shown : (ticks : ℕ) (w : World) → RoundIsStretch → PresentIsNextOnTheWay → NoneIsStretch
+          → ticks ≡ k → world_of b ≡ w → IsStretch k w (world_after_ticks ticks)
+      stretch_shown ticks w law chooses law_none is shown =
           subst (λ (n : ℕ). IsStretch k w (world_after_ticks n)) (sym is)
-          (subst (λ (v : World). IsStretch k v world_then) shown (by_count law law_none k refl))
+          (subst (λ (v : World). IsStretch k v world_then) shown (by_count law chooses law_none k refl))
 
       -- the record there after the turns
       after_there : slice_get world_then.records slot ≡ Some after

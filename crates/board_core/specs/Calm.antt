@@ -1,32 +1,32 @@
 -- As long as no device step is ready. Only proofs use this.
-use Rattle.std.specs.Prelude.{◌≡◌, ◌≤◌, ◌<◌, ℕ, ◌+◌, ◌==◌, false, not, ◌&&◌, nat_le, List, length, Option, None, Some}
+use Rattle.std.specs.Prelude.{◌≡◌, ◌≤◌, ◌<◌, ℕ, ◌+◌, Bool, false, List, [], Option, None, Some}
 use Rattle.std.specs.Option.{option_map}
-use Rattle.board_devices.specs.Arriving.{is_time, first_arrival_time}
+use Rattle.tk_base.specs.declared.process.Dev.{Dev}
+use Rattle.tk_base.specs.declared.process.Dev.TheVariants.{Receive, Random, Store}
+use Rattle.board_devices.specs.Arriving.{first_arrival_time}
 use Rattle.board_devices.specs.Clock.{clock_at}
 use Rattle.process_model.specs.Own.{Own}
-use Rattle.driver_model.specs.Alarm.{due_slot, nearer, next_left}
+use Rattle.driver_model.specs.Alarm.{nearer, next_left}
 use Rattle.kernel_model.specs.Run.{next_time_at}
-use Rattle.kernel_model.specs.World.{is_waited_for}
+use Rattle.kernel_model.specs.World.{can_act_at}
 use Rattle.board_core.specs.declared.drivers.Drivers.{Drivers}
 use Rattle.board_core.specs.declared.moment.Moment.{Moment}
-use Rattle.board_core.specs.Driven.{devices_of, slots_of}
+use Rattle.board_core.specs.Driven.{devices_of}
 
--- no bytes come in at a time, and the UART does not send
-pub record SendsNothing (time : ℕ) (d : Drivers) : Type 0 where
-  pub event : is_time time d.arrivals ≡ false
-  pub uart : (is_waited_for (slots_of d.console.writes) && nat_le d.uart.free time) ≡ false
+-- whether a device is ready that looks neither at the time nor at what processes keep
+abbrev pub can_act_at_once : Drivers → Dev → Bool
+can_act_at_once d device = can_act_at 0 0 [] (devices_of d) device
 
 -- nobody waits for bytes that came in, for random bytes or for the storage
 pub record ServesNobody (d : Drivers) : Type 0 where
-  pub receive : (is_waited_for (slots_of d.console.reads) && not (length d.uart.ring == 0)) ≡ false
-  pub random : is_waited_for (slots_of d.random.waiting) ≡ false
-  pub store : is_waited_for (slots_of d.storage.waiting) ≡ false
+  pub receive : can_act_at_once d Receive ≡ false
+  pub random : can_act_at_once d Random ≡ false
+  pub store : can_act_at_once d Store ≡ false
 
 -- no device step is ready at a time
-pub record IsCalmAt (start time : ℕ) (owns : List Own) (d : Drivers) : Type 0 where
-  pub alarm : due_slot (clock_at start time) owns ≡ None
-  pub sends : SendsNothing time d
-  pub serves : ServesNobody d
+abbrev pub IsCalmAt : ℕ → ℕ → List Own → Drivers → Type 0
+IsCalmAt start time owns d = (device : Dev)
+    → can_act_at time (clock_at start time) owns (devices_of d) device ≡ false
 
 -- none is from a time on, and before another
 abbrev pub IsCalm : ℕ → ℕ → ℕ → List Own → Drivers → Type 0

@@ -1,19 +1,18 @@
 -- A step of a board that shows a world.
-use Rattle.std.specs.Prelude.{◌≡◌, ◌↔◌, ℕ, ◌==◌, if◌then◌else◌, Bool, List, [], ◌∷◌, length, not, ◌&&◌, nat_le, is_some}
+use Rattle.std.specs.Prelude.{◌≡◌, ◌↔◌, ℕ, ◌==◌, if◌then◌else◌, Bool, List, length, map}
 use Rattle.std.specs.Prelude.{None, Some, Result, IsOk, IsTrue, OnOk, OnErr}
 use Rattle.tk_base.specs.declared.process.Choice.{Choice}
 use Rattle.process_record.specs.declared.emit.Emit.{Emit}
 use Rattle.process_record.specs.Emit.{nothing}
-use Rattle.board_devices.specs.Arriving.{is_time}
 use Rattle.board_devices.specs.Clock.{clock_at}
 use Rattle.process_model.specs.Own.{Own}
-use Rattle.driver_model.specs.Alarm.{due_slot}
-use Rattle.kernel_model.specs.World.{World, after, is_ready, is_waited_for, labels}
+use Rattle.turn_scheduler.specs.RoundRobin.{device_order}
+use Rattle.kernel_model.specs.World.{World, after, can_act_at, is_ready, labels}
 use Rattle.kernel_model.specs.Shown.{shown_by}
 use Rattle.tk_base.specs.declared.process.NotReady.{NotReady}
 use Rattle.board_core.specs.declared.drivers.Drivers.{Drivers}
 use Rattle.board_core.specs.declared.moment.Moment.{Moment}
-use Rattle.board_core.specs.Driven.{slots_of}
+use Rattle.board_core.specs.Driven.{devices_of}
 
 -- A choice that may be made is made: the world is the next one, and what it tells is shown. Any other is refused, and
 -- nothing changes.
@@ -34,10 +33,4 @@ shown_printed slot bytes = record nothing {
 -- which device steps are ready at a moment
 abbrev pub ready_in : Moment → List Own → Drivers → List Bool
 ready_in m owns d =
-    is_time m.time d.arrivals
-    ∷ is_some (due_slot (clock_at m.settings.start m.time) owns)
-    ∷ (is_waited_for (slots_of d.console.writes) && nat_le d.uart.free m.time)
-    ∷ (is_waited_for (slots_of d.console.reads) && not (length d.uart.ring == 0))
-    ∷ is_waited_for (slots_of d.random.waiting)
-    ∷ is_waited_for (slots_of d.storage.waiting)
-    ∷ []
+    map (can_act_at m.time (clock_at m.settings.start m.time) owns (devices_of d)) device_order

@@ -36,8 +36,8 @@ use arrayvec::ArrayVec;
 use driver_model::an_alarm_is_due_where_no_ticks_are_left;
 use grant_enter::Home;
 use kernel_model::{
-    Settings, a_record_is_the_replay_of_its_events, grants_change_at_calls, next_is_ready,
-    steps_are_accounted_for, turns_keep_lines,
+    Settings, a_record_is_the_replay_of_its_events, devices_answer_one, grants_change_at_calls,
+    next_is_ready, steps_are_accounted_for, turns_keep_lines,
 };
 use led_capsule::bits;
 use process_model::Object;
@@ -351,6 +351,7 @@ impl Board {
         requires { self.old.clock.steps < STEP_LIMIT }
         ensures { MakesStep (Device Event) self.old self.new emit.old emit.new result }
     {
+        devices_answer_one();
         if !self.drivers.arrivals.is_time(self.moment.time) {
             return Err(NotReady);
         }
@@ -367,6 +368,7 @@ impl Board {
         requires limit { self.old.clock.steps < STEP_LIMIT }
         ensures { MakesStep (Device device) self.old self.new emit.old emit.new result }
     {
+        devices_answer_one();
         let mut printed = ArrayVec::new();
         let Ok(answer) = self
             .drivers

@@ -1,5 +1,6 @@
 -- Who waits after an answer.
-use Rattle.std.proofs.Common.{◌≤◌, ◌&&◌, IfSome, ◌≡◌, ℕ, ◌+◌, ◌-◌, ◌==◌, nat_le, Bool, true, false, cond, List, [], ◌∷◌, length, Option}
+use Rattle.std.proofs.Common.{◌≤◌, ◌&&◌, IfSome, ◌≡◌, ℕ, ◌+◌, ◌-◌, ◌==◌, nat_le, Bool, true, false, cond, List, []}
+use Rattle.std.proofs.Common.{◌∷◌, length, Option}
 use Rattle.std.proofs.Common.{None, Some, is_some, is_none, option_map, unwrap_or, refl, ap, sym, ◌∙◌, subst}
 use Rattle.std.proofs.Math.Bool.{and-false}
 use Rattle.grant_model.specs.Grants.{Grant, grant_of}
@@ -65,7 +66,8 @@ stays left own o none same queue =
     ∙ ap (λ (b : Bool). cond b false (is_some (request_in (kind_in queue) own))) (sym (none queue))
 
 -- nothing changed
-unmoved : (left : QueueName → Bool) (own : Own) → ((queue : QueueName) → left queue ≡ false) → FollowsAnswer left own own
+unmoved : (left : QueueName → Bool) (own : Own) → ((queue : QueueName) → left queue ≡ false)
+    → FollowsAnswer left own own
 unmoved left own none =
     follows left own own refl (none_more own.inbox.dropped) (stays left own own none (λ queue. refl))
     (λ size held. held)
@@ -155,10 +157,12 @@ sends flash own = by_waiting (waiting_in console_writes own) refl
         (record { step = console.taking own write; printed = console.next_bytes flash write own; completed = false }))
     by_portion write true is =
         then_told _ console_writes None (scheduling console.console 1 (write.taken ∷ 0 ∷ 0 ∷ []) own) own
-        (put_beside own _ (serves _ _ _ own.ram own (as_before own)) Writes write None refl (asks console_writes own write is))
+        (put_beside own _ (serves _ _ _ own.ram own (as_before own)) Writes write None refl (asks console_writes own
+            write is))
     by_portion write false is =
         put_beside own _ (serves_silently own.ram own (as_before own)) Writes write
-        (Some (record write { taken = write.taken + console.portion write own })) refl (asks console_writes own write is)
+        (Some (record write { taken = write.taken + console.portion write own })) refl (asks console_writes own write
+            is)
 
     by_waiting : (w : Option WaitingWrite) → waiting_in console_writes own ≡ w
         → Sends own (unwrap_or (option_map (console.sending flash own) w) (console.unsent own))

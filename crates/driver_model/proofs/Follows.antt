@@ -4,7 +4,7 @@ use Rattle.std.proofs.Common.{ap, sym, subst, ◌∙◌, ◌+◌, ◌≤◌, ◌
 use Rattle.std.proofs.lemmas.Bool.{false≢true}
 use Rattle.tk_base.specs.Call.{code_of}
 use Rattle.tk_base.specs.declared.call.ErrorCode.TheVariants.{CANCEL}
-use Rattle.grant_model.specs.Grants.{Grant, grant_of, with_value}
+use Rattle.grant_model.specs.Grants.{grant_of, with_value}
 use Rattle.grant_values.specs.declared.alarm.Armed.{Armed}
 use Rattle.grant_values.specs.Values.{AlarmValue}
 use Rattle.syscall_abi.specs.declared.reply.Reply.TheVariants.{Success}
@@ -131,7 +131,8 @@ lines_follow_commands driver taker is around number a2 a3 own =
           let same = λ (queue : QueueName). arms_apart queue (Some alarm) (own_entering alarm_driver own)
           ∙ asked_still queue alarm_driver own.grants in
           follows around own _ refl (λ queue. ap is_some (same queue))
-          (within_still around.storage own (with_alarm (Some alarm) (own_entering alarm_driver own)) (same Stores)) (λ queue. refl);
+          (within_still around.storage own (with_alarm (Some alarm) (own_entering alarm_driver own)) (same Stores))
+              (λ queue. refl);
       stops = follows around own _ refl (λ queue. ap is_some (arms_apart queue None own))
           (within_still around.storage own (with_alarm None own) (arms_apart Stores None own)) (λ queue. refl);
       cancels = cancels around own;

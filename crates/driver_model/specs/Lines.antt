@@ -10,7 +10,8 @@ use Rattle.grant_values.specs.declared.storage.StorageRequest.{StorageRequest}
 use Rattle.process_model.specs.Own.{Own, own_restarted, own_ended}
 use Rattle.process_model.specs.Handed.{own_entering, handing}
 use Rattle.driver_model.specs.Steps.{own_after}
-use Rattle.driver_model.specs.Commands.{BoardRequest, Waits, Leaves, Lights, QueueName, Writes, Reads, Randoms, Stores, Commanded, is_same}
+use Rattle.driver_model.specs.Commands.{BoardRequest, Waits, Leaves, Lights, QueueName, Writes, Reads, Randoms}
+use Rattle.driver_model.specs.Commands.{Stores, Commanded, is_same}
 use Rattle.driver_model.specs.Requests.{RequestKind, request_in, waiting_in}
 use Rattle.driver_model.specs.Console.{console_reads, console_writes}
 use Rattle.driver_model.specs.Random.{randoms}

@@ -1,5 +1,6 @@
 -- The cause of each change that a step makes of a process's bytes, among its labels.
-use Rattle.std.proofs.Common.{slice_set, ◌≡◌, ◌⊎◌, inl, inr, ℕ, zero, suc, ◌++◌, ◌==◌, Bool, true, false, List, [], ◌∷◌, slice_get}
+use Rattle.std.proofs.Common.{slice_set, ◌≡◌, ◌⊎◌, inl, inr, ℕ, zero, suc, ◌++◌, ◌==◌, Bool, true, false, List, []}
+use Rattle.std.proofs.Common.{◌∷◌, slice_get}
 use Rattle.std.proofs.Common.{slice_index, Option, None, Some, IfSome, is_some, refl, sym, ap, subst, ◌∙◌, arith, eqb-true}
 use Rattle.std.proofs.Common.{eq-eqb}
 use Rattle.std.proofs.Math.Logic.{⊎_map}
@@ -25,7 +26,7 @@ use Rattle.kernel_model.specs.Causes.{AllHaveCauses, AnswerHasCauses, EachChange
 use Rattle.kernel_model.specs.Causes.{IsStorageCause, StepsHaveCauses, StorageChangesAt, TurnHasCauses, TurnsHaveCauses}
 use Rattle.kernel_model.proofs.Answered.{answer_has_causes}
 use Rattle.kernel_model.proofs.Places.{of_stepped, ran-other, ran-own, set_own, slice_get-set_other}
-use Rattle.kernel_model.proofs.Told.{answered}
+use Rattle.kernel_model.specs.Laws.{answered}
 use Rattle.kernel_model.proofs.Replays.{one_step}
 use Rattle.kernel_model.proofs.Steps.{IsAnswer, of_answers}
 

@@ -1,6 +1,7 @@
 -- Time, steps and turns add up, choice by choice.
-use Rattle.std.proofs.Common.{◌≡◌, ◌<◌, ℕ, zero, suc, ◌+◌, ◌==◌, Bool, true, false, cond, not, ◌&&◌, nat_lt, List, [], ◌∷◌}
-use Rattle.std.proofs.Common.{◌++◌, length, slice_get, slice_set, Option, None, Some, IfSome, is_some, refl, sym, ap}
+use Rattle.std.proofs.Common.{◌≡◌, ◌<◌, ℕ, zero, suc, ◌+◌, ◌==◌, Bool, true, false, cond, not, ◌&&◌, nat_lt, List, []}
+use Rattle.std.proofs.Common.{◌∷◌}
+use Rattle.std.proofs.Common.{◌++◌, length, slice_get, slice_set, Option, None, Some, is_some, refl, sym, ap}
 use Rattle.std.proofs.Common.{subst, ◌∙◌, arith}
 use Rattle.std.specs.Prelude.{All}
 use Rattle.std.specs.Option.{option_map}
@@ -25,9 +26,12 @@ use Rattle.kernel_model.specs.Record.{Record}
 use Rattle.kernel_model.specs.declared.settings.Settings.{Settings}
 use Rattle.kernel_model.specs.Calls.{restart}
 use Rattle.kernel_model.specs.Turn.{Event, apply, may_turn, turned}
-use Rattle.kernel_model.specs.World.{DeviceAnswer, DeviceStep, Devices, Stepped, World, acted, after, alarmed, answering}
+use Rattle.kernel_model.specs.Laws.{queue_after_answer}
+use Rattle.kernel_model.specs.World.{DeviceAnswer, DeviceStep, Devices, Stepped, World, acted, after, alarmed}
+use Rattle.kernel_model.specs.World.{answering}
 use Rattle.kernel_model.specs.World.{arrived, can_act, can_run, carried_out, device_step_of, done, is_ready}
-use Rattle.kernel_model.specs.World.{is_waited_for, may_be_made, now_in, owns_in, queue_after_answer, queue_without, ran}
+use Rattle.kernel_model.specs.World.{is_waited_for, may_be_made, now_in, owns_in, queue_without}
+use Rattle.kernel_model.specs.World.{ran}
 use Rattle.kernel_model.specs.World.{random_step, receive_step, routed, serving, slots_in, storing, transmitting}
 use Rattle.kernel_model.specs.World.{with_queue}
 use Rattle.kernel_model.specs.Choices.{are_ready}
@@ -122,7 +126,8 @@ queue_there : (n : ℕ) (name : QueueName) (change : List ℕ → List ℕ) (d :
 queue_there n name change d all h queue =
     subst (All (λ slot. slot < n)) (sym (queue_with queue name change d)) (by_test (is_same name queue))
   where
-    by_test : (b : Bool) → All (λ slot. slot < n) (cond b (change (slots_in queue d.waiting)) (slots_in queue d.waiting))
+    by_test : (b : Bool) → All (λ slot. slot < n) (cond b (change (slots_in queue d.waiting)) (slots_in queue
+        d.waiting))
     by_test true = all (slots_in queue d.waiting) (h queue)
     by_test false = h queue
 
@@ -200,13 +205,17 @@ module _ (law : DueSlotIsThere) (w : World) (h : AreThere (length w.records) w.d
       alarm_made (due_slot (now_in w) (owns_in w))
       (λ slot due. omega (arith, law (now_in w) slot (owns_in w) due, length-map w.records (λ r. r.own))) e
   deed_made dev.Uart e =
-      first_made (transmitting w.clock.time w.devices) (slots_in Writes w.devices.waiting) (h Writes) (both _ _ e) (λ slot r. left_there Writes slot _)
+      first_made (transmitting w.clock.time w.devices) (slots_in Writes w.devices.waiting) (h Writes) (both _ _ e) (λ
+          slot r. left_there Writes slot _)
   deed_made dev.Receive e =
-      first_made (receive_step w.devices) (slots_in Reads w.devices.waiting) (h Reads) (both _ _ e) (λ slot r. left_there Reads slot _)
+      first_made (receive_step w.devices) (slots_in Reads w.devices.waiting) (h Reads) (both _ _ e) (λ slot r.
+          left_there Reads slot _)
   deed_made dev.Random e =
-      first_made (random_step w.devices) (slots_in Randoms w.devices.waiting) (h Randoms) e (λ slot r. left_there Randoms slot _)
+      first_made (random_step w.devices) (slots_in Randoms w.devices.waiting) (h Randoms) e (λ slot r. left_there
+          Randoms slot _)
   deed_made dev.Store e =
-      first_made (storing w.devices) (slots_in Stores w.devices.waiting) (h Stores) e (λ slot r. left_there Stores slot _)
+      first_made (storing w.devices) (slots_in Stores w.devices.waiting) (h Stores) e (λ slot r. left_there Stores
+          slot _)
 
 -- an answer leaves the turns
 told_turns : (w : World) (device : Dev)

@@ -1,4 +1,4 @@
-pub mod Told
+mod Told
 pub mod Places
 mod Labels
 pub mod Memops

@@ -1,5 +1,6 @@
 -- A process's requests, once what is its own has changed.
-use Rattle.std.proofs.Common.{◌≡◌, ℕ, Bool, true, false, cond, List, [], Option, None, is_some, IfSome, refl, sym, ap, ap₂}
+use Rattle.std.proofs.Common.{◌≡◌, ℕ, Bool, true, false, cond, List, [], Option, None, is_some, IfSome, refl, sym, ap}
+use Rattle.std.proofs.Common.{ap₂}
 use Rattle.std.proofs.Common.{subst, ◌+◌, ◌≤◌}
 use Rattle.std.proofs.lemmas.Bool.{false≢true}
 use Rattle.std.specs.Option.{option_and_then, option_map}

@@ -1,14 +1,12 @@
 -- Who stands in a waiting list after a step.
 use Rattle.std.proofs.Common.{◌≡◌, ◌≢◌, ℕ, ◌+◌, ◌==◌, Bool, true, false, cond, not, ◌&&◌, List, [], ◌∷◌, ◌++◌}
-use Rattle.std.proofs.Common.{slice_get, slice_set, Option, None, Some, IfSome, option_map, refl, sym, ap, subst, ◌∙◌}
+use Rattle.std.proofs.Common.{slice_get, slice_set, Option, None, Some, IfSome, refl, sym, ap, subst, ◌∙◌}
 use Rattle.std.proofs.Common.{eqb-true, eq-eqb}
 use Rattle.std.proofs.lemmas.Bool.{false≢true}
 use Rattle.std.proofs.lemmas.Option.{slice_get_within}
 use Rattle.tk_base.specs.declared.process.Choice.{Choice}
 use Rattle.tk_base.specs.declared.process.Choice.TheVariants.{Run, Device, Pass}
 use Rattle.tk_base.specs.declared.process.Dev.{Dev}
-use Rattle.tk_base.specs.declared.process.Dev.TheVariants as dev
-use Rattle.script_text.specs.Settings.{ScriptEvent as Arrival}
 use Rattle.board_devices.specs.Storage.{is_fault}
 use Rattle.process_model.specs.Own.{Own}
 use Rattle.driver_model.specs.Alarm as alarm
@@ -16,7 +14,7 @@ use Rattle.driver_model.specs.Console as console
 use Rattle.driver_model.specs.Random as random
 use Rattle.driver_model.specs.Storage as storage
 use Rattle.driver_model.specs.Answers.{EventsTellSteps, LinesFollowAnswers, queue_left_by}
-use Rattle.driver_model.specs.Commands.{BoardRequest, Waits, Leaves, Lights, QueueName, Switch, Writes, Reads, Randoms}
+use Rattle.driver_model.specs.Commands.{BoardRequest, Waits, Leaves, Lights, QueueName, Writes, Reads, Randoms}
 use Rattle.driver_model.specs.Commands.{Stores, is_same}
 use Rattle.driver_model.specs.Lines.{begins, has_waiting, waits_after, waits_by, waits_once}
 use Rattle.process_record.specs.declared.process.State.{State}
@@ -28,14 +26,16 @@ use Rattle.kernel_model.specs.Turn.{turned, turn_in}
 use Rattle.driver_model.specs.Steps.{DriverStep, own_after}
 use Rattle.driver_model.specs.Told.{drawn_told}
 use Rattle.kernel_model.specs.World.{as_events, DeviceAnswer, Devices, Stepped, World, acted, after, alarmed}
-use Rattle.kernel_model.specs.World.{carried_out, device_step_of, done, now_in, queue_after_answer, queue_without}
-use Rattle.kernel_model.specs.World.{ran, random_step, receive_step, routed, slots_in, storing, transmitting, with_queue}
-use Rattle.kernel_model.specs.Laws.{TurnsKeepLines}
+use Rattle.kernel_model.specs.World.{carried_out, device_step_of, done, now_in, queue_without}
+use Rattle.kernel_model.specs.World.{ran, random_step, receive_step, routed, slots_in, storing, transmitting}
+use Rattle.kernel_model.specs.Laws.{queue_after_answer, TurnsKeepLines}
 use Rattle.kernel_model.specs.Lives.{LivesAsItRuns, HoldsThroughout, is_alive}
 use Rattle.kernel_model.specs.Lists.{ListsStay, asks_at, once_if, times_in}
 use Rattle.kernel_model.proofs.Lives.{over_turn}
-use Rattle.kernel_model.proofs.Places.{of_stepped, queue_with, ran-other, set_own, slice_get-set_other, slice_get-set_same}
-use Rattle.kernel_model.proofs.Told.{answered, of_device}
+use Rattle.kernel_model.proofs.Places.{of_stepped, queue_with, ran-other, set_own, slice_get-set_other}
+use Rattle.kernel_model.proofs.Places.{slice_get-set_same}
+use Rattle.kernel_model.specs.Laws.{answered}
+use Rattle.kernel_model.proofs.Told.{of_device}
 
 -- a list with one more, and without one
 joined : (slot : ℕ) (xs : List ℕ) → times_in slot (xs ++ slot ∷ []) ≡ times_in slot xs + 1
@@ -88,7 +88,8 @@ times_after here times [] = times
 times_after here times (act ∷ acts) = times_after here (times_by here act times) acts
 
 acted_own : (here : QueueName) (slot : ℕ) (act : BoardRequest) (d : Devices)
-    → times_in slot (slots_in here (acted slot act d).waiting) ≡ times_by here act (times_in slot (slots_in here d.waiting))
+    → times_in slot (slots_in here (acted slot act d).waiting)
+        ≡ times_by here act (times_in slot (slots_in here d.waiting))
 acted_own here slot (Waits line) d =
     ap (times_in slot) (queue_with here line (λ slots. slots ++ slot ∷ []) d) ∙ by_same (is_same line here)
   where
@@ -113,7 +114,8 @@ acted_other here slot other (Waits line) d apart =
     ap (times_in other) (queue_with here line (λ slots. slots ++ slot ∷ []) d) ∙ by_same (is_same line here)
   where
     by_same : (b : Bool)
-        → times_in other (cond b (slots_in here d.waiting ++ slot ∷ []) (slots_in here d.waiting)) ≡ times_in other (slots_in here d.waiting)
+        → times_in other (cond b (slots_in here d.waiting ++ slot ∷ []) (slots_in here d.waiting))
+            ≡ times_in other (slots_in here d.waiting)
     by_same true = joined_other slot other (slots_in here d.waiting) apart
     by_same false = refl
 acted_other here slot other (Leaves line) d apart =
@@ -127,7 +129,8 @@ acted_other here slot other (Leaves line) d apart =
 acted_other here slot other (Lights led switch) d apart = refl
 
 routed_own : (here : QueueName) (slot : ℕ) (acts : List BoardRequest) (d : Devices)
-    → times_in slot (slots_in here (routed slot acts d).waiting) ≡ times_after here (times_in slot (slots_in here d.waiting)) acts
+    → times_in slot (slots_in here (routed slot acts d).waiting)
+        ≡ times_after here (times_in slot (slots_in here d.waiting)) acts
 routed_own here slot [] d = refl
 routed_own here slot (act ∷ acts) d =
     routed_own here slot acts (acted slot act d) ∙ ap (λ (n : ℕ). times_after here n acts) (acted_own here slot act d)

@@ -22,7 +22,8 @@ use Rattle.process_model.specs.Own.{Own}
 use Rattle.driver_model.specs.Commands.{Writes}
 use Rattle.kernel_model.specs.Record.{Record}
 use Rattle.kernel_model.specs.Turn.{may_turn}
-use Rattle.kernel_model.specs.World.{World, after, can_act, can_run, is_ready, is_waited_for, now_in, owns_in, slots_in, stepped}
+use Rattle.kernel_model.specs.World.{World, after, can_act, can_run, is_ready, is_waited_for, now_in, owns_in}
+use Rattle.kernel_model.specs.World.{slots_in, stepped}
 use Rattle.kernel_model.specs.Run.{alarm_time, runs_on, next, next_time, on_choice, ready_devices, ready_slots, round}
 use Rattle.kernel_model.specs.Run.{sending_time, stays}
 use Rattle.kernel_model.specs.Choices.{are_ready, labels_of_all}

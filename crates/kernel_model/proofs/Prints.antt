@@ -9,19 +9,16 @@ use Rattle.std.proofs.lemmas.List.Elements.{All-nil, All-cons}
 use Rattle.tk_base.specs.declared.process.Choice.{Choice}
 use Rattle.tk_base.specs.declared.process.Choice.TheVariants.{Run, Device, Pass}
 use Rattle.tk_base.specs.declared.process.Dev.{Dev}
-use Rattle.tk_base.specs.declared.process.Dev.TheVariants as dev
-use Rattle.script_text.specs.Settings.{ScriptEvent as Arrival}
 use Rattle.grant_values.specs.declared.console.WaitingWrite.{WaitingWrite}
-use Rattle.driver_model.specs.Alarm.{due_slot}
 use Rattle.driver_model.specs.Console as console
 use Rattle.driver_model.specs.Console.{Sent, console_writes}
 use Rattle.driver_model.specs.Requests.{request_in, waiting_in}
-use Rattle.driver_model.specs.Commands.{Writes, Reads, Randoms, Stores}
 use Rattle.kernel_model.specs.Record.{Record}
 use Rattle.kernel_model.specs.Turn.{Event, flash_of}
 use Rattle.kernel_model.specs.World.{Answered, Printed, Stepped, World, carried_out, device_step_of, done, labels}
 use Rattle.kernel_model.specs.World.{printing, ran, transmitting}
-use Rattle.kernel_model.proofs.Told.{answered, of_device}
+use Rattle.kernel_model.specs.Laws.{answered}
+use Rattle.kernel_model.proofs.Told.{of_device}
 use Rattle.kernel_model.specs.Replay.{after_all}
 use Rattle.kernel_model.specs.Prints.{AreOfItsBuffer, PrintsAreOfBuffers, PrintsItsBuffer, buffer_bytes, console_buffer}
 use Rattle.kernel_model.proofs.Places.{of_stepped}

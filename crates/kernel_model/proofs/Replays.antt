@@ -15,7 +15,8 @@ use Rattle.kernel_model.specs.Run.{next, on_choice, round, stays, runs_on}
 use Rattle.kernel_model.specs.Replay.{after_all, chosen, events, happened, history, replay, RecordIsReplay}
 use Rattle.kernel_model.specs.Replay.{RoundFollowsChoices, SameHistorySameRecord}
 use Rattle.kernel_model.proofs.Places.{of_stepped, of_world, ran-other, ran-own, set_own, slice_get-set_other}
-use Rattle.kernel_model.proofs.Told.{answered, of_answered}
+use Rattle.kernel_model.specs.Laws.{answered}
+use Rattle.kernel_model.proofs.Told.{of_answered}
 
 -- no step changes the settings
 pub kept_settings : (w : World) (choice : Choice) → (after w choice).settings ≡ w.settings

@@ -118,7 +118,8 @@ alarm_ahead w law none = by_left (next_left (now_in w) (owns_in w)) refl
         absurd (not_both (is_some (due_slot (now_in w) (owns_in w))) ((law (now_in w) (owns_in w)).0 e) none)
     by_left (Some (suc ticks)) e = omega arith
 
-sending_ahead : (time : ℕ) (d : Devices) → (is_waited_for (slots_in Writes d.waiting) && nat_le d.line.free time) ≡ false
+sending_ahead : (time : ℕ) (d : Devices) → (is_waited_for (slots_in Writes d.waiting) && nat_le d.line.free time)
+    ≡ false
     → Ahead time (sending_time d)
 sending_ahead time d e = by_waiting (is_waited_for (slots_in Writes d.waiting)) e
   where

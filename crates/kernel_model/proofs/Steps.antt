@@ -1,13 +1,11 @@
 -- What a step does to the process in a slot: nothing, its turn, or what a device tells it.
 use Rattle.std.proofs.Common.{◌≡◌, ℕ, ◌==◌, Bool, true, false, cond, List, [], ◌∷◌, ◌++◌, slice_get, slice_set, Option}
-use Rattle.std.proofs.Common.{None, Some, IfSome, option_and_then, refl, sym, ap, subst, ◌∙◌, eqb-true, eq-eqb}
+use Rattle.std.proofs.Common.{None, Some, refl, sym, ap, subst, ◌∙◌, eqb-true, eq-eqb}
 use Rattle.std.specs.List.{flat_map}
-use Rattle.std.specs.Option.{option_map}
 use Rattle.std.proofs.lemmas.Bool.{false≢true}
 use Rattle.tk_base.specs.declared.process.Choice.{Choice}
 use Rattle.tk_base.specs.declared.process.Choice.TheVariants.{Run, Device, Pass}
 use Rattle.tk_base.specs.declared.process.Dev.{Dev}
-use Rattle.tk_base.specs.declared.process.Dev.TheVariants as dev
 use Rattle.process_model.specs.Own.{Own}
 use Rattle.driver_model.specs.Services.{OfEachService}
 use Rattle.kernel_model.specs.declared.settings.Settings.{Settings}
@@ -21,7 +19,8 @@ use Rattle.kernel_model.specs.World.{transmitting, unmade}
 use Rattle.kernel_model.specs.Histories.{turns_in}
 use Rattle.kernel_model.proofs.Replays.{nothing_printed}
 use Rattle.kernel_model.proofs.Places.{of_stepped, ran-other, ran-own, set_own, slice_get-set_other}
-use Rattle.kernel_model.proofs.Told.{answered, of_device, quiet, with_arrived}
+use Rattle.kernel_model.specs.Laws.{answered, quiet}
+use Rattle.kernel_model.proofs.Told.{of_device, with_arrived}
 
 -- an event that is no turn
 unfoldable pub IsAnswer : Event → Type 0

@@ -24,7 +24,8 @@ use Rattle.kernel_model.specs.World.{World, Label, Stepped, TurnOf, after_turn_o
 use Rattle.kernel_model.specs.World.{stepped}
 use Rattle.kernel_model.specs.Run.{Ran, next, next_time, on_choice, printed, ready_devices, ready_slots, round, stays}
 use Rattle.kernel_model.specs.Run.{runs_on, told_first}
-use Rattle.kernel_model.specs.Stretch.{AllGo, IsQuietTurn, IsStretch, NoneActs, NoneIsStretch, PresentStaysOn}
+use Rattle.kernel_model.specs.Stretch.{AllGo, IsQuietTurn, IsNextOnTheWay, IsStretch, NoneIsStretch}
+use Rattle.kernel_model.specs.Stretch.{PresentIsNextOnTheWay, PresentStaysOn}
 use Rattle.kernel_model.specs.Stretch.{RoundIsStretch, RoundsJoin, StretchesJoin, after_instructions, after_stretch}
 use Rattle.kernel_model.specs.Stretch.{at_turn, instruction_made}
 use Rattle.kernel_model.proofs.Places.{slice_get-set_same, stepped_ready}
@@ -167,17 +168,17 @@ module _ (w : World) (slot : ℕ) (r : Record) (p : w.present.slot ≡ Some slot
       }) (sym (one_then w.present.used k))
 
   -- a stretch that goes on after one step
-  one_first : (k : ℕ) (later : Record) → w.clock.steps < STEP_LIMIT → ready_device (ready_devices w) ≡ None
+  one_first : (k : ℕ) (later : Record) → w.clock.steps < STEP_LIMIT → next w ≡ Some (Run slot)
       → w.present.used < w.pace.slice → (instruction r).end ≡ Went
       → IsStretch k (after_stretch 1 w slot (instruction_made r))
       (after_stretch k (after_stretch 1 w slot (instruction_made r)) slot later)
       → IsStretch (suc k) w (after_stretch (suc k) w slot later)
   unfolding round
-  one_first k later below calm u e rest =
+  one_first k later below chosen u e rest =
       let there = after_stretch 1 w slot (instruction_made r) in
       let label = TurnOf slot w.clock.time (quiet_told r) in
       let first : round (suc k) w ≡ told_first (label ∷ []) (round k there)
-      = ap (on_choice (stays w) (λ c. runs_on (round k) (stepped w c))) (goes_on_next calm u)
+      = ap (on_choice (stays w) (λ c. runs_on (round k) (stepped w c))) chosen
       ∙ ap (runs_on (round k)) (one_step below u e) in
       record {
         reached = sym (together k later) ∙ rest.reached ∙ sym (ap (λ (q : Ran). q.world) first);
@@ -207,21 +208,34 @@ none_is_stretch w v e = subst (λ (x : World). IsStretch 0 w x) (sym e) (no_stre
 -- the present slot's turns
 present_stretch : (k slot : ℕ) (w : World) (r : Record) → w.clock.steps + k ≤ STEP_LIMIT → w.present.slot ≡ Some slot
     → slice_get w.records slot ≡ Some r → r.process.state ≡ Running → w.present.used + k ≤ w.pace.slice → AllGo k r
-    → NoneActs k w slot r → IsStretch k w (after_stretch k w slot (after_instructions k r))
+    → IsNextOnTheWay k w slot r → IsStretch k w (after_stretch k w slot (after_instructions k r))
 unfolding after_instructions
-present_stretch zero slot w r limit p at runs u go none =
+present_stretch zero slot w r limit p at runs u go chosen =
     subst (IsStretch 0 w) (sym (none_made w slot r p at runs)) (no_stretch w)
-present_stretch (suc k) slot w r limit p at runs u go none =
+present_stretch (suc k) slot w r limit p at runs u go chosen =
     let there = after_stretch 1 w slot (instruction_made r) in
     one_first w slot r p at runs k (after_instructions k (instruction_made r)) (omega (arith, limit))
-    (ap (λ (v : World). ready_device (ready_devices v)) (sym (none_made w slot r p at runs)) ∙ none 0 (omega arith))
+    (ap next (sym (none_made w slot r p at runs)) ∙ chosen 0 (omega arith))
     (omega (arith, u)) (go 0 (omega arith))
     (present_stretch k slot there (instruction_made r) (omega (arith, limit)) refl
     (slice_get-set_same w.records slot (instruction_made r) (slice_get_within w.records slot r at)) runs
     (omega (arith, u))
     (λ j h. go (suc j) (omega (arith, h)))
-    (λ j h. ap (λ (v : World). ready_device (ready_devices v))
-    (together w slot r p at runs j (after_instructions j (instruction_made r))) ∙ none (suc j) (omega (arith, h))))
+    (λ j h. ap next (together w slot r p at runs j (after_instructions j (instruction_made r)))
+    ∙ chosen (suc j) (omega (arith, h))))
+
+-- instructions leave the process running
+runs_still : (k : ℕ) (r : Record) → (after_instructions k r).process.state ≡ r.process.state
+unfolding after_instructions
+runs_still zero r = refl
+runs_still (suc k) r = runs_still k (instruction_made r)
+
+pub present_is_next_on_the_way : PresentIsNextOnTheWay
+present_is_next_on_the_way k slot w r p at runs u none j h =
+    let later = after_instructions j r in
+    goes_on_next (after_stretch j w slot later) slot later refl
+    (slice_get-set_same w.records slot later (slice_get_within w.records slot r at)) (runs_still j r ∙ runs) (none j h)
+    (omega (arith, u, h))
 
 -- a slot that has the next turn uses one turn of its slice by it, whether it is the present one already or not
 uses_one : (o : Option ℕ) (used slice slot : ℕ) → used_after o used slice slot - 1 < slice
@@ -267,15 +281,13 @@ same_round n slot w r below f g at u =
 
 pub round_is_stretch : RoundIsStretch
 unfolding after_instructions
-round_is_stretch zero slot w r some limit f at runs u go none = absurd (omega (arith, some))
-round_is_stretch (suc n) slot w r some limit f at runs u go none =
-    let first : ready_device (ready_devices w) ≡ None =
-    ap (λ (v : World). ready_device (ready_devices v)) (sym (none_made (at_turn w slot) slot r refl at runs))
-    ∙ none 0 (omega arith) in
+round_is_stretch zero slot w r some limit f at runs u go chosen = absurd (omega (arith, some))
+round_is_stretch (suc n) slot w r some limit f at runs u go chosen =
+    let first : next (at_turn w slot) ≡ Some (Run slot) =
+    ap next (sym (none_made (at_turn w slot) slot r refl at runs)) ∙ chosen 0 (omega arith) in
     let left : (at_turn w slot).present.used < w.pace.slice = omega (arith, u) in
-    let s = present_stretch (suc n) slot (at_turn w slot) r limit refl at runs u go none in
-    let same = same_round n slot w r (omega (arith, limit)) f
-    (goes_on_next (at_turn w slot) slot r refl at runs first left) at left in
+    let s = present_stretch (suc n) slot (at_turn w slot) r limit refl at runs u go chosen in
+    let same = same_round n slot w r (omega (arith, limit)) f first at left in
     record {
       reached = s.reached ∙ ap (λ (q : Ran). q.world) same;
       turns = sym (ap (λ (q : Ran). length q.labels) same) ∙ s.turns;

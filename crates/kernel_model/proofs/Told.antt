@@ -1,6 +1,7 @@
 -- What a device's step leaves and tells, slot by slot: nothing but its devices where it tells nobody anything, and one
 -- record and its labels where it answers one process.
-use Rattle.std.proofs.Common.{◌≡◌, ◌≢◌, ◌<◌, ◌≤◌, ℕ, zero, suc, ◌+◌, ◌==◌, Bool, true, false, cond, List, [], ◌∷◌, ◌++◌}
+use Rattle.std.proofs.Common.{◌≡◌, ◌≢◌, inl, inr, ◌≤◌, ℕ, zero, suc, ◌+◌, ◌==◌, Bool, true, false, cond, List, []}
+use Rattle.std.proofs.Common.{◌∷◌, ◌++◌}
 use Rattle.std.proofs.Common.{length, slice_get, slice_set, Option, None, Some, refl, sym, ap, ap₂, subst, ◌∙◌, arith}
 use Rattle.std.proofs.Common.{eq-eqb, eqb-true}
 use Rattle.std.specs.Option.{option_map}
@@ -12,7 +13,8 @@ use Rattle.script_text.specs.Settings.{ScriptEvent as Arrival}
 use Rattle.kernel_model.specs.Record.{Record}
 use Rattle.kernel_model.specs.declared.settings.Settings.{Settings}
 use Rattle.kernel_model.specs.Turn.{apply}
-use Rattle.kernel_model.specs.World.{Answer, DeviceAnswer, DeviceStep, Devices, Label, Stepped, World, alarmed, answering}
+use Rattle.kernel_model.specs.Laws.{ComesTo, DevicesAnswerOne, answered, quiet}
+use Rattle.kernel_model.specs.World.{Answer, DeviceAnswer, Devices, Label, Stepped, World, alarmed, answering}
 use Rattle.kernel_model.specs.World.{arrived, device_step_of, done, happens, labels_of, labels_told}
 use Rattle.kernel_model.specs.World.{random_step, receive_step, records_told, served_by, serving, storing, transmitting}
 use Rattle.kernel_model.specs.World.{unmade}
@@ -59,7 +61,8 @@ told_one settings told (suc slot) a (x ∷ rs) r is none there =
     (λ other apart. none (suc other) (λ same. apart (omega (arith, same)))) there)
 
 -- from a slot on nobody is told anything
-labels_none : (told : ℕ → Option Answer) (slot : ℕ) (rs : List Record) → ((other : ℕ) → slot ≤ other → told other ≡ None)
+labels_none : (told : ℕ → Option Answer) (slot : ℕ) (rs : List Record) → ((other : ℕ) → slot ≤ other
+    → told other ≡ None)
     → labels_told told slot rs ≡ []
 labels_none told slot [] none = refl
 labels_none told slot (r ∷ rs) none =
@@ -80,23 +83,6 @@ labels_one told from (suc slot) at a (x ∷ rs) r here is none there =
     ap (λ (o : Option Answer). labels_of from o ++ labels_told told (suc from) rs)
     (none from (λ same. omega (arith, same, here)))
     ∙ labels_one told (suc from) slot at a rs r (omega (arith, here)) is none there
-
--- a step that tells nobody anything, and one that answers a process
-abbrev pub quiet : World → Devices → Stepped
-quiet w devices = record {
-  after = record w { devices = devices; clock = record w.clock { steps = w.clock.steps + 1 } };
-  labels = [];
-}
-
-abbrev pub answered : World → ℕ → Record → DeviceAnswer → Stepped
-answered w slot r a = record {
-  after = record w {
-    records = slice_set w.records slot (apply w.settings a.answer.event r);
-    devices = a.devices;
-    clock = record w.clock { steps = w.clock.steps + 1 };
-  };
-  labels = labels_of slot (Some a.answer);
-}
 
 -- the devices once bytes came in
 abbrev pub with_arrived : Devices → Arrival → List Arrival → Devices
@@ -193,3 +179,12 @@ of_answered w P none quietly each device =
       draws = λ slot r is. each slot r is (random_step w.devices slot r);
       stores = λ slot r is. each slot r is (storing w.devices slot r);
     }) device
+
+-- so it is with each device's step
+comes_to : (w : World) (device : Dev) → ComesTo w (done w (device_step_of w device))
+comes_to w device =
+    of_answered w (ComesTo w) (inl refl) (λ devices. inr (inl (devices, refl)))
+    (λ slot r is a. inr (inr (record { slot = slot; there = r; is_there = is; answer = a; is = refl }))) device
+
+pub devices_answer_one : DevicesAnswerOne
+devices_answer_one = record { one = done_one; nobody = done_quietly; each = comes_to }

@@ -1,13 +1,10 @@
 -- Which random words the steps tell, and which are left.
-use Rattle.std.proofs.Common.{◌≡◌, ℕ, ◌==◌, Bool, true, false, cond, List, [], ◌∷◌, ◌++◌, length, slice_get, option_map}
+use Rattle.std.proofs.Common.{◌≡◌, ℕ, ◌==◌, Bool, true, false, cond, List, [], ◌∷◌, ◌++◌, length, slice_get}
 use Rattle.std.proofs.Common.{IfSome, Option, None, Some, refl, sym, ap, ◌∙◌}
 use Rattle.std.proofs.lemmas.List.{append_assoc, append-nil}
 use Rattle.tk_base.specs.declared.process.Choice.{Choice}
 use Rattle.tk_base.specs.declared.process.Choice.TheVariants.{Run, Device, Pass}
 use Rattle.tk_base.specs.declared.process.Dev.{Dev}
-use Rattle.tk_base.specs.declared.process.Dev.TheVariants as dev
-use Rattle.script_text.specs.Settings.{ScriptEvent as Arrival}
-use Rattle.driver_model.specs.Alarm.{due_slot}
 use Rattle.driver_model.specs.Answers.{EventsTellSteps}
 use Rattle.driver_model.specs.Told.{drawn_told}
 use Rattle.driver_model.specs.Commands.{BoardRequest, Waits, Leaves, Lights, QueueName, Writes, Reads, Randoms, Stores}
@@ -18,7 +15,8 @@ use Rattle.kernel_model.specs.Turn.{WriteDone, Taken, flash_of, turned}
 use Rattle.kernel_model.specs.World.{Devices, Label, Printed, Stepped, World, acted, after, as_events, carried_out}
 use Rattle.kernel_model.specs.World.{device_step_of, done, labels, printing, ran, random_step, routed, stepped}
 use Rattle.kernel_model.specs.World.{queue_without, transmitting, with_queue}
-use Rattle.kernel_model.proofs.Told.{answered, of_device}
+use Rattle.kernel_model.specs.Laws.{answered}
+use Rattle.kernel_model.proofs.Told.{of_device}
 use Rattle.kernel_model.specs.Choices.{labels_of_all}
 use Rattle.kernel_model.specs.Replay.{after_all}
 use Rattle.kernel_model.specs.Words.{WordsAreDrawnInOrder, word_in, word_told, words_told}

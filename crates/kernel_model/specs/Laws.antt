@@ -1,6 +1,6 @@
 -- Laws over the definitions alone. The calls are those of TRD 104; what a step reaches is this board's own rule.
 use Rattle.std.specs.Prelude.{◌≡◌, ◌≢◌, ◌<◌, ◌==◌, ℕ, Bool, true, false, if◌then◌else◌, List, [], Option, None, Some}
-use Rattle.std.specs.Prelude.{is_some, IfSome, IsTrue, option_and_then, Result, Ok, Err, slice_get}
+use Rattle.std.specs.Prelude.{is_some, IfSome, IsTrue, option_and_then, Result, Ok, Err, slice_get, slice_set, ◌⊎◌, ◌+◌}
 use Rattle.std.specs.Option.{option_map}
 use Rattle.tk_base.specs.declared.limits.TheConstants.{STEP_LIMIT}
 use Rattle.tk_base.specs.declared.process.Choice.{Choice}
@@ -24,8 +24,9 @@ use Rattle.process_record.specs.declared.outcome.Outcome.TheVariants.{ToDriver}
 use Rattle.kernel_model.specs.Record.{Record}
 use Rattle.kernel_model.specs.declared.settings.Settings.{Settings}
 use Rattle.kernel_model.specs.Calls.{served, refused_with, failure_of}
-use Rattle.kernel_model.specs.Turn.{Turn, rule_shown, turned}
-use Rattle.kernel_model.specs.World.{World, Answer, after, device_step_of, happens, is_ready, labels}
+use Rattle.kernel_model.specs.Turn.{Turn, apply, rule_shown, turned}
+use Rattle.kernel_model.specs.World.{World, Answer, DeviceAnswer, Devices, Stepped, after, answering, device_step_of}
+use Rattle.kernel_model.specs.World.{done, happens, is_ready, labels, labels_of, queue_without, unmade}
 use Rattle.kernel_model.specs.Run.{next, next_time, ready_devices}
 use Rattle.turn_scheduler.specs.RoundRobin.{ready_device}
 
@@ -35,14 +36,56 @@ answer_by w (Run other) slot = if slot == other then Some (record { event = Turn
 answer_by w (Device device) slot = option_and_then (λ deed. deed.told slot) (device_step_of w device)
 answer_by w (Pass ticks) slot = None
 
--- A step changes the record of each process by the one event that it tells it, or not at all. A choice that is not ready
--- changes nothing, and tells nothing.
+-- A step changes the record of each process by the one event that it tells it, or not at all. A choice that is not
+-- ready changes nothing, and tells nothing.
 pub record OnlyItsOwnEvents : Type 0 where
   pub each : (w : World) (choice : Choice) (slot : ℕ) → is_ready w choice ≡ true →
       slice_get (after w choice).records slot
       ≡ option_map (happens w.settings (answer_by w choice slot)) (slice_get w.records slot)
   pub unready : (w : World) (choice : Choice) → is_ready w choice ≡ false
       → (after w choice ≡ w) × (labels w choice ≡ [])
+
+-- those that wait in a queue after an answer to one of them, whose request completed or did not
+abbrev pub queue_after_answer : Bool → ℕ → List ℕ → List ℕ
+queue_after_answer completed slot slots = if completed then queue_without slot slots else slots
+
+-- a step that tells nobody anything, and leaves these devices
+abbrev pub quiet : World → Devices → Stepped
+quiet w devices = record {
+  after = record w { devices = devices; clock = record w.clock { steps = w.clock.steps + 1 } };
+  labels = [];
+}
+
+-- a step that answers one process, which has this record
+abbrev pub answered : World → ℕ → Record → DeviceAnswer → Stepped
+answered w slot r a = record {
+  after = record w {
+    records = slice_set w.records slot (apply w.settings a.answer.event r);
+    devices = a.devices;
+    clock = record w.clock { steps = w.clock.steps + 1 };
+  };
+  labels = labels_of slot (Some a.answer);
+}
+
+-- a step is one that answers a process
+pub record IsAnswered (w : World) (s : Stepped) : Type 0 where
+  pub slot : ℕ
+  pub there : Record
+  pub is_there : slice_get w.records slot ≡ Some there
+  pub answer : DeviceAnswer
+  pub is : s ≡ answered w slot there answer
+
+-- it is none, or one that tells nobody anything, or one that answers a process
+abbrev pub ComesTo : World → Stepped → Type 0
+ComesTo w s = (s ≡ unmade w) ⊎ (((devices : Devices) × (s ≡ quiet w devices)) ⊎ IsAnswered w s)
+
+-- A device's step that answers one process, or nobody, is that; and each is one of these, or none.
+pub record DevicesAnswerOne : Type 0 where
+  pub one : (w : World) (slot : ℕ) (a : DeviceAnswer) (r : Record) → slice_get w.records slot ≡ Some r →
+      done w (Some (answering slot a)) ≡ answered w slot r a
+  pub nobody : (w : World) (devices : Devices) →
+      done w (Some (record { told = λ slot. None; devices = devices })) ≡ quiet w devices
+  pub each : (w : World) (device : Dev) → ComesTo w (done w (device_step_of w device))
 
 -- below the limit of steps the next choice of the round robin may be made
 abbrev pub NextIsReady : Type 0
@@ -88,9 +131,9 @@ main_by (Err fault) = None
 abbrev pub CanStartAgain : Record → Type 0
 CanStartAgain r = is_some (main_by (header_reading r.object)) ≡ true
 
--- What becomes of a process's requests, of which it had some before: it has one of a kind exactly where it waits in that
--- queue after what was asked of the board, and it is then in the same life. It begins to wait only where it does not
--- wait already. One for storage is for some of so many bytes, as one before it was.
+-- What becomes of a process's requests, of which it had some before: it has one of a kind exactly where it waits in
+-- that queue after what was asked of the board, and it is then in the same life. It begins to wait only where it does
+-- not wait already. One for storage is for some of so many bytes, as one before it was.
 pub record KeepsLines (size : ℕ) (own after : Own) (acts : List BoardRequest) : Type 0 where
   pub lines : (queue : QueueName) → has_waiting queue after ≡ waits_after queue (has_waiting queue own) acts
   pub once : (queue : QueueName) → waits_once queue (has_waiting queue own) acts ≡ true

@@ -69,9 +69,24 @@ abbrev pub NoneActs : ℕ → World → ℕ → Record → Type 0
 NoneActs k w slot r =
     (j : ℕ) → j < k → ready_device (ready_devices (after_stretch j w slot (after_instructions j r))) ≡ None
 
--- as long as no device step is ready, the round robin makes the instructions of the process that has the next turn,
--- those
--- that go, up to the end of its slice and to the limit of steps
+-- each world on the way has this slot as its next choice, whoever chose it
+abbrev pub IsNextOnTheWay : ℕ → World → ℕ → Record → Type 0
+IsNextOnTheWay k w slot r =
+    (j : ℕ) → j < k → next (after_stretch j w slot (after_instructions j r)) ≡ Some (Run slot)
+
+-- the round robin chooses the present slot on the way as long as no device step is ready, up to the end of its slice
+abbrev pub PresentIsNextOnTheWay : Type 0
+PresentIsNextOnTheWay =
+    (k slot : ℕ) (w : World) (r : Record)
+    → w.present.slot ≡ Some slot
+    → slice_get w.records slot ≡ Some r
+    → r.process.state ≡ Running
+    → w.present.used + k ≤ w.pace.slice
+    → NoneActs k w slot r
+    → IsNextOnTheWay k w slot r
+
+-- as long as a slot is the next choice, a run makes the instructions of its process, those that go, up to the end of
+-- its slice, where its used turns begin anew, and to the limit of steps
 abbrev pub RoundIsStretch : Type 0
 RoundIsStretch =
     (k slot : ℕ) (w : World) (r : Record)
@@ -82,7 +97,7 @@ RoundIsStretch =
     → r.process.state ≡ Running
     → (at_turn w slot).present.used + k ≤ w.pace.slice
     → AllGo k r
-    → NoneActs k w slot r
+    → IsNextOnTheWay k (at_turn w slot) slot r
     → IsStretch k w (after_stretch k (at_turn w slot) slot (after_instructions k r))
 
 -- the present slot has the next turn of a process, where its process runs and its slice lasts

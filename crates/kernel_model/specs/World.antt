@@ -1,6 +1,7 @@
 -- The world only routes: a step finds whose turn it is, or whom a device answers, and applies that event to that one
 -- record. Which steps there are, and what the devices do, is this board's own rule.
-use Rattle.std.specs.Prelude.{ℕ, suc, ◌+◌, ◌==◌, Bool, false, not, ◌&&◌, nat_le, nat_lt, if◌then◌else◌, List, [], ◌∷◌, ◌++◌}
+use Rattle.std.specs.Prelude.{ℕ, suc, ◌+◌, ◌==◌, Bool, false, not, ◌&&◌, nat_le, nat_lt, if◌then◌else◌, List, [], ◌∷◌}
+use Rattle.std.specs.Prelude.{◌++◌}
 use Rattle.std.specs.Prelude.{drop, filter, length, map, slice_get, slice_set, Option, None, Some, is_some}
 use Rattle.std.specs.Option.{option_map}
 use Rattle.tk_base.specs.declared.limits.TheConstants.{STEP_LIMIT}
@@ -113,10 +114,6 @@ answering slot a = record { told = λ other. if other == slot then Some a.answer
 abbrev pub queue_without : ℕ → List ℕ → List ℕ
 queue_without slot slots = filter (λ s. not (s == slot)) slots
 
--- those that wait after an answer to the first one, whose request completed or did not
-abbrev pub queue_after_answer : Bool → ℕ → List ℕ → List ℕ
-queue_after_answer completed slot slots = if completed then queue_without slot slots else slots
-
 -- those that wait in a queue
 abbrev pub slots_in : QueueName → WaitingSlots → List ℕ
 slots_in Writes waiting = waiting.writes
@@ -133,7 +130,7 @@ with_queue Stores change d = record d { waiting = record d.waiting { stores = ch
 
 -- after an answer to the process in a slot, whose request in a queue completed or did not
 abbrev pub after_answer : QueueName → Bool → ℕ → Devices → Devices
-after_answer name completed slot d = with_queue name (queue_after_answer completed slot) d
+after_answer name completed slot = with_queue name (λ slots. if completed then queue_without slot slots else slots)
 
 -- what devices tell, as events of a process
 abbrev pub as_events : Telling Event
@@ -169,8 +166,9 @@ receive_step d slot r =
     let s = console.received d.line.ring r.own in
     record {
       answer = record { event = received_told as_events s; printed = [] };
-      devices =
-          record (after_answer Reads s.completed slot d) { line = record d.line { ring = drop (length s.moved) d.line.ring } };
+      devices = record (after_answer Reads s.completed slot d) {
+        line = record d.line { ring = drop (length s.moved) d.line.ring };
+      };
     }
 
 -- a word is drawn for the request of the process in a slot, or none
@@ -189,7 +187,8 @@ storing d slot r =
     let a = storage.answered fails (flash_of r) r.storage r.own in
     record {
       answer = record { event = stored_told as_events fails; printed = [] };
-      devices = record (after_answer Stores a.completed slot d) { served = if a.completed then d.served + 1 else d.served };
+      devices =
+          record (after_answer Stores a.completed slot d) { served = if a.completed then d.served + 1 else d.served };
     }
 
 -- whom a device serves: the lowest slot whose alarm is due, or the first of those that wait; bytes that come in are
@@ -211,7 +210,8 @@ serving w answer (Some slot) = option_map (λ r. answering slot (answer slot r))
 abbrev pub arrived : Devices → List Arrival → Option DeviceStep
 arrived d [] = None
 arrived d (arrival ∷ rest) =
-    Some (record { told = λ slot. None; devices = record d { line = with_input arrival.bytes d.line; arrivals = rest } })
+    let devices = record d { line = with_input arrival.bytes d.line; arrivals = rest } in
+    Some (record { told = λ slot. None; devices = devices })
 
 -- what a device does, where it is ready
 abbrev pub device_step_of : World → Dev → Option DeviceStep
@@ -227,15 +227,20 @@ device_step_of w dev.Store = serving w (storing w.devices) (served_by w dev.Stor
 abbrev pub is_waited_for : List ℕ → Bool
 is_waited_for slots = not (length slots == 0)
 
--- Whether a device step is ready: bytes are to come in; an alarm is due; a write waits and the UART is free; a read
--- waits and bytes came in; a request for random bytes waits; one for storage waits.
+-- Whether a device step is ready at a time, when the alarm's clock shows a tick: bytes are to come in; an alarm is due;
+-- a write waits and the UART is free; a read waits and bytes came in; a request for random bytes waits; one for storage
+-- waits.
+abbrev pub can_act_at : ℕ → ℕ → List Own → Devices → Dev → Bool
+can_act_at time now owns d dev.Event = is_time time d.arrivals
+can_act_at time now owns d dev.Alarm = is_some (alarm.due_slot now owns)
+can_act_at time now owns d dev.Uart = is_waited_for (slots_in Writes d.waiting) && nat_le d.line.free time
+can_act_at time now owns d dev.Receive = is_waited_for (slots_in Reads d.waiting) && not (length d.line.ring == 0)
+can_act_at time now owns d dev.Random = is_waited_for (slots_in Randoms d.waiting)
+can_act_at time now owns d dev.Store = is_waited_for (slots_in Stores d.waiting)
+
+-- whether one is in a world
 abbrev pub can_act : World → Dev → Bool
-can_act w dev.Event = is_time w.clock.time w.devices.arrivals
-can_act w dev.Alarm = is_some (served_by w dev.Alarm)
-can_act w dev.Uart = is_waited_for (slots_in Writes w.devices.waiting) && nat_le w.devices.line.free w.clock.time
-can_act w dev.Receive = is_waited_for (slots_in Reads w.devices.waiting) && not (length w.devices.line.ring == 0)
-can_act w dev.Random = is_waited_for (slots_in Randoms w.devices.waiting)
-can_act w dev.Store = is_waited_for (slots_in Stores w.devices.waiting)
+can_act w device = can_act_at w.clock.time (now_in w) (owns_in w) w.devices device
 
 -- whether a choice may be made: below the limit of steps a slot whose process can have a turn, a device step that is
 -- ready, and a pass of some ticks

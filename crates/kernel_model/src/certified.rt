@@ -11,8 +11,9 @@ ghost use Rattle.kernel_model.specs.Words.{WordsAreDrawnInOrder};
 use crate::bytes::steps_have_causes;
 use crate::laws::{drivers_promise, turns_keep_lines};
 use driver_model::{
-    a_due_slot_is_there, an_alarm_is_due_where_no_ticks_are_left, drivers_keep_buffers_below_the_mark,
-    drivers_keep_places_and_order, events_tell_steps, lines_follow_answers,
+    a_due_slot_is_there, an_alarm_is_due_where_no_ticks_are_left,
+    drivers_keep_buffers_below_the_mark, drivers_keep_places_and_order, events_tell_steps,
+    lines_follow_answers,
 };
 use process_model::only_handing_changes_pairs;
 

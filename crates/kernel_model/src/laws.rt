@@ -1,9 +1,9 @@
 //! Laws of the definitions, each the contract of a function that does nothing.
 ghost use Rattle.kernel_model.specs.Histories.{SwapsGiveBackTheLast};
 ghost use Rattle.kernel_model.specs.Laws.{DriversPromise, DropsAtMostOne, GrantsChangeAtCalls, NextIsReady, NextLiesAhead, NoneIsLeft};
-ghost use Rattle.kernel_model.specs.Laws.{OnlyItsOwnEvents, RefusedChangesNothingElse, TurnsActAtCalls, TurnsKeepLines};
+ghost use Rattle.kernel_model.specs.Laws.{DevicesAnswerOne, OnlyItsOwnEvents, RefusedChangesNothingElse, TurnsActAtCalls, TurnsKeepLines};
 ghost use Rattle.kernel_model.specs.Refused.{RefusalsChangeLittle};
-ghost use Rattle.kernel_model.specs.Stretch.{NoneIsStretch, PresentStaysOn, RoundIsStretch, RoundsJoin, StretchesJoin};
+ghost use Rattle.kernel_model.specs.Stretch.{NoneIsStretch, PresentIsNextOnTheWay, PresentStaysOn, RoundIsStretch, RoundsJoin, StretchesJoin};
 ghost use Rattle.kernel_model.specs.Replay.{RecordIsReplay, RoundFollowsChoices, SameHistorySameRecord};
 
 use driver_model::{
@@ -26,10 +26,17 @@ pub(crate) fn drivers_promise()
     drivers_keep_places_and_order();
 }
 
-/// A turn changes the record of no process but the one whose turn it is, a device's answer that of none but the
-/// one that it answers, a pass of time none; and that one by its turn, or the answer, alone.
+/// A step changes the record of each process by the one event that it tells it, its turn or a device's answer, or not at
+/// all.
 pub fn only_its_own_events()
     ensures { OnlyItsOwnEvents }
+{}
+
+/// A device's step that answers one process changes its record and the devices, and tells of it alone; one that answers
+/// nobody changes the devices alone. Each step of a device is one of these, or none.
+#[tactic(auto, using(crate::proofs::Told::devices_answer_one))]
+pub fn devices_answer_one()
+    ensures { DevicesAnswerOne }
 {}
 
 /// Below the limit of steps the next choice of the round robin may be made. Where no device step is ready, the
@@ -108,11 +115,13 @@ pub fn swaps_give_back_the_last()
     only_handing_changes_pairs();
     drivers_leave_pairs();
 }
-/// As long as no device step is ready, the round robin makes the instructions of the process that has the next turn,
-/// those that go, one after another, up to the end of its slice. Such a stretch may be followed by another.
-#[tactic(auto, using(crate::proofs::Stretch::round_is_stretch, crate::proofs::Stretch::none_is_stretch, crate::proofs::Stretch::stays_on))]
+/// As long as a slot is the next choice, a run makes the instructions of its process, those that go, one after another,
+/// up to the end of its slice; and the round robin chooses the present slot as long as no device step is ready. Such a
+/// stretch may be followed by another.
+#[tactic(auto, using(crate::proofs::Stretch::round_is_stretch, crate::proofs::Stretch::present_is_next_on_the_way, crate::proofs::Stretch::none_is_stretch, crate::proofs::Stretch::stays_on))]
 pub fn round_is_stretch()
     ensures round { RoundIsStretch }
+    ensures chosen { PresentIsNextOnTheWay }
     ensures stays { PresentStaysOn }
     ensures none { NoneIsStretch }
     ensures join { StretchesJoin }

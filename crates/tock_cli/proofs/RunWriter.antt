@@ -1,5 +1,6 @@
 -- What is told of a run, by what its steps show and by their labels.
-use Rattle.std.proofs.Common.{◌≡◌, ℕ, zero, suc, ◌==◌, Bool, true, false, cond, List, [], ◌∷◌, ◌++◌, length, slice_get}
+use Rattle.std.proofs.Common.{◌≡◌, inl, inr, ℕ, zero, suc, ◌==◌, Bool, true, false, cond, List, [], ◌∷◌, ◌++◌, length}
+use Rattle.std.proofs.Common.{slice_get}
 use Rattle.std.proofs.Common.{Option, None, Some, All, refl, sym, ap, ap₂, subst, ◌∙◌, append-nil}
 use Rattle.std.specs.List.{flat_map}
 use Rattle.std.proofs.lemmas.List.Elements.{All-cons, All-head, All-nil, All-tail}
@@ -11,7 +12,7 @@ use Rattle.process_record.specs.declared.emit.Emit.{Emit}
 use Rattle.kernel_model.specs.Record.{Record}
 use Rattle.kernel_model.specs.World.{Answered, Label, Printed, Stepped, TurnOf, World, after}
 use Rattle.kernel_model.specs.World.{carried_out, labels, ran}
-use Rattle.kernel_model.proofs.Told.{of_answered}
+use Rattle.kernel_model.specs.Laws.{ComesTo, DevicesAnswerOne}
 use Rattle.kernel_model.specs.Run.{Ran, next, printed, round}
 use Rattle.kernel_model.specs.Stretch.{IsQuietTurn, IsStretch}
 use Rattle.kernel_model.specs.Shown.{shown_by}
@@ -28,43 +29,54 @@ use Rattle.tock_cli.specs.RunWriter.{counted_bytes, passed_on, step_text, steps_
 use Rattle.tock_cli.specs.RunWriter.{total_text}
 
 -- the lines of a step by what it shows are those of its labels
-trace_text-carried_out : (time : ℕ) (w : World) (c : Choice)
+trace_text-carried_out : DevicesAnswerOne → (time : ℕ) (w : World) (c : Choice)
     → trace_text time (shown_by (carried_out w c).labels) ≡ flat_map (label_lines time) (carried_out w c).labels
 unfolding trace_text shown_by carried_out
-trace_text-carried_out time w (Run slot) = of_record (slice_get w.records slot)
+trace_text-carried_out law time w (Run slot) = of_record (slice_get w.records slot)
   where
     of_record : (o : Option Record)
         → trace_text time (shown_by (ran w slot o).labels) ≡ flat_map (label_lines time) (ran w slot o).labels
     of_record None = refl
     of_record (Some r) = refl
-trace_text-carried_out time w (Device device) =
-    of_answered w (λ (s : Stepped). trace_text time (shown_by s.labels) ≡ flat_map (label_lines time) s.labels) refl
-    (λ devices. refl) (λ slot r there a. of_bytes slot a.answer.printed (length a.answer.printed == 0)) device
+trace_text-carried_out law time w (Device device) = by_case _ (law.each w device)
   where
     of_bytes : (slot : ℕ) (bytes : List ℕ) (b : Bool)
         → trace_text time (shown_by (cond b [] (Printed slot bytes ∷ [])))
         ≡ flat_map (label_lines time) (cond b [] (Printed slot bytes ∷ []))
     of_bytes slot bytes true = refl
     of_bytes slot bytes false = ap (out_text time slot) (append-nil bytes) ∙ sym (append-nil (out_text time slot bytes))
-trace_text-carried_out time w (Pass ticks) = refl
 
-trace_text-shown_by : (time : ℕ) (w : World) (c : Choice)
+    by_case : (s : Stepped) → ComesTo w s
+        → trace_text time (shown_by s.labels) ≡ flat_map (label_lines time) s.labels
+    by_case s (inl none) =
+        subst (λ (x : Stepped). trace_text time (shown_by x.labels) ≡ flat_map (label_lines time) x.labels) (sym none)
+        refl
+    by_case s (inr (inl nobody)) =
+        subst (λ (x : Stepped). trace_text time (shown_by x.labels) ≡ flat_map (label_lines time) x.labels)
+        (sym nobody.1) refl
+    by_case s (inr (inr one)) =
+        subst (λ (x : Stepped). trace_text time (shown_by x.labels) ≡ flat_map (label_lines time) x.labels) (sym one.is)
+        (of_bytes one.slot one.answer.answer.printed (length one.answer.answer.printed == 0))
+trace_text-carried_out law time w (Pass ticks) = refl
+
+trace_text-shown_by : DevicesAnswerOne → (time : ℕ) (w : World) (c : Choice)
     → trace_text time (shown_by (labels w c)) ≡ flat_map (label_lines time) (labels w c)
 unfolding trace_text shown_by
-trace_text-shown_by time w c =
+trace_text-shown_by law time w c =
     of_stepped (λ (s : Stepped). trace_text time (shown_by s.labels) ≡ flat_map (label_lines time) s.labels) w c refl
-    (trace_text-carried_out time w c)
+    (trace_text-carried_out law time w c)
 
 -- so what is told of a step by what it shows is what the mode tells of it
-pub told_text-step : (mode : Mode) (w : World) (c : Choice) (bytes : List ℕ) (telling : RunWriter) (step : Emit)
+pub told_text-step : DevicesAnswerOne → (mode : Mode) (w : World) (c : Choice) (bytes : List ℕ) (telling : RunWriter)
+    (step : Emit)
     → telling ≡ telling_of mode w bytes → step ≡ shown_by (labels w c)
     → told_text telling step ≡ step_text mode (step_of w c)
-told_text-step mode w c bytes telling step t s =
+told_text-step law mode w c bytes telling step t s =
     ap (λ (x : RunWriter). told_text x step) t ∙ ap (told_text (telling_of mode w bytes)) s ∙ by_mode mode
   where
     by_mode : (m : Mode) → told_text (telling_of m w bytes) (shown_by (labels w c)) ≡ step_text m (step_of w c)
     by_mode Boot = shown_by-printed (labels w c)
-    by_mode Trace = trace_text-shown_by w.clock.time w c
+    by_mode Trace = trace_text-shown_by law w.clock.time w c
     by_mode Soak = refl
 
 -- what is kept after a step

@@ -11,6 +11,7 @@ use Rattle.tk_outside.specs.Writes.{WroteAll, WrotePart}
 use Rattle.tk_outside.specs.Laws.{WritesCompose}
 use Rattle.process_record.specs.declared.emit.Emit.{Emit}
 use Rattle.kernel_model.specs.Record.{Record}
+use Rattle.kernel_model.specs.Laws.{DevicesAnswerOne}
 use Rattle.kernel_model.specs.World.{DeviceStep, Stepped, World, after, carried_out, device_step_of, done, labels, ran}
 use Rattle.kernel_model.specs.Shown.{shown_by}
 use Rattle.kernel_model.specs.Stretch.{IsStretch, RoundsJoin}
@@ -93,11 +94,12 @@ module _ {K : Type 0} {tells : K → SinkFacts} {mode : Mode} {n i : ℕ} {from 
   room h k = omega (arith, r.few)
 
   -- one step more
-  pub one_more : WritesCompose tells → (c : Choice) (then : World) (later : K) (step : Emit) (kept : RunWriter) → i < n
+  pub one_more : WritesCompose tells → DevicesAnswerOne → (c : Choice) (then : World) (later : K) (step : Emit) (kept
+      : RunWriter) → i < n
       → next here ≡ Some c → then ≡ after here c → step ≡ shown_by (labels here c)
       → WroteAll tells now later (told_text telling step) → kept ≡ told_on telling then step
       → counted_bytes kept ≤ counted_bytes telling + PRINT_LIMIT → RunsOn tells mode n (i + 1) from then old later kept
-  one_more law c then later step kept h e f s w k l = record {
+  one_more law one c then later step kept h e f s w k l = record {
     done = r.done ++ step_of here c ∷ [];
     wrote = subst (λ (text : List ℕ). WroteAll tells old later text)
         (sym (flat_map-more (step_text mode) r.done (step_of here c))) (law.all_then_all r.wrote told);
@@ -119,7 +121,7 @@ module _ {K : Type 0} {tells : K → SinkFacts} {mode : Mode} {n i : ℕ} {from 
 
       told : WroteAll tells now later (step_text mode (step_of here c))
       told = subst (λ (text : List ℕ). WroteAll tells now later text)
-          (told_text-step mode here c (printed_in r.done) telling step r.kept s) w
+          (told_text-step one mode here c (printed_in r.done) telling step r.kept s) w
 
       more : printed_in (r.done ++ step_of here c ∷ []) ≡ printed_in r.done ++ printed (labels here c)
       more = flat_map-more (λ (x : Step). printed x.labels) r.done (step_of here c)
@@ -159,10 +161,11 @@ module _ {K : Type 0} {tells : K → SinkFacts} {mode : Mode} {n i : ℕ} {from 
           ∙ append-nil (printed_in r.done)
 
   -- a write that failed in a step
-  pub part : WritesCompose tells → (c : Choice) (later : K) (step : Emit) → i < n → next here ≡ Some c
+  pub part : WritesCompose tells → DevicesAnswerOne → (c : Choice) (later : K) (step : Emit) → i < n
+      → next here ≡ Some c
       → step ≡ shown_by (labels here c) → WrotePart tells now later (told_text telling step)
       → WrotePart tells old later (steps_text mode (steps n from))
-  part law c later step h e s w =
+  part law one c later step h e s w =
       let rest : List Step = steps (n - (i + 1)) (after here c) in
       let whole : steps_text mode (steps n from)
       ≡ steps_text mode r.done ++ (step_text mode (step_of here c) ++ steps_text mode rest) =
@@ -172,7 +175,7 @@ module _ {K : Type 0} {tells : K → SinkFacts} {mode : Mode} {n i : ℕ} {from 
     where
       told : WrotePart tells now later (step_text mode (step_of here c))
       told = subst (λ (text : List ℕ). WrotePart tells now later text)
-          (told_text-step mode here c (printed_in r.done) telling step r.kept s) w
+          (told_text-step one mode here c (printed_in r.done) telling step r.kept s) w
 
   -- a world of the run
   pub world_on : (c : Choice) (then : World) → i < n → next here ≡ Some c → then ≡ after here c → IsWorldOf n from then

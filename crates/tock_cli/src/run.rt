@@ -9,7 +9,7 @@ ghost use Rattle.tock_cli.specs.RunWriter.{steps_text, telling_of};
 use crate::teller::RunWriter;
 use board_core::Board;
 use board_report::{End, write_report};
-use kernel_model::rounds_join;
+use kernel_model::{devices_answer_one, rounds_join};
 use process_record::Emit;
 use tk_outside::{Failed, Sink, put_all, writes_compose};
 
@@ -41,6 +41,7 @@ fn run_steps<K: Sink>(
 {
     writes_compose::<K>();
     rounds_join();
+    devices_answer_one();
     let mut emit = Emit::new();
     let mut telling = RunWriter::of(mode, board);
     let mut made = 0;

@@ -1,4 +1,5 @@
-use Rattle.std.proofs.Common.{◌≡◌, ℕ, ◌==◌, Bool, true, false, cond, [], Option, None, Some, slice_get, refl, sym, ap, ◌∙◌}
+use Rattle.std.proofs.Common.{◌≡◌, ℕ, ◌==◌, Bool, true, false, cond, [], Option, None, Some, slice_get, refl, sym, ap}
+use Rattle.std.proofs.Common.{◌∙◌}
 use Rattle.std.proofs.Common.{subst, eqb-true, eq-eqb, option_and_then}
 use Rattle.std.proofs.lemmas.Bool.{false≢true}
 use Rattle.std.specs.Option.{option_map}
@@ -18,7 +19,8 @@ abbrev Happens : World → ℕ → Option Answer → Stepped → Type 0
 Happens w slot answer s =
     slice_get s.after.records slot ≡ option_map (happens w.settings answer) (slice_get w.records slot)
 
-nothing : (w : World) (slot : ℕ) → slice_get w.records slot ≡ option_map (happens w.settings None) (slice_get w.records slot)
+nothing : (w : World) (slot : ℕ) → slice_get w.records slot ≡ option_map (happens w.settings None) (slice_get
+    w.records slot)
 nothing w slot = by_record (slice_get w.records slot)
   where
     by_record : (o : Option Record) → o ≡ option_map (happens w.settings None) o
@@ -30,9 +32,11 @@ unfolding carried_out
 happened w (Run other) slot = by_slot (slot == other) refl
   where
     by_slot : (b : Bool) → (slot == other) ≡ b
-        → Happens w slot (cond b (Some (record { event = Turn w.clock.time; printed = [] })) None) (carried_out w (Run other))
+        → Happens w slot (cond b (Some (record { event = Turn w.clock.time; printed = [] })) None) (carried_out w
+            (Run other))
     by_slot true e =
-        subst (λ (n : ℕ). Happens w n (Some (record { event = Turn w.clock.time; printed = [] })) (carried_out w (Run other))) (sym (eqb-true slot other e))
+        subst (λ (n : ℕ). Happens w n (Some (record { event = Turn w.clock.time; printed = [] })) (carried_out w (Run
+            other))) (sym (eqb-true slot other e))
         (ran-own w other (slice_get w.records other) refl)
     by_slot false e =
         ran-other w other slot (slice_get w.records other)

@@ -36,6 +36,8 @@ returns c =
     let may : is_time b.moment.time b.drivers.arrivals ≡ true = sym c.is_time.ensures ∙ c.if-not-is_time.false in
     made_so (world_of b) c.args.self.now _ (Device Event) c.args.emit.now c.hide.new.emit c.self.view_is
     (may_act (world_of b) Event (below_shown b c.args.self.now c.self.view_is c.requires) may)
-    (world_arrived b c.arrive.new.self c.arrive.new.uart may c.arrive.ensures.left c.arrive.ensures.line)
+    (world_arrived b c.arrive.new.self c.arrive.new.uart may c.arrive.ensures.left c.arrive.ensures.line
+    c.devices_answer_one.ensures)
     (c.hide.ensures
-    ∙ arrived_shown b c.arrive.new.self c.arrive.new.uart may c.arrive.ensures.left c.arrive.ensures.line)
+    ∙ arrived_shown b c.arrive.new.self c.arrive.new.uart may c.arrive.ensures.left c.arrive.ensures.line
+    c.devices_answer_one.ensures)

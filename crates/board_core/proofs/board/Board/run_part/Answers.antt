@@ -90,7 +90,8 @@ returns-clause-stretch c =
     (chosen c) (ap slot_runs (sym q.at.was) ∙ runs_there c) c.used_before-before.result
     c.used_before-before.ensures.value (omega (arith, left.slice, most)) (omega (arith, left.until, most))
     (omega (arith, left.limit, most)) present.ensures.none present.ensures.some
-    c.from-ticks.result c.args.self.now c.round_is_stretch.ensures.round c.round_is_stretch.ensures.none
+    c.from-ticks.result c.args.self.now c.round_is_stretch.ensures.round
+    c.round_is_stretch.ensures.chosen c.round_is_stretch.ensures.none
     c.from-ticks.ensures c.self.view_is
 
 pub returns-clause-ends : goal.returns-clause-ends

@@ -62,6 +62,8 @@ returns c =
     made_so (world_of b) c.args.self.now _ (Device c.args.device) c.args.emit.now c.show.new.emit c.self.view_is
     (may_tell b c.args.device c.in-Ok.answer.to.slot printed c.act.new.home c.act.new.self t c.self.invariant
     (below_shown b c.args.self.now c.self.view_is c.requires.limit))
-    (world_told b c.args.device c.in-Ok.answer.to.slot printed c.act.new.home c.act.new.self t c.self.invariant)
+    (world_told b c.args.device c.in-Ok.answer.to.slot printed c.act.new.home c.act.new.self t c.self.invariant
+    c.devices_answer_one.ensures)
     (c.show.ensures
-    ∙ told_shown b c.args.device c.in-Ok.answer.to.slot printed c.act.new.home c.act.new.self t c.self.invariant)
+    ∙ told_shown b c.args.device c.in-Ok.answer.to.slot printed c.act.new.home c.act.new.self t c.self.invariant
+    c.devices_answer_one.ensures)

@@ -3,7 +3,8 @@ use Rattle.tk_base.specs.declared.process.Dev.TheVariants.{Alarm, Uart, Receive,
 use Rattle.alarm_capsule.specs.Answers as alarm_capsule
 use Rattle.board_core.specs.declared.board.Board.TheInside.{Inside}
 use Rattle.driver_model.specs.Commands.{Writes, Reads, Randoms, Stores}
-use Rattle.board_core.proofs.Serving.{first_may_be_told, acted_by, acts_alarmed, acts_drawn, acts_received, acts_sent, acts_stored}
+use Rattle.board_core.proofs.Serving.{first_may_be_told, acted_by, acts_alarmed, acts_drawn, acts_received, acts_sent}
+use Rattle.board_core.proofs.Serving.{acts_stored}
 use Rattle.board_core.proofs.drivers.Drivers.act.Goals as goal
 
 pub transmit-requires-clause-told : goal.transmit-requires-clause-told
