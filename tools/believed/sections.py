@@ -16,12 +16,12 @@ SECTIONS = [
         "tock_cli/RunText", "board_report", "kernel_model/Shown", "process_record/Name", "process_record/Emit",
         "process_record/Summary"]),
     ("What holds of the run", [
-        "tock_cli/Accounts", "board_core/Certified", "board_core/Alone", "kernel_model/Accounts",
+        "tock_cli/Accounts", "board_opening/Certified", "board_opening/Alone", "kernel_model/Accounts",
         "kernel_model/Causes", "kernel_model/Accesses", "kernel_model/Prints", "kernel_model/Refused",
         "kernel_model/Replay", "kernel_model/Choices", "kernel_model/Histories", "process_model/Changes",
         "process_model/Flash", "process_model/Permission", "driver_model/Bytes", "rv32_model/Laws"]),
     ("Runs by round robin", ["kernel_model/Run", "turn_scheduler"]),
-    ("The opening world, and one step", ["board_core/Opening", "board_core/Settings", "kernel_model/World"]),
+    ("The opening world, and one step", ["board_opening/Opening", "board_opening/Settings", "kernel_model/World"]),
     ("One process, and what happens to it", [
         "kernel_model/Record", "kernel_model/Turn", "process_record/Process", "process_model/Own",
         "process_model/Instruction", "fault_policy", "process_layout/LayoutView", "process_layout/Interval"]),
@@ -39,7 +39,7 @@ SECTIONS = [
 BOARD = ("board_core/board.rt", "Board")
 STEPS = [("board_core/board.rt", "step"), ("board_core/play.rt", "play")]
 # Files of functions that do nothing: the contract of each public one is a law.
-LAWS = ["board_core/certified.rt", "board_core/laws.rt"]
+LAWS = ["board_opening/certified.rt", "board_opening/laws.rt"]
 
 # What a reader is told before the contract, as it is no matter of definitions.
 PREMISES = """\

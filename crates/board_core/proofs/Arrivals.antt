@@ -14,13 +14,13 @@ use Rattle.kernel_model.specs.Shown.{shown_by}
 use Rattle.kernel_model.specs.World.{DeviceStep, Devices, Stepped, arrived, carried_out, device_step_of, done}
 use Rattle.kernel_model.specs.Laws.{DevicesAnswerOne}
 use Rattle.board_core.specs.declared.board.Board.TheInside.{Inside}
-use Rattle.board_core.specs.declared.drivers.Drivers.{Drivers}
-use Rattle.board_core.specs.Calm.{IsCalm}
-use Rattle.board_core.specs.Driven.{devices_of}
-use Rattle.board_core.specs.Residents.{HasLost, IsResident}
+use Rattle.board_drivers.specs.declared.drivers.Drivers.{Drivers}
+use Rattle.board_drivers.specs.Calm.{IsCalm}
+use Rattle.board_drivers.specs.Driven.{devices_of}
+use Rattle.board_drivers.specs.Residents.{HasLost, IsResident}
 use Rattle.board_core.specs.Shows.{IsBoard, residents, world_of}
 use Rattle.board_core.proofs.Changes.{a_step_later, with_step}
-use Rattle.board_core.proofs.Turns.{rests_seated}
+use Rattle.board_turns.proofs.Turns.{rests_seated}
 
 -- some are left, where it is their time
 pub some_left : (time : ℕ) (events : List ScriptEvent) → is_time time events ≡ true → 0 < length events

@@ -32,29 +32,16 @@ use Rattle.kernel_model.specs.Laws.{NextIsReady, NextLiesAhead}
 use Rattle.kernel_model.specs.Run.{next, next_time, ready_devices, ready_slots, situation_of}
 use Rattle.kernel_model.specs.Shown.{summary_of, slot_line_of}
 use Rattle.board_core.specs.declared.board.Board.TheInside.{Inside}
-use Rattle.board_core.specs.Residents.{Resident, record_of, resident_turns, can_turn_in, line_in}
+use Rattle.board_drivers.specs.Residents.{Resident, record_of, resident_turns, can_turn_in, line_in}
 use Rattle.board_core.specs.Shows.{IsBoard, world_of, residents}
-use Rattle.board_core.proofs.Records.{beside_get, reads_shown}
-use Rattle.board_core.proofs.Pairs.{zip-get, get_or-zip, length-firsts}
+use Rattle.board_drivers.proofs.Records.{beside_get, reads_shown, owns_shown}
+use Rattle.board_drivers.proofs.Pairs.{zip-get, get_or-zip, length-firsts}
+use Rattle.board_turns.specs.Turning.{MayTurnAt}
 
 -- each process has storage
 pub has_storage : (b : Inside) → IsBoard b → length (residents b) ≤ length b.drivers.stores.slots
 has_storage b board =
     omega (arith, board.few, board.driven.slots, length-firsts b.processes.items b.home.owns board.owns)
-
--- what each process has as its own
-pub owns_shown : (flash : List ℕ) (processes : List Process) (owns : List Own) (slots : List (List ℕ))
-    → length owns ≡ length processes → length (zip processes owns) ≤ length slots
-    → map (λ (r : Record). r.own) (map (record_of flash) (zip (zip processes owns) slots)) ≡ owns
-owns_shown flash processes owns slots n stored =
-    reads_shown (λ (r : Record). r.own) (λ (r : Resident). r.1) flash (zip processes owns) slots stored (λ p. refl)
-    ∙ seconds processes owns n
-  where
-    seconds : (ps : List Process) (os : List Own) → length os ≡ length ps → map (λ (r : Resident). r.1) (zip ps os) ≡ os
-    seconds [] [] n = refl
-    seconds [] (o ∷ os) n = cc
-    seconds (p ∷ ps) [] n = cc
-    seconds (p ∷ ps) (o ∷ os) n = ap (λ (xs : List Own). o ∷ xs) (seconds ps os (omega (arith, n)))
 
 -- what is the own of each process is whole, as it is in the home
 pub shown_whole : (b : Inside) → IsBoard b
@@ -270,3 +257,10 @@ next_ahead s w e near law none at is =
     let ahead : w.clock.time < at = subst (λ (o : Option ℕ). IfSome o (λ n. w.clock.time < n)) is later in
     let same : s.time ≡ w.clock.time = ap (λ (x : Situation). x.time) e in
     (omega (arith, ahead, same), subst (λ (o : Option ℕ). IfSome o (λ n. n - s.time < 2 ^ 32)) is near)
+
+-- turns of a slot of a board's tables may be made while steps are left
+pub may_turn_on : (turns : ℕ) (b : Inside) (slot : ℕ) → IsBoard b → slot < length b.processes.items
+    → b.moment.steps + turns ≤ STEP_LIMIT
+    → MayTurnAt turns b.moment slot b.home b.processes.items b.guard
+may_turn_on turns b slot board within limit =
+    record { within = within; owns = board.owns; seated = board.seated; limit = limit; guard = board.guard }

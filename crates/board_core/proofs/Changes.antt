@@ -1,17 +1,13 @@
 -- What a step changes of a board: its records, its world, and what always holds of it.
-use Rattle.std.proofs.Common.{◌≡◌, ℕ, ◌+◌, ◌≤◌, List, [], length, map, slice_get, slice_set, slice_index_or, All}
-use Rattle.std.proofs.Common.{Option, Some, sym, ap, subst, ◌∙◌, arith}
+use Rattle.std.proofs.Common.{◌≡◌, ℕ, ◌+◌, ◌≤◌, List, [], length, map, slice_get, slice_set, All}
+use Rattle.std.proofs.Common.{Option, Some, sym, ap, subst, ◌∙◌}
 use Rattle.std.specs.List.{zip}
-use Rattle.std.specs.Option.{option_map}
 use Rattle.std.proofs.lemmas.List.{length-set, map-set, set-get_or}
 use Rattle.std.proofs.lemmas.List.Elements.{All-set, All-weaker}
-use Rattle.std.proofs.lemmas.Option.{slice_get-map}
-use Rattle.tk_base.specs.declared.limits.TheConstants.{SLOT_COUNT}
 use Rattle.arrayvec.specs.ArrayVec.{ArrayVec}
 use Rattle.tk_base.specs.declared.access.Denial.{Denial}
 use Rattle.tk_base.specs.declared.process.Choice.TheVariants.{Run}
 use Rattle.turn_scheduler.specs.RoundRobin.{used_after}
-use Rattle.process_model.specs.Own.{Own}
 use Rattle.process_record.specs.declared.emit.CallMade.{CallMade}
 use Rattle.process_record.specs.declared.emit.Emit.{Emit}
 use Rattle.process_record.specs.declared.process.Process.{Process}
@@ -21,33 +17,18 @@ use Rattle.kernel_model.specs.Turn.{Turned, turned}
 use Rattle.kernel_model.specs.World.{World, Devices, carried_out, ran, routed}
 use Rattle.kernel_model.specs.Shown.{shown_by}
 use Rattle.board_core.specs.declared.board.Board.TheInside.{Inside}
-use Rattle.board_core.specs.declared.drivers.Drivers.{Drivers}
-use Rattle.board_core.specs.declared.moment.Moment.{Moment}
-use Rattle.board_core.specs.declared.turn.Shown.{Shown}
-use Rattle.board_core.specs.Driven.{devices_of}
-use Rattle.board_core.specs.Residents.{Resident, record_of, id_of, ChangesSlot, TurnsAt, IsResident}
-use Rattle.board_core.specs.Settings.{pace}
+use Rattle.board_drivers.specs.declared.drivers.Drivers.{Drivers}
+use Rattle.board_drivers.specs.declared.moment.Moment.{Moment}
+use Rattle.board_turns.specs.declared.turn.Shown.{Shown}
+use Rattle.board_drivers.specs.Driven.{devices_of}
+use Rattle.board_drivers.specs.Residents.{Resident, record_of, id_of, IsResident}
+use Rattle.board_turns.specs.Turning.{ChangesSlot, TurnsAt}
+use Rattle.board_opening.specs.Settings.{pace}
 use Rattle.board_core.specs.Shows.{world_of, residents}
-use Rattle.board_core.proofs.Turns.{rests_seated_on}
-use Rattle.board_core.proofs.Pairs.{zip-set, zip-get, length-firsts}
-use Rattle.board_core.proofs.Records.{beside_get}
-use Rattle.board_core.proofs.Routing.{drives_shown}
-
--- the bytes of a slot's storage
-abbrev pub bytes_of : List (List ℕ) → ℕ → List ℕ
-bytes_of slots slot = slice_index_or slots slot []
-
--- the record of a slot
-pub record_found : (flash : List ℕ) (processes : List Process) (owns : List Own) (slots : List (List ℕ)) (slot : ℕ)
-    (process : Process) (own : Own) → slice_get processes slot ≡ Some process → slice_get owns slot ≡ Some own
-    → length (zip processes owns) ≤ length slots
-    → slice_get (map (record_of flash) (zip (zip processes owns) slots)) slot
-    ≡ Some (record_of flash ((process, own), bytes_of slots slot))
-record_found flash processes owns slots slot process own was own_was h =
-    slice_get-map (record_of flash) (zip (zip processes owns) slots) slot
-    ∙ ap (option_map (record_of flash)) (beside_get (zip processes owns) slots slot h
-    ∙ ap (option_map (λ (r : Resident). (r, bytes_of slots slot)))
-    (zip-get processes owns slot process own was own_was))
+use Rattle.board_turns.proofs.Turns.{rests_seated_on}
+use Rattle.board_drivers.proofs.Pairs.{zip-set, zip-get}
+use Rattle.board_drivers.proofs.Routing.{drives_shown}
+use Rattle.board_drivers.proofs.Records.{bytes_of, record_found}
 
 module _ (i : ℕ) (home home_after : Homes) (old new : List Process) (t : ChangesSlot i home home_after old new) where
   -- the residents after the change
@@ -109,11 +90,6 @@ module _ (i : ℕ) (home home_after : Homes) (old new : List Process) (t : Chang
 
   pub as_many_owns : length home_after.owns ≡ length home.owns
   as_many_owns = ap (λ (h : Homes). length h.owns) t.own_is ∙ length-set home.owns i t.after.1
-
--- there are no more residents than slots have storage
-pub beside : (processes : List Process) (owns : List Own) (slots : List (List ℕ)) → length owns ≡ length processes
-    → length processes ≤ SLOT_COUNT → length slots ≡ SLOT_COUNT → length (zip processes owns) ≤ length slots
-beside processes owns slots n few eight = omega (arith, length-firsts processes owns n, few, eight)
 
 -- the world of a board, with what a step changes
 abbrev pub with_step : Inside → List Record → Devices → Moment → Option ℕ → ℕ → World

@@ -1,7 +1,7 @@
 -- Device steps of a board.
 use Rattle.std.proofs.Common.{◌≡◌, ℕ, zero, suc, ◌+◌, ◌==◌, ◌<◌, ◌≤◌, Bool, true, false, cond, ◌&&◌, nat_lt}
 use Rattle.std.proofs.Common.{if◌then◌else◌, List, [], ◌∷◌, ◌++◌, length, map, slice_get, slice_set, slice_index_or}
-use Rattle.std.proofs.Common.{All, Option, None, Some, Ok, Err, IsTrue, refl, sym, ap, subst, ◌∙◌, arith, eq-eqb}
+use Rattle.std.proofs.Common.{All, None, Some, Ok, Err, IsTrue, refl, sym, ap, subst, ◌∙◌, arith, eq-eqb}
 use Rattle.std.specs.List.{zip}
 use Rattle.std.proofs.lemmas.Bool.{false≢true}
 use Rattle.std.proofs.lemmas.Bool.Decides.{nat_tests}
@@ -32,37 +32,23 @@ use Rattle.kernel_model.specs.World.{device_step_of, is_ready, may_be_made, prin
 use Rattle.kernel_model.specs.Shown.{shown_by}
 use Rattle.kernel_model.specs.Laws.{DevicesAnswerOne, answered}
 use Rattle.board_core.specs.declared.board.Board.TheInside.{Inside}
-use Rattle.board_core.specs.declared.drivers.Drivers.{Drivers}
-use Rattle.board_core.specs.declared.guard.ActivePmp.{ActivePmp}
-use Rattle.board_core.specs.Calm.{IsCalm}
-use Rattle.board_core.specs.Driven.{AreDriven, IsQueueOf, devices_of, ids_waiting_in}
-use Rattle.board_core.specs.Guards.{GuardsOnly}
+use Rattle.board_drivers.specs.declared.drivers.Drivers.{Drivers}
+use Rattle.board_turns.specs.declared.guard.ActivePmp.{ActivePmp}
+use Rattle.board_drivers.specs.Calm.{IsCalm}
+use Rattle.board_drivers.specs.Driven.{AreDriven, IsQueueOf, devices_of, ids_waiting_in}
+use Rattle.board_turns.specs.Guards.{GuardsOnly}
 use Rattle.board_core.specs.Makes.{MakesStep, shown_printed}
-use Rattle.board_core.specs.Residents.{ChangesSlot, HasLost, IsResident, Resident, record_of}
+use Rattle.board_drivers.specs.Residents.{HasLost, IsResident, record_of}
+use Rattle.board_turns.specs.Turning.{ChangesSlot}
 use Rattle.board_core.specs.Shows.{IsBoard, world_of, residents}
-use Rattle.board_core.specs.Tells.{DeviceTold}
-use Rattle.board_core.proofs.Pairs.{zip-get}
-use Rattle.board_core.proofs.Lines.{line_after}
-use Rattle.board_core.proofs.Changes.{a_step_later, as_many_owns, beside, bytes_of, changed_records, found}
+use Rattle.board_drivers.specs.Tells.{DeviceTold}
+use Rattle.board_drivers.proofs.Lines.{line_after}
+use Rattle.board_core.proofs.Changes.{a_step_later, as_many_owns, changed_records, found}
+use Rattle.board_drivers.proofs.Records.{beside, bytes_of}
 use Rattle.board_core.proofs.Changes.{still_seated, with_step}
 use Rattle.board_core.proofs.Ready.{is_carried_out}
-
--- what a slot's process has lost
-pub lost_there : (steps : ℕ) (home : Homes) (slot : ℕ) → All (HasLost steps) home.owns
-    → (own_of home slot).inbox.dropped ≤ steps
-lost_there steps home slot lost = of_each home.owns slot lost
-  where
-    past : (owns : List Own) (k : ℕ) → length owns ≤ k → (slice_index_or owns k nobody).inbox.dropped ≡ 0
-    past [] k h = refl
-    past (o ∷ owns) zero h = absurd (omega arith)
-    past (o ∷ owns) (suc k) h = past owns k (omega arith)
-
-    of_each : (owns : List Own) (k : ℕ) → All (HasLost steps) owns → (slice_index_or owns k nobody).inbox.dropped ≤ steps
-    of_each owns k all = by_place (nat_lt k (length owns)) refl
-      where
-        by_place : (b : Bool) → nat_lt k (length owns) ≡ b → (slice_index_or owns k nobody).inbox.dropped ≤ steps
-        by_place true e = all k nobody (let h : k < length owns = grind (arith, nat_tests) in h)
-        by_place false e = let h : length owns ≤ k = grind (arith, nat_tests) in omega (arith, past owns k h)
+use Rattle.board_drivers.proofs.Records.{lost_there, seated_there}
+use Rattle.board_core.specs.PartsOf.{parts_of}
 
 -- each slot's layout stays, so whom the registers protect they protect still
 pub still_guards : (guard : ActivePmp) (home home_after : Homes) (slot : ℕ) → ChangesOnly slot home home_after
@@ -117,12 +103,6 @@ may_act w device below e = subst (λ (c : Bool). IsTrue (nat_lt w.clock.steps ST
   where
     under : IsTrue (nat_lt w.clock.steps STEP_LIMIT && true)
     under = grind (arith, nat_tests)
-
--- there is one at each place of a list
-pub found_at : {X : Type 0} (xs : List X) (i : ℕ) → i < length xs → (x : X) × (slice_get xs i ≡ Some x)
-found_at [] i h = absurd (omega (arith, h))
-found_at (x ∷ xs) zero h = (x, refl)
-found_at (x ∷ xs) (suc i) h = found_at xs i (omega (arith, h))
 
 -- a step that printed bytes shows them
 printed_shown : (slot : ℕ) (event : Event) (bytes : List ℕ)
@@ -181,17 +161,8 @@ remains_seated flash steps process own o rest s =
       life = omega (arith, s.life);
     })
 
--- the process in a slot is seated
-pub seated_there : (flash : List ℕ) (n : ℕ) (ps : List Process) (owns : List Own) (slot : ℕ) (r : Resident)
-    → slice_get ps slot ≡ Some r.0 → slice_get owns slot ≡ Some r.1 → All (IsResident flash n) (zip ps owns)
-    → IsResident flash n r
-seated_there flash n ps owns slot r was own_was all =
-    let pair : slice_get (zip ps owns) slot ≡ Some (r.0, r.1) = zip-get ps owns slot r.0 r.1 was own_was in
-    subst (IsResident flash n) (get_or_from_slice_get (zip ps owns) slot r r pair)
-    (all slot r (slice_get_within (zip ps owns) slot r pair))
-
 module _ (b : Inside) (device : Dev) (slot : ℕ) (printed : List ℕ) (home : Homes) (d : Drivers)
-    (t : DeviceTold b device slot printed home d) (h : IsBoard b) where
+    (t : DeviceTold (parts_of b) device slot printed home d) (h : IsBoard b) where
   own_was : slice_get b.home.owns slot ≡ Some (own_of b.home slot)
   own_was = slice_get-get_or b.home.owns slot nobody t.there
 

@@ -14,7 +14,7 @@ use Rattle.grant_enter.specs.Homes.{nobody, own_of}
 use Rattle.board_devices.specs.Storage.{slot_bytes}
 use Rattle.kernel_model.specs.Record.{Record}
 use Rattle.board_core.specs.declared.board.Board.TheInside.{Inside}
-use Rattle.board_core.specs.Residents.{Resident, record_of}
+use Rattle.board_drivers.specs.Residents.{Resident, record_of}
 use Rattle.board_core.specs.Shows.{IsBoard, residents, world_of}
 use Rattle.tk_base.specs.declared.process.ProcessId.{ProcessId}
 use Rattle.driver_requests.specs.Waiting.{waits}
@@ -22,11 +22,12 @@ use Rattle.process_model.specs.Own.{Own}
 use Rattle.driver_model.specs.Lines.{has_waiting, kind_in}
 use Rattle.driver_model.specs.Requests.{request_in}
 use Rattle.driver_model.specs.Commands.{QueueName}
-use Rattle.board_core.specs.Driven.{IsQueueOf, IsThere, ids_waiting_in}
+use Rattle.board_drivers.specs.Driven.{IsQueueOf, IsThere, ids_waiting_in}
 use Rattle.board_core.specs.Looks.{LivesThere}
-use Rattle.board_core.proofs.Boards.{has_storage, owns_shown}
-use Rattle.board_core.proofs.Pairs.{length-firsts, zip-get}
-use Rattle.board_core.proofs.Records.{beside_get}
+use Rattle.board_core.proofs.Boards.{has_storage}
+use Rattle.board_drivers.proofs.Records.{owns_shown}
+use Rattle.board_drivers.proofs.Pairs.{length-firsts, zip-get}
+use Rattle.board_drivers.proofs.Records.{beside_get}
 
 module _ (b : Inside) (board : IsBoard b) (slot : ℕ) where
   -- the record in a slot, by what is kept for the slot

@@ -22,7 +22,7 @@ use Rattle.kernel_model.specs.Run.{printed, printed_by}
 use Rattle.kernel_model.specs.Shown.{shown_by}
 use Rattle.kernel_model.specs.Replay.{RecordIsReplay, after_all, history, replay}
 use Rattle.kernel_model.specs.Choices.{Throughout, are_ready, labels_of_all, printed_by_all}
-use Rattle.board_core.specs.Alone.{IsFirstAlone, first_alone}
+use Rattle.board_opening.specs.Alone.{IsFirstAlone, first_alone}
 use Rattle.board_core.specs.Plays.{FailedAfter, ChoicesMade, PlayedAll, StoppedAt}
 
 -- a choice more, after others

@@ -15,13 +15,14 @@ use Rattle.kernel_model.specs.World.{Stepped, World, carried_out, is_ready, owns
 use Rattle.kernel_model.specs.Run.{next_time, ready_devices, sending_time}
 use Rattle.tk_base.specs.declared.process.Dev.TheVariants as dev
 use Rattle.board_core.specs.declared.board.Board.TheInside.{Inside}
-use Rattle.board_core.specs.Calm.{IsCalmAt}
-use Rattle.board_core.specs.declared.drivers.Drivers.{Drivers}
-use Rattle.board_core.specs.declared.moment.Moment.{Moment}
-use Rattle.board_core.specs.Driven.{devices_of}
+use Rattle.board_drivers.specs.Calm.{IsCalmAt}
+use Rattle.board_drivers.specs.declared.drivers.Drivers.{Drivers}
+use Rattle.board_drivers.specs.declared.moment.Moment.{Moment}
+use Rattle.board_drivers.specs.Driven.{devices_of}
 use Rattle.board_core.specs.Makes.{MakesStep, ready_in}
 use Rattle.board_core.specs.Shows.{IsBoard, world_of}
-use Rattle.board_core.proofs.Boards.{has_storage, owns_shown}
+use Rattle.board_core.proofs.Boards.{has_storage}
+use Rattle.board_drivers.proofs.Records.{owns_shown}
 
 six : {event alarm uart receive random store e a u v r s : Bool} → event ≡ e → alarm ≡ a → uart ≡ u → receive ≡ v
     → random ≡ r → store ≡ s → event ∷ alarm ∷ uart ∷ receive ∷ random ∷ store ∷ [] ≡ e ∷ a ∷ u ∷ v ∷ r ∷ s ∷ []

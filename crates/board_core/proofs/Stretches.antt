@@ -1,16 +1,10 @@
 -- Quiet turns of a process, and what they leave of a board.
 use Rattle.std.proofs.Common.{◌≡◌, ℕ, zero, suc, ◌+◌, ◌-◌, ◌<◌, ◌≤◌, Bool, true, false, List, [], ◌∷◌, length, map}
 use Rattle.std.proofs.Common.{slice_get, slice_set, All, Option, None, Some, refl, sym, ap, ap₂, subst, ◌∙◌, arith}
-use Rattle.tk_base.specs.Regs.{Registers}
-use Rattle.rv32_model.specs.declared.turn_end.TurnEnd.TheVariants.{Went}
 use Rattle.process_model.specs.Own.{Own}
-use Rattle.process_model.specs.Instruction.{with_write}
-use Rattle.process_record.specs.Process.{after_turn}
 use Rattle.process_record.specs.declared.process.Process.{Process}
-use Rattle.grant_enter.specs.Homes.{IsStopped, MakesAll}
-use Rattle.kernel_calls.specs.Own.{IsOwnObject, record_in}
-use Rattle.kernel_model.specs.Record.{Record, byte_at, instruction}
-use Rattle.kernel_model.specs.Stretch.{AllGo, after_instructions, instruction_made}
+use Rattle.kernel_model.specs.Record.{Record, instruction}
+use Rattle.kernel_model.specs.Stretch.{after_instructions, instruction_made}
 use Rattle.std.specs.Prelude.{IfSome}
 use Rattle.std.specs.List.{zip}
 use Rattle.std.specs.Option.{option_map, option_or}
@@ -18,7 +12,6 @@ use Rattle.std.proofs.lemmas.List.{get_or-set_same, length-set, map-set, set-get
 use Rattle.std.proofs.lemmas.List.Elements.{All-set}
 use Rattle.std.proofs.lemmas.Option.{get_or_from_slice_get, slice_get-get_or, slice_get-map, slice_get_within}
 use Rattle.tk_base.specs.declared.limits.TheConstants.{SLOT_COUNT, STEP_LIMIT}
-use Rattle.tk_base.specs.declared.process.ProcessId.{ProcessId}
 use Rattle.tk_base.specs.declared.process.Choice.{Choice}
 use Rattle.tk_base.specs.declared.process.Choice.TheVariants.{Run, Device, Pass}
 use Rattle.tk_base.specs.declared.process.Dev.{Dev}
@@ -34,120 +27,26 @@ use Rattle.kernel_model.specs.Stretch.{GoesOn, IsStretch, NoneActs, NoneIsStretc
 use Rattle.kernel_model.specs.Stretch.{PresentIsNextOnTheWay, PresentStaysOn, RoundIsStretch}
 use Rattle.kernel_model.specs.Stretch.{after_stretch, at_turn}
 use Rattle.kernel_model.specs.World.{World, owns_in}
-use Rattle.board_core.specs.Calm.{HasCome, IsCalm, ServesNobody, coming}
+use Rattle.board_drivers.specs.Calm.{HasCome, IsCalm, ServesNobody, coming}
 use Rattle.board_core.specs.declared.board.Board.TheInside.{Inside}
-use Rattle.board_core.specs.declared.drivers.Drivers.{Drivers}
-use Rattle.board_core.specs.declared.moment.Moment.{Moment}
-use Rattle.board_core.specs.Driven.{AreDriven, devices_of, ids_waiting_in}
+use Rattle.board_drivers.specs.declared.drivers.Drivers.{Drivers}
+use Rattle.board_drivers.specs.declared.moment.Moment.{Moment}
+use Rattle.board_drivers.specs.Driven.{AreDriven, devices_of, ids_waiting_in}
 use Rattle.board_core.specs.Makes.{ready_in}
 use Rattle.board_core.specs.Shows.{IsBoard, residents, world_of}
-use Rattle.board_core.specs.Residents.{HasLost, IsResident, Resident, record_of}
-use Rattle.board_core.specs.Stretches.{QuietAt, Quietly, is_running, slot_runs}
-use Rattle.board_core.proofs.Calm.{kept_calm, later_calm}
-use Rattle.board_core.proofs.Changes.{as_many, as_many_owns, beside, bytes_of, found, kept_records, still_seated_on}
+use Rattle.board_drivers.specs.Residents.{HasLost, IsResident, Resident, record_of}
+use Rattle.board_core.specs.Stretches.{is_running, slot_runs}
+use Rattle.board_turns.specs.Quiet.{QuietAt}
+use Rattle.board_drivers.proofs.Calm.{kept_calm, later_calm}
+use Rattle.board_core.proofs.Changes.{as_many, as_many_owns, found, kept_records, still_seated_on}
+use Rattle.board_drivers.proofs.Records.{beside, bytes_of}
 use Rattle.board_core.proofs.Changes.{with_step}
 use Rattle.board_core.proofs.Devices.{lost_where, still_lost_on}
-use Rattle.board_core.proofs.Lines.{line_after}
-use Rattle.board_core.proofs.Pairs.{get-firsts}
-use Rattle.board_core.proofs.Records.{reads_shown}
+use Rattle.board_drivers.proofs.Lines.{line_after}
+use Rattle.board_drivers.proofs.Pairs.{get-firsts}
+use Rattle.board_drivers.proofs.Records.{reads_shown}
 use Rattle.board_core.proofs.Ready.{calm_ready, devices_shown, next_shown, owns_in_world}
-use Rattle.board_core.proofs.Sight.{sees_record}
-
--- instructions change nothing of what is the process's own but its RAM
-pub own_after : (j : ℕ) (r : Record)
-    → (after_instructions j r).own ≡ record r.own { ram = (after_instructions j r).own.ram }
-unfolding after_instructions
-own_after zero r = refl
-own_after (suc j) r = own_after j (instruction_made r)
-
--- a process after so many instructions, which left it these registers
-abbrev pub later_process : Process → ℕ → Registers → Process
-later_process p k regs = record p { regs = regs; turns = p.turns + k }
-
-none_more : (n : ℕ) → n + 0 ≡ n
-none_more n = omega arith
-
-one_then : (n k : ℕ) → n + 1 + k ≡ n + suc k
-one_then n k = omega arith
-
--- instructions that each went are those of the record, and lead it to what they left
-pub record Follows (k : ℕ) (flash : List ℕ) (p : Process) (own own' : Own) (later : Registers) (storage : List ℕ) : Type
-    0 where
-  pub go : AllGo k (record_in flash p own storage)
-  pub leads : record_in flash (later_process p k later) own' storage
-      ≡ after_instructions k (record_in flash p own storage)
-
-first_and_rest : (k : ℕ) (r : Record) → (instruction r).end ≡ Went → AllGo k (instruction_made r) → AllGo (suc k) r
-unfolding after_instructions
-first_and_rest k r first rest zero h = first
-first_and_rest k r first rest (suc j) h = rest j (omega (arith, h))
-
-pub follows : (k : ℕ) (flash : List ℕ) (p : Process) (own own' : Own) (later : Registers) (storage : List ℕ)
-    → IsOwnObject flash p.object own.layout → MakesAll k flash own p.regs own' later
-    → Follows k flash p own own' later storage
-unfolding MakesAll after_instructions
-follows zero flash p own own' later storage object m = record {
-  go = λ j h. absurd (omega (arith, h));
-  leads =
-      ap₂ (λ (o : Own) (regs : Registers). record_in flash (later_process p 0 regs) o storage) m.0 m.1
-      ∙ ap (λ (n : ℕ). record_in flash (record p { turns = n }) own storage) (none_more p.turns);
-}
-follows (suc k) flash p own own' later storage object m =
-    let r = record_in flash p own storage in
-    let t = instruction r in
-    let made = m.1 (byte_at (record_in flash p own [])) (sees_record flash (p, own) object m.0) in
-    let rest = follows k flash (record (after_turn p) { regs = t.regs }) (with_write own t) own' later storage object
-    made.1 in
-    record {
-      go = first_and_rest k r made.0 rest.go;
-      leads = ap (λ (n : ℕ). record_in flash (record p { regs = later; turns = n }) own' storage)
-          (sym (one_then p.turns k)) ∙ rest.leads;
-    }
-
--- what is then its own is what it was but for its RAM
-pub left_own : (k : ℕ) (flash : List ℕ) (p : Process) (own own' : Own) (later : Registers)
-    → IsOwnObject flash p.object own.layout → MakesAll k flash own p.regs own' later
-    → own' ≡ record own { ram = own'.ram }
-left_own k flash p own own' later object m =
-    let led = (follows k flash p own own' later [] object m).leads in
-    let after : own' ≡ (after_instructions k (record_in flash p own [])).own = ap (λ (r : Record). r.own) led in
-    after ∙ own_after k (record_in flash p own []) ∙ ap (λ (o : Own). record own { ram = o.ram }) (sym after)
-
--- so a process is as it is to be, so many steps later
-pub later_seated : (flash : List ℕ) (steps k : ℕ) (p : Process) (own own' : Own) (later : Registers)
-    → own' ≡ record own { ram = own'.ram } → IsResident flash steps (p, own)
-    → IsResident flash (steps + k) (later_process p k later, own')
-later_seated flash steps k p own own' later same s =
-    subst (λ (o : Own). IsResident flash (steps + k) (later_process p k later, o)) (sym same) (record {
-      own = record { object = s.own.object; object_is = s.own.object_is; lives = s.own.lives };
-      turns = omega (arith, s.turns);
-      restarts = omega (arith, s.restarts);
-      life = omega (arith, s.life);
-    })
-
--- and its turns are quiet ones
-pub quietly : (k most : ℕ) (flash : List ℕ) (p : Process) (own own' : Own) (later : Registers)
-    → IsOwnObject flash p.object own.layout → MakesAll k flash own p.regs own' later
-    → (k < most → IsStopped flash own' later) → Quietly k most flash (p, own) (later_process p k later, own')
-quietly k most flash p own own' later object m stops = record {
-  go = λ storage. (follows k flash p own own' later storage object m).go;
-  leads = λ storage. (follows k flash p own own' later storage object m).leads;
-  stops = λ fewer storage.
-      let stopped = stops fewer in
-      let there : IsOwnObject flash p.object own'.layout =
-      subst (λ (o : Own). IsOwnObject flash p.object o.layout) (sym (left_own k flash p own own' later object m))
-      object in
-      stopped.1 (byte_at (record_in flash (later_process p k later) own' []))
-      (sees_record flash (later_process p k later, own') there stopped.0);
-}
-
--- quiet turns of the process in a slot leave what is its own, but for its RAM
-pub kept_own : (k most : ℕ) (flash : List ℕ) (old new : Resident) → Quietly k most flash old new
-    → new.1 ≡ record old.1 { ram = new.1.ram }
-kept_own k most flash old new q =
-    let after : new.1 ≡ (after_instructions k (record_of flash (old, []))).own =
-    ap (λ (r : Record). r.own) (q.leads []) in
-    after ∙ own_after k (record_of flash (old, [])) ∙ ap (λ (o : Own). record old.1 { ram = o.ram }) (sym after)
+use Rattle.board_turns.proofs.Quiet.{own_after, none_more, kept_own}
 
 -- drivers of which nothing is asked, and who waits, while a process's RAM changes and time passes
 pub ram_driven : (settings : Settings) (time later slot : ℕ) (owns : List Own) (d : Drivers) (own : Own) (ram : List ℕ)

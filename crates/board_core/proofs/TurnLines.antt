@@ -26,20 +26,22 @@ use Rattle.process_record.specs.declared.process.State.{State}
 use Rattle.process_record.specs.declared.process.State.TheVariants.{Running, Yielded, Faulted, Terminated}
 use Rattle.std.proofs.lemmas.Bool.{false≢true}
 use Rattle.board_core.specs.declared.board.Board.TheInside.{Inside}
-use Rattle.board_core.specs.declared.drivers.Drivers.{Drivers}
-use Rattle.board_core.specs.declared.turn.Shown.{Shown}
-use Rattle.board_core.specs.Driven.{AreDriven, Drives, IsQueueOf, MayServe, ids_waiting_in}
-use Rattle.board_core.specs.Residents.{IsResident, TurnsAt, id_of, nothing_shown, record_of, resident_turns}
-use Rattle.board_core.specs.Residents.{can_turn_in}
-use Rattle.board_core.specs.Calm.{IsCalm}
-use Rattle.board_core.specs.Guards.{GuardsOnly}
+use Rattle.board_drivers.specs.declared.drivers.Drivers.{Drivers}
+use Rattle.board_turns.specs.declared.turn.Shown.{Shown}
+use Rattle.board_drivers.specs.Driven.{AreDriven, Drives, IsQueueOf, MayServe, ids_waiting_in}
+use Rattle.board_drivers.specs.Residents.{IsResident, id_of, record_of, resident_turns}
+use Rattle.board_turns.specs.Turning.{TurnsAt, nothing_shown}
+use Rattle.board_drivers.specs.Residents.{can_turn_in}
+use Rattle.board_drivers.specs.Calm.{IsCalm}
+use Rattle.board_turns.specs.Guards.{GuardsOnly}
 use Rattle.board_core.specs.Shows.{IsBoard, residents, world_of}
 use Rattle.board_core.proofs.Boards.{below_limit, ready_within}
 use Rattle.board_core.proofs.Changes.{as_many, as_many_owns, still_seated, turn_later}
-use Rattle.board_core.proofs.Devices.{lost_there, lost_where, seated_there, still_lost}
-use Rattle.board_core.proofs.Lines.{line_after}
-use Rattle.board_core.proofs.Pairs.{zip-get}
-use Rattle.board_core.proofs.Turns.{loses_one}
+use Rattle.board_core.proofs.Devices.{lost_where, still_lost}
+use Rattle.board_drivers.proofs.Records.{lost_there, seated_there}
+use Rattle.board_drivers.proofs.Lines.{line_after}
+use Rattle.board_drivers.proofs.Pairs.{zip-get}
+use Rattle.board_turns.proofs.Turns.{loses_one}
 
 -- an application that started can start again
 can_start_again : (address : ℕ) (e : LayoutView) (read : Result Meaning HeaderFault) → IsApplication address e read

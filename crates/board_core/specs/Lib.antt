@@ -1,16 +1,6 @@
-pub mod Settings
-pub mod Opening
-pub mod Alone
 pub mod Looks
-pub mod Guards
-pub mod Driven
-pub mod Calm
 pub mod Stretches
-pub mod Residents
-pub mod Boot
 pub mod Shows
 pub mod Makes
 pub mod Plays
-pub mod Tells
-pub mod Histories
-pub mod Certified
+pub mod PartsOf

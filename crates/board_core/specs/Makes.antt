@@ -10,9 +10,9 @@ use Rattle.turn_scheduler.specs.RoundRobin.{device_order}
 use Rattle.kernel_model.specs.World.{World, after, can_act_at, is_ready, labels}
 use Rattle.kernel_model.specs.Shown.{shown_by}
 use Rattle.tk_base.specs.declared.process.NotReady.{NotReady}
-use Rattle.board_core.specs.declared.drivers.Drivers.{Drivers}
-use Rattle.board_core.specs.declared.moment.Moment.{Moment}
-use Rattle.board_core.specs.Driven.{devices_of}
+use Rattle.board_drivers.specs.declared.drivers.Drivers.{Drivers}
+use Rattle.board_drivers.specs.declared.moment.Moment.{Moment}
+use Rattle.board_drivers.specs.Driven.{devices_of}
 
 -- A choice that may be made is made: the world is the next one, and what it tells is shown. Any other is refused, and
 -- nothing changes.

@@ -9,7 +9,7 @@ use Rattle.kernel_model.specs.World.{World, is_ready}
 use Rattle.kernel_model.specs.Accounts.{IsAccountedFor}
 use Rattle.kernel_model.specs.Replay.{after_all, history}
 use Rattle.kernel_model.specs.Choices.{Throughout, are_ready, printed_by_all}
-use Rattle.board_core.specs.Alone.{IsReplayed, OpensAlone, alone}
+use Rattle.board_opening.specs.Alone.{IsReplayed, OpensAlone, alone}
 use Rattle.board_core.specs.declared.play.PlayEnd.{PlayEnd}
 use Rattle.board_core.specs.declared.play.PlayEnd.TheVariants.{NotReady, Failed}
 

@@ -4,11 +4,11 @@ use Rattle.std.specs.Prelude.{◌≡◌, ◌≤◌, ◌*◌, ◌^◌, List, leng
 use Rattle.std.specs.List.{zip}
 use Rattle.tk_base.specs.declared.limits.TheConstants.{SLOT_COUNT, STEP_LIMIT}
 use Rattle.kernel_model.specs.World.{World}
-use Rattle.board_core.specs.Guards.{GuardsOnly}
-use Rattle.board_core.specs.Residents.{HasLost, Resident, record_of, IsResident}
-use Rattle.board_core.specs.Settings.{pace}
-use Rattle.board_core.specs.Calm.{IsCalm}
-use Rattle.board_core.specs.Driven.{AreDriven, devices_of}
+use Rattle.board_turns.specs.Guards.{GuardsOnly}
+use Rattle.board_drivers.specs.Residents.{HasLost, Resident, record_of, IsResident}
+use Rattle.board_opening.specs.Settings.{pace}
+use Rattle.board_drivers.specs.Calm.{IsCalm}
+use Rattle.board_drivers.specs.Driven.{AreDriven, devices_of}
 use Rattle.board_core.specs.declared.board.Board.TheInside.{Inside}
 
 -- each process with what is its own

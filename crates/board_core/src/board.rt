@@ -14,31 +14,26 @@ ghost use Rattle.kernel_model.specs.Accounts.{IsAccountedFor};
 ghost use Rattle.kernel_model.specs.Causes.{AreWhole};
 ghost use Rattle.kernel_model.specs.Run.{next, situation_of};
 ghost use Rattle.kernel_model.specs.Shown.{shown_by, summary_of};
-ghost use Rattle.board_core.specs.Alone.{IsReplayed, OpensAlone};
-ghost use Rattle.board_core.specs.Opening.{opening};
-ghost use Rattle.board_core.specs.Settings.{visible_settings};
-ghost use Rattle.board_core.specs.Calm.{IsCalm};
+ghost use Rattle.board_opening.specs.Alone.{IsReplayed, OpensAlone};
+ghost use Rattle.board_opening.specs.Opening.{opening};
+ghost use Rattle.board_opening.specs.Settings.{visible_settings};
+ghost use Rattle.board_drivers.specs.Calm.{IsCalm};
 ghost use Rattle.driver_model.specs.Laws.{IsDueWhereNoneAreLeft};
-ghost use Rattle.board_core.specs.Driven.{MayServe};
-ghost use Rattle.grant_enter.specs.Homes.{own_of};
 ghost use Rattle.board_core.specs.Makes.{MakesStep, ready_in, shown_printed};
-ghost use Rattle.board_core.specs.Guards.{GuardsOnly};
-ghost use Rattle.board_core.specs.Tells.{tells_somebody};
-ghost use Rattle.board_core.specs.Residents.{InFlash, MayTurnAt, TurnsAt, line_in, nothing_shown, resident_turns, told_in_emit, can_turn_in, with_shown};
+ghost use Rattle.board_drivers.specs.Tells.{tells_somebody};
+ghost use Rattle.board_drivers.specs.Residents.{InFlash, line_in, resident_turns, can_turn_in};
+ghost use Rattle.board_turns.specs.Turning.{nothing_shown, told_in_emit};
 
-use crate::boot::{LoadedProcesses, first_crew, placed_in, unplaced};
-use crate::drivers::Drivers;
-use crate::guard::ActivePmp;
-use crate::moment::Moment;
-use crate::turn::{can_turn, take_turn};
 use alarm_capsule::next_due;
 use arrayvec::ArrayVec;
+use board_drivers::{Drivers, Moment};
+use board_opening::{LoadedProcesses, first_crew, placed_in, unplaced};
+use board_turns::{ActivePmp, can_turn, turn_at};
 use driver_model::an_alarm_is_due_where_no_ticks_are_left;
 use grant_enter::Home;
-use kernel_model::{
-    Settings, a_record_is_the_replay_of_its_events, devices_answer_one, grants_change_at_calls,
-    next_is_ready, steps_are_accounted_for, turns_keep_lines,
-};
+use kernel_laws::{grants_change_at_calls, turns_keep_lines};
+use kernel_lives::steps_are_accounted_for;
+use kernel_model::{Settings, a_record_is_the_replay_of_its_events, devices_answer_one, next_is_ready};
 use led_capsule::bits;
 use process_model::Object;
 use process_record::{Emit, Process, SlotLine, Summary, object_name};
@@ -46,10 +41,7 @@ use script_text::Script;
 use std::alloc::Global;
 use std::marker::Model;
 use tbf_headers::object_at;
-use tk_base::{
-    Choice, Dev, FLASH_LIMIT, FLASH_START, NotReady, OBJECT_LIMIT, PRINT_LIMIT, PlaceFault,
-    SLOT_COUNT, STEP_LIMIT, Slot,
-};
+use tk_base::{Choice, Dev, FLASH_LIMIT, FLASH_START, NotReady, OBJECT_LIMIT, PRINT_LIMIT, PlaceFault, SLOT_COUNT, STEP_LIMIT, Slot};
 use tk_outside::NoMemory;
 use turn_scheduler::{Status, next_choice, next_slot, used_after};
 
@@ -188,28 +180,6 @@ fn calm_after(calm: u64, moment: &Moment, home: &Home, drivers: &Drivers, emit: 
         return moment.look_ahead(home, drivers);
     }
     calm
-}
-
-/// One turn of the process in a slot, which tells in `emit` what it shows.
-fn turn_at(
-    home: &mut Home,
-    processes: &mut Vec<Process>,
-    guard: &mut ActivePmp,
-    drivers: &mut Drivers,
-    slot: Slot,
-    moment: &Moment,
-    emit: &mut Emit,
-)
-    requires turn { MayTurnAt 1 moment.now slot home.old processes.old.items guard.old }
-    requires may { MayServe moment.now drivers.old slot (own_of home.old slot) }
-    requires quiet { told_in_emit emit.old ≡ nothing_shown }
-    ensures turn { TurnsAt moment.now slot home.old home.new
-        processes.old.items processes.new.items (told_in_emit emit.new) drivers.old drivers.new }
-    ensures guard { GuardsOnly guard.new home.new }
-    ensures emit { emit.new ≡ with_shown emit.old (told_in_emit emit.new) }
-{
-    let process = &mut processes[slot.index()];
-    take_turn(home, process, guard, drivers, slot, moment, emit);
 }
 
 /// Adds for each slot whether it is ready. The table is filled where it lies: moving it would cost more

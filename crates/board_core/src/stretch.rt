@@ -8,17 +8,16 @@ ghost use Rattle.kernel_model.specs.Choices.{Throughout};
 ghost use Rattle.kernel_model.specs.Replay.{chosen};
 ghost use Rattle.kernel_model.specs.Run.{next};
 ghost use Rattle.kernel_model.specs.Stretch.{GoesOn, IsStretch};
-ghost use Rattle.board_core.specs.Calm.{HasCome, IsCalm, ServesNobody, coming};
-ghost use Rattle.board_core.specs.Guards.{GuardsOnly, IsSetFor};
-ghost use Rattle.board_core.specs.Residents.{LeavesSlot, MayTurn, MayTurnAt, resident};
-ghost use Rattle.board_core.specs.Stretches.{EndsStretch, QuietAt, Quietly, slot_runs};
+ghost use Rattle.board_drivers.specs.Calm.{HasCome, IsCalm, ServesNobody, coming};
+ghost use Rattle.board_core.specs.Stretches.{EndsStretch, slot_runs};
 
+use board_drivers::{Drivers, Moment};
+use board_turns::turns_at;
 use crate::board::Board;
-use crate::drivers::Drivers;
-use crate::guard::ActivePmp;
-use crate::moment::Moment;
 use grant_enter::Home;
-use kernel_model::{next_is_ready, round_is_stretch, steps_are_accounted_for};
+use kernel_laws::round_is_stretch;
+use kernel_lives::steps_are_accounted_for;
+use kernel_model::next_is_ready;
 use process_record::{Process, State};
 use tk_base::{Choice, STEP_LIMIT, Slot};
 
@@ -116,48 +115,6 @@ fn present_after(
         return (present, used);
     }
     (Some(slot), before + made)
-}
-
-/// As many turns of the process in a slot as only execute an instruction, at most `most`. The registers are set, and
-/// memory is lent, once for all of them.
-fn take_turns(
-    home: &mut Home,
-    process: &mut Process,
-    guard: &mut ActivePmp,
-    slot: Slot,
-    moment: &Moment,
-    most: u32,
-) -> u32
-    requires { MayTurn most moment.now slot home.old process.old guard.old }
-    ensures most { result ≤ most }
-    ensures quiet { Quietly result most home.old.flash (resident home.old slot process.old)
-        (resident home.new slot process.new) }
-    ensures leaves { LeavesSlot (moment.now.steps + result) slot home.old home.new process.new }
-    ensures guard { IsSetFor slot guard.new home.new }
-{
-    guard.switch_to(home, slot);
-    let made = home.instruct_quietly(slot, &guard.pmp, &mut process.regs, most);
-    process.turns += made;
-    made
-}
-
-/// The same of the process at its place in the table.
-fn turns_at(
-    home: &mut Home,
-    processes: &mut Vec<Process>,
-    guard: &mut ActivePmp,
-    slot: Slot,
-    moment: &Moment,
-    most: u32,
-) -> u32
-    requires { MayTurnAt most moment.now slot home.old processes.old.items guard.old }
-    ensures most { result ≤ most }
-    ensures quiet { QuietAt result most moment.now slot home.old home.new processes.old.items
-        processes.new.items }
-    ensures guard { GuardsOnly guard.new home.new }
-{
-    let process = &mut processes[slot.index()];
-    take_turns(home, process, guard, slot, moment, most)
 }
 
 impl Board {

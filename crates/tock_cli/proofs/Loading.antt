@@ -12,7 +12,7 @@ use Rattle.image_make.specs.declared.edits.EditFault.{EditFault}
 use Rattle.image_make.specs.Generator.{soak_flash, soak_script}
 use Rattle.tk_outside.specs.Shelf.{ShelfFacts, FaultsRose}
 use Rattle.kernel_model.specs.World.{World}
-use Rattle.board_core.specs.Opening.{opening}
+use Rattle.board_opening.specs.Opening.{opening}
 use Rattle.tock_cli.specs.declared.refusal.File.{File}
 use Rattle.tock_cli.specs.declared.refusal.File.TheVariants.{Flash, Script as ScriptFile}
 use Rattle.tock_cli.specs.declared.refusal.Refusal.{Refusal}

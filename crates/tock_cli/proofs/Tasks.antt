@@ -6,7 +6,7 @@ use Rattle.image_make.specs.declared.edits.EditFault.{EditFault}
 use Rattle.image_make.specs.declared.packs.PackFault.{PackFault}
 use Rattle.image_make.specs.Generator.{soak_flash, soak_script}
 use Rattle.image_make.specs.Packs.{pack}
-use Rattle.board_core.specs.Opening.{opening}
+use Rattle.board_opening.specs.Opening.{opening}
 use Rattle.tock_cli.specs.declared.refusal.Refusal.{Refusal}
 use Rattle.tock_cli.specs.declared.run.Mode.{Mode}
 use Rattle.tock_cli.specs.declared.run.Mode.TheVariants.{Soak}

@@ -1,6 +1,6 @@
 -- What holds of the run that the program tells. It is this tool's own promise, of Levy et al., SOSP 2017.
 use Rattle.std.specs.Prelude.{ℕ, List, Option}
-use Rattle.board_core.specs.Certified.{IsAccountedRun}
+use Rattle.board_opening.specs.Certified.{IsAccountedRun}
 use Rattle.tock_cli.specs.Words.{Command}
 use Rattle.tock_cli.specs.Comes.{Task, Running, Listing, Making, IsTask}
 use Rattle.tock_cli.specs.Causes.{ShelfAccount}

@@ -11,7 +11,7 @@ use Rattle.image_make.specs.Outcomes.{enabling, renaming}
 use Rattle.image_make.specs.Packs.{pack}
 use Rattle.kernel_model.specs.World.{World}
 use Rattle.kernel_model.specs.Run.{round}
-use Rattle.board_core.specs.Opening.{opening}
+use Rattle.board_opening.specs.Opening.{opening}
 use Rattle.board_report.specs.FlashList.{list_text}
 use Rattle.tock_cli.specs.declared.refusal.File.{File}
 use Rattle.tock_cli.specs.declared.refusal.File.TheVariants.{Flash, Script as ScriptFile}

@@ -10,7 +10,7 @@ use Rattle.tk_intake.specs.declared.IntakeError.TheVariants as intake
 use Rattle.image_make.specs.declared.packs.PackFault.TheVariants as packs
 use Rattle.image_make.specs.Packs.{IsPacked, pack_refusal}
 use Rattle.kernel_model.specs.World.{World}
-use Rattle.board_core.specs.Opening.{opening}
+use Rattle.board_opening.specs.Opening.{opening}
 use Rattle.tock_cli.specs.declared.refusal.File.{File}
 use Rattle.tock_cli.specs.declared.refusal.File.TheVariants.{Flash}
 use Rattle.tock_cli.specs.declared.refusal.Refusal.{Refusal}

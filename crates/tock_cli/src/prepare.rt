@@ -70,7 +70,7 @@ fn read_file<H: Shelf>(
 }
 
 /// Reads a script, and makes the board of a flash image under it.
-#[tactic(auto, unfolding(board_core::specs::Opening::opening))]
+#[tactic(auto, unfolding(board_opening::specs::Opening::opening))]
 fn opened(alloc: Global, flash: Vec<u8>, script: &[u8]) -> Result<Board, Refusal>
     requires flash { length flash.items ≤ FLASH_LIMIT }
     requires script { length script.now ≤ SCRIPT_LIMIT }

@@ -1,4 +1,4 @@
-use Rattle.board_core.specs.Residents.{resident_turns}
+use Rattle.board_drivers.specs.Residents.{resident_turns}
 use Rattle.board_core.proofs.Boards.{lines_more, lines_all, turns_at}
 use Rattle.board_core.proofs.board.add_ready.Goals as goal
 

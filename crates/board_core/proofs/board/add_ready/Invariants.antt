@@ -1,6 +1,6 @@
 use Rattle.std.proofs.Common.{◌≡◌, map, take}
 use Rattle.std.specs.List.{zip}
-use Rattle.board_core.specs.Residents.{resident_turns}
+use Rattle.board_drivers.specs.Residents.{resident_turns}
 use Rattle.board_core.proofs.board.add_ready.Given as goal
 
 abbrev pub invariant-loop-slot : goal.invariant-loop-slot

@@ -1,5 +1,5 @@
 use Rattle.std.proofs.Common.{ap, sym, ◌∙◌}
-use Rattle.board_core.specs.Residents.{can_turn_in}
+use Rattle.board_drivers.specs.Residents.{can_turn_in}
 use Rattle.board_core.proofs.Boards.{slot_found, slot_missing}
 use Rattle.board_core.proofs.board.can_run.Goals as goal
 

@@ -1,4 +1,4 @@
-use Rattle.board_core.specs.Residents.{line_in}
+use Rattle.board_drivers.specs.Residents.{line_in}
 use Rattle.board_core.proofs.Boards.{line_is, lines_more, lines_all}
 use Rattle.board_core.proofs.board.slot_lines.Goals as goal
 

@@ -13,16 +13,16 @@ use Rattle.app_placement.specs.Placement.{is_placed, LiesInFlash}
 use Rattle.grant_enter.specs.Homes.{Homes, CanMoveIn, EndsBefore, FitsMemory}
 use Rattle.script_text.specs.Settings.{ScriptSettings as Script}
 use Rattle.kernel_model.specs.declared.settings.Settings.{Settings}
-use Rattle.board_core.specs.Driven.{AreDriven, AreFresh}
-use Rattle.board_core.specs.Settings.{visible_settings}
-use Rattle.board_core.specs.Boot.{IsFirst, fresh_record, layout_at}
-use Rattle.board_core.specs.Opening.{opening, placed_applications, record_placed, unplaced_at}
-use Rattle.board_core.specs.Residents.{HasLost, IsResident}
-use Rattle.board_core.specs.Alone.{OpensAlone}
-use Rattle.board_core.proofs.Alone.{openings_are_alone}
-use Rattle.board_core.proofs.Crews.{all_apart, all_move_in, all_ordered, all_settled, all_stand_apart, few_processes}
-use Rattle.board_core.proofs.Crews.{opening_shown}
-use Rattle.board_core.proofs.Fresh.{driven_first}
+use Rattle.board_drivers.specs.Driven.{AreDriven, AreFresh}
+use Rattle.board_opening.specs.Settings.{visible_settings}
+use Rattle.board_opening.specs.Boot.{IsFirst, fresh_record, layout_at}
+use Rattle.board_opening.specs.Opening.{opening, placed_applications, record_placed, unplaced_at}
+use Rattle.board_drivers.specs.Residents.{HasLost, IsResident}
+use Rattle.board_opening.specs.Alone.{OpensAlone}
+use Rattle.board_opening.proofs.Alone.{openings_are_alone}
+use Rattle.board_opening.proofs.Crews.{all_apart, all_move_in, all_ordered, all_settled, all_stand_apart, few_processes}
+use Rattle.board_opening.proofs.Crews.{opening_shown}
+use Rattle.board_opening.proofs.Fresh.{driven_first}
 use Rattle.board_core.proofs.board.Board.boot.Goals as goal
 use Rattle.board_core.proofs.board.Board.boot.Goals.{After-deref-4}
 

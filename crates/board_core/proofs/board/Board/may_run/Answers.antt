@@ -3,7 +3,7 @@ use Rattle.std.specs.List.{zip}
 use Rattle.tk_base.specs.declared.process.Choice.TheVariants.{Run}
 use Rattle.process_record.specs.declared.process.Process.{Process}
 use Rattle.kernel_model.specs.World.{World, is_ready}
-use Rattle.board_core.specs.Residents.{can_turn_in}
+use Rattle.board_drivers.specs.Residents.{can_turn_in}
 use Rattle.board_core.proofs.Boards.{below_limit}
 use Rattle.board_core.proofs.Devices.{below_shown}
 use Rattle.board_core.proofs.board.Board.may_run.Goals as goal

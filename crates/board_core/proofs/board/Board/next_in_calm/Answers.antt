@@ -4,7 +4,7 @@ use Rattle.tk_base.specs.declared.process.Choice.TheVariants.{Run}
 use Rattle.process_record.specs.declared.process.Process.{Process}
 use Rattle.kernel_model.specs.Run.{next}
 use Rattle.kernel_model.specs.World.{World}
-use Rattle.board_core.specs.Residents.{resident_turns}
+use Rattle.board_drivers.specs.Residents.{resident_turns}
 use Rattle.board_core.proofs.Boards.{next_in_calm}
 use Rattle.board_core.proofs.Ready.{calm_shown}
 use Rattle.board_core.proofs.board.Board.next_in_calm.Goals as goal

@@ -5,16 +5,18 @@ use Rattle.board_devices.specs.SerialLine.{SerialLine}
 use Rattle.grant_enter.specs.Homes.{Homes}
 use Rattle.kernel_model.specs.World.{World, is_ready}
 use Rattle.process_record.specs.declared.emit.Emit.{Emit}
-use Rattle.board_core.specs.Calm.{IsCalm}
-use Rattle.board_core.specs.Residents.{id_of, told_in_emit, with_shown}
+use Rattle.board_drivers.specs.Calm.{IsCalm}
+use Rattle.board_drivers.specs.Residents.{id_of}
+use Rattle.board_turns.specs.Turning.{told_in_emit, with_shown}
 use Rattle.board_core.specs.Shows.{world_of}
 use Rattle.board_core.proofs.Boards.{ready_within}
-use Rattle.board_core.proofs.Calm.{idle_calm, kept_calm, later_calm}
-use Rattle.board_core.proofs.Changes.{beside, turn_shown, world_after}
+use Rattle.board_drivers.proofs.Calm.{idle_calm, kept_calm, later_calm}
+use Rattle.board_core.proofs.Changes.{turn_shown, world_after}
+use Rattle.board_drivers.proofs.Records.{beside}
 use Rattle.board_core.proofs.Devices.{made_so}
-use Rattle.board_core.proofs.Tables.{may_turn_on}
+use Rattle.board_core.proofs.Boards.{may_turn_on}
 use Rattle.board_core.proofs.TurnLines.{line_stays, may_serve, turn_is_idle, turned_board}
-use Rattle.board_core.proofs.Turns.{keeps_quiet}
+use Rattle.board_turns.proofs.Turns.{keeps_quiet}
 use Rattle.board_core.proofs.board.Board.run.Goals as goal
 use Rattle.board_core.proofs.board.Board.run.Goals.{After-clear}
 

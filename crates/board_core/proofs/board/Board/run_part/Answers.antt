@@ -4,14 +4,14 @@ use Rattle.tk_base.specs.declared.process.Choice.TheVariants.{Run}
 use Rattle.process_record.specs.declared.process.Process.{Process}
 use Rattle.kernel_model.specs.Run.{next}
 use Rattle.kernel_model.specs.Stretch.{GoesOn}
-use Rattle.board_core.specs.Calm.{IsCalm}
-use Rattle.board_core.specs.Driven.{AreDriven}
-use Rattle.board_core.specs.Residents.{HasLost, IsResident}
+use Rattle.board_drivers.specs.Calm.{IsCalm}
+use Rattle.board_drivers.specs.Driven.{AreDriven}
+use Rattle.board_drivers.specs.Residents.{HasLost, IsResident}
 use Rattle.board_core.specs.Shows.{world_of}
 use Rattle.board_core.specs.Stretches.{slot_runs}
 use Rattle.board_core.proofs.Stretches.{chosen_in_calm, ends_shown, looked_ahead, nothing_comes, rests_there}
 use Rattle.board_core.proofs.Stretches.{runs_within, still, stretch_shown, used_within}
-use Rattle.board_core.proofs.Tables.{may_turn_on}
+use Rattle.board_core.proofs.Boards.{may_turn_on}
 use Rattle.board_core.proofs.board.Board.run_part.Goals as goal
 use Rattle.board_core.proofs.board.Board.run_part.Goals.{After-is_over}
 

@@ -2,7 +2,7 @@ use Rattle.std.proofs.Common.{List, ap, map, ◌∙◌}
 use Rattle.std.specs.List.{zip}
 use Rattle.process_record.specs.declared.process.Process.{Process}
 use Rattle.kernel_model.specs.Run.{situation_of}
-use Rattle.board_core.specs.Residents.{resident_turns}
+use Rattle.board_drivers.specs.Residents.{resident_turns}
 use Rattle.board_core.proofs.Boards.{status_shown}
 use Rattle.board_core.proofs.Ready.{devices_shown, next_shown}
 use Rattle.board_core.proofs.board.Board.status.Goals as goal

@@ -1,5 +1,5 @@
 use Rattle.tk_base.specs.declared.process.Choice.TheVariants.{Run, Device, Pass}
-use Rattle.board_core.proofs.Alone.{step_replayed}
+use Rattle.board_opening.proofs.Alone.{step_replayed}
 use Rattle.board_core.proofs.board.Board.step.Goals as goal
 
 pub returns-in-Run-clause-records : goal.returns-in-Run-clause-records

@@ -3,9 +3,9 @@ use Rattle.kernel_model.specs.Shown.{summary_of}
 use Rattle.grant_enter.specs.Homes.{nobody}
 use Rattle.process_record.specs.declared.process.Process.{Process}
 use Rattle.std.specs.List.{zip}
-use Rattle.board_core.specs.Residents.{InFlash, IsResident, line_in}
+use Rattle.board_drivers.specs.Residents.{InFlash, IsResident, line_in}
 use Rattle.board_core.proofs.Boards.{summary_shown}
-use Rattle.board_core.proofs.Pairs.{all-firsts}
+use Rattle.board_drivers.proofs.Pairs.{all-firsts}
 use Rattle.board_core.proofs.board.Board.summary.Goals as goal
 
 pub slot_lines-requires-clause-objects : goal.slot_lines-requires-clause-objects

@@ -3,21 +3,23 @@ use Rattle.tk_base.specs.declared.process.Choice.TheVariants.{Device}
 use Rattle.board_devices.specs.declared.answer.Answer.{Answer}
 use Rattle.tk_base.specs.declared.process.NotReady.{NotReady}
 use Rattle.grant_enter.specs.Homes.{Homes}
-use Rattle.board_core.specs.declared.drivers.Drivers.{Drivers}
+use Rattle.board_drivers.specs.declared.drivers.Drivers.{Drivers}
 use Rattle.board_core.specs.Shows.{IsBoard, world_of}
-use Rattle.board_core.specs.Tells.{Acted, DeviceTold}
+use Rattle.board_drivers.specs.Tells.{Acted, DeviceTold}
 use Rattle.board_core.proofs.Devices.{below_shown, made_so, may_tell, not_acting, refused_so, told_board, told_shown}
 use Rattle.board_core.proofs.Devices.{world_told}
+use Rattle.board_core.specs.PartsOf.{parts_of}
+use Rattle.board_core.proofs.PartsOf.{are_parts}
 use Rattle.board_core.proofs.board.Board.tell.Goals as goal
 use Rattle.board_core.proofs.board.Board.tell.Goals.{In-Ok, In_default}
 
 -- it may not act
 idle : (c : In_default)
-    → Acted c.self.inside c.args.device (Err _) c.act.new.printed.items c.act.new.home c.act.new.self
+    → Acted (parts_of c.self.inside) c.args.device (Err _) c.act.new.printed.items c.act.new.home c.act.new.self
 idle c =
     let b = c.self.inside in
-    subst (λ (o : Result Answer NotReady). Acted b c.args.device o c.act.new.printed.items c.act.new.home
-    c.act.new.self) c.in_default.is (c.act.ensures b c.self.invariant)
+    subst (λ (o : Result Answer NotReady). Acted (parts_of b) c.args.device o c.act.new.printed.items c.act.new.home
+    c.act.new.self) c.in_default.is (c.act.ensures (parts_of b) (are_parts b c.self.invariant))
 
 pub invariant_of-self : goal.invariant_of-self
 invariant_of-self c =
@@ -36,12 +38,12 @@ returns-in_default c =
 
 -- it told a process something
 told : (c : In-Ok)
-    → DeviceTold c.self.inside c.args.device c.in-Ok.answer.to.slot c.act.new.printed.items c.act.new.home
+    → DeviceTold (parts_of c.self.inside) c.args.device c.in-Ok.answer.to.slot c.act.new.printed.items c.act.new.home
     c.act.new.self
 told c =
     let b = c.self.inside in
-    subst (λ (o : Result Answer NotReady). Acted b c.args.device o c.act.new.printed.items c.act.new.home
-    c.act.new.self) c.in-Ok.is (c.act.ensures b c.self.invariant)
+    subst (λ (o : Result Answer NotReady). Acted (parts_of b) c.args.device o c.act.new.printed.items c.act.new.home
+    c.act.new.self) c.in-Ok.is (c.act.ensures (parts_of b) (are_parts b c.self.invariant))
 
 pub look_ahead-self-inside-requires-clause-free : goal.look_ahead-self-inside-requires-clause-free
 look_ahead-self-inside-requires-clause-free c =

@@ -1,0 +1,17 @@
+-- What holds of a board holds of its parts.
+use Rattle.board_drivers.specs.Parts.{AreBoardParts}
+use Rattle.board_core.specs.declared.board.Board.TheInside.{Inside}
+use Rattle.board_core.specs.PartsOf.{parts_of}
+use Rattle.board_core.specs.Shows.{IsBoard}
+
+pub are_parts : (b : Inside) → IsBoard b → AreBoardParts (parts_of b)
+are_parts b board = record {
+  seated = board.seated;
+  lost = board.lost;
+  owns = board.owns;
+  few = board.few;
+  driven = board.driven;
+  served = board.served;
+  steps = board.steps;
+  time = board.time;
+}

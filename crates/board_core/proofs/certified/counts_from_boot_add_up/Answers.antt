@@ -1,5 +1,0 @@
-use Rattle.board_core.proofs.Boots.{counts_from_boot}
-use Rattle.board_core.proofs.certified.counts_from_boot_add_up.Goals as goal
-
-pub returns : goal.returns
-returns c = counts_from_boot c.time_steps_and_turns_add_up.ensures

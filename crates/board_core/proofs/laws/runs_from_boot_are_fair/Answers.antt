@@ -1,6 +1,0 @@
-use Rattle.board_core.proofs.Openings.{opens_no_more_than_slots, opens_with_slice}
-use Rattle.board_core.proofs.laws.runs_from_boot_are_fair.Goals as goal
-
-pub returns : goal.returns
-returns c = λ script flash one. c.ready_processes_have_turns.ensures _ (opens_no_more_than_slots script flash)
-    (opens_with_slice script flash one)

@@ -1,0 +1,14 @@
+-- The parts of a board that a device works on. Only proofs use this.
+use Rattle.board_drivers.specs.Parts.{BoardParts}
+use Rattle.board_core.specs.declared.board.Board.TheInside.{Inside}
+use Rattle.board_core.specs.Shows.{world_of}
+
+-- those of a board
+abbrev pub parts_of : Inside → BoardParts
+parts_of b = record {
+  processes = b.processes.items;
+  home = b.home;
+  drivers = b.drivers;
+  moment = b.moment;
+  rest = world_of b;
+}

@@ -1,0 +1,9 @@
+pub mod Calm
+pub mod Lines
+pub mod Routing
+pub mod Orders
+pub mod OwnFlash
+pub mod Pairs
+pub mod Records
+pub mod Serving
+pub mod Parts

@@ -1,0 +1,208 @@
+-- Commands to each driver.
+use Rattle.std.proofs.Common.{◌≡◌, inl, inr, ℕ, ◌==◌, Bool, true, false, cond, nat_lt, List, [], ◌∷◌, length, find}
+use Rattle.std.proofs.Common.{Option, Some, Ok, refl, sym, ap, subst, ◌∙◌}
+use Rattle.std.specs.List.{AllByRecursion}
+use Rattle.std.specs.Option.{option_map}
+use Rattle.tk_base.specs.declared.call.CallRule.{CallRule}
+use Rattle.tk_base.specs.declared.call.CallRule.TheVariants.{Range}
+use Rattle.tk_base.specs.declared.process.ProcessId.{ProcessId}
+use Rattle.syscall_abi.specs.declared.reply.Reply.{Reply}
+use Rattle.syscall_abi.specs.declared.reply.Reply.TheVariants.{Success}
+use Rattle.grant_values.specs.declared.drivers.Driver.{Driver}
+use Rattle.grant_values.specs.Drivers.{driver_of}
+use Rattle.process_model.specs.Own.{Own}
+use Rattle.driver_model.specs.Replies.{reply_of}
+use Rattle.driver_model.specs.Asked.{OneOf}
+use Rattle.driver_model.specs.Steps.{own_after, silently}
+use Rattle.driver_model.specs.Commands.{BoardRequest, Commanded, Waits, Leaves, Lights, Switch, On, Off, Toggle}
+use Rattle.driver_model.specs.Commands.{by_number, refusing, row_or_refused, QueueName, Writes, Reads, Randoms, Stores}
+use Rattle.driver_model.specs.Drivers.{CommandHandler, handler_by}
+use Rattle.driver_model.specs.Leds as leds
+use Rattle.driver_model.specs.Leds.{led_bits, lit_after}
+use Rattle.driver_requests.specs.Waiting.{queue_after}
+use Rattle.board_drivers.specs.declared.drivers.Drivers.{Drivers}
+use Rattle.board_drivers.specs.declared.drivers.Order.{Order}
+use Rattle.board_drivers.specs.Driven.{Commands, Drives, ids_waiting_in}
+
+-- a command of which every row leaves what is the process's own as it was does so, too
+rows_keep : (own : Own) (rows : List (ℕ × Commanded)) (number : ℕ) → AllByRecursion
+    (λ row. own_after row.1.step ≡ own) rows
+    → own_after (by_number own rows number).step ≡ own
+rows_keep own [] number all = refl
+rows_keep own (row ∷ rows) number all = by_test (row.0 == number) (rows_keep own rows number all.1)
+  where
+    by_test : (b : Bool) → own_after (by_number own rows number).step ≡ own
+        → own_after (row_or_refused own (cond b (Some row) (find (λ row. row.0 == number) rows))).step ≡ own
+    by_test true others = all.0
+    by_test false others = others
+
+-- so do the commands to the LEDs
+pub leds_keep : (count number led : ℕ) (own : Own) → own_after (leds.command count number led own).step ≡ own
+unfolding leds.command leds.commands
+leds_keep count number led own =
+    rows_keep own (leds.commands count led own) number (
+      refl,
+      (
+        switched On (nat_lt led count),
+        (switched Off (nat_lt led count), (switched Toggle (nat_lt led count), tt)),
+      ),
+    )
+  where
+    switched : (switch : Switch) (b : Bool)
+        → own_after (cond b (record { answer = Ok Success; step = silently own; acts = Lights led switch ∷ [] })
+        (refusing Range own)).step ≡ own
+    switched switch true = refl
+    switched switch false = refl
+
+-- what a driver does
+pub commands_by : (driver : Driver) (tick : ℕ) (id : ProcessId) (order : Order) (d d' : Drivers) (own own' : Own)
+    (answer : Reply × Option CallRule) → driver_of order.driver ≡ Some driver
+    → (let c = handler_by driver (record { now = tick; leds = length d.leds; storage = d.stores.size }) order.number
+    order.a2 order.a3 own in (answer ≡ reply_of c.answer) × (own' ≡ own_after c.step) × Drives id c.acts d d')
+    → Commands tick id order d own answer own' d'
+commands_by driver tick id order d d' own own' answer is does taker found =
+    let same : handler_by driver ≡ taker =
+    (let known : Some (handler_by driver) ≡ Some taker = sym (ap (option_map handler_by) is) ∙ found in cc) in
+    subst (λ (t : CommandHandler). let c =
+    t (record { now = tick; leds = length d.leds; storage = d.stores.size }) order.number order.a2 order.a3 own in
+    (answer ≡ reply_of c.answer) × (own' ≡ own_after c.step) × Drives id c.acts d d') same does
+
+-- drivers of which nothing changes
+pub drives_nothing : (id : ProcessId) (d : Drivers) → Drives id [] d d
+drives_nothing id d =
+    record {
+      queues = λ queue. refl;
+      leds = refl;
+      lit = refl;
+      line =
+          refl;
+      arrivals = refl;
+      words = refl;
+      bytes = refl;
+    }
+
+-- what holds of each of some lists of acts holds of the one that it is
+by_list : (P : List BoardRequest → Type 0) (acts : List BoardRequest) (lists : List (List BoardRequest))
+    → OneOf acts lists → AllByRecursion P lists → P acts
+by_list P acts [] of all = absurd of
+by_list P acts (xs ∷ lists) (inl is) all = subst P (sym is) all.0
+by_list P acts (xs ∷ lists) (inr of) all = by_list P acts lists of all.1
+
+-- where the drivers differ in who waits alone
+record OthersStay (d d' : Drivers) : Type 0 where
+  leds : d'.leds ≡ d.leds
+  line : d'.uart ≡ d.uart
+  arrivals : d'.arrivals ≡ d.arrivals
+  words : d'.words ≡ d.words
+  bytes : d'.stores ≡ d.stores
+
+lists_drive : (id : ProcessId) (acts : List BoardRequest) (d d' : Drivers) → OthersStay d d'
+    → lit_after acts (led_bits d.leds) ≡ led_bits d.leds
+    → ((queue : QueueName) → ids_waiting_in d' queue ≡ queue_after queue id (ids_waiting_in d queue) acts)
+    → Drives id acts d d'
+lists_drive id acts d d' stay unlit queues = record {
+  queues = queues;
+  leds = ap led_bits stay.leds ∙ sym unlit;
+  lit = ap length stay.leds;
+  line = stay.line;
+  arrivals = stay.arrivals;
+  words = stay.words;
+  bytes = stay.bytes;
+}
+
+module _ (id : ProcessId) (d : Drivers) where
+  -- the alarm, which asks for nothing
+  pub alarm_drives : (acts : List BoardRequest) → acts ≡ [] → Drives id acts d d
+  alarm_drives acts none = subst (λ (acts : List BoardRequest). Drives id acts d d) (sym none) (drives_nothing id d)
+
+  -- the console
+  pub console_drives : (writes reads : List ProcessId) (acts : List BoardRequest)
+      → OneOf acts ([] ∷ (Waits Writes ∷ []) ∷ (Waits Reads ∷ []) ∷ (Leaves Reads ∷ []) ∷ [])
+      → writes ≡ queue_after Writes id d.console.writes acts → reads ≡ queue_after Reads id d.console.reads acts
+      → Drives id acts d (record d { console = record { writes = writes; reads = reads } })
+  console_drives writes reads acts of =
+      by_list (λ acts. writes ≡ queue_after Writes id d.console.writes acts
+      → reads ≡ queue_after Reads id d.console.reads acts
+      → Drives id acts d (record d { console = record { writes = writes; reads = reads } })) acts
+      ([] ∷ (Waits Writes ∷ []) ∷ (Waits Reads ∷ []) ∷ (Leaves Reads ∷ []) ∷ []) of (
+        λ w r. lists_drive id [] d _ stay refl (elim [ Writes ↦ w | Reads ↦ r | Randoms ↦ refl | Stores ↦ refl ]),
+        (
+          λ w r. lists_drive id (Waits Writes ∷ []) d _ stay refl (elim [ Writes ↦ w | Reads ↦ r | Randoms ↦ refl |
+              Stores ↦ refl ]),
+          (
+            λ w r. lists_drive id (Waits Reads ∷ []) d _ stay refl (elim [ Writes ↦ w | Reads ↦ r | Randoms ↦ refl |
+                Stores ↦ refl ]),
+            (λ w r. lists_drive id (Leaves Reads ∷ []) d _ stay refl (elim [ Writes ↦ w | Reads ↦ r | Randoms ↦ refl
+                | Stores ↦ refl ]), tt),
+          ),
+        ),
+      )
+    where
+      stay : OthersStay d (record d { console = record { writes = writes; reads = reads } })
+      stay = record { leds = refl; line = refl; arrivals = refl; words = refl; bytes = refl }
+
+  -- the source of random bytes
+  pub random_drives : (randoms : List ProcessId) (acts : List BoardRequest)
+      → OneOf acts ([] ∷ (Waits Randoms ∷ []) ∷ []) → randoms ≡ queue_after Randoms id d.random.waiting acts
+      → Drives id acts d (record d { random = record { waiting = randoms } })
+  random_drives randoms acts of =
+      by_list (λ acts. randoms ≡ queue_after Randoms id d.random.waiting acts
+      → Drives id acts d (record d { random = record { waiting = randoms } })) acts ([] ∷ (Waits Randoms ∷ []) ∷ [])
+      of (
+        λ r. lists_drive id [] d _ stay refl (elim [ Writes ↦ refl | Reads ↦ refl | Randoms ↦ r | Stores ↦ refl ]),
+        (λ r. lists_drive id (Waits Randoms ∷ []) d _ stay refl (elim [ Writes ↦ refl | Reads ↦ refl | Randoms ↦ r |
+            Stores ↦ refl ]), tt),
+      )
+    where
+      stay : OthersStay d (record d { random = record { waiting = randoms } })
+      stay = record { leds = refl; line = refl; arrivals = refl; words = refl; bytes = refl }
+
+  -- the storage
+  pub storage_drives : (stores : List ProcessId) (acts : List BoardRequest) → OneOf acts ([] ∷ (Waits Stores ∷ []) ∷ [])
+      → stores ≡ queue_after Stores id d.storage.waiting acts
+      → Drives id acts d (record d { storage = record { waiting = stores } })
+  storage_drives stores acts of =
+      by_list (λ acts. stores ≡ queue_after Stores id d.storage.waiting acts
+      → Drives id acts d (record d { storage = record { waiting = stores } })) acts ([] ∷ (Waits Stores ∷ []) ∷ [])
+      of (
+        λ r. lists_drive id [] d _ stay refl (elim [ Writes ↦ refl | Reads ↦ refl | Randoms ↦ refl | Stores ↦ r ]),
+        (λ r. lists_drive id (Waits Stores ∷ []) d _ stay refl (elim [ Writes ↦ refl | Reads ↦ refl | Randoms ↦ refl
+            | Stores ↦ r ]), tt),
+      )
+    where
+      stay : OthersStay d (record d { storage = record { waiting = stores } })
+      stay = record { leds = refl; line = refl; arrivals = refl; words = refl; bytes = refl }
+
+  -- the LEDs
+  pub leds_drive : (lit : List Bool) (led : ℕ) (acts : List BoardRequest)
+      → OneOf acts ([] ∷ (Lights led On ∷ []) ∷ (Lights led Off ∷ []) ∷ (Lights led Toggle ∷ []) ∷ [])
+      → led_bits lit ≡ lit_after acts (led_bits d.leds) → length lit ≡ length d.leds
+      → Drives id acts d (record d { leds = lit })
+  leds_drive lit led acts of =
+      by_list (λ acts. led_bits lit ≡ lit_after acts (led_bits d.leds) → length lit ≡ length d.leds
+      → Drives id acts d (record d { leds = lit })) acts
+      ([] ∷ (Lights led On ∷ []) ∷ (Lights led Off ∷ []) ∷ (Lights led Toggle ∷ []) ∷ []) of (
+        λ b n. switched [] (λ queue. refl) b n,
+        (
+          λ b n. switched (Lights led On ∷ []) (λ queue. refl) b n,
+          (
+            λ b n. switched (Lights led Off ∷ []) (λ queue. refl) b n,
+            (λ b n. switched (Lights led Toggle ∷ []) (λ queue. refl) b n, tt),
+          ),
+        ),
+      )
+    where
+      switched : (acts : List BoardRequest)
+          → ((queue : QueueName) → ids_waiting_in d queue ≡ queue_after queue id (ids_waiting_in d queue) acts)
+          → led_bits lit ≡ lit_after acts (led_bits d.leds) → length lit ≡ length d.leds
+          → Drives id acts d (record d { leds = lit })
+      switched acts queues b n =
+          record {
+            queues = queues;
+            leds = b;
+            lit = n;
+            line = refl;
+            arrivals = refl;
+            words = refl;
+            bytes = refl;
+          }

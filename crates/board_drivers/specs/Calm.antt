@@ -1,0 +1,42 @@
+-- As long as no device step is ready. Only proofs use this.
+use Rattle.std.specs.Prelude.{◌≡◌, ◌≤◌, ◌<◌, ℕ, ◌+◌, Bool, false, List, [], Option, None, Some}
+use Rattle.std.specs.Option.{option_map}
+use Rattle.tk_base.specs.declared.process.Dev.{Dev}
+use Rattle.tk_base.specs.declared.process.Dev.TheVariants.{Receive, Random, Store}
+use Rattle.board_devices.specs.Arriving.{first_arrival_time}
+use Rattle.board_devices.specs.Clock.{clock_at}
+use Rattle.process_model.specs.Own.{Own}
+use Rattle.driver_model.specs.Alarm.{nearer, next_left}
+use Rattle.kernel_model.specs.Run.{next_time_at}
+use Rattle.kernel_model.specs.World.{can_act_at}
+use Rattle.board_drivers.specs.declared.drivers.Drivers.{Drivers}
+use Rattle.board_drivers.specs.declared.moment.Moment.{Moment}
+use Rattle.board_drivers.specs.Driven.{devices_of}
+
+-- whether a device is ready that looks neither at the time nor at what processes keep
+abbrev pub can_act_at_once : Drivers → Dev → Bool
+can_act_at_once d device = can_act_at 0 0 [] (devices_of d) device
+
+-- nobody waits for bytes that came in, for random bytes or for the storage
+pub record ServesNobody (d : Drivers) : Type 0 where
+  pub receive : can_act_at_once d Receive ≡ false
+  pub random : can_act_at_once d Random ≡ false
+  pub store : can_act_at_once d Store ≡ false
+
+-- no device step is ready at a time
+abbrev pub IsCalmAt : ℕ → ℕ → List Own → Drivers → Type 0
+IsCalmAt start time owns d = (device : Dev)
+    → can_act_at time (clock_at start time) owns (devices_of d) device ≡ false
+
+-- none is from a time on, and before another
+abbrev pub IsCalm : ℕ → ℕ → ℕ → List Own → Drivers → Type 0
+IsCalm start from until owns d = (time : ℕ) → from ≤ time → time < until → IsCalmAt start time owns d
+
+-- the nearest time at which a device step becomes ready by itself
+abbrev pub coming : Moment → List Own → Drivers → Option ℕ
+coming m owns d = next_time_at m.time (clock_at m.settings.start m.time) owns (devices_of d)
+
+-- there is a time, and it has come by another
+abbrev pub HasCome : ℕ → Option ℕ → Type 0
+HasCome now None = ⊥
+HasCome now (Some at) = at ≤ now

@@ -1,0 +1,125 @@
+-- The drivers of a board: the devices that they show, and who waits. A board shows `devices_of`; the rest is for proofs
+-- alone. It is this board's own.
+use Rattle.std.specs.Prelude.{◌≡◌, ◌≤◌, ◌<◌, ℕ, ◌+◌, true, false, List, [], length, map, replicate, slice_index_or, All}
+use Rattle.std.specs.Prelude.{Option, None, Some, is_some}
+use Rattle.std.specs.List.{AllByRecursion}
+use Rattle.tk_base.specs.declared.call.CallRule.{CallRule}
+use Rattle.tk_base.specs.declared.limits.TheConstants.{BYTE_TICKS_LIMIT, SENDING_LIMIT, SLOT_COUNT}
+use Rattle.tk_base.specs.declared.process.ProcessId.{ProcessId}
+use Rattle.syscall_abi.specs.declared.reply.Reply.{Reply}
+use Rattle.board_devices.specs.Storage.{fresh_storage}
+use Rattle.script_text.specs.Settings.{ScriptSettings as Script}
+use Rattle.process_model.specs.Own.{Own}
+use Rattle.driver_model.specs.Steps.{own_after}
+use Rattle.driver_model.specs.Commands.{BoardRequest, QueueName, Writes, Reads, Randoms, Stores}
+use Rattle.driver_model.specs.Drivers.{CommandHandler, handler_of}
+use Rattle.driver_model.specs.Replies.{reply_of}
+use Rattle.driver_model.specs.Requests.{request_in}
+use Rattle.driver_model.specs.Lines.{IsWithin, has_waiting, kind_in}
+use Rattle.driver_model.specs.Leds.{led_bits, lit_after}
+use Rattle.driver_requests.specs.Waiting.{queue_after, waits}
+use Rattle.grant_enter.specs.Homes.{nobody}
+use Rattle.kernel_model.specs.declared.settings.Settings.{Settings}
+use Rattle.kernel_model.specs.World.{Devices, WaitingSlots}
+use Rattle.board_drivers.specs.declared.moment.Moment.{Moment}
+use Rattle.board_drivers.specs.declared.drivers.Drivers.{Drivers}
+use Rattle.board_drivers.specs.declared.drivers.Order.{Order}
+
+-- the slots of those that wait
+abbrev pub slots_of : List ProcessId → List ℕ
+slots_of ids = map (λ id. id.slot) ids
+
+-- those that wait in a list
+abbrev pub ids_waiting_in : Drivers → QueueName → List ProcessId
+ids_waiting_in d Writes = d.console.writes
+ids_waiting_in d Reads = d.console.reads
+ids_waiting_in d Randoms = d.random.waiting
+ids_waiting_in d Stores = d.storage.waiting
+
+-- the table of those that wait, by the name of the queue
+abbrev pub waiting_by : (QueueName → List ℕ) → WaitingSlots
+waiting_by slots =
+    record { writes = slots Writes; reads = slots Reads; randoms = slots Randoms; stores = slots Stores }
+
+-- the devices that the drivers show
+abbrev pub devices_of : Drivers → Devices
+devices_of d = record {
+  waiting = waiting_by (λ queue. slots_of (ids_waiting_in d queue));
+  leds = led_bits d.leds;
+  line = d.uart;
+  arrivals = d.arrivals;
+  words = d.words;
+  served = d.stores.served;
+  faults = d.stores.faults;
+}
+
+-- the bytes of storage of each slot
+abbrev pub storage_bytes : Drivers → List (List ℕ)
+storage_bytes d = d.stores.slots
+
+-- the drivers under a script before the first step: nobody waits, all LEDs are off, nothing was drawn or served
+pub record AreFresh (script : Script) (d : Drivers) : Type 0 where
+  pub queues : (queue : QueueName) → ids_waiting_in d queue ≡ []
+  pub line : d.uart ≡ record { ring = []; ticks = script.uart; free = 0 }
+  pub leds : d.leds ≡ replicate script.leds false
+  pub arrivals : d.arrivals ≡ script.events
+  pub words : d.words ≡ script.words
+  pub stores : d.stores ≡ fresh_storage script.storage script.faults
+
+-- a process is in the slot of an id, in that life
+abbrev pub IsThere : List Own → ProcessId → Type 0
+IsThere owns id = (id.slot < length owns) × ((slice_index_or owns id.slot nobody).life ≡ id.life)
+
+-- Those that wait in a queue are the processes that live and have a request there, each by the id of its life.
+pub record IsQueueOf (queue : QueueName) (ids : List ProcessId) (owns : List Own) : Type 0 where
+  pub there : AllByRecursion (IsThere owns) ids
+  pub each : (slot : ℕ) → slot < length owns
+      → waits slot ids ≡ has_waiting queue (slice_index_or owns slot nobody)
+
+-- The drivers of a board with these settings, at a time: who waits has a request that waits; each request for storage
+-- lies in what a slot has; so many LEDs there are; the UART is free soon.
+pub record AreDriven (settings : Settings) (time : ℕ) (owns : List Own) (d : Drivers) : Type 0 where
+  pub queues : (queue : QueueName) → IsQueueOf queue (ids_waiting_in d queue) owns
+  pub within : All (IsWithin settings.storage) owns
+  pub leds : length d.leds ≡ settings.leds
+  pub size : d.stores.size ≡ settings.storage
+  pub slots : length d.stores.slots ≡ SLOT_COUNT
+  pub ticks : d.uart.ticks ≤ BYTE_TICKS_LIMIT
+  pub free : d.uart.free ≤ time + SENDING_LIMIT
+
+-- what the drivers do for a process of what is asked of them: who waits where, and the LEDs; nothing else changes
+pub record Drives (id : ProcessId) (acts : List BoardRequest) (old new : Drivers) : Type 0 where
+  pub queues : (queue : QueueName) → ids_waiting_in new queue ≡ queue_after queue id (ids_waiting_in old queue) acts
+  pub leds : led_bits new.leds ≡ lit_after acts (led_bits old.leds)
+  pub lit : length new.leds ≡ length old.leds
+  pub line : new.uart ≡ old.uart
+  pub arrivals : new.arrivals ≡ old.arrivals
+  pub words : new.words ≡ old.words
+  pub bytes : new.stores ≡ old.stores
+
+-- there is a driver that takes the command
+abbrev pub IsTaken : Order → Type 0
+IsTaken order = is_some (handler_of order.driver) ≡ true
+
+-- a process waits only where it has a request
+abbrev pub MayAsk : Drivers → ℕ → Own → Type 0
+MayAsk d slot own = (queue : QueueName) → request_in (kind_in queue) own ≡ None
+    → waits slot (ids_waiting_in d queue) ≡ false
+
+-- what the drivers ask of a moment at which they serve a call of the process in a slot
+pub record MayServe (m : Moment) (d : Drivers) (slot : ℕ) (own : Own) : Type 0 where
+  pub asks : MayAsk d slot own
+  pub lost : own.inbox.dropped ≤ m.steps
+  pub leds : length d.leds ≡ m.settings.leds
+  pub size : d.stores.size ≡ m.settings.storage
+
+-- what comes of a command, as its driver takes it: the answer, what is then the process's own, and what the drivers do
+abbrev pub Commands : ℕ → ProcessId → Order → Drivers → Own → Reply × Option CallRule → Own → Drivers → Type 0
+Commands tick id order d own answer own' d_after =
+    (taker : CommandHandler) → handler_of order.driver ≡ Some taker →
+    let c = taker (record {
+      now = tick;
+      leds = length d.leds;
+      storage = d.stores.size;
+    }) order.number order.a2 order.a3 own in
+    (answer ≡ reply_of c.answer) × (own' ≡ own_after c.step) × Drives id c.acts d d_after

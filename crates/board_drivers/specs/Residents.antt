@@ -1,0 +1,67 @@
+-- A process with what is its own: the record that it shows. A board shows `record_of`; the rest is for
+-- proofs alone. It is this board's own.
+use Rattle.std.specs.Prelude.{ℕ, ◌+◌, ◌≤◌, Bool, false, List, length}
+use Rattle.std.specs.Prelude.{Option, None, Some}
+use Rattle.tk_base.specs.declared.access.TheConstants.{FLASH_START}
+use Rattle.process_model.specs.Own.{Own}
+use Rattle.process_record.specs.Name.{name_of}
+use Rattle.process_record.specs.declared.process.Process.{Process}
+use Rattle.process_record.specs.declared.summary.SlotLine.{SlotLine}
+use Rattle.grant_enter.specs.Homes.{Homes, own_of}
+use Rattle.kernel_model.specs.Record.{Record}
+use Rattle.kernel_model.specs.Turn.{has_turn, is_pending}
+use Rattle.process_model.specs.Flash.{object_in}
+use Rattle.kernel_calls.specs.Own.{IsOwn, record_in}
+use Rattle.tk_base.specs.declared.process.ProcessId.{ProcessId}
+
+-- a process with what is its own
+abbrev pub Resident : Type 0
+Resident = Process × Own
+
+-- the record that it shows, with its storage
+abbrev pub record_of : List ℕ → Resident × List ℕ → Record
+record_of flash r = record_in flash r.0.0 r.0.1 r.1
+
+-- the process in a slot, with what is its own
+abbrev pub resident : Homes → ℕ → Process → Resident
+resident home slot process = (process, own_of home slot)
+
+-- the id of a process in its life
+abbrev pub id_of : ℕ → Own → ProcessId
+id_of slot own = record { slot = slot; life = own.life }
+
+-- a process's object lies in flash
+pub record InFlash (flash : List ℕ) (process : Process) : Type 0 where
+  pub from_base : FLASH_START ≤ process.object.address
+  pub in_flash : process.object.address + process.object.size ≤ FLASH_START + length flash
+
+-- A process has its own object and what is kept of it; it had at most as many turns, was started again at most as often
+-- and began at most as many further lives as there were steps.
+pub record IsResident (flash : List ℕ) (steps : ℕ) (r : Resident) : Type 0 where
+  pub own : IsOwn flash r.0 r.1
+  pub turns : r.0.turns ≤ steps
+  pub restarts : r.0.restarts ≤ steps
+  pub life : r.1.life ≤ steps
+
+-- it lost at most as many upcalls as there were steps
+abbrev pub HasLost : ℕ → Own → Type 0
+HasLost steps own = own.inbox.dropped ≤ steps
+
+-- whether a process can have a turn, and whether that in a slot can, if there is one
+abbrev pub resident_turns : Resident → Bool
+resident_turns r = has_turn r.0.state (is_pending r.1.inbox.pending)
+
+abbrev pub can_turn_in : Option Resident → Bool
+can_turn_in None = false
+can_turn_in (Some r) = resident_turns r
+
+-- the line of the process in a slot
+abbrev pub line_in : List ℕ → Resident → SlotLine
+line_in flash r = record {
+  name = record { items = name_of (object_in flash r.0.object) };
+  state = r.0.state;
+  denial = r.0.denial;
+  turns = r.0.turns;
+  restarts = r.0.restarts;
+  dropped = r.1.inbox.dropped;
+}

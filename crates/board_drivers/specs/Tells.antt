@@ -1,0 +1,89 @@
+-- What a device tells a process, as a step of the board. Only proofs use this.
+use Rattle.std.specs.Prelude.{◌≡◌, ◌≤◌, ◌<◌, ℕ, ◌+◌, Bool, true, false, List, [], length, slice_get, slice_set}
+use Rattle.std.specs.Prelude.{slice_index_or, Option, None, Some, Result, Ok, Err}
+use Rattle.tk_base.specs.declared.limits.TheConstants.{SENDING_LIMIT}
+use Rattle.tk_base.specs.declared.process.Dev.{Dev}
+use Rattle.tk_base.specs.declared.process.Dev.TheVariants.{Event as Arrival, Alarm, Uart, Receive, Random, Store}
+use Rattle.tk_base.specs.declared.process.ProcessId.{ProcessId}
+use Rattle.board_devices.specs.declared.answer.Answer.{Answer}
+use Rattle.tk_base.specs.declared.process.NotReady.{NotReady}
+use Rattle.board_devices.specs.SerialLine.{SerialLine}
+use Rattle.board_devices.specs.Storage.{StoredSlots}
+use Rattle.process_model.specs.Own.{Own}
+use Rattle.process_record.specs.declared.process.Process.{Process}
+use Rattle.driver_model.specs.Answers.{FollowsAnswer}
+use Rattle.driver_model.specs.Commands.{QueueName}
+use Rattle.driver_requests.specs.Waiting.{waiting_still}
+use Rattle.grant_enter.specs.Homes.{Homes, ChangesOnly, own_of}
+use Rattle.kernel_model.specs.Turn.{Event, apply}
+use Rattle.kernel_model.specs.World.{answering, can_act, device_step_of}
+use Rattle.board_drivers.specs.declared.drivers.Drivers.{Drivers}
+use Rattle.board_drivers.specs.declared.moment.Moment.{Moment}
+use Rattle.board_drivers.specs.Driven.{devices_of, ids_waiting_in}
+use Rattle.board_drivers.specs.Residents.{record_of}
+use Rattle.board_drivers.specs.Parts.{AreBoardParts, BoardParts, world_shown}
+
+-- whether a device tells a process something: bytes that come in tell nobody anything
+abbrev pub tells_somebody : Dev → Bool
+tells_somebody Arrival = false
+tells_somebody Alarm = true
+tells_somebody Uart = true
+tells_somebody Receive = true
+tells_somebody Random = true
+tells_somebody Store = true
+
+-- the UART takes as long for a byte as before, and is free soon
+pub record IsFreeSoon (time : ℕ) (old new : SerialLine) : Type 0 where
+  pub ticks : new.ticks ≡ old.ticks
+  pub free : new.free ≤ time + SENDING_LIMIT
+
+-- the storage has these bytes for a slot, and counts one request more at most
+pub record HoldsFor (slot : ℕ) (bytes : List ℕ) (old new : StoredSlots) : Type 0 where
+  pub size : new.size ≡ old.size
+  pub counts : new.served ≤ old.served + 1
+  pub slots : new.slots ≡ slice_set old.slots slot bytes
+
+-- What a device did for the process in a slot, whose own is then another: this follows what the device answered; the
+-- process left those lists, and no other; and it is the deed of that device in the world.
+pub record DeviceServes (b : BoardParts) (process : Process) (device : Dev) (slot : ℕ) (printed : List ℕ) (own : Own)
+    (d : Drivers) : Type 0 where
+  pub left : QueueName → Bool
+  pub follows : FollowsAnswer left (own_of b.home slot) own
+  pub lines : (line : QueueName)
+      → ids_waiting_in d line ≡ waiting_still (left line) slot (ids_waiting_in b.drivers line)
+  pub leds : length d.leds ≡ length b.drivers.leds
+  pub uart : IsFreeSoon b.moment.time b.drivers.uart d.uart
+  pub bytes : List ℕ
+  pub stores : HoldsFor slot bytes b.drivers.stores d.stores
+  pub event : Event
+  pub deed : device_step_of (world_shown b) device ≡ Some (answering slot (record {
+    answer = record { event = event; printed = printed };
+    devices = devices_of d;
+  }))
+  pub tells : apply b.moment.settings event
+      (record_of b.home.flash ((process, own_of b.home slot), slice_index_or b.drivers.stores.slots slot []))
+      ≡ record_of b.home.flash ((process, own), bytes)
+
+-- What a device told the process in a slot, as the board has it: the device may act, and nothing of another process
+-- changed.
+pub record DeviceTold (b : BoardParts) (device : Dev) (slot : ℕ) (printed : List ℕ) (home : Homes) (d : Drivers) : Type
+    0 where
+  pub process : Process
+  pub was : slice_get b.processes slot ≡ Some process
+  pub there : slot < length b.home.owns
+  pub only : ChangesOnly slot b.home home
+  pub may : can_act (world_shown b) device ≡ true
+  pub serves : DeviceServes b process device slot printed (own_of home slot) d
+
+-- what came of it where a device was to act: it told a process something; or it may not act, and nothing changed
+abbrev pub Acted : BoardParts → Dev → Result Answer NotReady → List ℕ → Homes → Drivers → Type 0
+Acted b device (Err refusal) printed home d =
+    (can_act (world_shown b) device ≡ false) × (home ≡ b.home) × (d ≡ b.drivers)
+Acted b device (Ok answer) printed home d = DeviceTold b device answer.to.slot printed home d
+
+-- so it is on every board with this moment, memory and drivers
+abbrev pub Acts : Dev → Moment → Homes → Drivers → Result Answer NotReady → List ℕ → Homes → Drivers
+    → Type 0
+Acts device m home d told printed home_after d_after = (b : BoardParts) →
+    let here = record b { moment = m; home = home; drivers = d } in
+    AreBoardParts here → Acted here device told printed home_after d_after

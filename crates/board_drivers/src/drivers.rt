@@ -1,0 +1,189 @@
+//! The drivers of the board.
+ghost use Rattle.std.specs.Prelude.{◌≡◌, ◌+◌, ◌*◌, ◌<◌, ◌≤◌, ◌^◌, ◌↔◌, ℕ, true, false, [], length, All, IfOk, IfSome};
+ghost use Rattle.board_devices.specs.Arriving.{first_arrival_time};
+ghost use Rattle.driver_model.specs.Commands.{leaving_all};
+ghost use Rattle.grant_enter.specs.Homes.{own_of, ChangesOnly};
+ghost use Rattle.grant_enter.specs.Visits.{is_stale};
+ghost use Rattle.kernel_model.specs.Run.{sending_time};
+ghost use Rattle.board_drivers.specs.Calm.{ServesNobody};
+ghost use Rattle.board_drivers.specs.Residents.{HasLost};
+ghost use Rattle.board_drivers.specs.Tells.{Acts, tells_somebody};
+ghost use Rattle.tk_base.specs.declared.limits.TheConstants.{STEP_LIMIT};
+ghost use Rattle.board_drivers.specs.Driven.{AreDriven, AreFresh, Commands, Drives, IsTaken, MayAsk, devices_of};
+
+use crate::moment::Moment;
+use alarm_capsule::AlarmCapsule;
+use arrayvec::ArrayVec;
+use board_devices::{Answer, Arrivals, Leds, Stores, Uart, Words};
+use console_capsule::ConsoleCapsule;
+use driver_model::{
+    a_due_slot_is_there, drivers_ask_for_their_own, events_tell_steps, lines_follow_answers,
+};
+use grant_enter::Home;
+use grant_values::Driver;
+use process_model::reads_own_flash;
+use random_capsule::RandomCapsule;
+use script_text::Script;
+use std::alloc::Global;
+use storage_capsule::StorageCapsule;
+use syscall_abi::Reply;
+use tk_base::{CallRule, Dev, NotReady, PRINT_LIMIT, ProcessId};
+use tk_outside::NoMemory;
+
+/// The drivers that have processes wait, each with who waits for it, and the devices that they serve.
+#[derive(Drop)]
+pub struct Drivers {
+    pub console: ConsoleCapsule,
+    pub random: RandomCapsule,
+    pub storage: StorageCapsule,
+    pub uart: Uart,
+    pub leds: Leds,
+    pub arrivals: Arrivals,
+    pub words: Words,
+    pub stores: Stores,
+}
+
+/// A command to a driver.
+#[derive(Clone, Copy, Debug)]
+pub struct Order {
+    pub driver: u32,
+    pub number: u32,
+    pub a2: u32,
+    pub a3: u32,
+}
+
+impl Drivers {
+    /// The drivers and devices under a script, before the first step: nobody waits. The one error is want of
+    /// memory.
+    pub fn new(alloc: Global, script: Script) -> Result<Drivers, NoMemory>
+        ensures { IfOk result (AreFresh script) }
+    {
+        let uart = Uart::new(alloc, script.uart)?;
+        let stores = Stores::new(alloc, script.storage, script.faults)?;
+        Ok(Drivers {
+            console: ConsoleCapsule::default(),
+            random: RandomCapsule::default(),
+            storage: StorageCapsule::default(),
+            uart,
+            leds: Leds::new(script.leds),
+            arrivals: Arrivals::new(script.events),
+            words: Words::new(script.words),
+            stores,
+        })
+    }
+
+    /// The process of an id ended, or starts again: it waits in no list any more. Its alarm went with its grant.
+    pub fn gone(&mut self, id: &ProcessId)
+        ensures { (life : ℕ)
+            → Drives (record { slot = id.now.slot; life = life }) leaving_all self.old self.new }
+    {
+        self.console.gone(*id);
+        self.random.gone(*id);
+        self.storage.gone(*id);
+    }
+
+    /// Whether a process waits for bytes that came in, for random bytes or for the storage: its device acts at
+    /// once.
+    pub fn is_busy(&self) -> bool
+        ensures { (result ≡ false) ↔ ServesNobody self.now }
+    {
+        let receives = !self.console.reads.is_empty() && self.uart.held() > 0;
+        receives || !self.random.waiting.is_empty() || !self.storage.waiting.is_empty()
+    }
+
+    /// The time at which the next bytes come in, if any are to.
+    pub fn arrival_time(&self) -> Option<u64>
+        ensures at { result ≡ first_arrival_time self.now.arrivals }
+        ensures near { IfSome result (λ at. at < 2 ^ 32) }
+    {
+        let at = self.arrivals.next_time()?;
+        Some(u64::from(at))
+    }
+
+    /// The time from which on the UART is free, if a write waits for it.
+    pub fn sending_time(&self) -> Option<u64>
+        ensures { result ≡ sending_time (devices_of self.now) }
+    {
+        if self.console.writes.is_empty() {
+            None
+        } else {
+            Some(self.uart.free())
+        }
+    }
+
+    /// Has a device act that tells a process something at a moment: which process, what it is told, and what was
+    /// printed for it. [`NotReady`] comes, and nothing changes, where the device may not act.
+    // Inlined, what is told is not copied: the board takes of it whom it was told.
+    #[inline(always)]
+    pub fn act(
+        &mut self,
+        home: &mut Home,
+        device: Dev,
+        moment: &Moment,
+        printed: &mut ArrayVec<u8, PRINT_LIMIT>,
+    ) -> Result<Answer, NotReady>
+        requires tells { tells_somebody device ≡ true }
+        requires driven { AreDriven moment.now.settings moment.now.time home.old.owns self.old }
+        requires lost { All (HasLost moment.now.steps) home.old.owns }
+        requires limit { moment.now.steps < STEP_LIMIT }
+        requires time { moment.now.time ≤ moment.now.steps * 2 ^ 32 }
+        requires empty { printed.old.items ≡ [] }
+        ensures { Acts device moment.now home.old self.old result printed.new.items home.new
+            self.new }
+    {
+        a_due_slot_is_there();
+        lines_follow_answers();
+        events_tell_steps();
+        reads_own_flash();
+        home.held_buffers_lie_in_place();
+        match device {
+            Dev::Event => Err(NotReady),
+            Dev::Alarm => AlarmCapsule.answer(home, moment.tick()),
+            Dev::Uart => self
+                .console
+                .transmit(home, &mut self.uart, moment.time, printed),
+            Dev::Receive => self.console.receive(home, &mut self.uart),
+            Dev::Random => self.random.answer(home, &mut self.words),
+            Dev::Store => self.storage.answer(home, &mut self.stores),
+        }
+    }
+
+    /// Has the driver of a command of the process of an id serve it, when the alarm's clock shows a tick: the reply,
+    /// and the rule that refuses it, if one does. It asks that the driver takes commands, and that the process is
+    /// there, and waits only where it has a request.
+    pub fn command(
+        &mut self,
+        home: &mut Home,
+        tick: u32,
+        id: ProcessId,
+        order: &Order,
+    ) -> (Reply, Option<CallRule>)
+        requires slot { id.slot < length home.old.owns }
+        requires present { is_stale id.life (own_of home.old id.slot) ≡ false }
+        requires dropped { (own_of home.old id.slot).inbox.dropped + 1 < 2 ^ 32 }
+        requires lines { MayAsk self.old id.slot (own_of home.old id.slot) }
+        requires driver { IsTaken order.now }
+        ensures comes { Commands tick id order.now self.old (own_of home.old id.slot)
+            result (own_of home.new id.slot) self.new }
+        ensures rest { ChangesOnly id.slot home.old home.new }
+    {
+        drivers_ask_for_their_own();
+        let Order {
+            driver,
+            number,
+            a2,
+            a3,
+        } = *order;
+        match Driver::of(driver) {
+            Some(Driver::Alarm) => AlarmCapsule.command(home, tick, id, number, a2, a3),
+            Some(Driver::Console) => self.console.command(home, id, number, a2),
+            Some(Driver::Leds) => led_capsule::command(&mut self.leds, number, a2),
+            Some(Driver::Random) => self.random.command(home, id, number, a2),
+            Some(Driver::Storage) => {
+                let size = self.stores.size();
+                self.storage.command(home, size, id, number, a2, a3)
+            }
+            None => unreachable!(),
+        }
+    }
+}

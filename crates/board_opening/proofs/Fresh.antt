@@ -1,0 +1,105 @@
+-- The drivers of a board before its first step.
+use Rattle.std.proofs.Common.{◌≡◌, ℕ, zero, suc, ◌+◌, ◌*◌, ◌≤◌, false, List, [], ◌∷◌, length, map, replicate}
+use Rattle.std.proofs.Common.{slice_index_or, All, refl, sym, ap, subst, ◌∙◌, arith}
+use Rattle.std.specs.List.{zip}
+use Rattle.std.proofs.lemmas.List.{length-replicate}
+use Rattle.tk_base.specs.declared.limits.TheConstants.{BYTE_TICKS_LIMIT, SLOT_COUNT}
+use Rattle.tk_base.specs.declared.process.ProcessId.{ProcessId}
+use Rattle.script_text.specs.Settings.{ScriptEvent, ScriptSettings as Script}
+use Rattle.board_devices.specs.SerialLine.{SerialLine}
+use Rattle.board_devices.specs.Storage.{StoredSlots}
+use Rattle.process_model.specs.declared.place.Footprint.{Footprint}
+use Rattle.process_model.specs.Own.{opened}
+use Rattle.driver_model.specs.Leds.{led_bits}
+use Rattle.driver_model.specs.Commands.{QueueName}
+use Rattle.driver_model.specs.Lines.{IsWithin, has_waiting}
+use Rattle.grant_enter.specs.Homes.{nobody}
+use Rattle.kernel_model.specs.Record.{Record}
+use Rattle.kernel_model.specs.World.{slots_in}
+use Rattle.board_drivers.specs.declared.drivers.Drivers.{Drivers}
+use Rattle.board_opening.specs.Boot.{fresh_record}
+use Rattle.board_drivers.specs.Driven.{AreDriven, AreFresh, IsQueueOf, devices_of, ids_waiting_in, slots_of, waiting_by}
+use Rattle.board_drivers.proofs.Routing.{devices_same, slots_by}
+use Rattle.board_drivers.specs.Residents.{Resident, record_of}
+use Rattle.board_opening.specs.Settings.{erased, visible_settings}
+
+leds_off : (n : ℕ) → led_bits (replicate n false) ≡ 0
+leds_off zero = refl
+leds_off (suc n) = ap (λ (others : ℕ). 0 + 2 * others) (leds_off n)
+
+module _ (script : Script) (d : Drivers) where
+  -- the devices that they show
+  pub devices_fresh : AreFresh script d
+      → devices_of d ≡ record {
+        waiting = waiting_by (λ queue. []);
+        leds = 0;
+        line =
+            record { ring = []; ticks = script.uart; free = 0 };
+        arrivals = script.events;
+        words = script.words;
+        served =
+            0;
+        faults = script.faults;
+      }
+  devices_fresh fresh =
+      devices_same (devices_of d) (record {
+        waiting = waiting_by (λ queue. []);
+        leds = 0;
+        line = record { ring = []; ticks = script.uart; free = 0 };
+        arrivals = script.events;
+        words = script.words;
+        served = 0;
+        faults = script.faults;
+      })
+      (λ queue. slots_by (λ (q : QueueName). slots_of (ids_waiting_in d q)) queue ∙ ap slots_of (fresh.queues queue)
+      ∙ sym (slots_by (λ q. []) queue))
+      (ap led_bits fresh.leds ∙ leds_off script.leds)
+      fresh.line
+      fresh.arrivals
+      fresh.words
+      (ap (λ (s : StoredSlots). s.served) fresh.stores)
+      (ap (λ (s : StoredSlots). s.faults) fresh.stores)
+
+  records_beside : (flash : List ℕ) (rs : List Resident) (n : ℕ) → length rs ≤ n
+      → map (record_of flash) (zip rs (replicate n (erased script.storage)))
+      ≡ map (fresh_record script.storage flash) rs
+  records_beside flash [] n h = refl
+  records_beside flash (r ∷ rs) zero h = absurd (omega (arith, h))
+  records_beside flash (r ∷ rs) (suc n) h =
+      ap (λ (xs : List Record). fresh_record script.storage flash r ∷ xs) (records_beside flash rs n (omega (arith, h)))
+
+  -- the records of no more processes than slots with their storage
+  pub records_fresh : (flash : List ℕ) (rs : List Resident) → length rs ≤ SLOT_COUNT → AreFresh script d
+      → map (record_of flash) (zip rs d.stores.slots) ≡ map (fresh_record script.storage flash) rs
+  records_fresh flash rs few fresh =
+      ap (λ (s : StoredSlots). map (record_of flash) (zip rs s.slots)) fresh.stores
+      ∙ records_beside flash rs SLOT_COUNT few
+
+  -- a process that was not started yet waits for nothing
+  none_waiting : (queue : QueueName) (fs : List Footprint) (slot : ℕ)
+      → has_waiting queue (slice_index_or (map opened fs) slot nobody) ≡ false
+  none_waiting queue [] slot = refl
+  none_waiting queue (f ∷ fs) zero = refl
+  none_waiting queue (f ∷ fs) (suc slot) = none_waiting queue fs slot
+
+  empty_line : (queue : QueueName) (fs : List Footprint) → IsQueueOf queue [] (map opened fs)
+  empty_line queue fs = record { there = tt; each = λ slot h. sym (none_waiting queue fs slot) }
+
+  all_within : (size : ℕ) (fs : List Footprint) → All (IsWithin size) (map opened fs)
+  all_within size [] k o h = absurd (omega arith)
+  all_within size (f ∷ fs) zero o h = tt
+  all_within size (f ∷ fs) (suc k) o h = all_within size fs k o (omega arith)
+
+  -- they are those of a board
+  pub driven_first : (fs : List Footprint) → script.uart ≤ BYTE_TICKS_LIMIT → AreFresh script d
+      → AreDriven (visible_settings script.leds script.start script.storage script.policy script.strict) 0 (map opened fs) d
+  driven_first fs slow fresh = record {
+    queues = λ queue. subst (λ (ids : List ProcessId). IsQueueOf queue ids (map opened fs)) (sym (fresh.queues queue))
+        (empty_line queue fs);
+    within = all_within script.storage fs;
+    leds = ap length fresh.leds ∙ length-replicate script.leds false;
+    size = ap (λ (s : StoredSlots). s.size) fresh.stores;
+    slots = ap (λ (s : StoredSlots). length s.slots) fresh.stores;
+    ticks = omega (arith, ap (λ (l : SerialLine). l.ticks) fresh.line, slow);
+    free = omega (arith, ap (λ (l : SerialLine). l.free) fresh.line);
+  }

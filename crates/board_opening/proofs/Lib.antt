@@ -1,0 +1,5 @@
+pub mod Fresh
+pub mod Crews
+pub mod Openings
+pub mod Alone
+pub mod Boots

@@ -1,0 +1,118 @@
+-- What no process has done in an opening world.
+use Rattle.std.proofs.Common.{◌≡◌, ◌≤◌, ◌<◌, ℕ, zero, suc, ◌+◌, nat_le, Bool, true, false, cond, length, arith, List}
+use Rattle.std.proofs.Common.{[], ◌∷◌, slice_get, Option, None, Some, is_some, IfSome, Result, Ok, Err, refl, ap, ◌∙◌}
+use Rattle.std.specs.List.{cons_option, filter_map}
+use Rattle.std.specs.Option.{option_map}
+use Rattle.tk_base.specs.declared.limits.TheConstants.{SLOT_COUNT}
+use Rattle.tk_base.specs.declared.process.PlaceFault.{PlaceFault}
+use Rattle.tbf_headers.specs.declared.fault.HeaderFault.{HeaderFault}
+use Rattle.tbf_headers.specs.declared.program.Main.{Main}
+use Rattle.tbf_headers.specs.Meaning.{Meaning, header_reading}
+use Rattle.process_layout.specs.LayoutView.{LayoutView}
+use Rattle.flash_walk.specs.Image.{object_bytes}
+use Rattle.std.proofs.lemmas.Bool.Decides.{nat_tests}
+use Rattle.tk_base.specs.declared.access.TheConstants.{RAM_START}
+use Rattle.tk_base.specs.declared.process.PlaceFault.TheVariants.{NoSlot}
+use Rattle.script_text.specs.Settings.{ScriptSettings as Script}
+use Rattle.app_placement.specs.Applications.{applications}
+use Rattle.app_placement.specs.Placement.{filled_after, place_of, places_from, Place}
+use Rattle.app_placement.specs.declared.application.Application.{Application}
+use Rattle.app_placement.specs.declared.placed.Filled.{Filled}
+use Rattle.app_placement.specs.declared.placed.Placed.{Placed}
+use Rattle.kernel_model.specs.Record.{Record}
+use Rattle.kernel_model.specs.Laws.{main_by}
+use Rattle.kernel_model.specs.Histories.{HandedNothing}
+use Rattle.board_opening.specs.Opening.{opening_record, opened_by, opening, placed_applications, record_placed}
+use Rattle.board_opening.specs.Opening.{record_with_place}
+use Rattle.board_opening.specs.Histories.{OpensWithNothingHanded}
+
+-- what holds of each record holds with one more before them
+pub with_first : (P : Record → Type 0) (o : Option Record) (records : List Record) → IfSome o P
+    → ((slot : ℕ) → IfSome (slice_get records slot) P) → (slot : ℕ) → IfSome (slice_get (cons_option o records) slot) P
+with_first P None records first others slot = others slot
+with_first P (Some r) records first others zero = first
+with_first P (Some r) records first others (suc slot) = others slot
+
+module _ (storage : ℕ) (flash : List ℕ) where
+  -- an application in its place
+  opened_nothing : (offset : ℕ) (e : LayoutView) (h : Result Meaning HeaderFault)
+      → header_reading (object_bytes flash offset) ≡ h → IfSome (opened_by storage flash offset e h) HandedNothing
+  unfolding opening_record
+  opened_nothing offset e (Err fault) read = tt
+  opened_nothing offset e (Ok h) read = by_main h.main refl
+    where
+      by_main : (m : Option Main) → h.main ≡ m
+          → IfSome (option_map (opening_record storage flash offset e h) m) HandedNothing
+      by_main None is = tt
+      by_main (Some m) is =
+          record {
+            grants = refl;
+            pending = refl;
+            application =
+                ap (λ (r : Result Meaning HeaderFault). is_some (main_by r)) read ∙ ap is_some is;
+          }
+
+  placed_nothing : (offset : ℕ) (place : Result Place PlaceFault)
+      → IfSome (record_with_place storage flash offset place) HandedNothing
+  placed_nothing offset (Ok place) = opened_nothing offset place.1 (header_reading (object_bytes flash offset)) refl
+  placed_nothing offset (Err fault) = tt
+
+  all_nothing : (placed : List Placed) (slot : ℕ)
+      → IfSome (slice_get (filter_map (record_placed storage flash) placed) slot) HandedNothing
+  all_nothing [] slot = tt
+  all_nothing (p ∷ placed) slot =
+      with_first HandedNothing (record_placed storage flash p) (filter_map (record_placed storage flash) placed)
+      (placed_nothing p.offset p.place) (all_nothing placed) slot
+
+pub opens_with_nothing_handed : OpensWithNothingHanded
+unfolding opening
+opens_with_nothing_handed script flash slot =
+    all_nothing script.storage flash (placed_applications script.ram flash) slot
+
+-- of the applications that are left no more get a place than there are slots left
+module _ (storage ram : ℕ) (flash : List ℕ) where
+  one_more : (o : Option Record) (records : List Record) → length (cons_option o records) ≤ length records + 1
+  one_more None records = omega arith
+  one_more (Some r) records = omega arith
+
+  slot_left : (filled : Filled) (app : Application) (place : Place) → place_of ram filled app ≡ Ok place
+      → filled.count < SLOT_COUNT
+  unfolding place_of
+  slot_left filled app place is = by_count (nat_le SLOT_COUNT filled.count) _ refl is
+    where
+      by_count : (b : Bool) (rest : Result Place PlaceFault) → nat_le SLOT_COUNT filled.count ≡ b
+          → cond b (Err NoSlot) rest ≡ Ok place → filled.count < SLOT_COUNT
+      by_count true rest e f = absurd (cc)
+      by_count false rest e f = grind (arith, nat_tests)
+
+  few_placed : (apps : List Application) (filled : Filled) → filled.count ≤ SLOT_COUNT
+      → length (filter_map (record_placed storage flash) (places_from ram filled apps)) + filled.count ≤ SLOT_COUNT
+  unfolding places_from
+  few_placed [] filled few = omega (arith, few)
+  few_placed (app ∷ apps) filled few = by_place (place_of ram filled app) refl (few_placed apps)
+    where
+      by_place : (place : Result Place PlaceFault) → place_of ram filled app ≡ place
+          → ((filled : Filled) → filled.count ≤ SLOT_COUNT
+          → length (filter_map (record_placed storage flash) (places_from ram filled apps)) + filled.count
+          ≤ SLOT_COUNT)
+          → length (cons_option (record_with_place storage flash app.offset place)
+          (filter_map (record_placed storage flash) (places_from ram (filled_after filled place) apps)))
+          + filled.count ≤ SLOT_COUNT
+      by_place (Err fault) is later = later filled few
+      by_place (Ok place) is later =
+          let left = slot_left filled app place is in
+          let rest = later (filled_after filled (Ok place)) (omega (arith, left)) in
+          let more = one_more (record_with_place storage flash app.offset (Ok place))
+          (filter_map (record_placed storage flash) (places_from ram (filled_after filled (Ok place)) apps)) in
+          omega (arith, rest, more)
+
+pub opens_no_more_than_slots : (script : Script) (flash : List ℕ) → length (opening script flash).records ≤ SLOT_COUNT
+unfolding opening
+opens_no_more_than_slots script flash =
+    let few = few_placed script.storage script.ram flash (applications flash)
+    (record { last_end = RAM_START; count = 0 }) (omega arith) in
+    omega (arith, few)
+
+pub opens_with_slice : (script : Script) (flash : List ℕ) → 1 ≤ script.slice → 1 ≤ (opening script flash).pace.slice
+unfolding opening
+opens_with_slice script flash one = one

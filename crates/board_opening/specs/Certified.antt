@@ -1,0 +1,88 @@
+-- Laws of each run from a boot, by any choices. They speak of processes as Levy et al., SOSP 2017, and of buffers as
+-- TRD 104.
+use Rattle.std.specs.Prelude.{◌≡◌, ◌≢◌, ◌↔◌, ℕ, ◌+◌, true, List, ◌++◌, length, slice_get, All, Some, None, IfSome}
+use Rattle.tk_base.specs.declared.process.Choice.{Choice}
+use Rattle.script_text.specs.Settings.{ScriptSettings as Script}
+use Rattle.kernel_model.specs.Record.{Record}
+use Rattle.kernel_model.specs.World.{World, Label, after, labels}
+use Rattle.kernel_model.specs.Run.{next, round}
+use Rattle.kernel_model.specs.Accounts.{IsAccountedFor}
+use Rattle.kernel_model.specs.Choices.{Throughout, are_ready, labels_of_all}
+use Rattle.kernel_model.specs.Replay.{after_all, chosen, history}
+use Rattle.kernel_lives.specs.Lists.{ListsAreOfRequests}
+use Rattle.kernel_laws.specs.OneRun.{NothingIsLeft}
+use Rattle.kernel_lives.specs.Counts.{ticks_passed, turns_made, turns_of_all}
+use Rattle.kernel_laws.specs.Words.{words_told}
+use Rattle.kernel_model.specs.Causes.{AllHaveCauses}
+use Rattle.kernel_model.specs.Lives.{BlocksAreApart, IsAsAtFirst}
+use Rattle.board_opening.specs.Alone.{alone}
+use Rattle.board_opening.specs.Opening.{opening}
+
+-- so it is of each process after any choices from a boot
+abbrev pub EachFromBoot : (Record → Type 0) → Type 0
+EachFromBoot I = (script : Script) (flash : List ℕ) (choices : List Choice) (slot : ℕ) →
+    IfSome (slice_get (after_all (opening script flash) choices).records slot) I
+
+-- no two blocks overlap
+abbrev pub BlocksFromBootAreApart : Type 0
+BlocksFromBootAreApart = (script : Script) (flash : List ℕ) (choices : List Choice) →
+    BlocksAreApart (after_all (opening script flash) choices)
+
+-- a step that starts a process again leaves it as it was at the boot, but for what no restart forgets
+abbrev pub RestartsFromBoot : Type 0
+RestartsFromBoot =
+    (script : Script) (flash : List ℕ) (choices : List Choice) (choice : Choice) (slot : ℕ) (first before now : Record)
+    →
+    let v = after_all (opening script flash) choices in
+    slice_get (opening script flash).records slot ≡ Some first →
+    slice_get v.records slot ≡ Some before → slice_get (after v choice).records slot ≡ Some now →
+    now.process.restarts ≢ before.process.restarts → IsAsAtFirst first now
+
+-- After choices that are each ready in its turn, time is the turns made and the ticks passed, the steps are the choices
+-- made, and the turns of all processes together are the turns made.
+pub record CountsAre (choices : List Choice) (v : World) : Type 0 where
+  pub time : v.clock.time ≡ turns_made choices + ticks_passed choices
+  pub steps : v.clock.steps ≡ length choices
+  pub turns : turns_of_all v.records ≡ turns_made choices
+
+-- after choices from a boot that are each ready in its turn, the world's counts are those of the choices
+abbrev pub CountsFromBootAddUp : Type 0
+CountsFromBootAddUp = (script : Script) (flash : List ℕ) (choices : List Choice) →
+    are_ready (opening script flash) choices ≡ true → CountsAre choices (after_all (opening script flash) choices)
+
+-- the round robin is done exactly where nothing is left to do
+abbrev pub IsDoneFromBoot : Type 0
+IsDoneFromBoot = (script : Script) (flash : List ℕ) (choices : List Choice) →
+    let v = after_all (opening script flash) choices in (next v ≡ None) ↔ NothingIsLeft v
+
+-- a slot stands in a waiting list once where its process lives and keeps that request, and else not at all
+abbrev pub ListsFromBootAreOfRequests : Type 0
+ListsFromBootAreOfRequests = (script : Script) (flash : List ℕ) (choices : List Choice) →
+    ListsAreOfRequests (after_all (opening script flash) choices)
+
+-- the random words that processes were told, in that order, and then those that are left are the script's
+abbrev pub WordsFromBootAreTheScripts : Type 0
+WordsFromBootAreTheScripts = (script : Script) (flash : List ℕ) (choices : List Choice) →
+    let w = opening script flash in
+    script.words ≡ words_told (labels_of_all w choices) ++ (after_all w choices).devices.words
+
+-- no step among any choices from a boot changes a byte of a process without a cause among its labels
+abbrev pub ChangesFromBootHaveCauses : Type 0
+ChangesFromBootHaveCauses = (script : Script) (flash : List ℕ) (choices : List Choice) →
+    AllHaveCauses (opening script flash) choices
+
+-- A run by round robin from a world, of at most so many steps: each of its steps is accounted for, and at its end the
+-- record of each process is what becomes of it alone, by its own turns and answers in that run, whatever others do.
+pub record IsAccountedRun (w : World) (n : ℕ) : Type 0 where
+  pub steps : Throughout IsAccountedFor w (chosen n w)
+  pub alone : (slot : ℕ) (r : Record) → slice_get w.records slot ≡ Some r → slice_get (round n w).world.records slot
+      ≡ alone w.settings r.object r.process.object.address r.own.layout.start (history slot w (chosen n w))
+
+-- so is each run from a boot
+abbrev pub RunsFromBootAreAccountedFor : Type 0
+RunsFromBootAreAccountedFor = (script : Script) (flash : List ℕ) (n : ℕ) → IsAccountedRun (opening script flash) n
+
+-- what holds of each label of each step after any choices from a boot
+abbrev pub EachLabelFromBoot : (World → Label → Type 0) → Type 0
+EachLabelFromBoot P = (script : Script) (flash : List ℕ) (choices : List Choice) (choice : Choice) →
+    let v = after_all (opening script flash) choices in All (P v) (labels v choice)

@@ -1,0 +1,6 @@
+pub mod Settings
+pub mod Opening
+pub mod Alone
+pub mod Boot
+pub mod Histories
+pub mod Certified

@@ -1,0 +1,84 @@
+-- The opening world of a flash image under a script: its applications in their places, before the first step. Where
+-- they start is the Tock Binary Format, "Main"; what the devices begin with is this board's own rule.
+use Rattle.std.specs.Prelude.{ℕ, ◌+◌, ◌-◌, List, [], filter_map, Option, None, Some, option_map, Result, Ok, Err}
+use Rattle.tk_base.specs.declared.access.TheConstants.{FLASH_START}
+use Rattle.tk_base.specs.declared.process.PlaceFault.{PlaceFault}
+use Rattle.tbf_headers.specs.declared.fault.HeaderFault.{HeaderFault}
+use Rattle.tbf_headers.specs.declared.program.Main.{Main}
+use Rattle.tbf_headers.specs.Meaning.{Meaning, header_reading}
+use Rattle.process_layout.specs.LayoutView.{LayoutView}
+use Rattle.process_model.specs.Own as own
+use Rattle.flash_walk.specs.Image.{object_bytes}
+use Rattle.app_placement.specs.Applications.{applications}
+use Rattle.app_placement.specs.Placement.{placements, Place}
+use Rattle.app_placement.specs.declared.placed.Placed.{Placed}
+use Rattle.process_record.specs.Process.{started}
+use Rattle.process_record.specs.Summary.{Unplaced}
+use Rattle.script_text.specs.Settings.{ScriptSettings as Script}
+use Rattle.kernel_model.specs.Record.{Record}
+use Rattle.kernel_model.specs.World.{World}
+use Rattle.board_opening.specs.Settings.{erased, visible_settings, pace}
+
+-- the first record of an application with these bytes, whose object stands at an address: at its start, its block
+-- zeroed, so many bytes of storage erased
+abbrev pub first_record : ℕ → List ℕ → ℕ → LayoutView → Meaning → Main → Record
+first_record storage object address e h m = record {
+  process = started address h m e.start (e.end - e.start) e.brk;
+  object = object;
+  own = own.opened (record { object = record { address = address; size = h.total_size }; layout = e });
+  storage = erased storage;
+}
+
+-- of one whose object stands at an offset in flash
+unfoldable pub opening_record : ℕ → List ℕ → ℕ → LayoutView → Meaning → Main → Record
+opening_record storage flash offset e h m =
+    first_record storage (object_bytes flash offset) (FLASH_START + offset) e h m
+
+-- of one by what its header means; none where that has a fault, or says nothing of an entry
+abbrev pub opened_by : ℕ → List ℕ → ℕ → LayoutView → Result Meaning HeaderFault → Option Record
+opened_by storage flash offset e (Ok h) = option_map (opening_record storage flash offset e h) h.main
+opened_by storage flash offset e (Err fault) = None
+
+-- the record of one that has a place
+abbrev pub record_with_place : ℕ → List ℕ → ℕ → Result Place PlaceFault → Option Record
+record_with_place storage flash offset (Ok place) =
+    opened_by storage flash offset place.1 (header_reading (object_bytes flash offset))
+record_with_place storage flash offset (Err fault) = None
+
+-- the record of an application by what its placement came to, if it has a place
+abbrev pub record_placed : ℕ → List ℕ → Placed → Option Record
+record_placed storage flash p = record_with_place storage flash p.offset p.place
+
+-- and one that has none
+abbrev pub unplaced_in : ℕ → Result Place PlaceFault → Option Unplaced
+unplaced_in offset (Ok place) = None
+unplaced_in offset (Err fault) = Some (offset, fault)
+
+-- an application that has no place, with the cause
+abbrev pub unplaced_at : Placed → Option Unplaced
+unplaced_at p = unplaced_in p.offset p.place
+
+-- the places of the applications of a flash image, in so many bytes of RAM
+abbrev pub placed_applications : ℕ → List ℕ → List Placed
+placed_applications ram flash = placements ram (applications flash)
+
+-- the world before the first step: time and all counts are 0, nobody waits, all LEDs are off, nothing came in, and no
+-- slot is present
+unfoldable pub opening : Script → List ℕ → World
+opening script flash = record {
+  records = filter_map (record_placed script.storage flash) (placed_applications script.ram flash);
+  unplaced = filter_map unplaced_at (placed_applications script.ram flash);
+  settings = visible_settings script.leds script.start script.storage script.policy script.strict;
+  pace = pace script.slice;
+  devices = record {
+    waiting = record { writes = []; reads = []; randoms = []; stores = [] };
+    leds = 0;
+    line = record { ring = []; ticks = script.uart; free = 0 };
+    arrivals = script.events;
+    words = script.words;
+    served = 0;
+    faults = script.faults;
+  };
+  clock = record { time = 0; steps = 0 };
+  present = record { slot = None; used = 0 };
+}

@@ -1,0 +1,5 @@
+pub mod Tables
+pub mod Commands
+pub mod Sight
+pub mod Turns
+pub mod Quiet

@@ -1,0 +1,111 @@
+-- Quiet turns of a process.
+use Rattle.std.proofs.Common.{◌≡◌, ℕ, zero, suc, ◌+◌, ◌-◌, ◌<◌, List, [], refl, sym, ap, ap₂, subst, ◌∙◌, arith}
+use Rattle.tk_base.specs.Regs.{Registers}
+use Rattle.rv32_model.specs.declared.turn_end.TurnEnd.TheVariants.{Went}
+use Rattle.process_model.specs.Own.{Own}
+use Rattle.process_model.specs.Instruction.{with_write}
+use Rattle.process_record.specs.Process.{after_turn}
+use Rattle.process_record.specs.declared.process.Process.{Process}
+use Rattle.grant_enter.specs.Homes.{IsStopped, MakesAll}
+use Rattle.kernel_calls.specs.Own.{IsOwnObject, record_in}
+use Rattle.kernel_model.specs.Record.{Record, byte_at, instruction}
+use Rattle.kernel_model.specs.Stretch.{AllGo, after_instructions, instruction_made}
+use Rattle.board_drivers.specs.Residents.{IsResident, Resident, record_of}
+use Rattle.board_turns.specs.Quiet.{Quietly}
+use Rattle.board_turns.proofs.Sight.{sees_record}
+
+-- instructions change nothing of what is the process's own but its RAM
+pub own_after : (j : ℕ) (r : Record)
+    → (after_instructions j r).own ≡ record r.own { ram = (after_instructions j r).own.ram }
+unfolding after_instructions
+own_after zero r = refl
+own_after (suc j) r = own_after j (instruction_made r)
+
+-- a process after so many instructions, which left it these registers
+abbrev pub later_process : Process → ℕ → Registers → Process
+later_process p k regs = record p { regs = regs; turns = p.turns + k }
+
+pub none_more : (n : ℕ) → n + 0 ≡ n
+none_more n = omega arith
+
+one_then : (n k : ℕ) → n + 1 + k ≡ n + suc k
+one_then n k = omega arith
+
+-- instructions that each went are those of the record, and lead it to what they left
+pub record Follows (k : ℕ) (flash : List ℕ) (p : Process) (own own' : Own) (later : Registers) (storage : List ℕ) : Type
+    0 where
+  pub go : AllGo k (record_in flash p own storage)
+  pub leads : record_in flash (later_process p k later) own' storage
+      ≡ after_instructions k (record_in flash p own storage)
+
+first_and_rest : (k : ℕ) (r : Record) → (instruction r).end ≡ Went → AllGo k (instruction_made r) → AllGo (suc k) r
+unfolding after_instructions
+first_and_rest k r first rest zero h = first
+first_and_rest k r first rest (suc j) h = rest j (omega (arith, h))
+
+pub follows : (k : ℕ) (flash : List ℕ) (p : Process) (own own' : Own) (later : Registers) (storage : List ℕ)
+    → IsOwnObject flash p.object own.layout → MakesAll k flash own p.regs own' later
+    → Follows k flash p own own' later storage
+unfolding MakesAll after_instructions
+follows zero flash p own own' later storage object m = record {
+  go = λ j h. absurd (omega (arith, h));
+  leads =
+      ap₂ (λ (o : Own) (regs : Registers). record_in flash (later_process p 0 regs) o storage) m.0 m.1
+      ∙ ap (λ (n : ℕ). record_in flash (record p { turns = n }) own storage) (none_more p.turns);
+}
+follows (suc k) flash p own own' later storage object m =
+    let r = record_in flash p own storage in
+    let t = instruction r in
+    let made = m.1 (byte_at (record_in flash p own [])) (sees_record flash (p, own) object m.0) in
+    let rest = follows k flash (record (after_turn p) { regs = t.regs }) (with_write own t) own' later storage object
+    made.1 in
+    record {
+      go = first_and_rest k r made.0 rest.go;
+      leads = ap (λ (n : ℕ). record_in flash (record p { regs = later; turns = n }) own' storage)
+          (sym (one_then p.turns k)) ∙ rest.leads;
+    }
+
+-- what is then its own is what it was but for its RAM
+pub left_own : (k : ℕ) (flash : List ℕ) (p : Process) (own own' : Own) (later : Registers)
+    → IsOwnObject flash p.object own.layout → MakesAll k flash own p.regs own' later
+    → own' ≡ record own { ram = own'.ram }
+left_own k flash p own own' later object m =
+    let led = (follows k flash p own own' later [] object m).leads in
+    let after : own' ≡ (after_instructions k (record_in flash p own [])).own = ap (λ (r : Record). r.own) led in
+    after ∙ own_after k (record_in flash p own []) ∙ ap (λ (o : Own). record own { ram = o.ram }) (sym after)
+
+-- so a process is as it is to be, so many steps later
+pub later_seated : (flash : List ℕ) (steps k : ℕ) (p : Process) (own own' : Own) (later : Registers)
+    → own' ≡ record own { ram = own'.ram } → IsResident flash steps (p, own)
+    → IsResident flash (steps + k) (later_process p k later, own')
+later_seated flash steps k p own own' later same s =
+    subst (λ (o : Own). IsResident flash (steps + k) (later_process p k later, o)) (sym same) (record {
+      own = record { object = s.own.object; object_is = s.own.object_is; lives = s.own.lives };
+      turns = omega (arith, s.turns);
+      restarts = omega (arith, s.restarts);
+      life = omega (arith, s.life);
+    })
+
+-- and its turns are quiet ones
+pub quietly : (k most : ℕ) (flash : List ℕ) (p : Process) (own own' : Own) (later : Registers)
+    → IsOwnObject flash p.object own.layout → MakesAll k flash own p.regs own' later
+    → (k < most → IsStopped flash own' later) → Quietly k most flash (p, own) (later_process p k later, own')
+quietly k most flash p own own' later object m stops = record {
+  go = λ storage. (follows k flash p own own' later storage object m).go;
+  leads = λ storage. (follows k flash p own own' later storage object m).leads;
+  stops = λ fewer storage.
+      let stopped = stops fewer in
+      let there : IsOwnObject flash p.object own'.layout =
+      subst (λ (o : Own). IsOwnObject flash p.object o.layout) (sym (left_own k flash p own own' later object m))
+      object in
+      stopped.1 (byte_at (record_in flash (later_process p k later) own' []))
+      (sees_record flash (later_process p k later, own') there stopped.0);
+}
+
+-- quiet turns of the process in a slot leave what is its own, but for its RAM
+pub kept_own : (k most : ℕ) (flash : List ℕ) (old new : Resident) → Quietly k most flash old new
+    → new.1 ≡ record old.1 { ram = new.1.ram }
+kept_own k most flash old new q =
+    let after : new.1 ≡ (after_instructions k (record_of flash (old, []))).own =
+    ap (λ (r : Record). r.own) (q.leads []) in
+    after ∙ own_after k (record_of flash (old, [])) ∙ ap (λ (o : Own). record old.1 { ram = o.ram }) (sym after)

@@ -1,0 +1,277 @@
+-- The turn of a process.
+use Rattle.std.proofs.Common.{◌≡◌, ◌≤◌, ℕ, ◌+◌, ◌==◌, ◌⊎◌, inl, inr, Bool, true, false, not, List, [], ◌∷◌, length}
+use Rattle.std.proofs.Common.{Option, None, Some, Result, Ok, Err, refl, sym, ap, subst, ◌∙◌, arith}
+use Rattle.std.proofs.lemmas.Bool.{eqb-true}
+use Rattle.std.proofs.lemmas.List.{length-set, set-set}
+use Rattle.tk_base.specs.declared.access.Denial.{Denial}
+use Rattle.tk_base.specs.declared.upcall.Upcall.{Upcall}
+use Rattle.tbf_headers.specs.declared.fault.HeaderFault.{HeaderFault}
+use Rattle.tbf_headers.specs.declared.program.Main.{Main}
+use Rattle.tbf_headers.specs.Meaning.{Meaning, header_reading}
+use Rattle.process_layout.specs.LayoutView.{LayoutView}
+use Rattle.process_record.specs.declared.process.Process.{Process}
+use Rattle.process_record.specs.declared.process.State.{State}
+use Rattle.process_record.specs.declared.process.State.TheVariants.{Running, Yielded, Faulted, Terminated}
+use Rattle.rv32_model.specs.declared.turn_end.TurnEnd.{TurnEnd}
+use Rattle.rv32_model.specs.declared.turn_end.TurnEnd.TheVariants.{Went, Call, Trap}
+use Rattle.rv32_model.specs.UserTurn.{UserTurn}
+use Rattle.process_model.specs.Own.{Own}
+use Rattle.process_record.specs.Process.{after_fault, after_turn}
+use Rattle.grant_enter.specs.Homes.{Homes, ChangesOnly, own_of, with_own}
+use Rattle.process_model.specs.Flash.{object_in}
+use Rattle.kernel_calls.specs.Own.{IsOwn, IsApplication, HasStart, record_in}
+use Rattle.kernel_model.specs.Lives.{is_alive}
+use Rattle.kernel_model.specs.Record.{Record, with_process}
+use Rattle.kernel_model.specs.Calls.{deliver, deliver_by, restart, restarted_by, restarted_main}
+use Rattle.kernel_model.specs.Turn.{Turned, turn_counted, delivery, at_turn_end, idle, is_pending, turn_in, turned}
+use Rattle.driver_model.specs.Commands.{leaving_all}
+use Rattle.board_drivers.specs.declared.drivers.Drivers.{Drivers}
+use Rattle.board_turns.specs.declared.guard.ActivePmp.{ActivePmp}
+use Rattle.board_drivers.specs.declared.moment.Moment.{Moment}
+use Rattle.board_turns.specs.declared.turn.Shown.{Shown}
+use Rattle.kernel_model.specs.Laws.{DropsAtMostOne, GrantsChangeAtCalls}
+use Rattle.board_drivers.specs.Driven.{Drives, MayServe}
+use Rattle.board_drivers.specs.Residents.{Resident, IsResident}
+use Rattle.board_turns.specs.Turning.{InTurn, IsMade, LeavesSlot, MayTurn, ServesCall, Settles}
+use Rattle.board_drivers.specs.Residents.{id_of}
+use Rattle.board_turns.specs.Turning.{Shows, Turns, after_instruction, next_instruction, nothing_shown}
+use Rattle.board_drivers.specs.Residents.{resident}
+use Rattle.board_drivers.proofs.Orders.{drives_nothing}
+
+-- a change of one slot after another is one
+pub only_twice : (slot : ℕ) (a b c : Homes) → ChangesOnly slot a b → ChangesOnly slot b c → ChangesOnly slot a c
+only_twice slot a b c first second =
+    second ∙ ap (λ (h : Homes). with_own h slot (own_of c slot)) first
+    ∙ ap (λ (owns : List Own). record a { owns = owns }) (set-set a.owns slot (own_of b slot) (own_of c slot))
+
+-- it leaves flash, and as many slots
+pub only_flash : (slot : ℕ) (a b : Homes) → ChangesOnly slot a b → b.flash ≡ a.flash
+only_flash slot a b only = ap (λ (h : Homes). h.flash) only
+
+-- what a turn leaves of the process in a slot, shows, and has the drivers do
+abbrev DoesWith : ℕ → List ℕ → Resident → Resident → Shown → Drivers → Drivers → List ℕ → Turned → Type 0
+DoesWith slot flash old new shown d d' storage t =
+    (t.after ≡ record_in flash new.0 new.1 storage) × Shows t shown × Drives (id_of slot old.1) t.acts d d'
+
+-- it is that of the turn that it is
+as_known : (slot : ℕ) (flash : List ℕ) (old new : Resident) (shown : Shown) (d d' : Drivers) (storage : List ℕ)
+    (t u : Turned) → t ≡ u → DoesWith slot flash old new shown d d' storage u
+    → DoesWith slot flash old new shown d d' storage t
+as_known slot flash old new shown d d' storage t u e h =
+    subst (λ (x : Turned). DoesWith slot flash old new shown d d' storage x) (sym e) h
+
+-- the turn of a record that runs, by the end of its instruction
+by_end : (m : Moment) (flash : List ℕ) (r : Resident) (storage : List ℕ) (end : TurnEnd) → r.0.state ≡ Running
+    → (next_instruction flash r).end ≡ end
+    → (let a = after_instruction r (next_instruction flash r) in
+    turned m.settings m.time (record_in flash r.0 r.1 storage)
+    ≡ at_turn_end m.settings m.time (record_in flash a.0 a.1 storage) (next_instruction flash r).accesses end)
+unfolding turned
+by_end m flash r storage end runs e =
+    let a = after_instruction r (next_instruction flash r) in
+    ap (λ (s : State). turn_in m.settings m.time s (record_in flash r.0 r.1 storage)) runs
+    ∙ ap (at_turn_end m.settings m.time (record_in flash a.0 a.1 storage) (next_instruction flash r).accesses) e
+
+-- an instruction leaves a process as it is to be, a step later
+pub instruction_seated : (flash : List ℕ) (steps : ℕ) (r : Resident) (t : UserTurn) → IsResident flash steps r
+    → IsResident flash (steps + 1) (after_instruction r t)
+instruction_seated flash steps r t s = record {
+  own = record { object = s.own.object; object_is = s.own.object_is; lives = s.own.lives };
+  turns = omega (arith, s.turns);
+  restarts = omega (arith, s.restarts);
+  life = omega (arith, s.life);
+}
+
+-- a change of one slot leaves as many
+only_as_many : (slot : ℕ) (a b : Homes) → ChangesOnly slot a b → length b.owns ≡ length a.owns
+only_as_many slot a b only = ap (λ (h : Homes). length h.owns) only ∙ length-set a.owns slot (own_of b slot)
+
+-- what a later part of turns leaves, all of them leave
+pub leaves_then : (steps slot : ℕ) (a b c : Homes) (p : Process) → ChangesOnly slot a b → LeavesSlot steps slot b c p
+    → LeavesSlot steps slot a c p
+leaves_then steps slot a b c p first h = record {
+  seated = subst (λ (f : List ℕ). IsResident f steps (resident c slot p)) (only_flash slot a b first) h.seated;
+  rest = only_twice slot a b c first h.rest;
+}
+
+-- the instruction of the process in a slot, which left the home and the process so
+module _ (m : Moment) (slot : ℕ) (home made : Homes) (p q : Process) (is : IsMade slot home made p q)
+    (only : ChangesOnly slot home made) where
+  -- the process before it
+  abbrev before : Resident
+  before = resident home slot p
+
+  -- its turn was counted, and is not over
+  pub in_turn : (registers : ActivePmp) → MayTurn 1 m slot home p registers → p.state ≡ Running → InTurn m slot made q
+  in_turn registers may runs = record {
+    slot = omega (arith, may.slot, only_as_many slot home made only);
+    seated = subst (λ (f : List ℕ). IsResident f (m.steps + 1) (resident made slot q))
+        (sym (only_flash slot home made only))
+        (subst (λ (r : Resident). IsResident home.flash (m.steps + 1) r) (sym is)
+        (instruction_seated home.flash m.steps before (next_instruction home.flash before) may.seated));
+    lives = ap (λ (r : Resident). r.1.lives) is ∙ may.seated.own.lives ∙ ap is_alive runs;
+    restarts = subst (λ (r : Resident). r.0.restarts ≤ m.steps) (sym is) may.seated.restarts;
+    life = subst (λ (r : Resident). r.1.life ≤ m.steps) (sym is) may.seated.life;
+    limit = omega (arith, may.limit);
+  }
+
+  -- and it may be all of the turn
+  pub all_left : InTurn m slot made q → LeavesSlot (m.steps + 1) slot home made q
+  all_left t = record {
+    seated = subst (λ (f : List ℕ). IsResident f (m.steps + 1) (resident made slot q)) (only_flash slot home made only)
+        t.seated;
+    rest = only;
+  }
+
+  -- it leaves what the process asks of drivers
+  pub may_serve_still : (d : Drivers) → MayServe m d slot (own_of home slot) → MayServe m d slot (own_of made slot)
+  may_serve_still d may = subst (λ (r : Resident). MayServe m d slot r.1) (sym is) (record {
+    asks = may.asks;
+    lost = may.lost;
+    leds = may.leds;
+    size = may.size;
+  })
+
+  -- an instruction with nothing more to do
+  pub went : (d : Drivers) → p.state ≡ Running → (next_instruction home.flash before).end ≡ Went
+      → Turns m slot home.flash before (resident made slot q) nothing_shown d d
+  went d runs end =
+      subst (λ (r : Resident). Turns m slot home.flash before r nothing_shown d d) (sym is) (λ storage.
+      as_known slot home.flash before _ nothing_shown d d storage _ _ (by_end m home.flash before storage Went runs end)
+      (refl, record { call = refl; denial = refl }, drives_nothing (id_of slot before.1) d))
+
+  -- one that is denied
+  pub trapped : (new : Resident) (denial : Denial) (shown : Shown) (d d' : Drivers) → p.state ≡ Running
+      → (next_instruction home.flash before).end ≡ Trap denial → shown ≡ record { call = None; denial = Some denial }
+      → Settles m.settings.policy made.flash q (own_of made slot) denial new
+      → Drives (id_of slot (own_of made slot)) leaving_all d d' → Turns m slot home.flash before new shown d d'
+  trapped new denial shown d d' runs end e settles drives = λ storage.
+      let settled = subst (λ (r : Resident). Settles m.settings.policy home.flash r.0 r.1 denial new) is
+      (subst (λ (f : List ℕ). Settles m.settings.policy f q (own_of made slot) denial new)
+      (only_flash slot home made only) settles) in
+      as_known slot home.flash before new _ d d' storage _ _ (by_end m home.flash before storage (Trap denial) runs end) (
+        settled storage,
+        record { call = ap (λ (s : Shown). s.call) (sym e); denial = ap (λ (s : Shown). s.denial) (sym e) },
+        subst (λ (r : Resident). Drives (id_of slot r.1) leaving_all d d') is drives,
+      )
+
+  -- one that makes a system call
+  pub makes_call : (new : Resident) (shown : Shown) (d d' : Drivers) → p.state ≡ Running
+      → (next_instruction home.flash before).end ≡ Call
+      → ServesCall m slot made.flash (resident made slot q) new shown d d'
+      → Turns m slot home.flash before new shown d d'
+  makes_call new shown d d' runs end serves = λ storage.
+      let served = subst (λ (r : Resident). ServesCall m slot home.flash r new shown d d') is
+      (subst (λ (f : List ℕ). ServesCall m slot f (resident made slot q) new shown d d')
+      (only_flash slot home made only) serves) in
+      as_known slot home.flash before new shown d d' storage _ _ (by_end m home.flash before storage Call runs end)
+      (served (next_instruction home.flash before).accesses storage)
+
+-- the start again of a process that faulted is that of one whose denial was recorded
+restarted_same : (r : Record) (denial : Denial) (e : LayoutView) (address : ℕ) (read : Result Meaning HeaderFault)
+    → header_reading r.object ≡ read → IsApplication address e read
+    → restarted_by (with_process r (record r.process { denial = Some denial })) read
+    ≡ restarted_by (with_process r (after_fault r.process denial)) read
+restarted_same r denial e address (Err fault) h a = absurd a
+restarted_same r denial e address (Ok meaning) h a = by_main meaning.main a
+  where
+    by_main : (main : Option Main) → HasStart address e meaning main
+        → restarted_main (with_process r (record r.process { denial = Some denial })) meaning main
+        ≡ restarted_main (with_process r (after_fault r.process denial)) meaning main
+    by_main None b = absurd b
+    by_main (Some m) b = refl
+
+pub starts_again : (flash : List ℕ) (process : Process) (own : Own) (storage : List ℕ) (denial : Denial)
+    → IsOwn flash process own
+    → restart (record_in flash (after_fault process denial) own storage)
+    ≡ restart (record_in flash (record process { denial = Some denial }) own storage)
+unfolding restart
+starts_again flash process own storage denial h =
+    sym (restarted_same (record_in flash process own storage) denial own.layout process.object.address
+    (header_reading (object_in flash process.object)) refl h.object.application)
+
+-- the turn of a process that waits
+by_pending : (r : Record) (pending : List Upcall) → is_pending pending ≡ true
+    → delivery r pending ≡ idle (deliver_by (turn_counted r) pending)
+by_pending r [] e = absurd (cc)
+by_pending r (u ∷ us) e = refl
+
+none_pending : (r : Record) (pending : List Upcall) → is_pending pending ≡ false → delivery r pending ≡ idle r
+none_pending r [] e = refl
+none_pending r (u ∷ us) e = absurd (some (length (u ∷ us) == 0) refl e)
+  where
+    some : (b : Bool) → (length (u ∷ us) == 0) ≡ b → not b ≡ false → ⊥
+    some true zero_is f = let none_is : length (u ∷ us) ≡ 0 = eqb-true (length (u ∷ us)) 0 zero_is in omega arith
+    some false zero_is f = absurd (cc)
+
+module _ (m : Moment) (slot : ℕ) (flash : List ℕ) where
+  -- a turn in which a process may be changed, and no more
+  is_quiet : (old new : Resident) (d : Drivers)
+      → ((storage : List ℕ)
+      → turned m.settings m.time (record_in flash old.0 old.1 storage) ≡ idle (record_in flash new.0 new.1 storage))
+      → Turns m slot flash old new nothing_shown d d
+  is_quiet old new d t = λ storage.
+      as_known slot flash old new nothing_shown d d storage _ _ (t storage)
+      (refl, record { call = refl; denial = refl }, drives_nothing (id_of slot old.1) d)
+
+  -- where an upcall is pending it is delivered
+  pub woken : (old new : Resident) (d : Drivers) → old.0.state ≡ Yielded → is_pending old.1.inbox.pending ≡ true
+      → ((storage : List ℕ)
+      → record_in flash new.0 new.1 storage ≡ deliver (record_in flash (after_turn old.0) old.1 storage))
+      → Turns m slot flash old new nothing_shown d d
+  unfolding turned
+  woken old new d waits some delivers = is_quiet old new d (λ storage.
+      let r = record_in flash old.0 old.1 storage in
+      ap (λ (s : State). turn_in m.settings m.time s r) waits ∙ by_pending r old.1.inbox.pending some
+      ∙ ap idle (sym (delivers storage)))
+
+  -- where none is pending nothing happens
+  pub waits_on : (r : Resident) (d : Drivers) → r.0.state ≡ Yielded → is_pending r.1.inbox.pending ≡ false
+      → Turns m slot flash r r nothing_shown d d
+  unfolding turned
+  waits_on r d waits none = is_quiet r r d (λ storage.
+      ap (λ (s : State). turn_in m.settings m.time s (record_in flash r.0 r.1 storage)) waits
+      ∙ none_pending (record_in flash r.0 r.1 storage) r.1.inbox.pending none)
+
+  -- a process that ended has no turn
+  pub rests : (r : Resident) (d : Drivers) → (r.0.state ≡ Faulted) ⊎ ((code : ℕ) × (r.0.state ≡ Terminated code))
+      → Turns m slot flash r r nothing_shown d d
+  unfolding turned
+  rests r d (inl is) =
+      is_quiet r r d (λ storage. ap (λ (s : State). turn_in m.settings m.time s (record_in flash r.0 r.1 storage)) is)
+  rests r d (inr is) =
+      is_quiet r r d (λ storage. ap (λ (s : State). turn_in m.settings m.time s (record_in flash r.0 r.1 storage)) is.1)
+
+-- a process that had no turn is as it is to be, some steps later, so one step later
+pub rests_seated_on : (flash : List ℕ) (steps more : ℕ) (r : Resident) → IsResident flash steps r
+    → IsResident flash (steps + more) r
+rests_seated_on flash steps more r s =
+    record {
+      own = s.own;
+      turns = omega (arith, s.turns);
+      restarts = omega (arith, s.restarts);
+      life =
+          omega (arith, s.life);
+    }
+
+pub rests_seated : (flash : List ℕ) (steps : ℕ) (r : Resident) → IsResident flash steps r
+    → IsResident flash (steps + 1) r
+rests_seated flash steps r s = rests_seated_on flash steps 1 r s
+
+module _ (m : Moment) (slot : ℕ) (flash : List ℕ) (old new : Resident) (shown : Shown) (d d' : Drivers) where
+  -- a turn that shows nothing leaves what drivers keep of its process, and that it lives
+  pub keeps_quiet : GrantsChangeAtCalls → shown ≡ nothing_shown → Turns m slot flash old new shown d d'
+      → (new.1.grants ≡ old.1.grants) × (new.1.lives ≡ old.1.lives)
+  keeps_quiet law quiet turns =
+      let t = turns [] in
+      let keeps = law m.settings m.time (record_in flash old.0 old.1 []) (t.1.call ∙ ap (λ (s : Shown). s.call) quiet)
+      (t.1.denial ∙ ap (λ (s : Shown). s.denial) quiet) in
+      let own : (turned m.settings m.time (record_in flash old.0 old.1 [])).after.own ≡ new.1 =
+      ap (λ (r : Record). r.own) t.0 in
+      (sym (ap (λ (o : Own). o.grants) own) ∙ keeps.0, sym (ap (λ (o : Own). o.lives) own) ∙ keeps.1)
+
+  -- and any turn drops one upcall at most
+  pub loses_one : DropsAtMostOne → Turns m slot flash old new shown d d' → new.1.inbox.dropped ≤ old.1.inbox.dropped + 1
+  loses_one law turns =
+      subst (λ (r : Record). r.own.inbox.dropped ≤ old.1.inbox.dropped + 1) (turns []).0
+      (law m.settings m.time (record_in flash old.0 old.1 [])).not_more

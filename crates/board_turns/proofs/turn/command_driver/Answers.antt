@@ -1,0 +1,65 @@
+use Rattle.std.proofs.Common.{◌≡◌, ◌+◌, Some, ap, sym, subst, ◌∙◌}
+use Rattle.process_record.specs.declared.process.Process.{Process}
+use Rattle.tk_base.specs.declared.process.ProcessId.{ProcessId}
+use Rattle.driver_model.specs.Drivers.{CommandHandler, handler_of}
+use Rattle.grant_enter.specs.Homes.{ChangesOnly, Homes, own_of}
+use Rattle.process_model.specs.Flash.{object_in}
+use Rattle.kernel_calls.specs.Outcomes.{is_driver_command}
+use Rattle.board_drivers.specs.declared.drivers.Order.{Order}
+use Rattle.board_drivers.specs.Residents.{id_of}
+use Rattle.board_turns.proofs.Commands.{Came, came, came_in_place, finishes, living_id, some_of, stays_seated, taken_of}
+use Rattle.board_turns.proofs.turn.command_driver.Goals as goal
+use Rattle.board_turns.proofs.turn.command_driver.Goals.{After-give_reply}
+
+-- the command
+abbrev order : After-give_reply → Order
+order c = record {
+  driver = c.in-Command.driver;
+  number = c.in-Command.command;
+  a2 = c.in-Command.a2;
+  a3 =
+      c.in-Command.a3;
+}
+
+-- who takes it
+taker : (c : After-give_reply) → (t : CommandHandler) × (handler_of c.in-Command.driver ≡ Some t)
+taker c = some_of (handler_of c.in-Command.driver)
+    (ap is_driver_command (sym c.in-Command.is)
+    ∙ taken_of c.args.moment.now.settings.strict (object_in c.args.home.now.flash c.args.process.now.object)
+    c.args.call.now c.requires.left)
+
+-- the id is that of the process
+known : (c : After-give_reply) → c.in-Some.id ≡ id_of c.args.slot (own_of c.args.home.now c.args.slot)
+known c = living_id c.args.slot c.args.slot c.args.home.now.owns c.in-Some.id (sym c.id.ensures ∙ c.in-Some.is)
+
+-- what its driver answered
+answered : (c : After-give_reply)
+    → Came c.args.moment.now c.args.slot c.args.home.now c.command-reply.new.home (order c) c.command-reply.result
+    c.args.drivers.now c.command-reply.new.self (taker c).0
+answered c =
+    came c.args.moment.now c.args.slot c.args.home.now c.command-reply.new.home (order c) c.command-reply.result
+    c.args.drivers.now c.command-reply.new.self c.in-Some.id c.tick.result (taker c).0 (taker c).1
+    (known c) c.tick.ensures c.requires.may c.command-reply.ensures.comes
+
+pub returns-clause-serves : goal.returns-clause-serves
+returns-clause-serves c =
+    let a = (goal.at.returns-clause-serves c).After-give_reply in
+    finishes c.args.moment.now c.args.slot c.args.home.now c.command-reply.new.home (order a) c.command-reply.result
+    c.args.drivers.now c.command-reply.new.self c.args.process.now c.give_reply.new.process c.args.call.now
+    c.give_reply.result (taker a).0 (taker a).1
+    c.in-Command.is c.requires.left (answered a) (ap (λ (p : Process). p.object) c.give_reply.ensures.stays)
+    (ap (λ (h : Homes). h.flash) c.command-reply.ensures.rest) c.give_reply.ensures.gives
+
+pub returns-clause-leaves : goal.returns-clause-leaves
+returns-clause-leaves c =
+    let a = (goal.at.returns-clause-leaves c).After-give_reply in
+    let home = c.args.home.now in
+    record {
+      seated = stays_seated home.flash (c.args.moment.now.steps + 1) c.args.process.now c.give_reply.new.process
+          (own_of home c.args.slot) (own_of c.command-reply.new.home c.args.slot)
+          (came_in_place c.args.moment.now c.args.slot home c.command-reply.new.home (order a) c.command-reply.result
+          c.args.drivers.now c.command-reply.new.self (taker a).0 (taker a).1 c.commands_stay_in_place.ensures
+          (answered a)) c.give_reply.ensures.stays c.requires.turn.seated;
+      rest = subst (λ (id : ProcessId). ChangesOnly id.slot home c.command-reply.new.home) (known a)
+          c.command-reply.ensures.rest;
+    }

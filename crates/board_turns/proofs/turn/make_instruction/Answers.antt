@@ -1,0 +1,64 @@
+use Rattle.std.proofs.Common.{◌≡◌, [], ap, ap₂, subst, sym, ◌∙◌}
+use Rattle.rv32_model.specs.UserTurn.{UserTurn}
+use Rattle.process_model.specs.Own.{Own}
+use Rattle.process_model.specs.Instruction.{instruction_of, with_write}
+use Rattle.process_record.specs.Process.{after_turn}
+use Rattle.process_record.specs.declared.process.Process.{Process}
+use Rattle.tk_base.specs.Regs.{Registers}
+use Rattle.board_memory.specs.Registers.{Protect}
+use Rattle.grant_enter.specs.Homes.{own_of}
+use Rattle.kernel_calls.specs.Own.{record_in}
+use Rattle.kernel_model.specs.Record.{byte_at}
+use Rattle.board_drivers.specs.Residents.{Resident, resident}
+use Rattle.board_turns.specs.Turning.{IsMade, next_instruction}
+use Rattle.board_turns.proofs.Sight.{sees_record}
+use Rattle.board_turns.proofs.Turns.{in_turn}
+use Rattle.board_turns.proofs.turn.make_instruction.Goals as goal
+use Rattle.board_turns.proofs.turn.make_instruction.Goals.{After-instruct}
+
+-- the process before the turn
+abbrev before : After-instruct → Resident
+before c = resident c.args.home.now c.args.slot c.args.process.now
+
+-- the instruction that was made is that of the record
+made : (c : After-instruct) → let t = next_instruction c.args.home.now.flash (before c) in
+    (own_of c.instruct.new.self c.args.slot ≡ with_write (before c).1 t) × (c.instruct.new.regs ≡ t.regs)
+    × (c.instruct.result ≡ t.end)
+made c =
+    let flash = c.args.home.now.flash in
+    let own = (before c).1 in
+    let r = record_in flash c.args.process.now own [] in
+    let m = c.instruct.ensures.made (byte_at r)
+    (sees_record flash (before c) c.requires.turn.seated.own.object c.instruct.ensures.place) in
+    let same : instruction_of own (byte_at r) c.count_turn.new.self.regs ≡ next_instruction flash (before c) =
+    ap (λ (p : Process). instruction_of own (byte_at r) p.regs) c.count_turn.ensures in
+    (m.0 ∙ ap (with_write own) same, m.1 ∙ ap (λ (t : UserTurn). t.regs) same, m.2 ∙ ap (λ (t : UserTurn). t.end) same)
+
+is_made : (c : After-instruct)
+    → IsMade c.args.slot c.args.home.now c.instruct.new.self c.args.process.now
+    (record c.count_turn.new.self { regs = c.instruct.new.regs })
+is_made c =
+    ap₂ (λ (p : Process) (o : Own). (p, o))
+    (ap (λ (p : Process). record p { regs = c.instruct.new.regs }) c.count_turn.ensures
+    ∙ ap (λ (x : Registers). record (after_turn c.args.process.now) { regs = x }) (made c).1)
+    (made c).0
+
+pub returns-clause-end : goal.returns-clause-end
+returns-clause-end c = (made (goal.at.returns-clause-end c).After-instruct).2
+
+pub returns-clause-made : goal.returns-clause-made
+returns-clause-made c = is_made (goal.at.returns-clause-made c).After-instruct
+
+pub returns-clause-turn : goal.returns-clause-turn
+returns-clause-turn c =
+    in_turn c.args.moment.now c.args.slot c.args.home.now c.instruct.new.self c.args.process.now
+    (record c.count_turn.new.self { regs = c.instruct.new.regs })
+    (is_made (goal.at.returns-clause-turn c).After-instruct) c.instruct.ensures.rest c.args.guard.now
+    c.requires.turn c.requires.runs
+
+pub returns-clause-guard : goal.returns-clause-guard
+returns-clause-guard c = record {
+  slot_is = c.switch_to.ensures.slot_is;
+  protects = subst (λ (o : Own). Protect c.switch_to.new.self.pmp o.layout)
+      (sym (made (goal.at.returns-clause-guard c).After-instruct).0) c.switch_to.ensures.protects;
+}

@@ -1,0 +1,25 @@
+-- Quiet turns of a process with what is its own. Only proofs use this.
+use Rattle.std.specs.Prelude.{◌≡◌, ◌≢◌, ◌<◌, ℕ, ◌+◌, List}
+use Rattle.process_record.specs.declared.process.Process.{Process}
+use Rattle.rv32_model.specs.declared.turn_end.TurnEnd.TheVariants.{Went}
+use Rattle.grant_enter.specs.Homes.{Homes}
+use Rattle.kernel_model.specs.Record.{instruction}
+use Rattle.kernel_model.specs.Stretch.{AllGo, after_instructions}
+use Rattle.board_drivers.specs.declared.moment.Moment.{Moment}
+use Rattle.board_drivers.specs.Residents.{IsResident, Resident, record_of}
+use Rattle.board_turns.specs.Turning.{ChangesSlot}
+
+-- So many turns of a process, of at most so many, lead from it to another, whatever its storage is: each only executes
+-- an instruction. Where they are fewer, the next instruction makes a system call or is denied.
+pub record Quietly (k most : ℕ) (flash : List ℕ) (old new : Resident) : Type 0 where
+  pub go : (storage : List ℕ) → AllGo k (record_of flash (old, storage))
+  pub leads : (storage : List ℕ)
+      → record_of flash (new, storage) ≡ after_instructions k (record_of flash (old, storage))
+  pub stops : k < most → (storage : List ℕ) → (instruction (record_of flash (new, storage))).end ≢ Went
+
+-- so many quiet turns of the process in a slot, and of no other
+pub record QuietAt (k most : ℕ) (m : Moment) (slot : ℕ) (home home_after : Homes)
+    (processes processes_after : List Process) : Type 0 where
+  pub at : ChangesSlot slot home home_after processes processes_after
+  pub quiet : Quietly k most home.flash at.before at.after
+  pub seated : IsResident home.flash (m.steps + k) at.after

@@ -1,0 +1,141 @@
+-- The turns of a process with what is its own. Only proofs use this.
+use Rattle.std.specs.Prelude.{◌≡◌, ℕ, ◌+◌, ◌≤◌, ◌<◌, true, List, [], length, slice_get, slice_set, All, None, Some}
+use Rattle.std.specs.List.{zip}
+use Rattle.tk_base.specs.declared.limits.TheConstants.{STEP_LIMIT}
+use Rattle.rv32_model.specs.UserTurn.{MemoryAccess, UserTurn}
+use Rattle.syscall_abi.specs.Call.{call_of}
+use Rattle.process_model.specs.Own.{Own}
+use Rattle.process_model.specs.Instruction.{with_write}
+use Rattle.process_record.specs.Process.{after_turn, after_fault}
+use Rattle.process_record.specs.declared.emit.Emit.{Emit}
+use Rattle.process_record.specs.declared.process.Process.{Process}
+use Rattle.grant_enter.specs.Homes.{ChangesOnly, Homes, own_of}
+use Rattle.tk_base.specs.declared.access.Denial.{Denial}
+use Rattle.fault_policy.specs.Policy.{decision}
+use Rattle.fault_policy.specs.declared.Policy.{Policy}
+use Rattle.kernel_model.specs.Record.{instruction}
+use Rattle.kernel_model.specs.Turn.{Turned, calls, settled, surroundings, turned}
+use Rattle.kernel_calls.specs.Own.{record_in}
+use Rattle.kernel_calls.specs.Outcomes.{record_of_slot}
+use Rattle.kernel_model.specs.Calls.{served}
+use Rattle.syscall_abi.specs.declared.call.Call.{Call}
+use Rattle.process_record.specs.declared.outcome.Outcome.{Outcome}
+use Rattle.board_drivers.specs.declared.moment.Moment.{Moment}
+use Rattle.board_turns.specs.declared.turn.Shown.{Shown}
+use Rattle.board_drivers.specs.declared.drivers.Drivers.{Drivers}
+use Rattle.board_turns.specs.declared.guard.ActivePmp.{ActivePmp}
+use Rattle.board_turns.specs.Guards.{GuardsOnly}
+use Rattle.board_drivers.specs.Driven.{Drives}
+use Rattle.driver_model.specs.Commands.{BoardRequest}
+use Rattle.board_drivers.specs.Residents.{Resident, resident, id_of, IsResident}
+
+-- its next instruction, which its storage is not part of
+abbrev pub next_instruction : List ℕ → Resident → UserTurn
+next_instruction flash r = instruction (record_in flash r.0 r.1 [])
+
+-- what an instruction leaves of both, and that it counts as a turn
+abbrev pub after_instruction : Resident → UserTurn → Resident
+after_instruction r t = (record (after_turn r.0) { regs = t.regs }, with_write r.1 t)
+
+-- the next instruction of the process in a slot was made, and left the home and the process so
+abbrev pub IsMade : ℕ → Homes → Homes → Process → Process → Type 0
+IsMade slot home home_after process process_after =
+    let r = resident home slot process in
+    resident home_after slot process_after ≡ after_instruction r (next_instruction home.flash r)
+
+-- what a turn told in what a step shows, if it told anything
+abbrev pub told_in_emit : Emit → Shown
+told_in_emit emit = record { call = emit.made; denial = emit.denial }
+
+abbrev pub with_shown : Emit → Shown → Emit
+with_shown emit shown = record emit { made = shown.call; denial = shown.denial }
+
+abbrev pub nothing_shown : Shown
+nothing_shown = record { call = None; denial = None }
+
+-- what a turn shows
+pub record Shows (t : Turned) (shown : Shown) : Type 0 where
+  pub call : t.told.call ≡ shown.call
+  pub denial : t.told.denial ≡ shown.denial
+
+-- A turn, or a part of it, of the process in a slot leaves this, shows this, and has the drivers do what it asks of
+-- them, whatever the process's storage is.
+abbrev pub Does : (List ℕ → Turned) → ℕ → List ℕ → Resident → Resident → Shown → Drivers → Drivers → Type 0
+Does turn slot flash old new shown d d_after = (storage : List ℕ) →
+    let t = turn storage in
+    (t.after ≡ record_in flash new.0 new.1 storage) × Shows t shown × Drives (id_of slot old.1) t.acts d d_after
+
+-- what serving the call of a process does at a moment
+abbrev pub ServesCall : Moment → ℕ → List ℕ → Resident → Resident → Shown → Drivers → Drivers → Type 0
+ServesCall m slot flash old new shown d d_after = (accesses : List MemoryAccess) →
+    Does (λ storage. calls m.settings m.time (record_in flash old.0 old.1 storage) accesses (call_of old.0.regs))
+    slot flash old new shown d d_after
+
+-- a fault of a process is settled as a policy decides
+abbrev pub Settles : Policy → List ℕ → Process → Own → Denial → Resident → Type 0
+Settles policy flash process own denial new = (storage : List ℕ) →
+    settled (record_in flash (after_fault process denial) own storage) (decision policy process.restarts)
+    ≡ record_in flash new.0 new.1 storage
+
+-- what a turn of a process does at a moment
+abbrev pub Turns : Moment → ℕ → List ℕ → Resident → Resident → Shown → Drivers → Drivers → Type 0
+Turns m slot flash old new shown d d_after =
+    Does (λ storage. turned m.settings m.time (record_in flash old.0 old.1 storage)) slot flash old new shown d d_after
+
+-- what a call of the process in a slot leaves at a moment, what comes of it, and what the drivers do for it
+pub record Finishes (m : Moment) (slot : ℕ) (home : Homes) (process : Process) (call : Call) (home_after : Homes)
+    (process_after : Process) (outcome : Outcome) (d d_after : Drivers) : Type 0 where
+  pub acts : List BoardRequest
+  pub serves : (storage : List ℕ) →
+      served m.settings.strict (surroundings m.settings m.time) (record_of_slot home slot process storage) call
+      ≡ record { after = record_of_slot home_after slot process_after storage; outcome = outcome; acts = acts }
+  pub drives : Drives (id_of slot (own_of home slot)) acts d d_after
+
+-- So many turns of the process in a slot may be made at a moment: it is as it is to be, so many steps are left, and the
+-- registers protect whomever they are set for.
+pub record MayTurn (turns : ℕ) (m : Moment) (place : ℕ) (home : Homes) (process : Process) (registers : ActivePmp)
+    : Type 0 where
+  pub slot : place < length home.owns
+  pub seated : IsResident home.flash m.steps (resident home place process)
+  pub limit : m.steps + turns ≤ STEP_LIMIT
+  pub guard : GuardsOnly registers home
+
+-- the same of a slot of the tables of a board
+pub record MayTurnAt (turns : ℕ) (m : Moment) (place : ℕ) (home : Homes) (processes : List Process)
+    (registers : ActivePmp) : Type 0 where
+  pub within : place < length processes
+  pub owns : length home.owns ≡ length processes
+  pub seated : All (IsResident home.flash m.steps) (zip processes home.owns)
+  pub limit : m.steps + turns ≤ STEP_LIMIT
+  pub guard : GuardsOnly registers home
+
+-- A turn of the process in a slot was counted and is not over: the process lives, and is as it is to be a step later.
+pub record InTurn (m : Moment) (place : ℕ) (home : Homes) (process : Process) : Type 0 where
+  pub slot : place < length home.owns
+  pub seated : IsResident home.flash (m.steps + 1) (resident home place process)
+  pub lives : (own_of home place).lives ≡ true
+  pub restarts : process.restarts ≤ m.steps
+  pub life : (own_of home place).life ≤ m.steps
+  pub limit : m.steps < STEP_LIMIT
+
+-- what turns of the process in a slot leave, or a part of one: it is as it is to be after so many steps, and nothing
+-- of any other slot has changed
+pub record LeavesSlot (steps : ℕ) (place : ℕ) (home home_after : Homes) (process : Process) : Type 0 where
+  pub seated : IsResident home.flash steps (resident home_after place process)
+  pub rest : ChangesOnly place home home_after
+
+-- nothing but the process in one slot, and what is its own, has changed
+pub record ChangesSlot (slot : ℕ) (home home_after : Homes) (processes processes_after : List Process) : Type 0 where
+  pub before : Resident
+  pub after : Resident
+  pub was : slice_get processes slot ≡ Some before.0
+  pub own_was : slice_get home.owns slot ≡ Some before.1
+  pub is : processes_after ≡ slice_set processes slot after.0
+  pub own_is : home_after ≡ record home { owns = slice_set home.owns slot after.1 }
+
+-- one turn of the process in a slot, and of no other
+pub record TurnsAt (m : Moment) (slot : ℕ) (home home_after : Homes) (processes processes_after : List Process)
+    (shown : Shown) (d d_after : Drivers) : Type 0 where
+  pub at : ChangesSlot slot home home_after processes processes_after
+  pub turns : Turns m slot home.flash at.before at.after shown d d_after
+  pub seated : IsResident home.flash (m.steps + 1) at.after

@@ -1,0 +1,57 @@
+//! The one protection register file.
+ghost use Rattle.std.specs.Prelude.{◌≡◌, ◌<◌, None, length};
+ghost use Rattle.board_memory.specs.Registers.{Protect};
+ghost use Rattle.grant_enter.specs.Homes.{own_of};
+ghost use Rattle.board_turns.specs.Guards.{GuardsOnly, IsSetFor};
+
+use grant_enter::Home;
+use pmp_regions::Pmp;
+use process_layout::Layout;
+use tk_base::Slot;
+
+/// The board's protection registers (RISC-V privileged manual, "Physical Memory Protection"), and the slot
+/// for whose process they are set, if they are for any.
+#[derive(Drop)]
+pub struct ActivePmp {
+    pub pmp: Pmp,
+    pub slot: Option<Slot>,
+}
+
+impl ActivePmp {
+    /// The registers when the board starts: they permit nothing, and are set for no process.
+    pub fn new() -> ActivePmp
+        ensures { result.slot ≡ None }
+    {
+        ActivePmp {
+            pmp: Pmp::new(),
+            slot: None,
+        }
+    }
+
+    /// Sets the registers for the process in a slot, where they are set for another one or for none.
+    pub fn switch_to(&mut self, home: &Home, slot: Slot)
+        requires slot { slot < length home.now.owns }
+        requires guards { GuardsOnly self.old home.now }
+        ensures { IsSetFor slot self.new home.now }
+    {
+        let set = self.slot;
+        if set != Some(slot) {
+            home.protect(slot, &mut self.pmp);
+            self.slot = Some(slot);
+        }
+    }
+
+    /// Sets the registers again for the process in a slot, where its layout is no longer the one that they
+    /// were set for.
+    pub fn refresh(&mut self, home: &Home, slot: Slot, before: &Layout)
+        requires slot { slot < length home.now.owns }
+        requires set { Protect self.old.pmp before.now }
+        ensures slot { self.new.slot ≡ self.old.slot }
+        ensures protect { Protect self.new.pmp (own_of home.now slot).layout }
+    {
+        let layout = home.layout(slot);
+        if layout != *before {
+            home.protect(slot, &mut self.pmp);
+        }
+    }
+}

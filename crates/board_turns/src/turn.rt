@@ -1,0 +1,402 @@
+//! One turn of the process in a slot.
+ghost use Rattle.std.specs.Prelude.{◌≡◌, ◌+◌, ◌<◌, ℕ, List, [], length, true, false, None, Some};
+ghost use Rattle.process_record.specs.declared.process.State.TheVariants.{Running, Yielded};
+ghost use Rattle.process_model.specs.Own.{own_ended};
+ghost use Rattle.process_record.specs.Process.{after_fault};
+ghost use Rattle.grant_enter.specs.Homes.{own_of, ChangesOnly};
+ghost use Rattle.driver_model.specs.Commands.{leaving_all};
+ghost use Rattle.kernel_calls.specs.Outcomes.{acts_for, is_for_driver};
+ghost use Rattle.process_model.specs.Flash.{object_in};
+ghost use Rattle.kernel_calls.specs.Own.{record_in};
+ghost use Rattle.board_drivers.specs.Driven.{Drives, MayServe};
+ghost use Rattle.board_drivers.specs.declared.drivers.Drivers.{Drivers};
+ghost use Rattle.kernel_model.specs.Calls.{restart};
+ghost use Rattle.kernel_model.specs.Turn.{arguments, made, unknown_call};
+ghost use Rattle.board_turns.specs.Guards.{GuardsOnly, IsSetFor};
+ghost use Rattle.board_drivers.specs.Residents.{id_of, resident, resident_turns};
+ghost use Rattle.board_turns.specs.Turning.{Finishes, InTurn, IsMade, LeavesSlot, MayTurn, ServesCall, Settles, Turns, next_instruction, nothing_shown, told_in_emit, with_shown, MayTurnAt, TurnsAt};
+
+use board_drivers::{Drivers, Moment, Order};
+use crate::guard::ActivePmp;
+use driver_model::commands_stay_in_place;
+use fault_policy::{Action, decide};
+use grant_enter::Home;
+use kernel_calls::{deliver, give_reply, kernel_call, restart_process};
+use process_record::{CallMade, Emit, Outcome, Process, State};
+use rv32_model::TurnEnd;
+use syscall_abi::Call;
+use tk_base::{Access, Denial, ProcessId, Regs, Rule, Slot};
+
+/// What a turn showed: the call that was made, or the denial.
+#[derive(Clone, Copy)]
+pub struct Shown {
+    pub call: Option<CallMade>,
+    pub denial: Option<Denial>,
+}
+
+/// Tells in `emit` what a turn showed.
+#[inline(never)]
+fn tell(emit: &mut Emit, shown: Shown)
+    ensures { emit.new ≡ with_shown emit.old shown }
+{
+    emit.made = shown.call;
+    emit.denial = shown.denial;
+}
+
+/// The arguments of a call, or its reply: a0 to a3.
+fn arguments_of(regs: &Regs) -> [u32; 4]
+    ensures { result ≡ arguments regs.now }
+{
+    [regs.get(10), regs.get(11), regs.get(12), regs.get(13)]
+}
+
+/// The call as a step shows it, from the registers before it and what came of it.
+fn call_shown(before: &Regs, outcome: Outcome) -> CallMade
+    ensures { result ≡ made before.now outcome }
+{
+    let (reply, rule) = match outcome {
+        Outcome::Replied(reply, rule) => {
+            let mut after = *before;
+            reply.put(&mut after);
+            (Some(arguments_of(&after)), rule)
+        }
+        Outcome::ToDriver
+        | Outcome::Waits
+        | Outcome::Delivered
+        | Outcome::GoesOn
+        | Outcome::Ended
+        | Outcome::Again => (None, None),
+    };
+    CallMade {
+        class: before.get(Call::CLASS),
+        args: arguments_of(before),
+        reply,
+        rule,
+    }
+}
+
+/// Whether the process in a slot can have a turn: it runs, or it waits and an upcall is pending.
+pub fn can_turn(home: &Home, process: &Process, slot: Slot) -> bool
+    requires { slot < length home.now.owns }
+    ensures { result ≡ resident_turns (resident home.now slot process.now) }
+{
+    match process.state {
+        State::Running => true,
+        State::Yielded => home.has_pending(slot),
+        State::Faulted | State::Terminated(_) => false,
+    }
+}
+
+/// A denial stops the process in a slot, which lives no more.
+fn stop_at(home: &mut Home, process: &mut Process, slot: Slot, denial: Denial)
+    requires { slot < length home.old.owns }
+    ensures process { process.new ≡ after_fault process.old denial }
+    ensures own { own_of home.new slot ≡ own_ended (own_of home.old slot) }
+    ensures rest { ChangesOnly slot home.old home.new }
+{
+    process.fault(denial);
+    home.end(slot);
+}
+
+/// A denial starts the process in a slot again, and it is protected as its layout is then.
+fn restart_at(
+    home: &mut Home,
+    process: &mut Process,
+    guard: &mut ActivePmp,
+    slot: Slot,
+    denial: Denial,
+    moment: &Moment,
+)
+    requires turn { InTurn moment.now slot home.old process.old }
+    requires guard { IsSetFor slot guard.old home.old }
+    ensures restarted { (storage : List ℕ) →
+        restart (record_in home.old.flash (after_fault process.old denial) (own_of home.old slot)
+        storage)
+        ≡ record_in home.old.flash process.new (own_of home.new slot) storage }
+    ensures leaves { LeavesSlot (moment.now.steps + 1) slot home.old home.new process.new }
+    ensures guard { IsSetFor slot guard.new home.new }
+{
+    process.denial = Some(denial);
+    let layout = home.layout(slot);
+    restart_process(home, process, slot);
+    guard.refresh(home, slot, &layout);
+}
+
+/// A denial: the process in a slot faults, and has ended or starts again, as the policy decides.
+fn fault_at(
+    home: &mut Home,
+    process: &mut Process,
+    guard: &mut ActivePmp,
+    drivers: &mut Drivers,
+    slot: Slot,
+    denial: Denial,
+    moment: &Moment,
+) -> Shown
+    requires turn { InTurn moment.now slot home.old process.old }
+    requires guard { IsSetFor slot guard.old home.old }
+    ensures settles { Settles moment.now.settings.policy home.old.flash process.old
+        (own_of home.old slot) denial (resident home.new slot process.new) }
+    ensures gone { Drives (id_of slot (own_of home.old slot)) leaving_all drivers.old
+        drivers.new }
+    ensures leaves { LeavesSlot (moment.now.steps + 1) slot home.old home.new process.new }
+    ensures guard { IsSetFor slot guard.new home.new }
+    ensures shown { result ≡ record { call = None; denial = Some denial } }
+{
+    let life = process.restarts;
+    let id = ProcessId { slot, life };
+    drivers.gone(&id);
+    match decide(moment.settings.policy, process.restarts) {
+        Action::Stop => stop_at(home, process, slot, denial),
+        Action::Restart => restart_at(home, process, guard, slot, denial, moment),
+    }
+    Shown {
+        call: None,
+        denial: Some(denial),
+    }
+}
+
+/// The call that the registers make is of an unknown class.
+fn unknown_class(process: &Process) -> Denial
+    ensures { result ≡ unknown_call process.now }
+{
+    Denial {
+        access: Access::Fetch,
+        address: process.regs.pc(),
+        rule: Rule::UnknownClass,
+    }
+}
+
+/// The driver of a command of the process in a slot, which the kernel left to it, replies to it or refuses it.
+#[inline(never)]
+fn command_driver(
+    home: &mut Home,
+    process: &mut Process,
+    drivers: &mut Drivers,
+    slot: Slot,
+    call: &Call,
+    moment: &Moment,
+) -> Outcome
+    requires turn { InTurn moment.now slot home.old process.old }
+    requires may { MayServe moment.now drivers.old slot (own_of home.old slot) }
+    requires left { is_for_driver moment.now.settings.strict
+        (object_in home.old.flash process.old.object) call.now ≡ true }
+    ensures serves { Finishes moment.now slot home.old process.old call.now home.new process.new
+        result drivers.old drivers.new }
+    ensures leaves { LeavesSlot (moment.now.steps + 1) slot home.old home.new process.new }
+{
+    commands_stay_in_place();
+    let Call::Command {
+        driver,
+        command,
+        a2,
+        a3,
+    } = *call
+    else {
+        unreachable!()
+    };
+    let Some(id) = home.id(slot) else {
+        unreachable!()
+    };
+    let order = Order {
+        driver,
+        number: command,
+        a2,
+        a3,
+    };
+    let (reply, rule) = drivers.command(home, moment.tick(), id, &order);
+    give_reply(process, reply, rule)
+}
+
+/// Whether the process has ended, or starts again.
+fn is_gone(outcome: Outcome) -> bool
+    ensures gone { result ≡ true → acts_for outcome ≡ leaving_all }
+    ensures none { result ≡ false → acts_for outcome ≡ [] }
+{
+    matches!(outcome, Outcome::Ended | Outcome::Again)
+}
+
+/// Serves a system call, and protects the process as its layout is afterwards.
+fn serve(
+    home: &mut Home,
+    process: &mut Process,
+    guard: &mut ActivePmp,
+    drivers: &mut Drivers,
+    slot: Slot,
+    call: &Call,
+    moment: &Moment,
+) -> Outcome
+    requires turn { InTurn moment.now slot home.old process.old }
+    requires may { MayServe moment.now drivers.old slot (own_of home.old slot) }
+    requires guard { IsSetFor slot guard.old home.old }
+    ensures serves { Finishes moment.now slot home.old process.old call.now home.new process.new
+        result drivers.old drivers.new }
+    ensures leaves { LeavesSlot (moment.now.steps + 1) slot home.old home.new process.new }
+    ensures guard { IsSetFor slot guard.new home.new }
+{
+    let layout = home.layout(slot);
+    let life = process.restarts;
+    let id = ProcessId { slot, life };
+    let outcome = match kernel_call(home, process, slot, call, moment.settings.strict) {
+        Outcome::ToDriver => command_driver(home, process, drivers, slot, call, moment),
+        outcome => {
+            if is_gone(outcome) {
+                drivers.gone(&id);
+            }
+            outcome
+        }
+    };
+    guard.refresh(home, slot, &layout);
+    outcome
+}
+
+/// Serves the system call that the registers make.
+fn serve_call(
+    home: &mut Home,
+    process: &mut Process,
+    guard: &mut ActivePmp,
+    drivers: &mut Drivers,
+    slot: Slot,
+    moment: &Moment,
+) -> Shown
+    requires turn { InTurn moment.now slot home.old process.old }
+    requires may { MayServe moment.now drivers.old slot (own_of home.old slot) }
+    requires guard { IsSetFor slot guard.old home.old }
+    ensures serves { ServesCall moment.now slot home.old.flash (resident home.old slot process.old)
+        (resident home.new slot process.new) result drivers.old drivers.new }
+    ensures leaves { LeavesSlot (moment.now.steps + 1) slot home.old home.new process.new }
+    ensures guard { IsSetFor slot guard.new home.new }
+{
+    let before = process.regs;
+    let Some(call) = Call::of(&before) else {
+        let denial = unknown_class(process);
+        return fault_at(home, process, guard, drivers, slot, denial, moment);
+    };
+    let outcome = serve(home, process, guard, drivers, slot, &call, moment);
+    Shown {
+        call: Some(call_shown(&before, outcome)),
+        denial: None,
+    }
+}
+
+/// One instruction of the process in a slot, which counts as a turn.
+fn make_instruction(
+    home: &mut Home,
+    process: &mut Process,
+    guard: &mut ActivePmp,
+    slot: Slot,
+    moment: &Moment,
+) -> TurnEnd
+    requires turn { MayTurn 1 moment.now slot home.old process.old guard.old }
+    requires runs { process.old.state ≡ Running }
+    ensures end { result
+        ≡ (next_instruction home.old.flash (resident home.old slot process.old)).end }
+    ensures made { IsMade slot home.old home.new process.old process.new }
+    ensures turn { InTurn moment.now slot home.new process.new }
+    ensures rest { ChangesOnly slot home.old home.new }
+    ensures guard { IsSetFor slot guard.new home.new }
+{
+    guard.switch_to(home, slot);
+    process.count_turn();
+    home.instruct(slot, &guard.pmp, &mut process.regs)
+}
+
+/// The turn of a process that runs: an instruction of it, and what a system call or a denial asks for. What it
+/// shows is told in `emit`, where nothing was told before: most turns show nothing, and write nothing there.
+fn run_on(
+    home: &mut Home,
+    process: &mut Process,
+    guard: &mut ActivePmp,
+    drivers: &mut Drivers,
+    slot: Slot,
+    moment: &Moment,
+    emit: &mut Emit,
+)
+    requires turn { MayTurn 1 moment.now slot home.old process.old guard.old }
+    requires runs { process.old.state ≡ Running }
+    requires may { MayServe moment.now drivers.old slot (own_of home.old slot) }
+    requires quiet { told_in_emit emit.old ≡ nothing_shown }
+    ensures turns { Turns moment.now slot home.old.flash (resident home.old slot process.old)
+        (resident home.new slot process.new) (told_in_emit emit.new) drivers.old drivers.new }
+    ensures leaves { LeavesSlot (moment.now.steps + 1) slot home.old home.new process.new }
+    ensures guard { IsSetFor slot guard.new home.new }
+    ensures emit { emit.new ≡ with_shown emit.old (told_in_emit emit.new) }
+{
+    match make_instruction(home, process, guard, slot, moment) {
+        TurnEnd::Went => {}
+        TurnEnd::Call => {
+            let shown = serve_call(home, process, guard, drivers, slot, moment);
+            tell(emit, shown);
+        }
+        TurnEnd::Trap(denial) => {
+            let shown = fault_at(home, process, guard, drivers, slot, denial, moment);
+            tell(emit, shown);
+        }
+    }
+}
+
+/// The turn of a process that waits: the first of its pending upcalls is delivered, if there is one. The
+/// registers are set for it, since it is the next to run. It shows nothing.
+fn wake(home: &mut Home, process: &mut Process, guard: &mut ActivePmp, slot: Slot, moment: &Moment)
+    requires turn { MayTurn 1 moment.now slot home.old process.old guard.old }
+    requires waits { process.old.state ≡ Yielded }
+    ensures turns { (drivers : Drivers) → Turns moment.now slot home.old.flash
+        (resident home.old slot process.old) (resident home.new slot process.new) nothing_shown
+        drivers drivers }
+    ensures leaves { LeavesSlot (moment.now.steps + 1) slot home.old home.new process.new }
+    ensures guard { IsSetFor slot guard.new home.new }
+{
+    guard.switch_to(home, slot);
+    if home.has_pending(slot) {
+        process.count_turn();
+        deliver(home, process, slot);
+    }
+}
+
+/// One turn of the process in a slot, which tells in `emit` what it shows. One that has ended has none, and
+/// nothing changes.
+pub fn take_turn(
+    home: &mut Home,
+    process: &mut Process,
+    guard: &mut ActivePmp,
+    drivers: &mut Drivers,
+    slot: Slot,
+    moment: &Moment,
+    emit: &mut Emit,
+)
+    requires turn { MayTurn 1 moment.now slot home.old process.old guard.old }
+    requires may { MayServe moment.now drivers.old slot (own_of home.old slot) }
+    requires quiet { told_in_emit emit.old ≡ nothing_shown }
+    ensures turns { Turns moment.now slot home.old.flash (resident home.old slot process.old)
+        (resident home.new slot process.new) (told_in_emit emit.new) drivers.old drivers.new }
+    ensures leaves { LeavesSlot (moment.now.steps + 1) slot home.old home.new process.new }
+    ensures guard { GuardsOnly guard.new home.new }
+    ensures emit { emit.new ≡ with_shown emit.old (told_in_emit emit.new) }
+{
+    match process.state {
+        State::Running => run_on(home, process, guard, drivers, slot, moment, emit),
+        State::Yielded => wake(home, process, guard, slot, moment),
+        State::Faulted | State::Terminated(_) => {}
+    }
+}
+
+/// One turn of the process in a slot, which tells in `emit` what it shows.
+pub fn turn_at(
+    home: &mut Home,
+    processes: &mut Vec<Process>,
+    guard: &mut ActivePmp,
+    drivers: &mut Drivers,
+    slot: Slot,
+    moment: &Moment,
+    emit: &mut Emit,
+)
+    requires turn { MayTurnAt 1 moment.now slot home.old processes.old.items guard.old }
+    requires may { MayServe moment.now drivers.old slot (own_of home.old slot) }
+    requires quiet { told_in_emit emit.old ≡ nothing_shown }
+    ensures turn { TurnsAt moment.now slot home.old home.new
+        processes.old.items processes.new.items (told_in_emit emit.new) drivers.old drivers.new }
+    ensures guard { GuardsOnly guard.new home.new }
+    ensures emit { emit.new ≡ with_shown emit.old (told_in_emit emit.new) }
+{
+    let process = &mut processes[slot.index()];
+    take_turn(home, process, guard, drivers, slot, moment, emit);
+}

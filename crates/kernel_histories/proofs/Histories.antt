@@ -1,0 +1,117 @@
+-- Over any choices a process holds the pairs that its turns last handed, and a swap gives them back.
+use Rattle.std.proofs.Common.{◌≡◌, ℕ, List, [], ◌∷◌, ◌++◌, slice_get, Option, None, Some, IfSome, sym, ap, subst, ◌∙◌}
+use Rattle.std.specs.Prelude.{reverse}
+use Rattle.std.specs.List.{flat_map}
+use Rattle.std.proofs.lemmas.List.{append_assoc, append-nil, reverse-append}
+use Rattle.tk_base.specs.declared.process.Choice.{Choice}
+use Rattle.tk_base.specs.declared.process.Choice.TheVariants.{Run}
+use Rattle.process_model.specs.Own.{Own}
+use Rattle.process_model.specs.Pairs.{HandsTheSame, OnlyHandingChangesPairs}
+use Rattle.driver_model.specs.Pairs.{DriversLeavePairs}
+use Rattle.process_record.specs.declared.emit.CallMade.{CallMade}
+use Rattle.kernel_model.specs.Record.{Record}
+use Rattle.kernel_model.specs.declared.settings.Settings.{Settings}
+use Rattle.kernel_model.specs.Turn.{Event, TurnTrace, apply, turned}
+use Rattle.kernel_model.specs.World.{Label, Stepped, TurnOf, World, after, carried_out, labels, ran}
+use Rattle.kernel_model.specs.Replay.{after_all}
+use Rattle.kernel_model.specs.Histories.{HandedNothing, PairKey, SwapsGiveBackTheLast, handed_by, last_pair, swap_reply}
+use Rattle.kernel_model.specs.Histories.{turns_in, turns_of}
+use Rattle.kernel_model.proofs.Places.{of_stepped}
+use Rattle.kernel_model.proofs.Steps.{IsAnswer, answer_changes, of_answer, of_step}
+use Rattle.kernel_histories.proofs.Swaps.{Remembers, follows_turn}
+
+-- what is known of the process in a slot, if there is one
+abbrev Known : List TurnTrace → Option Record → Type 0
+Known past o = IfSome o (Remembers past)
+
+-- what turns told, once some more told something
+abbrev with_more : List TurnTrace → List TurnTrace → List TurnTrace
+with_more more past = reverse more ++ past
+
+-- a process of which the pairs are those of before
+still : OnlyHandingChangesPairs → (past : List TurnTrace) (r : Record) (o : Own) (storage : List ℕ)
+    → HandsTheSame r.own o → Remembers past r → Remembers past (record r { own = o; storage = storage })
+still law past r o storage same remembers goes_on =
+    let k = remembers goes_on in
+    record {
+      shape = law.shape r.own o same k.shape;
+      application = k.application;
+      pairs = λ key. law.held r.own o same key.kind key.driver key.number ∙ k.pairs key;
+    }
+
+module _ (law : OnlyHandingChangesPairs) (drivers : DriversLeavePairs) where
+  answer_known : (past : List TurnTrace) (settings : Settings) (event : Event) (r : Record) → IsAnswer event
+      → Remembers past r → Remembers past (apply settings event r)
+  answer_known past settings event r is remembers =
+      subst (Remembers past) (sym (answer_changes settings event r is))
+      (still law past r _ _ (of_answer HandsTheSame drivers settings event r is) remembers)
+
+  step_known : (w : World) (choice : Choice) (slot : ℕ) (past : List TurnTrace) → Known past (slice_get w.records slot)
+      → Known (with_more (flat_map (turns_in slot) (labels w choice)) past) (slice_get (after w choice).records slot)
+  step_known w choice slot past known =
+      of_step w slot (λ tolds o. Known (with_more tolds past) o)
+      (record {
+        stays = known;
+        turn = λ r is. (follows_turn law drivers past w.settings w.clock.time r (at r is)).after;
+        answer = λ r is event answers. answer_known past w.settings event r answers (at r is);
+      })
+      choice
+    where
+      at : (r : Record) → slice_get w.records slot ≡ Some r → Remembers past r
+      at r is = subst (Known past) is known
+
+  all_known : (w : World) (choices : List Choice) (slot : ℕ) (past : List TurnTrace)
+      → Known past (slice_get w.records slot)
+      → Known (with_more (turns_of slot w choices) past) (slice_get (after_all w choices).records slot)
+  all_known w [] slot past known = known
+  all_known w (choice ∷ choices) slot past known =
+      subst (λ (p : List TurnTrace). Known p (slice_get (after_all (after w choice) choices).records slot))
+      (joined (flat_map (turns_in slot) (labels w choice)) (turns_of slot (after w choice) choices))
+      (all_known (after w choice) choices slot (with_more (flat_map (turns_in slot) (labels w choice)) past)
+      (step_known w choice slot past known))
+    where
+      joined : (first then : List TurnTrace) → with_more then (with_more first past) ≡ with_more (first ++ then) past
+      joined first then =
+          sym (append_assoc (reverse then) (reverse first) past)
+          ∙ ap (λ (turns : List TurnTrace). turns ++ past) (sym (reverse-append first then))
+
+  known_first : (o : Option Record) → IfSome o HandedNothing → Known [] o
+  known_first None nothing = tt
+  known_first (Some r) nothing = λ goes_on. record {
+    shape = (law.none r.own nothing.grants).shape;
+    application = nothing.application;
+    pairs = λ key. (law.none r.own nothing.grants).none key.kind key.driver key.number;
+  }
+
+  no_label : (slot time : ℕ) (told : TurnTrace) → ◌≡◌ {A = List Label} [] (TurnOf slot time told ∷ []) → ⊥
+  no_label slot time told e = cc
+
+  -- a step that tells a turn was made
+  turn_made : (w : World) (slot time : ℕ) (told : TurnTrace) → labels w (Run slot) ≡ TurnOf slot time told ∷ []
+      → (ran w slot (slice_get w.records slot)).labels ≡ TurnOf slot time told ∷ []
+  unfolding carried_out
+  turn_made w slot time told =
+      let tells = TurnOf slot time told ∷ [] in
+      of_stepped (λ (s : Stepped). s.labels ≡ tells → (ran w slot (slice_get w.records slot)).labels ≡ tells) w
+      (Run slot) (λ e. absurd (no_label slot time told e)) (λ ready e. e)
+
+  -- a turn that a step tells is the one that the process has
+  gives_back : (w : World) (slot time : ℕ) (past : List TurnTrace) (told : TurnTrace) (o : Option Record) → Known past o
+      → (ran w slot o).labels ≡ TurnOf slot time told ∷ []
+      → (made : CallMade) (key : PairKey) (pair : ℕ × ℕ) → told.call ≡ Some made → handed_by key made ≡ Some pair
+      → made.reply ≡ Some (swap_reply (last_pair key past) pair)
+  gives_back w slot time past told None known is made key pair call handed = absurd (no_label slot time told is)
+  gives_back w slot time past told (Some r) known is made key pair call handed =
+      let same : (turned w.settings w.clock.time r).told ≡ told = cc in
+      (follows_turn law drivers past w.settings w.clock.time r known).reply made key pair
+      (ap (λ (t : TurnTrace). t.call) same ∙ call) handed
+
+  pub swaps_give_back_the_last : SwapsGiveBackTheLast
+  swaps_give_back_the_last w slot nothing choices time told made key pair is call handed =
+      let v = after_all w choices in
+      let turns = turns_of slot w choices in
+      let known = all_known w choices slot [] (known_first (slice_get w.records slot) nothing) in
+      subst (λ (past : List TurnTrace). made.reply ≡ Some (swap_reply (last_pair key past) pair))
+      (append-nil (reverse turns))
+      (gives_back v slot time (with_more turns []) told (slice_get v.records slot) known (turn_made v slot time told is)
+      made key pair call handed)

@@ -1,0 +1,5 @@
+mod Swaps
+mod Histories
+mod Deliveries
+mod Delivered
+mod Schedulings

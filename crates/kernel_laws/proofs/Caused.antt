@@ -1,0 +1,232 @@
+-- The cause of each change that a step makes of a process's bytes, among its labels.
+use Rattle.std.proofs.Common.{slice_set, ◌≡◌, ◌⊎◌, inl, inr, ℕ, zero, suc, ◌++◌, ◌==◌, Bool, true, false, List, []}
+use Rattle.std.proofs.Common.{◌∷◌, slice_get}
+use Rattle.std.proofs.Common.{slice_index, Option, None, Some, IfSome, is_some, refl, sym, ap, subst, ◌∙◌, arith, eqb-true}
+use Rattle.std.proofs.Common.{eq-eqb}
+use Rattle.std.proofs.Math.Logic.{⊎_map}
+use Rattle.std.specs.List.{Any}
+use Rattle.std.specs.Prelude.{All}
+use Rattle.std.specs.Option.{option_map}
+use Rattle.std.proofs.lemmas.List.Elements.{All-nil, All-cons, All-head, All-tail}
+use Rattle.std.proofs.lemmas.Bool.{false≢true}
+use Rattle.tk_base.specs.declared.process.Choice.{Choice}
+use Rattle.tk_base.specs.declared.process.Choice.TheVariants.{Run, Device, Pass}
+use Rattle.process_model.specs.Changes.{ChangesAt, IsWhole}
+use Rattle.driver_model.specs.Bytes.{AnswersWriteInBuffers}
+use Rattle.process_record.specs.declared.emit.CallMade.{CallMade}
+use Rattle.kernel_model.specs.Record.{Record}
+use Rattle.kernel_model.specs.Turn.{Event, Turned, apply, turned}
+use Rattle.kernel_model.specs.World.{Answered, DeviceAnswer, Label, Stepped, TurnOf, World, after, carried_out}
+use Rattle.kernel_model.specs.World.{labels, printing, ran, stepped}
+use Rattle.kernel_model.specs.World.{unmade}
+use Rattle.kernel_model.specs.Run.{next, on_choice, round, stays as stays_at, runs_on}
+use Rattle.kernel_model.specs.Stretch.{IsQuietTurn}
+use Rattle.kernel_model.specs.Replay.{chosen, events, replay}
+use Rattle.kernel_model.specs.Causes.{AllHaveCauses, AnswerHasCauses, EachChangeHasACause, IsCause, IsDoneByTurn}
+use Rattle.kernel_model.specs.Causes.{IsStorageCause, StepsHaveCauses, StorageChangesAt, TurnHasCauses, TurnsHaveCauses}
+use Rattle.kernel_laws.proofs.Answered.{answer_has_causes}
+use Rattle.kernel_model.proofs.Places.{of_stepped, ran-other, ran-own, set_own, slice_get-set_other}
+use Rattle.kernel_model.specs.Laws.{answered}
+use Rattle.kernel_model.proofs.Replays.{one_step}
+use Rattle.kernel_model.proofs.Steps.{IsAnswer, of_answers}
+
+-- two records at one place are one
+same_record : (o : Option Record) (x y : Record) → o ≡ Some x → o ≡ Some y → x ≡ y
+same_record o x y e f = let both : Some x ≡ Some y = sym e ∙ f in cc
+
+-- what holds of a step's labels and of the record after it, where it does if the record stays, after its turn, and
+-- after
+-- an answer to it
+module _ (w : World) (slot : ℕ) (r : Record) (is : slice_get w.records slot ≡ Some r) (P : List Label → Record → Type 0)
+    (stays : (labels : List Label) → P labels r) where
+  -- after its turn
+  abbrev ByTurn : Type 0
+  ByTurn = let t = turned w.settings w.clock.time r in P (TurnOf slot w.clock.time t.told ∷ []) t.after
+
+  -- after an answer to it
+  abbrev ByAnswer : Type 0
+  ByAnswer = (event : Event) (rest : List Label) → IsAnswer event
+      → P (Answered slot event ∷ rest) (apply w.settings event r)
+
+  abbrev Leads : Stepped → Type 0
+  Leads x = (s : Record) → slice_get x.after.records slot ≡ Some s → P x.labels s
+
+  at_record : (labels : List Label) (x s : Record) (o : Option Record) → o ≡ Some x → o ≡ Some s → P labels x
+      → P labels s
+  at_record labels x s o e f holds = subst (P labels) (same_record o x s e f) holds
+
+  apart : (a b : ℕ) → (a == b) ≡ false → b ≡ a → ⊥
+  apart a b e same = false≢true (sym e ∙ eq-eqb a b (sym same))
+
+  of_ran : (other : ℕ) → ((other == slot) ≡ true → ByTurn) → (o : Option Record) → slice_get w.records other ≡ o
+      → Leads (ran w other o)
+  unfolding apply
+  of_ran other turn None e s f = at_record [] r s _ is f (stays [])
+  of_ran other turn (Some q) e s f = by_slot (other == slot) refl
+    where
+      t : Record → Turned
+      t x = turned w.settings w.clock.time x
+
+      by_slot : (b : Bool) → (other == slot) ≡ b → P (TurnOf other w.clock.time (t q).told ∷ []) s
+      by_slot true same_is =
+          let same : other ≡ slot = eqb-true other slot same_is in
+          let at_slot : slice_get w.records slot ≡ Some q = ap (slice_get w.records) (sym same) ∙ e in
+          let left : slice_get (ran w other (Some q)).after.records slot ≡ Some (t q).after =
+          ap (slice_get (ran w other (Some q)).after.records) (sym same) ∙ ran-own w other (Some q) e in
+          subst (λ (n : ℕ). P (TurnOf n w.clock.time (t q).told ∷ []) s) (sym same)
+          (at_record (TurnOf slot w.clock.time (t q).told ∷ []) (t q).after s _ left f
+          (subst (λ (x : Record). P (TurnOf slot w.clock.time (t x).told ∷ []) (t x).after)
+          (same_record _ r q is at_slot) (turn same_is)))
+      by_slot false e_is = at_record _ r s _ (ran-other w other slot (Some q) (apart other slot e_is) ∙ is) f (stays _)
+
+  of_one : ByAnswer → (at : ℕ) (q : Record) → slice_get w.records at ≡ Some q → (a : DeviceAnswer)
+      → IsAnswer a.answer.event → Leads (answered w at q a)
+  of_one answer at q there a tells s f = by_slot (at == slot) refl
+    where
+      event : Event
+      event = a.answer.event
+
+      rest : List Label
+      rest = printing at a.answer.printed
+
+      records : List Record
+      records = slice_set w.records at (apply w.settings event q)
+
+      by_slot : (b : Bool) → (at == slot) ≡ b → P (Answered at event ∷ rest) s
+      by_slot true same_is =
+          let same : at ≡ slot = eqb-true at slot same_is in
+          let at_slot : slice_get w.records slot ≡ Some q = ap (slice_get w.records) (sym same) ∙ there in
+          let left : slice_get records slot ≡ Some (apply w.settings event r) =
+          ap (slice_get records) (sym same) ∙ set_own w.records at (apply w.settings event q) q there
+          ∙ ap (λ (x : Record). Some (apply w.settings event x)) (sym (same_record _ r q is at_slot)) in
+          subst (λ (n : ℕ). P (Answered n event ∷ rest) s) (sym same)
+          (at_record (Answered slot event ∷ rest) (apply w.settings event r) s _ left f (answer event rest tells))
+      by_slot false e =
+          at_record _ r s _
+          (slice_get-set_other w.records at slot (apply w.settings event q) (apart at slot e) ∙ is) f (stays _)
+
+  of_none : Leads (unmade w)
+  of_none s f = at_record [] r s _ is f (stays [])
+
+  of_run : (other : ℕ) → ((other == slot) ≡ true → ByTurn) → Leads (stepped w (Run other))
+  unfolding carried_out
+  of_run other turn =
+      of_stepped Leads w (Run other) of_none (λ ready. of_ran other turn (slice_get w.records other) refl)
+
+  of_step : ByTurn → ByAnswer → (choice : Choice) → Leads (stepped w choice)
+  unfolding carried_out
+  of_step turn answer (Run other) = of_run other (λ same. turn)
+  of_step turn answer (Device device) =
+      of_stepped Leads w (Device device) of_none
+      (λ ready. of_answers w Leads of_none (λ devices. of_none) (of_one answer) device)
+  of_step turn answer (Pass ticks) = of_stepped Leads w (Pass ticks) of_none (λ ready. of_none)
+
+-- the first of some labels has the cause
+first : (P : Label → Type 0) (label : Label) (rest : List Label) → P label → Any P (label ∷ rest)
+first P label rest holds = (0, label, omega arith, refl, holds)
+
+-- what is to be shown of the labels, and of the record after the step
+record Caused (slot : ℕ) (r : Record) (labels : List Label) (s : Record) : Type 0 where
+  own : ChangesAt (λ at. Any (IsCause slot r s at) labels) r.own s.own
+  storage : StorageChangesAt (λ k. Any (IsStorageCause slot r k) labels) r.storage s.storage
+
+caused_same : (slot : ℕ) (r : Record) (labels : List Label) → Caused slot r labels r
+caused_same slot r labels = record { own = λ at before after. inl refl; storage = λ k within. inl refl }
+
+caused_turn : (slot time : ℕ) (r : Record) (t : Turned) → TurnHasCauses r t.after t.told
+    → Caused slot r (TurnOf slot time t.told ∷ []) t.after
+caused_turn slot time r t causes = record {
+  own = λ at before after. by_cause at (causes.own at before after);
+  storage = λ k within. inl (ap (λ (xs : List ℕ). slice_index xs k) causes.storage);
+}
+  where
+    by_cause : (at : ℕ) {A : Type 0} → A ⊎ IsDoneByTurn r t.after t.told at
+        → A ⊎ Any (IsCause slot r t.after at) (TurnOf slot time t.told ∷ [])
+    by_cause at (inl same) = inl same
+    by_cause at (inr cause) = inr (first (IsCause slot r t.after at) (TurnOf slot time t.told) [] (refl, cause))
+
+caused_answer : (slot : ℕ) (event : Event) (rest : List Label) (r s : Record) → AnswerHasCauses event r s
+    → Caused slot r (Answered slot event ∷ rest) s
+caused_answer slot event rest r s causes = record {
+  own = λ at before after.
+      ⊎_map (λ same. same) (λ inside. first (IsCause slot r s at) (Answered slot event) rest (refl, inside))
+      (causes.own at before after);
+  storage = λ k within. ⊎_map (λ same. same)
+      (λ covers. first (IsStorageCause slot r k) (Answered slot event) rest (refl, covers)) (causes.storage k within);
+}
+
+-- where the step is none of its events, its record stays
+stays_else : (w : World) (choice : Choice) (slot : ℕ) (r s : Record) → slice_get w.records slot ≡ Some r
+    → slice_get (after w choice).records slot ≡ Some s → events slot w choice ≡ [] → s ≡ r
+stays_else w choice slot r s is left none =
+    same_record (slice_get (after w choice).records slot) s r left
+    (one_step w choice slot ∙ ap (λ (h : List Event). option_map (replay w.settings h) (slice_get w.records slot)) none
+    ∙ ap (option_map (replay w.settings [])) is)
+
+no_call : (o : Option CallMade) → o ≡ None → is_some o ≡ true → ⊥
+no_call None none some = false≢true some
+no_call (Some made) none some = cc
+
+-- a step of which all labels are quiet turns answers nobody
+quiet_step : TurnsHaveCauses → (w : World) (choice : Choice) → All IsQuietTurn (labels w choice)
+    → EachChangeHasACause w choice
+quiet_step turns w choice quiet slot r s is left =
+    let caused = of_step w slot r is (λ ls s. All IsQuietTurn ls → Caused slot r ls s)
+    (λ ls each. caused_same slot r ls)
+    (λ each. let t = turned w.settings w.clock.time r in
+    caused_turn slot w.clock.time r t (turns w.settings w.clock.time r
+    (λ calls. absurd (no_call t.told.call (each 0 (TurnOf slot w.clock.time t.told) (omega arith)).0 calls))))
+    (λ event rest tells each. absurd (each 0 (Answered slot event) (omega arith))) choice s left quiet in
+    record { own = caused.own; storage = caused.storage; others = stays_else w choice slot r s is left }
+
+split : (P : Label → Type 0) (xs ys : List Label) → All P (xs ++ ys) → All P xs × All P ys
+split P [] ys each = (All-nil P, each)
+split P (x ∷ xs) ys each =
+    let rest = split P xs ys (All-tail P x (xs ++ ys) each) in
+    (All-cons P x xs (All-head P x (xs ++ ys) each) rest.0, rest.1)
+
+quiet_steps : TurnsHaveCauses → (k : ℕ) (w : World) → All IsQuietTurn (round k w).labels → AllHaveCauses w (chosen k w)
+unfolding round chosen
+quiet_steps turns zero w quiet = tt
+quiet_steps turns (suc k) w quiet = by_choice (next w) quiet (λ choice. quiet_steps turns k (after w choice))
+  where
+    by_choice : (o : Option Choice)
+        → All IsQuietTurn (on_choice (stays_at w) (λ choice. runs_on (round k) (stepped w choice)) o).labels
+        → ((choice : Choice) → All IsQuietTurn (round k (after w choice)).labels
+        → AllHaveCauses (after w choice) (chosen k (after w choice)))
+        → AllHaveCauses w (on_choice [] (λ choice. choice ∷ chosen k (after w choice)) o)
+    by_choice None each later = tt
+    by_choice (Some choice) each later =
+        let both = split IsQuietTurn (labels w choice) (round k (after w choice)).labels each in
+        (quiet_step turns w choice both.0, later choice both.1)
+
+pub steps_have_causes : TurnsHaveCauses → AnswersWriteInBuffers → StepsHaveCauses
+steps_have_causes turns answers = record {
+  turn = λ w other whole slot r s is left.
+      let caused = of_run w slot r is (Caused slot r) (caused_same slot r) other
+      (λ same. by_turn w slot r (at_slot w other slot r is whole same)) s left in
+      record { own = caused.own; storage = caused.storage; others = stays_else w (Run other) slot r s is left };
+  any = λ w choice whole slot r s is left.
+      let caused = of_step w slot r is (Caused slot r) (caused_same slot r)
+      (by_turn w slot r (whole slot r is)) (by_answer w slot r (whole slot r is)) choice s left in
+      record { own = caused.own; storage = caused.storage; others = stays_else w choice slot r s is left };
+  stretch = λ k w later stretch. quiet_steps turns k w stretch.quiet;
+}
+  where
+    by_turn : (w : World) (slot : ℕ) (r : Record) → IsWhole r.own → let t = turned w.settings w.clock.time r in
+        Caused slot r (TurnOf slot w.clock.time t.told ∷ []) t.after
+    by_turn w slot r whole =
+        caused_turn slot w.clock.time r (turned w.settings w.clock.time r)
+        (turns w.settings w.clock.time r (λ calls. whole))
+
+    -- the turn of another slot leaves the record, so what it asks of its own process is asked where it is that of the slot
+    at_slot : (w : World) (other slot : ℕ) (r : Record) → slice_get w.records slot ≡ Some r
+        → IfSome (slice_get w.records other) (λ x. IsWhole x.own) → (other == slot) ≡ true → IsWhole r.own
+    at_slot w other slot r is whole same =
+        subst (λ (o : Option Record). IfSome o (λ x. IsWhole x.own))
+        (ap (slice_get w.records) (eqb-true other slot same) ∙ is) whole
+
+    by_answer : (w : World) (slot : ℕ) (r : Record) → IsWhole r.own → (event : Event) (rest : List Label)
+        → IsAnswer event → Caused slot r (Answered slot event ∷ rest) (apply w.settings event r)
+    by_answer w slot r whole event rest tells =
+        caused_answer slot event rest r _ (answer_has_causes answers w.settings event r tells whole)

@@ -1,0 +1,10 @@
+pub mod Refused
+pub mod Kept
+pub mod Turns
+mod Stretch
+mod Causes
+mod Answered
+mod Caused
+mod OneRun
+mod Tables
+mod Words

@@ -1,0 +1,332 @@
+-- The run by round robin and its choices, and when it is done.
+use Rattle.std.proofs.Common.{◌≡◌, ◌≤◌, ◌<◌, ℕ, zero, suc, ◌+◌, ◌-◌, ◌==◌, Bool, true, false, cond, not, ◌&&◌, nat_le}
+use Rattle.std.proofs.Common.{nat_lt, List, [], ◌∷◌, length, map, fold, find, slice_get, slice_index_or, Option, None}
+use Rattle.std.proofs.Common.{Some, IfSome, IsTrue, option_and_then, refl, sym, ap, subst, ◌∙◌, arith}
+use Rattle.std.specs.List.{range_with_len}
+use Rattle.std.specs.Option.{option_map, option_or}
+use Rattle.std.proofs.lemmas.Bool.{false≢true}
+use Rattle.std.proofs.lemmas.Bool.Decides.{nat_tests}
+use Rattle.std.proofs.lemmas.List.Folds.{find-append}
+use Rattle.tk_base.specs.declared.limits.TheConstants.{SLOT_COUNT, STEP_LIMIT}
+use Rattle.tk_base.specs.declared.process.Choice.{Choice}
+use Rattle.tk_base.specs.declared.process.Choice.TheVariants.{Run, Device, Pass}
+use Rattle.tk_base.specs.declared.process.Dev.{Dev}
+use Rattle.tk_base.specs.declared.process.Dev.TheVariants as dev
+use Rattle.turn_scheduler.specs.RoundRobin.{choice, device_order, goes_on as slice_lasts, place_is_ready as is_ready_at}
+use Rattle.turn_scheduler.specs.RoundRobin.{next_slot, device_place, ready_device, slots_after}
+use Rattle.driver_model.specs.Alarm.{alarm_in, left_if, ticks_left_in, ticks_left_of, nearer, nearer_with, next_left}
+use Rattle.driver_model.specs.Laws.{IsDueWhereNoneAreLeft}
+use Rattle.script_text.specs.Settings.{ScriptEvent as Arrival}
+use Rattle.board_devices.specs.Arriving.{first_arrival_time as arrival_time}
+use Rattle.process_model.specs.Own.{Own}
+use Rattle.driver_model.specs.Commands.{Writes}
+use Rattle.kernel_model.specs.Record.{Record}
+use Rattle.kernel_model.specs.Turn.{may_turn}
+use Rattle.kernel_model.specs.World.{World, after, can_act, can_run, is_ready, is_waited_for, now_in, owns_in}
+use Rattle.kernel_model.specs.World.{slots_in, stepped}
+use Rattle.kernel_model.specs.Run.{alarm_time, runs_on, next, next_time, on_choice, ready_devices, ready_slots, round}
+use Rattle.kernel_model.specs.Run.{sending_time, stays}
+use Rattle.kernel_model.specs.Choices.{are_ready, labels_of_all}
+use Rattle.kernel_model.specs.Replay.{after_all, chosen}
+use Rattle.kernel_laws.specs.OneRun.{ChosenAreReady, HasNoAlarm, IsDoneWhereNothingIsLeft, NothingIsLeft, OneRun}
+use Rattle.kernel_model.proofs.Places.{of_world}
+use Rattle.kernel_laws.proofs.Turns.{step_same}
+use Rattle.kernel_model.proofs.Runs.{next_ready, passed_over, ready_at}
+
+pub one_run : OneRun
+unfolding round chosen
+one_run zero w = refl
+one_run (suc n) w = by_choice (next w) (λ c. one_run n (after w c))
+  where
+    by_choice : (o : Option Choice)
+        → ((c : Choice)
+        → round n (after w c)
+        ≡ record {
+          world = after_all (after w c) (chosen n (after w c));
+          labels =
+              labels_of_all (after w c) (chosen n (after w c));
+        })
+        → on_choice (stays w) (λ c. runs_on (round n) (stepped w c)) o
+        ≡ record {
+          world = after_all w (on_choice [] (λ c. c ∷ chosen n (after w c)) o);
+          labels = labels_of_all w (on_choice [] (λ c. c ∷ chosen n (after w c)) o);
+        }
+    by_choice None later = refl
+    by_choice (Some c) later = rw (later c) refl
+
+-- a step counts one at most
+pub steps_at_most : (w : World) (c : Choice) → (after w c).clock.steps ≤ w.clock.steps + 1
+steps_at_most w c =
+    of_world (λ v. v.clock.steps ≤ w.clock.steps + 1) w (omega arith) (λ slot t. omega arith) (λ deed. omega arith)
+    (λ ticks. omega arith) c
+
+both_true : (a b : Bool) → IsTrue a → b ≡ true → (a && b) ≡ true
+both_true true b h e = e
+both_true false b h e = absurd (false≢true h)
+
+pub chosen_are_ready : IsDueWhereNoneAreLeft → ChosenAreReady
+unfolding chosen
+chosen_are_ready law zero w within = refl
+chosen_are_ready law (suc n) w within = by_choice (next w) refl (λ c within. chosen_are_ready law n (after w c) within)
+  where
+    by_choice : (o : Option Choice) → next w ≡ o
+        → ((c : Choice) → (after w c).clock.steps + n ≤ STEP_LIMIT
+        → are_ready (after w c) (chosen n (after w c)) ≡ true)
+        → are_ready w (on_choice [] (λ c. c ∷ chosen n (after w c)) o) ≡ true
+    by_choice None e later = refl
+    by_choice (Some c) e later =
+        both_true (is_ready w c) (are_ready (after w c) (chosen n (after w c)))
+        (next_ready w c law e (omega (arith, within)))
+        (later c (omega (arith, within, steps_at_most w c)))
+
+-- what the round robin reads of the records
+told_ready : (records : List Record) (s : ℕ)
+    → slice_index_or (map may_turn records) s false ≡ can_run (slice_get records s)
+told_ready [] s = refl
+told_ready (r ∷ rs) zero = refl
+told_ready (r ∷ rs) (suc s) = told_ready rs s
+
+mapped_get : {X Y : Type 0} (f : X → Y) (xs : List X) (i : ℕ) → slice_get (map f xs) i ≡ option_map f (slice_get xs i)
+mapped_get f [] i = refl
+mapped_get f (x ∷ xs) zero = refl
+mapped_get f (x ∷ xs) (suc i) = mapped_get f xs i
+
+beyond : {X : Type 0} (xs : List X) (i : ℕ) → length xs ≤ i → slice_get xs i ≡ None
+beyond [] i h = refl
+beyond (x ∷ xs) zero h = absurd (omega (arith, h))
+beyond (x ∷ xs) (suc i) h = beyond xs i (omega (arith, h))
+
+-- where none is found, none passes; and the other way
+none_found : {X : Type 0} (p : X → Bool) (xs : List X) → ((x : X) → p x ≡ false) → find p xs ≡ None
+none_found p [] none = refl
+none_found p (x ∷ xs) none = ap (λ (b : Bool). cond b (Some x) (find p xs)) (none x) ∙ none_found p xs none
+
+none_in_range : (p : ℕ → Bool) (from count slot : ℕ) → find p (range_with_len from count) ≡ None → from ≤ slot
+    → slot < from + count → p slot ≡ false
+none_in_range p from zero slot e low high = absurd (omega (arith, low, high))
+none_in_range p from (suc count) slot e low high =
+    let none = passed_over (p from) from (find p (range_with_len (from + 1) count)) e in
+    by_first (slot == from) refl none (λ above.
+    none_in_range p (from + 1) count slot none.1 above (omega (arith, high)))
+  where
+    by_first : (b : Bool) → (slot == from) ≡ b → (p from ≡ false) × (find p (range_with_len (from + 1) count) ≡ None)
+        → (from + 1 ≤ slot → p slot ≡ false) → p slot ≡ false
+    by_first true same none later = let at : slot ≡ from = grind (arith, nat_tests) in ap p at ∙ none.0
+    by_first false apart none later = later (grind (arith, nat_tests))
+
+none_before : {X : Type 0} (a b : Option X) → option_or a b ≡ None → (a ≡ None) × (b ≡ None)
+none_before None b e = (refl, e)
+none_before (Some x) b e = cc
+
+mapped_none : {X Y : Type 0} (f : X → Y) (o : Option X) → option_map f o ≡ None → o ≡ None
+mapped_none f None e = refl
+mapped_none f (Some x) e = cc
+
+none_in_order : (p : ℕ → Bool) (present : Option ℕ) (slot : ℕ) → find p (slots_after present) ≡ None → slot < SLOT_COUNT
+    → p slot ≡ false
+none_in_order p None slot e h = none_in_range p 0 SLOT_COUNT slot e (omega arith) (omega (arith, h))
+none_in_order p (Some at) slot e h =
+    let parts = none_before (find p (range_with_len (at + 1) (SLOT_COUNT - (at + 1))))
+    (find p (range_with_len 0 (at + 1)))
+    (sym (find-append p (range_with_len (at + 1) (SLOT_COUNT - (at + 1))) (range_with_len 0 (at + 1))) ∙ e) in
+    by_side (nat_le (at + 1) slot) refl parts
+  where
+    by_side : (b : Bool) → nat_le (at + 1) slot ≡ b
+        → (find p (range_with_len (at + 1) (SLOT_COUNT - (at + 1))) ≡ None)
+        × (find p (range_with_len 0 (at + 1)) ≡ None) → p slot ≡ false
+    by_side true side parts =
+        let low : at + 1 ≤ slot = grind (arith, nat_tests) in
+        none_in_range p (at + 1) (SLOT_COUNT - (at + 1)) slot parts.0 low (omega (arith, h, low))
+    by_side false side parts =
+        let high : slot < at + 1 = grind (arith, nat_tests) in
+        none_in_range p 0 (at + 1) slot parts.1 (omega arith) (omega (arith, high))
+
+-- no slot has the next turn exactly where none is ready
+no_turn : (ready : List Bool) (present : Option ℕ) (used slice slot : ℕ) → next_slot ready present used slice ≡ None
+    → slot < SLOT_COUNT → is_ready_at ready slot ≡ false
+unfolding next_slot
+no_turn ready None used slice slot e h = none_in_order (is_ready_at ready) None slot e h
+no_turn ready (Some at) used slice slot e h = by_lasts (slice_lasts ready (Some at) used slice) e
+  where
+    by_lasts : (b : Bool) → cond b (Some at) (find (is_ready_at ready) (slots_after (Some at))) ≡ None
+        → is_ready_at ready slot ≡ false
+    by_lasts true f = cc
+    by_lasts false f = none_in_order (is_ready_at ready) (Some at) slot f h
+
+none_has_turn : (ready : List Bool) (present : Option ℕ) (used slice : ℕ)
+    → ((slot : ℕ) → is_ready_at ready slot ≡ false) → next_slot ready present used slice ≡ None
+unfolding next_slot
+none_has_turn ready None used slice none = none_found (is_ready_at ready) (slots_after None) none
+none_has_turn ready (Some at) used slice none =
+    ap (λ (b : Bool). cond (b && nat_lt used slice) (Some at) (find (is_ready_at ready) (slots_after (Some at))))
+    (none at)
+    ∙ none_found (is_ready_at ready) (slots_after (Some at)) none
+
+-- no alarm is ahead exactly where none is armed
+nearer_none : (a b : Option ℕ) → nearer a b ≡ None → (a ≡ None) × (b ≡ None)
+nearer_none None b e = (refl, e)
+nearer_none (Some m) None e = cc
+nearer_none (Some m) (Some n) e = cc
+
+folded_none : (now : ℕ) (owns : List Own) (from count : ℕ) (least : Option ℕ)
+    → fold (nearer_with now owns) least (range_with_len from count) ≡ None
+    → (least ≡ None) × ((slot : ℕ) → from ≤ slot → slot < from + count → ticks_left_in now owns slot ≡ None)
+folded_none now owns from zero least e = (e, λ slot low high. absurd (omega (arith, low, high)))
+folded_none now owns from (suc count) least e =
+    let later = folded_none now owns (from + 1) count (nearer_with now owns least from) e in
+    let here = nearer_none least (ticks_left_in now owns from) later.0 in
+    (here.0, λ slot low high. by_first here.1 later.1 slot low high (slot == from) refl)
+  where
+    by_first : ticks_left_in now owns from ≡ None
+        → ((slot : ℕ) → from + 1 ≤ slot → slot < from + 1 + count → ticks_left_in now owns slot ≡ None) → (slot : ℕ)
+        → from ≤ slot → slot < from + suc count → (b : Bool) → (slot == from) ≡ b → ticks_left_in now owns slot ≡ None
+    by_first here later slot low high true same = let at : slot ≡ from = grind (arith, nat_tests) in
+        ap (ticks_left_in now owns) at ∙ here
+    by_first here later slot low high false apart =
+        let above : from + 1 ≤ slot = grind (arith, nat_tests) in
+        later slot above (omega (arith, high))
+
+none_folded : (now : ℕ) (owns : List Own) (slots : List ℕ) → ((slot : ℕ) → ticks_left_in now owns slot ≡ None)
+    → fold (nearer_with now owns) None slots ≡ None
+none_folded now owns [] none = refl
+none_folded now owns (slot ∷ slots) none =
+    ap (λ (least : Option ℕ). fold (nearer_with now owns) least slots) (none slot) ∙ none_folded now owns slots none
+
+unarmed : (now : ℕ) (own : Own) → ticks_left_of now own ≡ None → own.lives ≡ true → alarm_in own ≡ None
+unarmed now own e lives =
+    by_alarm (alarm_in own) (sym (ap (λ (b : Bool). cond b (left_if now (alarm_in own)) None) lives) ∙ e)
+  where
+    by_alarm : (o : Option _) → left_if now o ≡ None → o ≡ None
+    by_alarm None f = refl
+    by_alarm (Some armed) f = cc
+
+none_left : (now : ℕ) (own : Own) → (own.lives ≡ true → alarm_in own ≡ None) → ticks_left_of now own ≡ None
+none_left now own none = by_lives own.lives none
+  where
+    by_lives : (b : Bool) → (b ≡ true → alarm_in own ≡ None) → cond b (left_if now (alarm_in own)) None ≡ None
+    by_lives true none = ap (left_if now) (none refl)
+    by_lives false none = refl
+
+left_at : (w : World) (slot : ℕ)
+    → ticks_left_in (now_in w) (owns_in w) slot
+    ≡ option_and_then (λ (r : Record). ticks_left_of (now_in w) r.own) (slice_get w.records slot)
+left_at w slot =
+    ap (option_and_then (ticks_left_of (now_in w))) (mapped_get (λ (r : Record). r.own) w.records slot)
+    ∙ by_record (slice_get w.records slot)
+  where
+    by_record : (o : Option Record)
+        → option_and_then (ticks_left_of (now_in w)) (option_map (λ (r : Record). r.own) o)
+        ≡ option_and_then (λ (r : Record). ticks_left_of (now_in w) r.own) o
+    by_record None = refl
+    by_record (Some r) = refl
+
+no_alarm : (w : World) (slot : ℕ) → ticks_left_in (now_in w) (owns_in w) slot ≡ None
+    → IfSome (slice_get w.records slot) HasNoAlarm
+no_alarm w slot e = by_record (slice_get w.records slot) (sym (left_at w slot) ∙ e)
+  where
+    by_record : (o : Option Record) → option_and_then (λ (r : Record). ticks_left_of (now_in w) r.own) o ≡ None
+        → IfSome o HasNoAlarm
+    by_record None f = tt
+    by_record (Some r) f = unarmed (now_in w) r.own f
+
+no_alarm_left : (w : World) (slot : ℕ) → IfSome (slice_get w.records slot) HasNoAlarm
+    → ticks_left_in (now_in w) (owns_in w) slot ≡ None
+no_alarm_left w slot none = left_at w slot ∙ by_record (slice_get w.records slot) none
+  where
+    by_record : (o : Option Record) → IfSome o HasNoAlarm
+        → option_and_then (λ (r : Record). ticks_left_of (now_in w) r.own) o ≡ None
+    by_record None f = refl
+    by_record (Some r) f = none_left (now_in w) r.own f
+
+no_arrivals : (arrivals : List Arrival) → arrival_time arrivals ≡ None → arrivals ≡ []
+no_arrivals [] e = refl
+no_arrivals (a ∷ rest) e = cc
+
+no_writes : (writes : List ℕ) (free : ℕ) → cond (is_waited_for writes) (Some free) None ≡ None → writes ≡ []
+no_writes [] free e = refl
+no_writes (slot ∷ rest) free e = absurd (none_waits (length (slot ∷ rest) == 0) refl e)
+  where
+    none_waits : (b : Bool) → (length (slot ∷ rest) == 0) ≡ b → cond (not b) (Some free) None ≡ None → ⊥
+    none_waits true is f = let none : length (slot ∷ rest) ≡ 0 = grind (arith, nat_tests) in omega (arith, none)
+    none_waits false is f = cc
+
+within_or_beyond : (w : World) (slot : ℕ) (P : Option Record → Type 0) → length w.records ≤ SLOT_COUNT → P None
+    → (slot < SLOT_COUNT → P (slice_get w.records slot)) → P (slice_get w.records slot)
+within_or_beyond w slot P few none some = by_side (nat_lt slot SLOT_COUNT) refl
+  where
+    by_side : (b : Bool) → nat_lt slot SLOT_COUNT ≡ b → P (slice_get w.records slot)
+    by_side true e = some (grind (arith, nat_tests))
+    by_side false e =
+        let above : SLOT_COUNT ≤ slot = grind (arith, nat_tests) in
+        subst P (sym (beyond w.records slot (omega (arith, few, above)))) none
+
+none_acts : (w : World) → ready_device (ready_devices w) ≡ None → (device : Dev) → can_act w device ≡ false
+unfolding ready_device
+none_acts w e device =
+    let event = passed_over (can_act w dev.Event) dev.Event _ e in
+    let alarm = passed_over (can_act w dev.Alarm) dev.Alarm _ event.1 in
+    let uart = passed_over (can_act w dev.Uart) dev.Uart _ alarm.1 in
+    let receive = passed_over (can_act w dev.Receive) dev.Receive _ uart.1 in
+    let random = passed_over (can_act w dev.Random) dev.Random _ receive.1 in
+    let store = passed_over (can_act w dev.Store) dev.Store _ random.1 in
+    by_device device event.0 alarm.0 uart.0 receive.0 random.0 store.0
+  where
+    by_device : (device : Dev) → can_act w dev.Event ≡ false → can_act w dev.Alarm ≡ false → can_act w dev.Uart ≡ false
+        → can_act w dev.Receive ≡ false → can_act w dev.Random ≡ false → can_act w dev.Store ≡ false
+        → can_act w device ≡ false
+    by_device dev.Event a b c d e f = a
+    by_device dev.Alarm a b c d e f = b
+    by_device dev.Uart a b c d e f = c
+    by_device dev.Receive a b c d e f = d
+    by_device dev.Random a b c d e f = e
+    by_device dev.Store a b c d e f = f
+
+nothing_left : (w : World) → length w.records ≤ SLOT_COUNT → next w ≡ None → NothingIsLeft w
+unfolding next choice next_left
+nothing_left w few e =
+    let device = none_before (option_map Device (ready_device (ready_devices w))) _ e in
+    let turn = none_before (option_map Run (next_slot (ready_slots w) w.present.slot w.present.used w.pace.slice)) _
+    device.1 in
+    let times = nearer_none (arrival_time w.devices.arrivals) _
+    (mapped_none (λ (at : ℕ). Pass (at - w.clock.time)) (next_time w) turn.1) in
+    let later = nearer_none (alarm_time w) (sending_time w.devices) times.1 in
+    let alarms = (folded_none (now_in w) (owns_in w) 0 SLOT_COUNT None
+    (mapped_none (λ (left : ℕ). w.clock.time + left) (next_left (now_in w) (owns_in w)) later.0)).1 in
+    record {
+      slots = λ slot. within_or_beyond w slot (λ o. can_run o ≡ false) few refl (λ h.
+          sym (told_ready w.records slot)
+          ∙ no_turn (ready_slots w) w.present.slot w.present.used w.pace.slice slot (mapped_none Run _ turn.0) h);
+      devices = none_acts w (mapped_none Device _ device.0);
+      arrivals = no_arrivals w.devices.arrivals times.0;
+      alarms = λ slot. within_or_beyond w slot (λ o. IfSome o HasNoAlarm) few tt
+          (λ h. no_alarm w slot (alarms slot (omega arith) (omega (arith, h))));
+      writes = no_writes (slots_in Writes w.devices.waiting) w.devices.line.free later.1;
+    }
+
+is_done : (w : World) → NothingIsLeft w → next w ≡ None
+unfolding next choice ready_device next_left
+is_done w none =
+    let device : ready_device (ready_devices w) ≡ None =
+    none_found (λ d. is_ready_at (ready_devices w) (device_place d)) device_order
+    (λ d. ready_at w d ∙ none.devices d) in
+    let turn = none_has_turn (ready_slots w) w.present.slot w.present.used w.pace.slice
+    (λ slot. told_ready w.records slot ∙ none.slots slot) in
+    let alarm : alarm_time w ≡ None =
+    ap (option_map (λ (left : ℕ). w.clock.time + left))
+    (none_folded (now_in w) (owns_in w) (range_with_len 0 SLOT_COUNT)
+    (λ slot. no_alarm_left w slot (none.alarms slot))) in
+    let time : next_time w ≡ None =
+    ap (λ (a : List Arrival). nearer (arrival_time a) (nearer (alarm_time w) (sending_time w.devices))) none.arrivals
+    ∙ ap (λ (o : Option ℕ). nearer o (sending_time w.devices)) alarm
+    ∙ ap (λ (writes : List ℕ). cond (is_waited_for writes) (Some w.devices.line.free) None) none.writes in
+    ap (λ (o : Option Dev). option_or (option_map Device o)
+    (option_or (option_map Run (next_slot (ready_slots w) w.present.slot w.present.used w.pace.slice))
+    (option_map (λ (at : ℕ). Pass (at - w.clock.time)) (next_time w)))) device
+    ∙ ap (λ (o : Option ℕ). option_or (option_map Run o)
+    (option_map (λ (at : ℕ). Pass (at - w.clock.time)) (next_time w))) turn
+    ∙ ap (option_map (λ (at : ℕ). Pass (at - w.clock.time))) time
+
+pub is_done_where_nothing_is_left : IsDoneWhereNothingIsLeft
+is_done_where_nothing_is_left w [] few = (nothing_left w few, is_done w)
+is_done_where_nothing_is_left w (choice ∷ choices) few =
+    is_done_where_nothing_is_left (after w choice) choices (omega (arith, few, (step_same w choice).records))

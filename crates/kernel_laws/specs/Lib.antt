@@ -1,0 +1,4 @@
+pub mod Fairness
+pub mod OneRun
+pub mod Tables
+pub mod Words

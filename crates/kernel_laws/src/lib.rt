@@ -1,0 +1,11 @@
+//! Laws of the abstract kernel's steps and of its runs by round robin, each the contract of a function that does
+//! nothing: what a turn keeps, asks and changes, quiet stretches, who has turns.
+#![tactic(auto)]
+
+mod bytes;
+mod rounds;
+mod steps;
+
+pub use bytes::{answers_have_causes, steps_have_causes, turns_have_causes};
+pub use rounds::{a_run_is_one_run, ready_processes_have_turns, round_is_stretch, rounds_join};
+pub use steps::{grants_change_at_calls, refusals_change_little, tables_name_the_same_drivers, turns_keep_lines, words_are_drawn_in_order};

@@ -1,0 +1,9 @@
+mod Accounts
+mod Changes
+mod Lives
+mod Counts
+mod Reopened
+mod Prints
+mod Lists
+mod Wholes
+mod Loads

@@ -1,0 +1,17 @@
+//! What each step answers for.
+ghost use Rattle.kernel_model.specs.Accounts.{StepsAreAccountedFor};
+
+use crate::certified::prints_are_of_buffers;
+use kernel_laws::{refusals_change_little, steps_have_causes};
+use kernel_model::each_access_is_permitted;
+
+/// What each step answers for: the cause of each byte that it changes, that its accesses were permitted and its denials
+/// due, that a refused call changes little, and that what it prints was in the buffer that its process then held.
+pub fn steps_are_accounted_for()
+    ensures { StepsAreAccountedFor }
+{
+    steps_have_causes();
+    each_access_is_permitted();
+    refusals_change_little();
+    prints_are_of_buffers();
+}

@@ -1,5 +1,0 @@
-use Rattle.kernel_model.proofs.Caused.{steps_have_causes}
-use Rattle.kernel_model.proofs.bytes.steps_have_causes.Goals as goal
-
-pub returns : goal.returns
-returns c = steps_have_causes c.turns_have_causes.ensures c.drivers_write_in_buffers.ensures.answers

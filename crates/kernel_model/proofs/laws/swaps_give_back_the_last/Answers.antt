@@ -1,5 +1,0 @@
-use Rattle.kernel_model.proofs.Histories.{swaps_give_back_the_last}
-use Rattle.kernel_model.proofs.laws.swaps_give_back_the_last.Goals as goal
-
-pub returns : goal.returns
-returns c = swaps_give_back_the_last c.only_handing_changes_pairs.ensures c.drivers_leave_pairs.ensures
