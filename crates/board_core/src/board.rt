@@ -33,7 +33,9 @@ use driver_model::an_alarm_is_due_where_no_ticks_are_left;
 use grant_enter::Home;
 use kernel_laws::{grants_change_at_calls, turns_keep_lines};
 use kernel_lives::steps_are_accounted_for;
-use kernel_model::{Settings, a_record_is_the_replay_of_its_events, devices_answer_one, next_is_ready};
+use kernel_model::{
+    Settings, a_record_is_the_replay_of_its_events, devices_answer_one, next_is_ready,
+};
 use led_capsule::bits;
 use process_model::Object;
 use process_record::{Emit, Process, SlotLine, Summary, object_name};
@@ -41,7 +43,10 @@ use script_text::Script;
 use std::alloc::Global;
 use std::marker::Model;
 use tbf_headers::object_at;
-use tk_base::{Choice, Dev, FLASH_LIMIT, FLASH_START, NotReady, OBJECT_LIMIT, PRINT_LIMIT, PlaceFault, SLOT_COUNT, STEP_LIMIT, Slot};
+use tk_base::{
+    Choice, Dev, FLASH_LIMIT, FLASH_START, NotReady, OBJECT_LIMIT, PRINT_LIMIT, PlaceFault,
+    SLOT_COUNT, STEP_LIMIT, Slot,
+};
 use tk_outside::NoMemory;
 use turn_scheduler::{Status, next_choice, next_slot, used_after};
 

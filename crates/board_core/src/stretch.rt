@@ -11,9 +11,9 @@ ghost use Rattle.kernel_model.specs.Stretch.{GoesOn, IsStretch};
 ghost use Rattle.board_drivers.specs.Calm.{HasCome, IsCalm, ServesNobody, coming};
 ghost use Rattle.board_core.specs.Stretches.{EndsStretch, slot_runs};
 
+use crate::board::Board;
 use board_drivers::{Drivers, Moment};
 use board_turns::turns_at;
-use crate::board::Board;
 use grant_enter::Home;
 use kernel_laws::round_is_stretch;
 use kernel_lives::steps_are_accounted_for;

@@ -127,13 +127,28 @@ module _ (id : ProcessId) (d : Drivers) where
       ([] ∷ (Waits Writes ∷ []) ∷ (Waits Reads ∷ []) ∷ (Leaves Reads ∷ []) ∷ []) of (
         λ w r. lists_drive id [] d _ stay refl (elim [ Writes ↦ w | Reads ↦ r | Randoms ↦ refl | Stores ↦ refl ]),
         (
-          λ w r. lists_drive id (Waits Writes ∷ []) d _ stay refl (elim [ Writes ↦ w | Reads ↦ r | Randoms ↦ refl |
-              Stores ↦ refl ]),
+          λ w r. lists_drive id (Waits Writes ∷ []) d _ stay refl (elim [
+            | Writes ↦ w
+            | Reads ↦ r
+            | Randoms ↦ refl
+            | Stores ↦ refl
+          ]),
           (
-            λ w r. lists_drive id (Waits Reads ∷ []) d _ stay refl (elim [ Writes ↦ w | Reads ↦ r | Randoms ↦ refl |
-                Stores ↦ refl ]),
-            (λ w r. lists_drive id (Leaves Reads ∷ []) d _ stay refl (elim [ Writes ↦ w | Reads ↦ r | Randoms ↦ refl
-                | Stores ↦ refl ]), tt),
+            λ w r. lists_drive id (Waits Reads ∷ []) d _ stay refl (elim [
+              | Writes ↦ w
+              | Reads ↦ r
+              | Randoms ↦ refl
+              | Stores ↦ refl
+            ]),
+            (
+              λ w r. lists_drive id (Leaves Reads ∷ []) d _ stay refl (elim [
+                | Writes ↦ w
+                | Reads ↦ r
+                | Randoms ↦ refl
+                | Stores ↦ refl
+              ]),
+              tt,
+            ),
           ),
         ),
       )
@@ -150,8 +165,15 @@ module _ (id : ProcessId) (d : Drivers) where
       → Drives id acts d (record d { random = record { waiting = randoms } })) acts ([] ∷ (Waits Randoms ∷ []) ∷ [])
       of (
         λ r. lists_drive id [] d _ stay refl (elim [ Writes ↦ refl | Reads ↦ refl | Randoms ↦ r | Stores ↦ refl ]),
-        (λ r. lists_drive id (Waits Randoms ∷ []) d _ stay refl (elim [ Writes ↦ refl | Reads ↦ refl | Randoms ↦ r |
-            Stores ↦ refl ]), tt),
+        (
+          λ r. lists_drive id (Waits Randoms ∷ []) d _ stay refl (elim [
+            | Writes ↦ refl
+            | Reads ↦ refl
+            | Randoms ↦ r
+            | Stores ↦ refl
+          ]),
+          tt,
+        ),
       )
     where
       stay : OthersStay d (record d { random = record { waiting = randoms } })
@@ -166,8 +188,15 @@ module _ (id : ProcessId) (d : Drivers) where
       → Drives id acts d (record d { storage = record { waiting = stores } })) acts ([] ∷ (Waits Stores ∷ []) ∷ [])
       of (
         λ r. lists_drive id [] d _ stay refl (elim [ Writes ↦ refl | Reads ↦ refl | Randoms ↦ refl | Stores ↦ r ]),
-        (λ r. lists_drive id (Waits Stores ∷ []) d _ stay refl (elim [ Writes ↦ refl | Reads ↦ refl | Randoms ↦ refl
-            | Stores ↦ r ]), tt),
+        (
+          λ r. lists_drive id (Waits Stores ∷ []) d _ stay refl (elim [
+            | Writes ↦ refl
+            | Reads ↦ refl
+            | Randoms ↦ refl
+            | Stores ↦ r
+          ]),
+          tt,
+        ),
       )
     where
       stay : OthersStay d (record d { storage = record { waiting = stores } })

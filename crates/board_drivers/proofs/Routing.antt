@@ -113,8 +113,11 @@ routed_is slot (act ∷ acts) d =
 pub drives_shown : (id : ProcessId) (acts : List BoardRequest) (d d' : Drivers) → Drives id acts d d'
     → devices_of d' ≡ routed id.slot acts (devices_of d)
 drives_shown id acts d d' t =
-    devices_same (devices_of d') (record (devices_of d) { waiting = waiting_by after; leds = lit_after acts (led_bits
-        d.leds) })
+    devices_same (devices_of d') (record (devices_of d) {
+      waiting = waiting_by after;
+      leds = lit_after acts (led_bits
+          d.leds);
+    })
     (λ queue. slots_by (λ (q : QueueName). slots_of (ids_waiting_in d' q)) queue ∙ ap slots_of (t.queues queue)
     ∙ slots_acts queue id (ids_waiting_in d queue) acts ∙ sym (slots_by after queue)) t.leds t.line t.arrivals t.words
     (ap (λ (s : StoredSlots). s.served) t.bytes) (ap (λ (s : StoredSlots). s.faults) t.bytes)

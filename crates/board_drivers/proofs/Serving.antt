@@ -613,7 +613,7 @@ serves_stored b h lines law lent id is_there first =
           first (its_record_was b h id is_there)
           (elim [ Writes ↦ refl | Reads ↦ refl | Randoms ↦ refl | Stores ↦ refl ]) refl
           ∙ ap (λ (a : DeviceAnswer). Some (answering id.slot a)) (ap₂ (λ (n : ℕ) (faults : List ℕ). telling (Stored
-              (not fails)) []
+          (not fails)) []
           (record (devices_of b.drivers) {
             waiting = waiting_by (λ queue. slots_of (ids_waiting_in ((stores b).after
                 (waiting_still a.completed id.slot b.drivers.storage.waiting) s') queue));

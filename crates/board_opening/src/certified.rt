@@ -7,7 +7,11 @@ ghost use Rattle.board_opening.specs.Certified.{IsDoneFromBoot, ListsFromBootAre
 
 use crate::laws::a_process_depends_on_its_own_view_alone;
 use kernel_laws::{a_run_is_one_run, words_are_drawn_in_order};
-use kernel_lives::{lists_are_of_requests, owns_stay_whole, places_never_change, prints_are_of_buffers, processes_live_as_they_run, restarts_are_as_opened, steps_are_accounted_for, time_steps_and_turns_add_up};
+use kernel_lives::{
+    lists_are_of_requests, owns_stay_whole, places_never_change, prints_are_of_buffers,
+    processes_live_as_they_run, restarts_are_as_opened, steps_are_accounted_for,
+    time_steps_and_turns_add_up,
+};
 use process_model::only_handing_changes_pairs;
 
 /// Whatever choices are made after a boot: a process lives exactly while it is Running or Yielded, and its life is the

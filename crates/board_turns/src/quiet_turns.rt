@@ -5,8 +5,8 @@ ghost use Rattle.board_drivers.specs.Residents.{resident};
 ghost use Rattle.board_turns.specs.Turning.{LeavesSlot, MayTurn, MayTurnAt};
 ghost use Rattle.board_turns.specs.Quiet.{QuietAt, Quietly};
 
-use board_drivers::Moment;
 use crate::guard::ActivePmp;
+use board_drivers::Moment;
 use grant_enter::Home;
 use process_record::Process;
 use tk_base::Slot;

@@ -16,8 +16,8 @@ ghost use Rattle.board_turns.specs.Guards.{GuardsOnly, IsSetFor};
 ghost use Rattle.board_drivers.specs.Residents.{id_of, resident, resident_turns};
 ghost use Rattle.board_turns.specs.Turning.{Finishes, InTurn, IsMade, LeavesSlot, MayTurn, ServesCall, Settles, Turns, next_instruction, nothing_shown, told_in_emit, with_shown, MayTurnAt, TurnsAt};
 
-use board_drivers::{Drivers, Moment, Order};
 use crate::guard::ActivePmp;
+use board_drivers::{Drivers, Moment, Order};
 use driver_model::commands_stay_in_place;
 use fault_policy::{Action, decide};
 use grant_enter::Home;

@@ -158,11 +158,11 @@ sends flash own = by_waiting (waiting_in console_writes own) refl
     by_portion write true is =
         then_told _ console_writes None (scheduling console.console 1 (write.taken ∷ 0 ∷ 0 ∷ []) own) own
         (put_beside own _ (serves _ _ _ own.ram own (as_before own)) Writes write None refl (asks console_writes own
-            write is))
+        write is))
     by_portion write false is =
         put_beside own _ (serves_silently own.ram own (as_before own)) Writes write
         (Some (record write { taken = write.taken + console.portion write own })) refl (asks console_writes own write
-            is)
+        is)
 
     by_waiting : (w : Option WaitingWrite) → waiting_in console_writes own ≡ w
         → Sends own (unwrap_or (option_map (console.sending flash own) w) (console.unsent own))

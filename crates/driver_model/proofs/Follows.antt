@@ -132,7 +132,7 @@ lines_follow_commands driver taker is around number a2 a3 own =
           ∙ asked_still queue alarm_driver own.grants in
           follows around own _ refl (λ queue. ap is_some (same queue))
           (within_still around.storage own (with_alarm (Some alarm) (own_entering alarm_driver own)) (same Stores))
-              (λ queue. refl);
+          (λ queue. refl);
       stops = follows around own _ refl (λ queue. ap is_some (arms_apart queue None own))
           (within_still around.storage own (with_alarm None own) (arms_apart Stores None own)) (λ queue. refl);
       cancels = cancels around own;

@@ -206,16 +206,16 @@ module _ (law : DueSlotIsThere) (w : World) (h : AreThere (length w.records) w.d
       (λ slot due. omega (arith, law (now_in w) slot (owns_in w) due, length-map w.records (λ r. r.own))) e
   deed_made dev.Uart e =
       first_made (transmitting w.clock.time w.devices) (slots_in Writes w.devices.waiting) (h Writes) (both _ _ e) (λ
-          slot r. left_there Writes slot _)
+      slot r. left_there Writes slot _)
   deed_made dev.Receive e =
       first_made (receive_step w.devices) (slots_in Reads w.devices.waiting) (h Reads) (both _ _ e) (λ slot r.
-          left_there Reads slot _)
+      left_there Reads slot _)
   deed_made dev.Random e =
       first_made (random_step w.devices) (slots_in Randoms w.devices.waiting) (h Randoms) e (λ slot r. left_there
-          Randoms slot _)
+      Randoms slot _)
   deed_made dev.Store e =
       first_made (storing w.devices) (slots_in Stores w.devices.waiting) (h Stores) e (λ slot r. left_there Stores
-          slot _)
+      slot _)
 
 -- an answer leaves the turns
 told_turns : (w : World) (device : Dev)

@@ -89,7 +89,7 @@ times_after here times (act ∷ acts) = times_after here (times_by here act time
 
 acted_own : (here : QueueName) (slot : ℕ) (act : BoardRequest) (d : Devices)
     → times_in slot (slots_in here (acted slot act d).waiting)
-        ≡ times_by here act (times_in slot (slots_in here d.waiting))
+    ≡ times_by here act (times_in slot (slots_in here d.waiting))
 acted_own here slot (Waits line) d =
     ap (times_in slot) (queue_with here line (λ slots. slots ++ slot ∷ []) d) ∙ by_same (is_same line here)
   where
@@ -115,7 +115,7 @@ acted_other here slot other (Waits line) d apart =
   where
     by_same : (b : Bool)
         → times_in other (cond b (slots_in here d.waiting ++ slot ∷ []) (slots_in here d.waiting))
-            ≡ times_in other (slots_in here d.waiting)
+        ≡ times_in other (slots_in here d.waiting)
     by_same true = joined_other slot other (slots_in here d.waiting) apart
     by_same false = refl
 acted_other here slot other (Leaves line) d apart =
@@ -130,7 +130,7 @@ acted_other here slot other (Lights led switch) d apart = refl
 
 routed_own : (here : QueueName) (slot : ℕ) (acts : List BoardRequest) (d : Devices)
     → times_in slot (slots_in here (routed slot acts d).waiting)
-        ≡ times_after here (times_in slot (slots_in here d.waiting)) acts
+    ≡ times_after here (times_in slot (slots_in here d.waiting)) acts
 routed_own here slot [] d = refl
 routed_own here slot (act ∷ acts) d =
     routed_own here slot acts (acted slot act d) ∙ ap (λ (n : ℕ). times_after here n acts) (acted_own here slot act d)

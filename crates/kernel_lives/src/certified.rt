@@ -5,7 +5,10 @@ ghost use Rattle.kernel_model.specs.Lives.{AsManyStay, BlocksStayApart, DropsOnl
 ghost use Rattle.kernel_model.specs.Prints.{PrintsAreOfBuffers, PrintsCouldBeLoaded};
 ghost use Rattle.kernel_model.specs.Wholes.{ChoicesHaveCauses, HasWholeOwn, OwnsStayWhole};
 
-use driver_model::{a_due_slot_is_there, drivers_keep_buffers_below_the_mark, drivers_keep_places_and_order, events_tell_steps, lines_follow_answers};
+use driver_model::{
+    a_due_slot_is_there, drivers_keep_buffers_below_the_mark, drivers_keep_places_and_order,
+    events_tell_steps, lines_follow_answers,
+};
 use kernel_laws::{steps_have_causes, turns_keep_lines};
 use kernel_model::drivers_promise;
 use process_model::only_handing_changes_pairs;

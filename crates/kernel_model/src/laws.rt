@@ -3,7 +3,11 @@ ghost use Rattle.kernel_model.specs.Laws.{DriversPromise, NextIsReady, NextLiesA
 ghost use Rattle.kernel_model.specs.Laws.{DevicesAnswerOne, OnlyItsOwnEvents, RefusedChangesNothingElse};
 ghost use Rattle.kernel_model.specs.Replay.{RecordIsReplay, RoundFollowsChoices, SameHistorySameRecord};
 
-use driver_model::{a_command_drops_at_most_one_upcall, a_driver_that_refuses_changes_nothing, an_alarm_is_due_where_no_ticks_are_left, commands_stay_in_place, drivers_keep_places_and_order, lines_follow_commands, only_drivers_move_lines};
+use driver_model::{
+    a_command_drops_at_most_one_upcall, a_driver_that_refuses_changes_nothing,
+    an_alarm_is_due_where_no_ticks_are_left, commands_stay_in_place, drivers_keep_places_and_order,
+    lines_follow_commands, only_drivers_move_lines,
+};
 
 /// What the laws of calls rest on: the laws of the drivers' commands, and of the requests that drivers keep.
 pub fn drivers_promise()

@@ -7,5 +7,8 @@ mod laws;
 mod settings;
 
 pub use every_run::each_access_is_permitted;
-pub use laws::{drivers_promise, a_record_is_the_replay_of_its_events, devices_answer_one, next_is_ready, no_call_is_left, only_its_own_events, refused_changes_nothing_else};
+pub use laws::{
+    a_record_is_the_replay_of_its_events, devices_answer_one, drivers_promise, next_is_ready,
+    no_call_is_left, only_its_own_events, refused_changes_nothing_else,
+};
 pub use settings::Settings;

@@ -6,9 +6,9 @@ ghost use Rattle.kernel_model.specs.Run.{round, printed};
 ghost use Rattle.tock_cli.specs.RunText.{run_text, run_end_of, ending_text, steps, IsWorldOf};
 ghost use Rattle.tock_cli.specs.RunWriter.{steps_text, telling_of};
 
+use crate::teller::RunWriter;
 use board_core::Board;
 use board_report::{End, write_report};
-use crate::teller::RunWriter;
 use kernel_laws::rounds_join;
 use kernel_model::devices_answer_one;
 use process_record::Emit;

@@ -6,12 +6,12 @@ ghost use Rattle.tock_cli.specs.Causes.{told_by};
 ghost use Rattle.tock_cli.specs.Ready.{IsFresh, task_of};
 ghost use Rattle.tock_cli.specs.Served.{Happens, RefusalIs, TaskIs, Serves, exit_status_of, sink_account};
 
-use board_core::Board;
-use board_opening::runs_from_boot_are_accounted_for;
 use crate::list::list_out;
 use crate::prepare::{Ready, prepare};
 use crate::refusal::Refusal;
 use crate::run::run_out;
+use board_core::Board;
+use board_opening::runs_from_boot_are_accounted_for;
 use std::alloc::Global;
 use tk_outside::{Shelf, Sink, put_all};
 

@@ -33,10 +33,10 @@ happened w (Run other) slot = by_slot (slot == other) refl
   where
     by_slot : (b : Bool) → (slot == other) ≡ b
         → Happens w slot (cond b (Some (record { event = Turn w.clock.time; printed = [] })) None) (carried_out w
-            (Run other))
+        (Run other))
     by_slot true e =
         subst (λ (n : ℕ). Happens w n (Some (record { event = Turn w.clock.time; printed = [] })) (carried_out w (Run
-            other))) (sym (eqb-true slot other e))
+        other))) (sym (eqb-true slot other e))
         (ran-own w other (slice_get w.records other) refl)
     by_slot false e =
         ran-other w other slot (slice_get w.records other)

@@ -62,7 +62,7 @@ returns-in_err-tell-clause-text g c =
     omega (arith, c.if-made-turns.false, c.loop-made-test.true, e.most) in
     MatchResult-from_err c.from_residual.result _ _ c.from_residual.ensures.0
     (λ _. part r law c.devices_answer_one.ensures c.in-Some.choice c.tell.new.out c.step.new.emit left (sym
-        c.in-Some.ensures.next)
+    c.in-Some.ensures.next)
     c.in-Ok.ensures.shown c.in_err-tell.ensures.text)
 
 pub returns-in_err-tell-clause-some : goal.returns-in_err-tell-clause-some
@@ -87,7 +87,7 @@ loop-made-preserved g c =
     let left : c.loop-made.made + c.run_quietly-made.result < c.args.turns =
     omega (arith, c.if-made-turns.false, c.loop-made-test.true, e.most) in
     one_more r law c.devices_answer_one.ensures c.in-Some.choice c.step.new.self c.tell.new.out c.step.new.emit
-        c.tell.new.self left
+    c.tell.new.self left
     (sym c.in-Some.ensures.next) c.in-Ok.ensures.ok c.in-Ok.ensures.shown told.text told.kept told.count
 
 pub returns-clause-text : goal.returns-clause-text
