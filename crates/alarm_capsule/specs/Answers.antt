@@ -24,8 +24,7 @@ AlarmReplies command answer own =
     (answer ≡ reply_of command.answer) × (own ≡ own_after command.step) × (command.acts ≡ [])
 
 -- The lowest slot whose alarm is due got its answer, and is told the tick, and nothing else changed; or none is due,
--- and
--- nothing changed.
+-- and nothing changed.
 abbrev pub AlarmAnswers : ℕ → Homes → Result Answer NotReady → Homes → Type 0
 AlarmAnswers now old (Err refusal) new = (due_slot now old.owns ≡ None) × (new ≡ old)
 AlarmAnswers now old (Ok answer) new =

@@ -1,6 +1,6 @@
 -- Commands to each driver.
 use Rattle.std.proofs.Common.{◌≡◌, inl, inr, ℕ, ◌==◌, Bool, true, false, cond, nat_lt, List, [], ◌∷◌, length, find}
-use Rattle.std.proofs.Common.{Option, Some, Ok, refl, sym, ap, subst, ◌∙◌}
+use Rattle.std.proofs.Common.{Option, Some, Ok, option_map, unwrap_or, refl, sym, ap, subst, ◌∙◌}
 use Rattle.std.specs.List.{AllByRecursion}
 use Rattle.std.specs.Option.{option_map}
 use Rattle.tk_base.specs.declared.call.CallRule.{CallRule}
@@ -15,7 +15,7 @@ use Rattle.driver_model.specs.Replies.{reply_of}
 use Rattle.driver_model.specs.Asked.{OneOf}
 use Rattle.driver_model.specs.Steps.{own_after, silently}
 use Rattle.driver_model.specs.Commands.{BoardRequest, Commanded, Waits, Leaves, Lights, Switch, On, Off, Toggle}
-use Rattle.driver_model.specs.Commands.{by_number, refusing, row_or_refused, QueueName, Writes, Reads, Randoms, Stores}
+use Rattle.driver_model.specs.Commands.{by_number, refusing, QueueName, Writes, Reads, Randoms, Stores}
 use Rattle.driver_model.specs.Drivers.{CommandHandler, handler_by}
 use Rattle.driver_model.specs.Leds as leds
 use Rattle.driver_model.specs.Leds.{led_bits, lit_after}
@@ -32,7 +32,8 @@ rows_keep own [] number all = refl
 rows_keep own (row ∷ rows) number all = by_test (row.0 == number) (rows_keep own rows number all.1)
   where
     by_test : (b : Bool) → own_after (by_number own rows number).step ≡ own
-        → own_after (row_or_refused own (cond b (Some row) (find (λ row. row.0 == number) rows))).step ≡ own
+        → own_after (unwrap_or (option_map (λ r. r.1) (cond b (Some row) (find (λ row. row.0 == number) rows)))
+        (refusing NoCommand own)).step ≡ own
     by_test true others = all.0
     by_test false others = others
 

@@ -234,8 +234,7 @@ first_may_be_told queue settings time steps home d driven lost below =
     }
 
 -- A device that answers the first of a line: what its answer to a process comes to; the drivers by who waits in the
--- line
--- and by the device afterwards, and what was printed then.
+-- line and by the device afterwards, and what was printed then.
 record Answering (D : Type 0) : Type 0 where
   device : Dev
   here : QueueName

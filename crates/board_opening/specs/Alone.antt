@@ -63,9 +63,8 @@ abbrev pub OpeningsAreAlone : Type 0
 OpeningsAreAlone = (script : Script) (flash : List ℕ) → OpensAlone (opening script flash)
 
 -- On any two boards of two images and scripts, whatever their other objects and settings are, and after any two lists
--- of
--- choices: if a process of each has the same object in the same place, under the same settings that a process can see,
--- and the same turns and answers, then it has the same record. The slots may differ.
+-- of choices: if a process of each has the same object in the same place, under the same settings that a process can
+-- see, and the same turns and answers, then it has the same record. The slots may differ.
 abbrev pub SameViewSameRecord : Type 0
 SameViewSameRecord = (script other : Script) (flash image : List ℕ) (choices others : List Choice) (slot place : ℕ)
     (r s : Record) →

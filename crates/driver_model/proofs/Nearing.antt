@@ -1,6 +1,6 @@
 -- The ticks that are left of alarms.
 use Rattle.std.proofs.Common.{◌≡◌, ◌<◌, ◌≤◌, ℕ, ◌+◌, ◌-◌, ◌%◌, ◌^◌, ◌==◌, min, nat_le, Bool, true, false, cond, ◌||◌}
-use Rattle.std.proofs.Common.{List, [], ◌∷◌, find, fold, slice_get, is_some, IfSome, option_and_then, Option, None}
+use Rattle.std.proofs.Common.{List, [], ◌∷◌, find, fold, slice_get, is_some, IfSome, option_and_then, option_map, Option, None}
 use Rattle.std.proofs.Common.{Some, refl, ap, sym, ◌∙◌, arith, eqb-true}
 use Rattle.std.proofs.lemmas.Bool.{false≢true}
 use Rattle.std.proofs.lemmas.Bool.Decides.{nat_tests}
@@ -8,7 +8,7 @@ use Rattle.std.specs.List.{range_with_len}
 use Rattle.tk_base.specs.declared.limits.TheConstants.{SLOT_COUNT}
 use Rattle.grant_values.specs.declared.alarm.Armed.{Armed}
 use Rattle.process_model.specs.Own.{Own}
-use Rattle.driver_model.specs.Alarm.{alarm_in, due_slot, has_due, if_due, is_due, left_if, ticks_left_in, ticks_left_of}
+use Rattle.driver_model.specs.Alarm.{alarm_in, due_slot, has_due, if_due, is_due, ticks_left, ticks_left_in, ticks_left_of}
 use Rattle.driver_model.specs.Alarm.{nearer, nearer_with, next_left}
 use Rattle.driver_model.specs.Laws.{IsDueWhereNoneAreLeft, QuietUntilNext, TimeBringsNearer}
 
@@ -38,7 +38,7 @@ some_if true alarm = refl
 some_if false alarm = refl
 
 armed_now : (now : ℕ) (lives : Bool) (armed : Option Armed)
-    → is_now (cond lives (left_if now armed) None) ≡ is_some (cond lives (if_due now armed) None)
+    → is_now (cond lives (option_map (ticks_left now) armed) None) ≡ is_some (cond lives (if_due now armed) None)
 unfolding is_now
 armed_now now false armed = refl
 armed_now now true None = refl
@@ -130,7 +130,7 @@ none_if : (b : Bool) (alarm : Armed) → b ≡ false → is_some (cond b (Some a
 none_if b alarm e = ap (λ (x : Bool). is_some (cond x (Some alarm) None)) e
 
 armed_quiet : (now passed : ℕ) (lives : Bool) (armed : Option Armed)
-    → MoreLeft passed (cond lives (left_if now armed) None)
+    → MoreLeft passed (cond lives (option_map (ticks_left now) armed) None)
     → is_some (cond lives (if_due ((now + passed) % 2 ^ 32) armed) None) ≡ false
 armed_quiet now passed false armed more = refl
 armed_quiet now passed true None more = refl

@@ -1,11 +1,12 @@
 -- What holds of each row of a table holds of the one that is found.
-use Rattle.std.proofs.Common.{◌≡◌, ℕ, ◌==◌, Bool, true, false, cond, List, [], ◌∷◌, find, Option, None, Some, subst, refl, ap, sym, ◌∙◌, eqb-true}
+use Rattle.std.proofs.Common.{◌≡◌, ℕ, ◌==◌, Bool, true, false, cond, List, [], ◌∷◌, find, Option, None, Some}
+use Rattle.std.proofs.Common.{unwrap_or, subst, refl, ap, sym, ◌∙◌, eqb-true}
 use Rattle.std.specs.Option.{option_map}
 use Rattle.tk_base.specs.declared.call.CallRule.TheVariants.{NoCommand}
 use Rattle.grant_values.specs.declared.drivers.Driver.{Driver}
 use Rattle.grant_values.specs.Drivers.{driver_of, drivers, number_of_driver}
 use Rattle.process_model.specs.Own.{Own}
-use Rattle.driver_model.specs.Commands.{Commanded, by_number, refusing, row_or_refused}
+use Rattle.driver_model.specs.Commands.{Commanded, by_number, refusing}
 use Rattle.driver_model.specs.Drivers.{CommandHandler, handler_by, handler_of}
 
 unfoldable pub Each : {X : Type 0} → (X → Type 0) → List (ℕ × X) → Type 0
@@ -40,7 +41,7 @@ if_found {X = X} P Q (row ∷ rows) number each none some =
 pub commanded_at : (P : Commanded → Type 0) (own : Own) (rows : List (ℕ × Commanded)) (number : ℕ)
     → P (refusing NoCommand own) → EachAt number P rows → P (by_number own rows number)
 commanded_at P own rows number none each =
-    if_found P (λ row. P (row_or_refused own row)) rows number each none (λ row here. here)
+    if_found P (λ row. P (unwrap_or (option_map (λ r. r.1) row) (refusing NoCommand own))) rows number each none (λ row here. here)
 
 pub commanded : (P : Commanded → Type 0) (own : Own) (rows : List (ℕ × Commanded)) (number : ℕ)
     → P (refusing NoCommand own) → Each P rows → P (by_number own rows number)

@@ -1,7 +1,7 @@
 -- The alarm (Tock's driver 0x0): a process arms one alarm by a reference and a delta, in ticks of a clock of 32 bits.
 -- The clock that it shows in a buffer which the process reads (Tock's userspace-readable allow) is this board's own rule.
 use Rattle.std.specs.Prelude.{ℕ, ◌+◌, ◌-◌, ◌%◌, ◌^◌, min, nat_le, Bool, if◌then◌else◌, List, [], ◌∷◌, find, fold}
-use Rattle.std.specs.Prelude.{slice_get, Option, None, Some, is_some, option_and_then}
+use Rattle.std.specs.Prelude.{slice_get, Option, None, Some, is_some, option_and_then, option_map}
 use Rattle.std.specs.Int.{w32, to_le_bytes}
 use Rattle.std.specs.List.{range_with_len}
 use Rattle.tk_base.specs.declared.call.CallRule.TheVariants.{NoRoom, Nothing}
@@ -110,14 +110,9 @@ due_slot now owns = find (λ slot. has_due now (slice_get owns slot)) (range_wit
 abbrev pub ticks_left : ℕ → Armed → ℕ
 ticks_left now alarm = alarm.delta - (now + (2 ^ 32 - alarm.reference)) % 2 ^ 32
 
--- the ticks that are left until an alarm is due, if one is armed
-abbrev pub left_if : ℕ → Option Armed → Option ℕ
-left_if now None = None
-left_if now (Some alarm) = Some (ticks_left now alarm)
-
 -- the ticks that are left of a process's alarm; none of one that has ended, or has none armed
 abbrev pub ticks_left_of : ℕ → Own → Option ℕ
-ticks_left_of now own = if own.lives then left_if now (alarm_in own) else None
+ticks_left_of now own = if own.lives then option_map (ticks_left now) (alarm_in own) else None
 
 -- the ticks that are left of the alarm of the process in a slot, if there is one
 abbrev pub ticks_left_in : ℕ → List Own → ℕ → Option ℕ

@@ -1,5 +1,6 @@
 -- What comes of a command that a process gives to a driver (TRD 104, "Command").
-use Rattle.std.specs.Prelude.{ℕ, ◌==◌, Bool, List, [], ◌∷◌, find, Option, None, Some, Result, Ok, Err}
+use Rattle.std.specs.Prelude.{ℕ, ◌==◌, Bool, List, [], ◌∷◌, find, Option, Result, Ok, Err, option_map}
+use Rattle.std.specs.Prelude.{unwrap_or}
 use Rattle.tk_base.specs.declared.call.CallRule.{CallRule}
 use Rattle.tk_base.specs.declared.call.CallRule.TheVariants.{NoCommand}
 use Rattle.syscall_abi.specs.declared.reply.Reply.{Reply}
@@ -54,11 +55,7 @@ accepting reply own = record { answer = Ok reply; step = silently own; acts = []
 abbrev pub refusing : CallRule → Own → Commanded
 refusing rule own = record { answer = Err rule; step = silently own; acts = [] }
 
--- a command is found by its number in the table of its driver; a number that is not there is refused
-abbrev pub row_or_refused : Own → Option (ℕ × Commanded) → Commanded
-row_or_refused own None = refusing NoCommand own
-row_or_refused own (Some row) = row.1
-
 -- the command of a number by a driver's table; refused where the table has no such number
 abbrev pub by_number : Own → List (ℕ × Commanded) → ℕ → Commanded
-by_number own rows number = row_or_refused own (find (λ row. row.0 == number) rows)
+by_number own rows number =
+    unwrap_or (option_map (λ row. row.1) (find (λ row. row.0 == number) rows)) (refusing NoCommand own)

@@ -76,8 +76,7 @@ unfoldable pub command : ℕ → ℕ → Own → Commanded
 command number count own = by_number own (commands count own) number
 
 -- how many bytes of a write the UART takes next: at most so many of those that are left; as many are to be taken as it
--- asks
--- for, and no more than the buffer has that is held now
+-- asks for, and no more than the buffer has that is held now
 abbrev pub portion : WaitingWrite → Own → ℕ
 portion write own = min PRINT_LIMIT (min write.length (held ReadOnly console 1 own).1 - write.taken)
 
@@ -105,8 +104,7 @@ abbrev pub read_status : Own → ℕ
 read_status own = if (held ReadWrite console 1 own).1 == 0 then code_of SIZE else 0
 
 -- a process whose read completes with bytes, which are moved to the start of the buffer that is held now: upcall 2
--- tells
--- the status, and how many bytes were moved
+-- tells the status, and how many bytes were moved
 abbrev pub reading_in : List ℕ → Own → WaitingRead → DriverStep
 reading_in bytes own read =
     scheduling console 2 (read_status own ∷ length bytes ∷ 0 ∷ [])

@@ -20,8 +20,7 @@ costs (g ∷ gs) = cost_of (shape_of g.driver) + costs gs
 
 -- The places of a process's memory stand in their order: the start of the block, the mark below which the break may not
 -- move, the break, and the kernel break, from which on the grants of the drivers that were entered fill the block to
--- its
--- end (Levy et al., SOSP 2017).
+-- its end (Levy et al., SOSP 2017).
 pub record IsInOrder (own : Own) : Type 0 where
   pub mark : own.layout.start ≤ own.layout.mark
   pub brk : own.layout.mark ≤ own.layout.brk
@@ -61,8 +60,7 @@ abbrev pub HoldsBelowMark : Own → Type 0
 HoldsBelowMark own = HoldsInPlace (record own { layout = record own.layout { brk = own.layout.mark } })
 
 -- A process's own in order, and whole: its bytes end at the kernel break, where its grants begin; each buffer that it
--- has
--- allowed lies in accessible flash, or in its RAM below the mark; it has as many pairs as its drivers have numbers.
+-- has allowed lies in accessible flash, or in its RAM below the mark; it has as many pairs as its drivers have numbers.
 pub record IsSettled (own : Own) : Type 0 where
   pub order : IsInOrder own
   pub bytes : length own.ram ≡ own.layout.kernel_break - own.layout.start

@@ -54,8 +54,7 @@ pub record Progress : Type 0 where
   pub step : DriverStep
   pub drawn : Option ℕ
 
--- a request completes: upcall 0 tells how (1 where no word was left for it, else 0), and how many bytes were
--- written
+-- a request completes: upcall 0 tells how (1 where no word was left for it, else 0), and how many bytes were written
 abbrev pub completing : Option ℕ → ℕ → ℕ → Own → Progress
 completing drawn outcome bytes own =
     record { rest = None; step = scheduling random 0 (outcome ∷ bytes ∷ 0 ∷ []) own; drawn = drawn }

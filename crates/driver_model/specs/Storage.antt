@@ -1,6 +1,5 @@
--- The storage (driver 0x50001 in Tock's list of drivers): each slot has bytes of its own, which outlive its
--- process. It asks to read some of them into its read-write buffer 0, or to write over some from its read-only
--- buffer 0.
+-- The storage (driver 0x50001 in Tock's list of drivers): each slot has bytes of its own, which outlive its process. It
+-- asks to read some of them into its read-write buffer 0, or to write over some from its read-only buffer 0.
 use Rattle.std.specs.Prelude.{ℕ, ◌+◌, Bool, true, false, min, nat_le, if◌then◌else◌, List, [], ◌∷◌, slice_range}
 use Rattle.std.specs.Prelude.{take, Option, None, Some, option_map, unwrap_or}
 use Rattle.tk_base.specs.declared.call.CallRule.TheVariants.{Range}

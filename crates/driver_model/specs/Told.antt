@@ -1,5 +1,5 @@
 -- What devices tell the processes that they serve, in the words of whoever speaks of it (Tock's drivers).
-use Rattle.std.specs.Prelude.{ℕ, Bool, not, if◌then◌else◌, List, Option, None, Some}
+use Rattle.std.specs.Prelude.{ℕ, Bool, not, if◌then◌else◌, List, Option, option_map, unwrap_or}
 use Rattle.driver_model.specs.Console.{Sent, Received}
 
 -- The words: an alarm fired, when the clock showed a tick; the UART took the next bytes of a write, or has taken all;
@@ -23,8 +23,7 @@ received_told telling r = telling.input r.moved
 
 -- what the source of random bytes tells: the word that was drawn, if one was
 abbrev pub drawn_told : {E : Type 0} → Telling E → Option ℕ → E
-drawn_told telling None = telling.no_word
-drawn_told telling (Some word) = telling.word word
+drawn_told telling word = unwrap_or (option_map telling.word word) telling.no_word
 
 -- what the storage tells of a request, which fails or does not
 abbrev pub stored_told : {E : Type 0} → Telling E → Bool → E

@@ -78,8 +78,7 @@ abbrev pub upcalls : List Scheduling → List Scheduled
 upcalls waiting = map (λ s. s.upcall) waiting
 
 -- What a turn or an answer leaves of a process: its object; what waits is what is left of it, and one upcall more at
--- most;
--- and each is still the one that is held.
+-- most; and each is still the one that is held.
 pub record Leaves (r s : Record) (left : List Scheduling → List Scheduling) : Type 0 where
   pub object : s.object ≡ r.object
   pub more : List Scheduled

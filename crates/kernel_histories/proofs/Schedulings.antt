@@ -42,8 +42,7 @@ still_good r o left leaves good = record {
 }
 
 -- What a step leaves of what waits for the process in a slot, by what its turn tells: what is left, and then one upcall
--- more
--- at most. Each is still the one that is held.
+-- more at most. Each is still the one that is held.
 record Follows (before : Option Record) (tolds : List TurnTrace) (o : Option Record) : Type 0 where
   more : List Scheduled
   pending : (waiting : List Scheduling) → upcalls waiting ≡ pending_of before

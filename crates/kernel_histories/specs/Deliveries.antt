@@ -21,10 +21,8 @@ use Rattle.kernel_model.specs.Histories.{HandedNothing, PairKey, ends_life, hand
 
 -- whether a process waits for an upcall
 abbrev pub is_yielded : State → Bool
-is_yielded Running = false
 is_yielded Yielded = true
-is_yielded Faulted = false
-is_yielded (Terminated code) = false
+is_yielded other = false
 
 -- a yield that does not wait and was accepted (TRD 104, "Yield")
 abbrev pub is_yield_now : CallMade → Bool
@@ -127,8 +125,7 @@ pub record IsDelivered (slot : ℕ) (w : World) (choices : List Choice) (r s : R
 -- then holds of its driver and number. What waits is what was scheduled and neither delivered nor taken away, in the
 -- order in which it was scheduled, of each step one at most. A turn that delivers, where something waits, delivers the
 -- upcall of the first scheduling of all that wait. So no delivery is of an upcall that the process subscribed anew
--- since
--- it was scheduled, and none of one of an earlier life.
+-- since it was scheduled, and none of one of an earlier life.
 pub record DeliversTheLast (w : World) (slot : ℕ) : Type 0 where
   pub held : (choices : List Choice) →
       IfSome (slice_get (after_all w choices).records slot) (λ r. All (IsHeld r.own) r.own.inbox.pending)

@@ -35,8 +35,7 @@ same_record : (o : Option Record) (x y : Record) → o ≡ Some x → o ≡ Some
 same_record o x y e f = let both : Some x ≡ Some y = sym e ∙ f in cc
 
 -- what holds of a step's labels and of the record after it, where it does if the record stays, after its turn, and
--- after
--- an answer to it
+-- after an answer to it
 module _ (w : World) (slot : ℕ) (r : Record) (is : slice_get w.records slot ≡ Some r) (P : List Label → Record → Type 0)
     (stays : (labels : List Label) → P labels r) where
   -- after its turn

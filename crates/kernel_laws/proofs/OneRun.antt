@@ -1,7 +1,7 @@
 -- The run by round robin and its choices, and when it is done.
 use Rattle.std.proofs.Common.{◌≡◌, ◌≤◌, ◌<◌, ℕ, zero, suc, ◌+◌, ◌-◌, ◌==◌, Bool, true, false, cond, not, ◌&&◌, nat_le}
 use Rattle.std.proofs.Common.{nat_lt, List, [], ◌∷◌, length, map, fold, find, slice_get, slice_index_or, Option, None}
-use Rattle.std.proofs.Common.{Some, IfSome, IsTrue, option_and_then, refl, sym, ap, subst, ◌∙◌, arith}
+use Rattle.std.proofs.Common.{Some, IfSome, IsTrue, option_and_then, option_map, refl, sym, ap, subst, ◌∙◌, arith}
 use Rattle.std.specs.List.{range_with_len}
 use Rattle.std.specs.Option.{option_map, option_or}
 use Rattle.std.proofs.lemmas.Bool.{false≢true}
@@ -14,7 +14,7 @@ use Rattle.tk_base.specs.declared.process.Dev.{Dev}
 use Rattle.tk_base.specs.declared.process.Dev.TheVariants as dev
 use Rattle.turn_scheduler.specs.RoundRobin.{choice, device_order, goes_on as slice_lasts, place_is_ready as is_ready_at}
 use Rattle.turn_scheduler.specs.RoundRobin.{next_slot, device_place, ready_device, slots_after}
-use Rattle.driver_model.specs.Alarm.{alarm_in, left_if, ticks_left_in, ticks_left_of, nearer, nearer_with, next_left}
+use Rattle.driver_model.specs.Alarm.{alarm_in, ticks_left, ticks_left_in, ticks_left_of, nearer, nearer_with, next_left}
 use Rattle.driver_model.specs.Laws.{IsDueWhereNoneAreLeft}
 use Rattle.script_text.specs.Settings.{ScriptEvent as Arrival}
 use Rattle.board_devices.specs.Arriving.{first_arrival_time as arrival_time}
@@ -194,17 +194,17 @@ none_folded now owns (slot ∷ slots) none =
 
 unarmed : (now : ℕ) (own : Own) → ticks_left_of now own ≡ None → own.lives ≡ true → alarm_in own ≡ None
 unarmed now own e lives =
-    by_alarm (alarm_in own) (sym (ap (λ (b : Bool). cond b (left_if now (alarm_in own)) None) lives) ∙ e)
+    by_alarm (alarm_in own) (sym (ap (λ (b : Bool). cond b (option_map (ticks_left now) (alarm_in own)) None) lives) ∙ e)
   where
-    by_alarm : (o : Option _) → left_if now o ≡ None → o ≡ None
+    by_alarm : (o : Option _) → option_map (ticks_left now) o ≡ None → o ≡ None
     by_alarm None f = refl
     by_alarm (Some armed) f = cc
 
 none_left : (now : ℕ) (own : Own) → (own.lives ≡ true → alarm_in own ≡ None) → ticks_left_of now own ≡ None
 none_left now own none = by_lives own.lives none
   where
-    by_lives : (b : Bool) → (b ≡ true → alarm_in own ≡ None) → cond b (left_if now (alarm_in own)) None ≡ None
-    by_lives true none = ap (left_if now) (none refl)
+    by_lives : (b : Bool) → (b ≡ true → alarm_in own ≡ None) → cond b (option_map (ticks_left now) (alarm_in own)) None ≡ None
+    by_lives true none = ap (option_map (ticks_left now)) (none refl)
     by_lives false none = refl
 
 left_at : (w : World) (slot : ℕ)

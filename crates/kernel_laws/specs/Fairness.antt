@@ -16,10 +16,8 @@ worlds w (choice ∷ choices) = w ∷ worlds (after w choice) choices
 
 -- whether a choice is a turn of a process
 abbrev pub is_turn : Option Choice → Bool
-is_turn None = false
 is_turn (Some (Run slot)) = true
-is_turn (Some (Device device)) = false
-is_turn (Some (Pass ticks)) = false
+is_turn other = false
 
 -- whether the round robin's next step is a turn of a process: at the limit of steps none is made any more
 abbrev pub makes_turn : World → Bool
@@ -39,8 +37,7 @@ abbrev pub HasTurn : ℕ → World → Type 0
 HasTurn slot v = next v ≡ Some (Run slot)
 
 -- Of a world: in the run of any length from it, each window of turns of processes, one after another, as many as all
--- slots
--- have in a slice each, in which the process in a slot is ready before each turn, has a turn of that process.
+-- slots have in a slice each, in which the process in a slot is ready before each turn, has a turn of that process.
 abbrev pub IsFair : World → Type 0
 IsFair w =
     (n slot : ℕ) (earlier window later : List World) →

@@ -15,17 +15,15 @@ word_in other = []
 
 -- the random word that a label tells a process, if it does
 abbrev pub word_told : Label → List ℕ
-word_told (TurnOf slot time told) = []
 word_told (Answered slot event) = word_in event
-word_told (Printed slot bytes) = []
+word_told label = []
 
 -- all that steps tell, in order, whichever processes they are told
 abbrev pub words_told : List Label → List ℕ
 words_told labels = flat_map word_told labels
 
 -- Whatever choices are made: the words that were left before them are those that processes were told, in that order,
--- and
--- then those that are left. So no word is drawn twice, and none is passed over.
+-- and then those that are left. So no word is drawn twice, and none is passed over.
 abbrev pub WordsAreDrawnInOrder : Type 0
 WordsAreDrawnInOrder = (w : World) (choices : List Choice) →
     w.devices.words ≡ words_told (labels_of_all w choices) ++ (after_all w choices).devices.words

@@ -1,6 +1,5 @@
 -- What holds of a process after each thing that may happen to it: the one walk over turns and answers, and then over
--- any
--- choices. Before a turn I holds of the process, and then J.
+-- any choices. Before a turn I holds of the process, and then J.
 use Rattle.std.proofs.Common.{◌≡◌, ℕ, ◌+◌, ◌%◌, ◌^◌, ◌==◌, Bool, true, false, cond, List, [], ◌∷◌, find, slice_get}
 use Rattle.std.proofs.Common.{Option, None, Some, IfSome, Result, Ok, Err, refl, sym, ap, subst}
 use Rattle.tk_base.specs.declared.access.Denial.{Denial}
@@ -39,8 +38,9 @@ use Rattle.process_record.specs.Process.{after_call as after_call_of, after_exit
 use Rattle.process_record.specs.Process.{after_reply, past_call, waiting}
 use Rattle.kernel_model.specs.Record.{Record, instruction, with_effect, record_with_own, record_with_step, with_process}
 use Rattle.kernel_model.specs.declared.settings.Settings.{Settings}
+use Rattle.kernel_model.proofs.Memops.{or_refused}
 use Rattle.kernel_model.specs.Calls.{Served, driver_answered, break_moved, by_form, deliver_by, exit, failure_of}
-use Rattle.kernel_model.specs.Calls.{flag_written, former_pair, memop, memops, moved_by, or_refused, object_permits}
+use Rattle.kernel_model.specs.Calls.{flag_written, former_pair, memop, memops, moved_by, object_permits}
 use Rattle.kernel_model.specs.Calls.{own_swapped, refused, refused_with, region, region_end, regions_named, replied}
 use Rattle.kernel_model.specs.Calls.{restart, served, swap_by, swap_refusal}
 use Rattle.kernel_model.specs.Calls.{taken_by, with_break_at, yield_now, yielding}
@@ -246,8 +246,7 @@ module _ (R : Own → Own → Type 0) (services : OfEachService R) (I J : Record
   after_end settings time r alive h accesses (ends.Trap denial) = after_denial settings r alive h denial
 
   -- after a turn: where it had none, as it was; else by what stands once the turn was counted, and its instruction has
-  -- had
-  -- its effect
+  -- had its effect
   pub after_turn : (settings : Settings) (time : ℕ) (r : Record)
       → (has_turn r.process.state (is_pending r.own.inbox.pending) ≡ false → J r) → I (turn_counted r)
       → I (with_effect (turn_counted r) (instruction r)) → J (turned settings time r).after

@@ -12,15 +12,13 @@ use Rattle.kernel_model.specs.Replay.{after_all}
 abbrev pub turns_made : List Choice → ℕ
 turns_made [] = 0
 turns_made (Run slot ∷ choices) = 1 + turns_made choices
-turns_made (Device device ∷ choices) = turns_made choices
-turns_made (Pass ticks ∷ choices) = turns_made choices
+turns_made (other ∷ choices) = turns_made choices
 
 -- how many ticks pass in which nothing acts
 abbrev pub ticks_passed : List Choice → ℕ
 ticks_passed [] = 0
-ticks_passed (Run slot ∷ choices) = ticks_passed choices
-ticks_passed (Device device ∷ choices) = ticks_passed choices
 ticks_passed (Pass ticks ∷ choices) = ticks + ticks_passed choices
+ticks_passed (other ∷ choices) = ticks_passed choices
 
 -- the turns of all processes together
 abbrev pub turns_of_all : List Record → ℕ

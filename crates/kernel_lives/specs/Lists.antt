@@ -1,7 +1,7 @@
 -- That a slot stands in a waiting list once where its process lives and keeps that request, and else not at all. This
 -- is this board's own rule.
 use Rattle.std.specs.Prelude.{◌≡◌, ℕ, ◌+◌, ◌==◌, Bool, false, if◌then◌else◌, List, [], ◌∷◌, slice_get, Option, None}
-use Rattle.std.specs.Prelude.{Some, IfSome}
+use Rattle.std.specs.Prelude.{Some, IfSome, option_map, unwrap_or}
 use Rattle.tk_base.specs.declared.process.Choice.{Choice}
 use Rattle.driver_model.specs.Commands.{QueueName}
 use Rattle.driver_model.specs.Lines.{has_waiting}
@@ -17,8 +17,7 @@ times_in slot (other ∷ rest) = let later = times_in slot rest in if other == s
 
 -- whether there is a process that lives and keeps a request that waits in a queue
 abbrev pub asks_at : QueueName → Option Record → Bool
-asks_at queue None = false
-asks_at queue (Some r) = has_waiting queue r.own
+asks_at queue r = unwrap_or (option_map (λ r. has_waiting queue r.own) r) false
 
 -- once where it asks, and else not at all
 abbrev pub once_if : Bool → ℕ

@@ -1,6 +1,5 @@
 -- What every call comes to, by cases on the call: it is refused, and changes nothing but the reply registers, pc and
--- the
--- recorded refusal; or it is served.
+-- the recorded refusal; or it is served.
 use Rattle.std.proofs.Common.{◌≡◌, ◌≢◌, ◌<◌, length, ℕ, ◌-◌, ◌==◌, Bool, true, false, cond, List, [], ◌∷◌, slice_set}
 use Rattle.std.proofs.Common.{Option, None, Some, Result, Ok, Err, refl, ap, sym, subst, arith}
 use Rattle.tk_base.specs.declared.call.CallRule.{CallRule}

@@ -1,14 +1,13 @@
 -- What holds of every answer that memop may give, whatever the operation: it is refused, or replied to with the break
--- as it
--- is or moved.
-use Rattle.std.proofs.Common.{ℕ, ◌+◌, ◌==◌, Bool, true, false, cond, List, [], ◌∷◌, find, Option, None, Some}
+-- as it is or moved.
+use Rattle.std.proofs.Common.{ℕ, ◌+◌, ◌==◌, Bool, true, false, cond, List, [], ◌∷◌, find, Option, None, Some, option_map, unwrap_or}
 use Rattle.tk_base.specs.declared.call.CallRule.{CallRule}
 use Rattle.tk_base.specs.declared.call.CallRule.TheVariants.{Break, Index, NoOperation}
 use Rattle.process_layout.specs.LayoutView.{permits_break}
 use Rattle.syscall_abi.specs.declared.reply.Reply.{Reply}
 use Rattle.syscall_abi.specs.declared.reply.Reply.TheVariants.{Success, SuccessU32}
 use Rattle.kernel_model.specs.Record.{Record}
-use Rattle.kernel_model.specs.Calls.{Served, break_moved, memop, memops, moved_by, or_refused, refused, region}
+use Rattle.kernel_model.specs.Calls.{Served, break_moved, memop, memops, moved_by, refused, region}
 use Rattle.kernel_model.specs.Calls.{region_end, replied, with_break_at}
 
 -- of both ways of a test
@@ -19,6 +18,10 @@ by_test P false x y p q = q
 Each : (Served → Type 0) → List (ℕ × Served) → Type 0
 Each P [] = Unit {0}
 Each P (row ∷ rows) = P row.1 × Each P rows
+
+-- what a row comes to; refused where there is none
+abbrev pub or_refused : Record → Option (ℕ × Served) → Served
+or_refused r row = unwrap_or (option_map (λ row. row.1) row) (refused r NoOperation)
 
 -- what holds of each row holds of the one that is found
 found : (P : Served → Type 0) (r : Record) (p : ℕ × Served → Bool) (rows : List (ℕ × Served))

@@ -87,8 +87,7 @@ of_answers w P none quietly each device =
     }) device
 
 -- what holds of each thing that a step may do to the process in a slot: of what its turn tells, if it has one, and of
--- its
--- record afterwards
+-- its record afterwards
 pub record OfEachStep (w : World) (slot : ℕ) (P : List TurnTrace → Option Record → Type 0) : Type 0 where
   pub stays : P [] (slice_get w.records slot)
   pub turn : (r : Record) → slice_get w.records slot ≡ Some r → let t = turned w.settings w.clock.time r in

@@ -29,8 +29,7 @@ pub record IsUnknownCall (r : Record) (d : Denial) : Type 0 where
   pub denial : d ≡ denied_at Fetch r.process.regs.pc UnknownClass
 
 -- A denial that is due, by what the process may access: of a parcel that it may not fetch, of what the instruction at
--- pc
--- may not load or store, of one that no row fits, of EBREAK; or of a call of an unknown class.
+-- pc may not load or store, of one that no row fits, of EBREAK; or of a call of an unknown class.
 abbrev pub DenialIsDue : Record → Denial → Type 0
 DenialIsDue r d = IsDueAt (denied r.own.layout) (byte_at r) r.process.regs d ⊎ IsUnknownCall r d
 
@@ -38,8 +37,7 @@ DenialIsDue r d = IsDueAt (denied r.own.layout) (byte_at r) r.process.regs d ⊎
 -- is with what the turn told, and with the process as it was then.
 abbrev pub OfTurn : (Record → TurnTrace → Type 0) → World → Label → Type 0
 OfTurn P w (TurnOf slot time told) = (r : Record) × (slice_get w.records slot ≡ Some r) × P r told
-OfTurn P w (Answered slot event) = Unit {0}
-OfTurn P w (Printed slot bytes) = Unit {0}
+OfTurn P w label = Unit {0}
 
 -- so it is with each turn of every run, whatever the choices and wherever it begins
 abbrev pub OfEachTurn : (Record → TurnTrace → Type 0) → Type 0

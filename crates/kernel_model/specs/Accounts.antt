@@ -15,10 +15,8 @@ use Rattle.kernel_model.specs.Shown.{IsShownIn, shown_by}
 use Rattle.kernel_model.specs.Stretch.{IsStretch}
 
 -- Each byte that changes of a process has its cause in what the step tells; each access of a turn was permitted, and
--- each
--- denial was due, and is shown; a call that was refused changed nothing but its process's reply, and the counts; what
--- was
--- printed was a process's own, in the buffer that it then held.
+-- each denial was due, and is shown; a call that was refused changed nothing but its process's reply, and the counts;
+-- what was printed was a process's own, in the buffer that it then held.
 pub record IsAccountedFor (w : World) (choice : Choice) : Type 0 where
   pub causes : EachChangeHasACause w choice
   pub guarded : IsGuarded w choice

@@ -1,7 +1,7 @@
 -- The system calls: TRD 104, "Yield", "Subscribe", "Command", "Read-Only Allow", "Read-Write Allow", "Memop" and
 -- "Exit".
 use Rattle.std.specs.Prelude.{ℕ, ◌+◌, ◌-◌, ◌%◌, ◌^◌, ◌==◌, Bool, true, not, nat_le, nat_lt, if◌then◌else◌, List, []}
-use Rattle.std.specs.Prelude.{◌∷◌, find, Option, None, Some, is_none, option_and_then, Result, Ok, Err}
+use Rattle.std.specs.Prelude.{◌∷◌, find, Option, None, Some, is_none, option_and_then, option_map, unwrap_or, Result, Ok, Err}
 use Rattle.tk_base.specs.declared.call.CallRule.{CallRule}
 use Rattle.tk_base.specs.declared.call.CallRule.TheVariants.{Break, Index, NoDriver, NoNumber, NoOperation, NoRoom}
 use Rattle.tk_base.specs.declared.call.CallRule.TheVariants.{Outside, Permission}
@@ -172,14 +172,10 @@ memops r argument =
     ∷ (11, replied r Success)
     ∷ []
 
--- what a row of a table of operations comes to; refused where there is none of that number
-abbrev pub or_refused : Record → Option (ℕ × Served) → Served
-or_refused r None = refused r NoOperation
-or_refused r (Some row) = row.1
-
 -- memop; an operation that is not in the table is refused
 unfoldable pub memop : Record → ℕ → ℕ → Served
-memop r operation argument = or_refused r (find (λ row. row.0 == operation) (memops r argument))
+memop r operation argument =
+    unwrap_or (option_map (λ row. row.1) (find (λ row. row.0 == operation) (memops r argument))) (refused r NoOperation)
 
 -- A process that starts again: its block is zeroed, its layout and registers are those of its start, and its next life
 -- begins. Its turns, its dropped upcalls, its last denial, its last refusal and its storage stay (TRD 104, "Exit").

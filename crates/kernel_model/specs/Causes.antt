@@ -70,9 +70,8 @@ IsCause slot r s at (Printed other bytes) = ⊥
 
 -- a label with the cause of a change of a byte of its storage
 abbrev pub IsStorageCause : ℕ → Record → ℕ → Label → Type 0
-IsStorageCause slot r k (TurnOf other time told) = ⊥
 IsStorageCause slot r k (Answered other event) = (other ≡ slot) × Overwrites event r k
-IsStorageCause slot r k (Printed other bytes) = ⊥
+IsStorageCause slot r k label = ⊥
 
 -- a byte of the storage is as it was, or there is a cause
 abbrev pub StorageChangesAt : (ℕ → Type 0) → List ℕ → List ℕ → Type 0

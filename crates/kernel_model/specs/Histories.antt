@@ -18,8 +18,7 @@ use Rattle.kernel_model.specs.Laws.{CanStartAgain}
 -- what a label tells of a turn of the process in a slot
 abbrev pub turns_in : ℕ → Label → List TurnTrace
 turns_in slot (TurnOf other time told) = if other == slot then told ∷ [] else []
-turns_in slot (Answered other event) = []
-turns_in slot (Printed other bytes) = []
+turns_in slot label = []
 
 -- what its turns told while some choices were made, one after another
 abbrev pub turns_of : ℕ → World → List Choice → List TurnTrace

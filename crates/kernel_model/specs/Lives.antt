@@ -27,8 +27,7 @@ HoldsThroughout I = (w : World) (choices : List Choice) (slot : ℕ) →
     IfSome (slice_get w.records slot) I → IfSome (slice_get (after_all w choices).records slot) I
 
 -- A process lives exactly while it is Running or Yielded, and the number of its life is that of its restarts. Its
--- object
--- is that of an application.
+-- object is that of an application.
 pub record LivesAsItRuns (r : Record) : Type 0 where
   pub lives : r.own.lives ≡ is_alive r.process.state
   pub life : r.own.life ≡ r.process.restarts
@@ -73,8 +72,7 @@ abbrev pub BlocksStayApart : Type 0
 BlocksStayApart = (w : World) (choices : List Choice) → BlocksAreApart w → BlocksAreApart (after_all w choices)
 
 -- A process's memory is in order: the block's start, the mark, the break, the kernel break, which is the block's end
--- less
--- what its grants cost. And the least RAM that its object asks for fits its block.
+-- less what its grants cost. And the least RAM that its object asks for fits its block.
 pub record HasOrder (r : Record) : Type 0 where
   pub places : IsInOrder r.own
   pub least : IfSome (main_by (header_reading r.object))
@@ -93,8 +91,7 @@ DropsOnlyWhereFull = (w : World) (choices : List Choice) (choice : Choice) (slot
     length before.own.inbox.pending < PENDING_LIMIT → now.own.inbox.dropped ≡ before.own.inbox.dropped
 
 -- A process is as another was, but for its turns, its restarts and its life, its dropped upcalls, its last denial, its
--- last
--- refusal and its storage.
+-- last refusal and its storage.
 abbrev pub IsAsAtFirst : Record → Record → Type 0
 IsAsAtFirst first now =
     now ≡ record {

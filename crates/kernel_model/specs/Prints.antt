@@ -37,10 +37,9 @@ pub record AreOfItsBuffer (bytes : List ℕ) (r : Record) : Type 0 where
 
 -- what a step prints, it prints of the buffer that the process of that slot held before the step
 abbrev pub PrintsItsBuffer : World → Label → Type 0
-PrintsItsBuffer w (TurnOf slot time told) = Unit {0}
-PrintsItsBuffer w (Answered slot event) = Unit {0}
 PrintsItsBuffer w (Printed slot bytes) =
     (is_some (slice_get w.records slot) ≡ true) × IfSome (slice_get w.records slot) (AreOfItsBuffer bytes)
+PrintsItsBuffer w label = Unit {0}
 
 -- so it is in each step after any choices; no process that has ended prints anything
 abbrev pub PrintsAreOfBuffers : Type 0
@@ -53,11 +52,10 @@ CouldLoad r from count = (k : ℕ) → k < count → denied r.own.layout Load ((
 
 -- what a step prints, the process of that slot could load where it stood before the step
 abbrev pub PrintsWhatItCouldLoad : World → Label → Type 0
-PrintsWhatItCouldLoad w (TurnOf slot time told) = Unit {0}
-PrintsWhatItCouldLoad w (Answered slot event) = Unit {0}
 PrintsWhatItCouldLoad w (Printed slot bytes) =
     IfSome (slice_get w.records slot) (λ r.
     IfSome (request_in console_writes r.own) (λ write. CouldLoad r write.taken (length bytes)))
+PrintsWhatItCouldLoad w label = Unit {0}
 
 -- so it is in each step after any choices, from a world in which what is the processes' own is whole
 abbrev pub PrintsCouldBeLoaded : Type 0

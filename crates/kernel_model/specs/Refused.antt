@@ -16,16 +16,14 @@ abbrev pub refusal_in : TurnTrace → Option CallRule
 refusal_in told = option_and_then (λ made. made.rule) told.call
 
 -- Of the process: the turn counts, the failure of the rule stands in the reply registers, pc is past the `ecall`, and
--- the
--- refusal is recorded. Its memory, its grants, its upcalls and its storage are as they were.
+-- the refusal is recorded. Its memory, its grants, its upcalls and its storage are as they were.
 abbrev pub CallIsRefused : CallRule → Record → Record → Type 0
 CallIsRefused rule r s =
     (call : SystemCall) × (call_of r.process.regs ≡ Some call)
     × (s ≡ with_process r (after_refusal (after_turn r.process) rule (failure_of (form_of call) rule)))
 
 -- Of the world: beside that record the time, the steps, the present slot and its used turns. So no device and no list
--- of
--- those that wait has changed.
+-- of those that wait has changed.
 pub record LeavesRefused (w v : World) (slot : ℕ) (rule : CallRule) : Type 0 where
   pub before : Record
   pub after : Record
@@ -40,8 +38,7 @@ pub record LeavesRefused (w v : World) (slot : ℕ) (rule : CallRule) : Type 0 w
 -- this of a label that tells a refusal, in a step from one world to another
 abbrev pub IfRefused : World → World → Label → Type 0
 IfRefused w v (TurnOf slot time told) = (rule : CallRule) → refusal_in told ≡ Some rule → LeavesRefused w v slot rule
-IfRefused w v (Answered slot event) = Unit {0}
-IfRefused w v (Printed slot bytes) = Unit {0}
+IfRefused w v label = Unit {0}
 
 -- so it is in a step
 abbrev pub RefusedChangesLittle : World → Choice → Type 0

@@ -89,9 +89,8 @@ is_over w = is_none (next w)
 
 -- the bytes that a label tells of as printed
 abbrev pub printed_by : Label → List ℕ
-printed_by (TurnOf slot time told) = []
-printed_by (Answered slot event) = []
 printed_by (Printed slot bytes) = bytes
+printed_by label = []
 
 -- the bytes that a run printed
 abbrev pub printed : List Label → List ℕ

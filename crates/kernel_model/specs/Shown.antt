@@ -44,5 +44,4 @@ shown_by (label ∷ labels) = with_label label (shown_by labels)
 -- a turn that is told is shown: its slot, its call, and its denial with address and rule
 abbrev pub IsShownIn : Emit → Label → Type 0
 IsShownIn emit (TurnOf slot time told) = (emit.slot ≡ Some slot) × (emit.made ≡ told.call) × (emit.denial ≡ told.denial)
-IsShownIn emit (Answered slot event) = Unit {0}
-IsShownIn emit (Printed slot bytes) = Unit {0}
+IsShownIn emit label = Unit {0}

@@ -49,8 +49,7 @@ abbrev pub AllGo : ℕ → Record → Type 0
 AllGo k r = (j : ℕ) → j < k → (instruction (after_instructions j r)).end ≡ Went
 
 -- the same world, but a slot that is to have the next turn is the present one already: with its slice, while that
--- lasts,
--- or at the beginning of one
+-- lasts, or at the beginning of one
 abbrev pub at_turn : World → ℕ → World
 at_turn w slot = record w {
   present = record { slot = Some slot; used = used_after w.present.slot w.present.used w.pace.slice slot - 1 };

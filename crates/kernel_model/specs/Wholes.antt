@@ -10,8 +10,7 @@ use Rattle.kernel_model.specs.Causes.{AllHaveCauses, AreWhole}
 use Rattle.kernel_model.specs.Lives.{HasOrder}
 
 -- A process's memory is in order; its bytes end at the kernel break, where its grants begin; and each buffer that it
--- has
--- allowed lies in accessible flash, or in its RAM below the mark.
+-- has allowed lies in accessible flash, or in its RAM below the mark.
 abbrev pub HasWholeOwn : Record → Type 0
 HasWholeOwn r = HasOrder r × IsSettled r.own
 

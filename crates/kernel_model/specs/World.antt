@@ -1,7 +1,7 @@
 -- The world only routes: a step finds whose turn it is, or whom a device answers, and applies that event to that one
 -- record. Which steps there are, and what the devices do, is this board's own rule.
 use Rattle.std.specs.Prelude.{ℕ, suc, ◌+◌, ◌==◌, Bool, false, not, ◌&&◌, nat_le, nat_lt, if◌then◌else◌, List, [], ◌∷◌}
-use Rattle.std.specs.Prelude.{◌++◌}
+use Rattle.std.specs.Prelude.{◌++◌, unwrap_or}
 use Rattle.std.specs.Prelude.{drop, filter, length, map, slice_get, slice_set, Option, None, Some, is_some}
 use Rattle.std.specs.Option.{option_map}
 use Rattle.tk_base.specs.declared.limits.TheConstants.{STEP_LIMIT}
@@ -80,8 +80,7 @@ pub data Label : Type 0 where
 
 -- whether there is a process that can have a turn
 abbrev pub can_run : Option Record → Bool
-can_run None = false
-can_run (Some r) = may_turn r
+can_run r = unwrap_or (option_map may_turn r) false
 
 -- what the alarm's clock shows
 abbrev pub now_in : World → ℕ

@@ -9,8 +9,7 @@ use Rattle.tock_cli.specs.Causes.{ShelfAccount}
 -- record of each process is what becomes of it alone, by its own turns and answers, whatever others do.
 abbrev pub IsAccountedTask : Task → Type 0
 IsAccountedTask (Running mode n world) = IsAccountedRun world n
-IsAccountedTask (Listing flash) = Unit {0}
-IsAccountedTask (Making flash) = Unit {0}
+IsAccountedTask other = Unit {0}
 
 -- so it is with the task of the words, by what the shelf tells of the files
 abbrev pub RunIsAccountedFor : ShelfAccount → Option Command → Type 0

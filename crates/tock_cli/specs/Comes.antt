@@ -24,8 +24,7 @@ use Rattle.tock_cli.specs.Refusals.{edit_refused, pack_refused, limit_of}
 use Rattle.tock_cli.specs.Words.{Command, Runs, Lists, Soaks, Packs, Edits, Edit, Enables, Renames}
 
 -- what is left to do: a run of at most so many steps from a world, told in a mode; the list of a flash image; or a
--- flash
--- image to write
+-- flash image to write
 pub data Task : Type 0 where
   Running : Mode → ℕ → World → Task
   Listing : List ℕ → Task
@@ -40,8 +39,7 @@ task_text (Making flash) = flash
 -- the world that the board shows that it leaves: the last one of a run
 abbrev pub left_by : Task → Option World
 left_by (Running mode n world) = Some (round n world).world
-left_by (Listing flash) = None
-left_by (Making flash) = None
+left_by other = None
 
 -- a file that a command names
 pub record Named : Type 0 where
@@ -96,13 +94,11 @@ comes_to command files = None
 
 -- the refusal, where it came to one
 abbrev pub refusal_of_task : Option (Result Task Refusal) → Option Refusal
-refusal_of_task None = None
-refusal_of_task (Some (Ok task)) = None
 refusal_of_task (Some (Err refusal)) = Some refusal
+refusal_of_task other = None
 
 -- why a command is refused where a file of it has these bytes, behind those that were read before: the file is too
--- long,
--- or what the command comes to
+-- long, or what the command comes to
 unfoldable pub refused_at : Command → List (List ℕ) → File → List ℕ → Option Refusal
 refused_at command before file text =
     if nat_lt (limit_of file) (length text) then Some (TooLong file)

@@ -1,6 +1,6 @@
 -- The text of a run, by what is written of it. Its form is this tool's own.
 use Rattle.std.specs.Prelude.{◌≡◌, ℕ, zero, suc, ◌%◌, ◌^◌, ◌≤◌, List, [], ◌∷◌, ◌++◌, length, sum, codes, decimal}
-use Rattle.std.specs.Prelude.{Option, None, Some}
+use Rattle.std.specs.Prelude.{Option, None, Some, is_none, if◌then◌else◌}
 use Rattle.std.specs.List.{flat_map}
 use Rattle.tk_base.specs.declared.process.Choice.{Choice}
 use Rattle.kernel_model.specs.World.{World, Label, TurnOf, Answered, Printed, after, labels}
@@ -14,14 +14,9 @@ use Rattle.tock_cli.specs.declared.run.Mode.{Mode}
 use Rattle.tock_cli.specs.declared.run.Mode.TheVariants.{Boot, Trace, Soak}
 use Rattle.tock_cli.specs.declared.tally.Tally.{Tally}
 
--- how a run ended, by whether a choice is left
-abbrev pub end_by : Option Choice → End
-end_by None = Done
-end_by (Some choice) = Turns
-
 -- A run is done where no choice is left; else the given number of steps ended it.
 unfoldable pub run_end_of : World → End
-run_end_of w = end_by (next w)
+run_end_of w = if is_none (next w) then Done else Turns
 
 -- what is written of the last world
 unfoldable pub ending_text : World → List ℕ

@@ -142,12 +142,9 @@ Decided told sent (Some command) answer = IsWritten sent → DecidedBy told comm
 
 -- a command whose run leaves a board
 abbrev pub LeavesBoard : Option Command → Type 0
-LeavesBoard None = ⊥
 LeavesBoard (Some (Runs words)) = Unit {0}
-LeavesBoard (Some (Lists flash)) = ⊥
 LeavesBoard (Some (Soaks number turns)) = Unit {0}
-LeavesBoard (Some (Packs names)) = ⊥
-LeavesBoard (Some (Edits words)) = ⊥
+LeavesBoard other = ⊥
 
 -- What the program does: the answer with its cause, what was written, and the board that is left.
 pub record ProgramDoes (told : ShelfAccount) (sent : SinkAccount) (words : Option Command) (last : Option World)
