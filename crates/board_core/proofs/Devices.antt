@@ -30,7 +30,7 @@ use Rattle.kernel_model.specs.Turn.{Event}
 use Rattle.kernel_model.specs.World.{Answered, Printed, Stepped, World, can_act, carried_out, done}
 use Rattle.kernel_model.specs.World.{device_step_of, is_ready, may_be_made, printing}
 use Rattle.kernel_model.specs.Shown.{shown_by}
-use Rattle.kernel_model.specs.Laws.{DevicesAnswerOne, answered}
+use Rattle.kernel_model.specs.Laws.{DevicesAnswerOne, one_answered}
 use Rattle.board_core.specs.declared.board.Board.TheInside.{Inside}
 use Rattle.board_drivers.specs.declared.drivers.Drivers.{Drivers}
 use Rattle.board_turns.specs.declared.guard.ActivePmp.{ActivePmp}
@@ -190,7 +190,7 @@ module _ (b : Inside) (device : Dev) (slot : ℕ) (printed : List ℕ) (home : H
 
   -- its process alone was answered
   answered_so : DevicesAnswerOne → done (world_of b) (device_step_of (world_of b) device)
-      ≡ answered (world_of b) slot
+      ≡ one_answered (world_of b) slot
       (record_of b.home.flash ((t.process, own_of b.home slot), bytes_of b.drivers.stores.slots slot))
       (record { answer = record { event = t.serves.event; printed = printed }; devices = devices_of d })
   answered_so law = ap (done (world_of b)) t.serves.deed ∙ law.one (world_of b) slot

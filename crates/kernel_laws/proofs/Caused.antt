@@ -26,7 +26,7 @@ use Rattle.kernel_model.specs.Causes.{AllHaveCauses, AnswerHasCauses, EachChange
 use Rattle.kernel_model.specs.Causes.{IsStorageCause, StepsHaveCauses, StorageChangesAt, TurnHasCauses, TurnsHaveCauses}
 use Rattle.kernel_laws.proofs.Answered.{answer_has_causes}
 use Rattle.kernel_model.proofs.Places.{of_stepped, ran-other, ran-own, set_own, slice_get-set_other}
-use Rattle.kernel_model.specs.Laws.{answered}
+use Rattle.kernel_model.specs.Laws.{one_answered}
 use Rattle.kernel_model.proofs.Replays.{one_step}
 use Rattle.kernel_model.proofs.Steps.{IsAnswer, of_answers}
 
@@ -79,7 +79,7 @@ module _ (w : World) (slot : ℕ) (r : Record) (is : slice_get w.records slot �
       by_slot false e_is = at_record _ r s _ (ran-other w other slot (Some q) (apart other slot e_is) ∙ is) f (stays _)
 
   of_one : ByAnswer → (at : ℕ) (q : Record) → slice_get w.records at ≡ Some q → (a : DeviceAnswer)
-      → IsAnswer a.answer.event → Leads (answered w at q a)
+      → IsAnswer a.answer.event → Leads (one_answered w at q a)
   of_one answer at q there a tells s f = by_slot (at == slot) refl
     where
       event : Event

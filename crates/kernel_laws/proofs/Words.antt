@@ -15,7 +15,7 @@ use Rattle.kernel_model.specs.Turn.{WriteDone, Taken, flash_of, turned}
 use Rattle.kernel_model.specs.World.{Devices, Label, Printed, Stepped, World, acted, after, as_events, carried_out}
 use Rattle.kernel_model.specs.World.{device_step_of, done, labels, printing, ran, random_step, routed, stepped}
 use Rattle.kernel_model.specs.World.{queue_without, transmitting, with_queue}
-use Rattle.kernel_model.specs.Laws.{answered}
+use Rattle.kernel_model.specs.Laws.{one_answered}
 use Rattle.kernel_model.proofs.Told.{of_device}
 use Rattle.kernel_model.specs.Choices.{labels_of_all}
 use Rattle.kernel_model.specs.Replay.{after_all}
@@ -72,14 +72,14 @@ module _ (tell : EventsTellSteps) (w : World) where
   DrawsInOrder s = w.devices.words ≡ words_told s.labels ++ s.after.devices.words
 
   -- an answer that tells no word, and leaves them
-  sends : (slot : ℕ) (r : Record) → DrawsInOrder (answered w slot r (transmitting w.clock.time w.devices slot r))
+  sends : (slot : ℕ) (r : Record) → DrawsInOrder (one_answered w slot r (transmitting w.clock.time w.devices slot r))
   sends slot r =
       let s = console.sent (flash_of r) r.own in
       sym (ap (λ (words : List ℕ). (words ++ words_told (printing slot s.printed)) ++ w.devices.words)
       (sent_none s.completed)
       ∙ ap (λ (words : List ℕ). words ++ w.devices.words) (printing_none slot s.printed))
 
-  draws : (slot : ℕ) (r : Record) → DrawsInOrder (answered w slot r (random_step w.devices slot r))
+  draws : (slot : ℕ) (r : Record) → DrawsInOrder (one_answered w slot r (random_step w.devices slot r))
   draws slot r =
       let word = slice_get w.devices.words 0 in
       let drawn = (random.answered word r.own).drawn in

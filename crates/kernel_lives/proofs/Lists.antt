@@ -34,7 +34,7 @@ use Rattle.kernel_lives.specs.Lists.{ListsStay, asks_at, once_if, times_in}
 use Rattle.kernel_lives.proofs.Lives.{over_turn}
 use Rattle.kernel_model.proofs.Places.{of_stepped, queue_with, ran-other, set_own, slice_get-set_other}
 use Rattle.kernel_model.proofs.Places.{slice_get-set_same}
-use Rattle.kernel_model.specs.Laws.{answered}
+use Rattle.kernel_model.specs.Laws.{one_answered}
 use Rattle.kernel_model.proofs.Told.{of_device}
 
 -- a list with one more, and without one
@@ -346,13 +346,13 @@ module _ (follow : LinesFollowAnswers) (tell : EventsTellSteps) (w : World) (h :
       ≡ cond (left here) (queue_without slot (slots_in here w.devices.waiting)) (slots_in here w.devices.waiting))
       → ((queue : QueueName)
       → has_waiting queue (apply w.settings a.answer.event r).own ≡ cond (left queue) false (has_waiting queue r.own))
-      → AreLists (answered w slot r a).after
+      → AreLists (one_answered w slot r a).after
   answered_each slot r is a left lists waits queue =
       answer_at w slot a.answer.event r is (left queue) queue (slots_in queue a.devices.waiting) (lists queue)
       (waits queue) (h queue)
 
   sends : (slot : ℕ) (r : Record) → slice_get w.records slot ≡ Some r
-      → AreLists (answered w slot r (transmitting w.clock.time w.devices slot r)).after
+      → AreLists (one_answered w slot r (transmitting w.clock.time w.devices slot r)).after
   sends slot r is =
       let s = console.sent (flash_of r) r.own in
       answered_each slot r is (transmitting w.clock.time w.devices slot r)
@@ -365,7 +365,7 @@ module _ (follow : LinesFollowAnswers) (tell : EventsTellSteps) (w : World) (h :
       (follow.writes (flash_of r) r.own).lines)
 
   receives : (slot : ℕ) (r : Record) → slice_get w.records slot ≡ Some r
-      → AreLists (answered w slot r (receive_step w.devices slot r)).after
+      → AreLists (one_answered w slot r (receive_step w.devices slot r)).after
   receives slot r is =
       let s = console.received w.devices.line.ring r.own in
       answered_each slot r is (receive_step w.devices slot r)
@@ -378,7 +378,7 @@ module _ (follow : LinesFollowAnswers) (tell : EventsTellSteps) (w : World) (h :
       (follow.reads w.devices.line.ring r.own).lines)
 
   draws : (slot : ℕ) (r : Record) → slice_get w.records slot ≡ Some r
-      → AreLists (answered w slot r (random_step w.devices slot r)).after
+      → AreLists (one_answered w slot r (random_step w.devices slot r)).after
   draws slot r is =
       let a = random.answered (slice_get w.devices.words 0) r.own in
       answered_each slot r is (random_step w.devices slot r) (queue_left_by Randoms a.completed)
@@ -390,7 +390,7 @@ module _ (follow : LinesFollowAnswers) (tell : EventsTellSteps) (w : World) (h :
       (follow.randoms (slice_get w.devices.words 0) r.own).lines)
 
   stores : (slot : ℕ) (r : Record) → slice_get w.records slot ≡ Some r
-      → AreLists (answered w slot r (storing w.devices slot r)).after
+      → AreLists (one_answered w slot r (storing w.devices slot r)).after
   stores slot r is =
       let fails = is_fault w.devices.faults (w.devices.served + 1) in
       let a = storage.answered fails (flash_of r) r.storage r.own in
@@ -403,7 +403,7 @@ module _ (follow : LinesFollowAnswers) (tell : EventsTellSteps) (w : World) (h :
       (follow.stores fails (flash_of r) r.storage r.own).lines)
 
   fires : (slot : ℕ) (r : Record) → slice_get w.records slot ≡ Some r
-      → AreLists (answered w slot r (alarmed w.settings w.clock.time w.devices)).after
+      → AreLists (one_answered w slot r (alarmed w.settings w.clock.time w.devices)).after
   fires slot r is =
       answered_each slot r is (alarmed w.settings w.clock.time w.devices) (λ line. false) (λ here. refl)
       (moved_own (λ line. false) r.own (own_after (alarm.answered (now_in w) r.own)) _

@@ -17,7 +17,7 @@ use Rattle.kernel_model.specs.Record.{Record}
 use Rattle.kernel_model.specs.Turn.{Event, flash_of}
 use Rattle.kernel_model.specs.World.{Answered, Printed, Stepped, World, carried_out, device_step_of, done, labels}
 use Rattle.kernel_model.specs.World.{printing, ran, transmitting}
-use Rattle.kernel_model.specs.Laws.{answered}
+use Rattle.kernel_model.specs.Laws.{one_answered}
 use Rattle.kernel_model.proofs.Told.{of_device}
 use Rattle.kernel_model.specs.Replay.{after_all}
 use Rattle.kernel_model.specs.Prints.{AreOfItsBuffer, PrintsAreOfBuffers, PrintsItsBuffer, buffer_bytes, console_buffer}
@@ -86,7 +86,7 @@ module _ (w : World) where
   silent slot event = All-cons (PrintsItsBuffer w) (Answered slot event) [] tt (All-nil (PrintsItsBuffer w))
 
   sends : (slot : ℕ) (r : Record) → slice_get w.records slot ≡ Some r
-      → Tells (answered w slot r (transmitting w.clock.time w.devices slot r))
+      → Tells (one_answered w slot r (transmitting w.clock.time w.devices slot r))
   sends slot r is =
       let bytes = (console.sent (flash_of r) r.own).printed in
       All-cons (PrintsItsBuffer w) _ _ tt (printed slot bytes

@@ -15,7 +15,7 @@ use Rattle.kernel_model.specs.Run.{next, on_choice, round, stays, runs_on}
 use Rattle.kernel_model.specs.Replay.{after_all, chosen, events, happened, history, replay, RecordIsReplay}
 use Rattle.kernel_model.specs.Replay.{RoundFollowsChoices, SameHistorySameRecord}
 use Rattle.kernel_model.proofs.Places.{of_stepped, of_world, ran-other, ran-own, set_own, slice_get-set_other}
-use Rattle.kernel_model.specs.Laws.{answered}
+use Rattle.kernel_model.specs.Laws.{one_answered}
 use Rattle.kernel_model.proofs.Told.{of_answered}
 
 -- no step changes the settings
@@ -76,10 +76,10 @@ nothing_printed {X = X} read at bytes none = by_length (length bytes == 0)
     by_length false = ap (λ (read_of : List X). read_of ++ []) none
 
 answer_replayed : (w : World) (slot at : ℕ) (r : Record) → slice_get w.records at ≡ Some r → (a : DeviceAnswer)
-    → replayed w slot (answered w at r a)
+    → replayed w slot (one_answered w at r a)
 answer_replayed w slot at r there a =
     let event = a.answer.event in
-    lands w (answered w at r a).after.records at slot event
+    lands w (one_answered w at r a).after.records at slot event
     (set_own w.records at (apply w.settings event r) r there ∙ sym (ap (option_map (apply w.settings event)) there))
     (λ other ne. slice_get-set_other w.records at other (apply w.settings event r) ne)
     ∙ ap (λ (rest : List Event). option_map (replay w.settings (cond (at == slot) (event ∷ []) [] ++ rest))

@@ -19,7 +19,7 @@ use Rattle.kernel_model.specs.World.{transmitting, unmade}
 use Rattle.kernel_model.specs.Histories.{turns_in}
 use Rattle.kernel_model.proofs.Replays.{nothing_printed}
 use Rattle.kernel_model.proofs.Places.{of_stepped, ran-other, ran-own, set_own, slice_get-set_other}
-use Rattle.kernel_model.specs.Laws.{answered, quiet}
+use Rattle.kernel_model.specs.Laws.{one_answered, quiet}
 use Rattle.kernel_model.proofs.Told.{of_device, with_arrived}
 
 -- an event that is no turn
@@ -73,7 +73,7 @@ drawn_is_answer (Some word) = tt
 -- what holds of each answer that a device may give holds of what a device does
 pub of_answers : (w : World) (P : Stepped → Type 0) → P (unmade w) → ((devices : Devices) → P (quiet w devices))
     → ((slot : ℕ) (r : Record) → slice_get w.records slot ≡ Some r → (a : DeviceAnswer) → IsAnswer a.answer.event
-    → P (answered w slot r a)) → (device : Dev) → P (done w (device_step_of w device))
+    → P (one_answered w slot r a)) → (device : Dev) → P (done w (device_step_of w device))
 unfolding IsAnswer
 of_answers w P none quietly each device =
     of_device w P (record {
@@ -118,9 +118,9 @@ module _ (w : World) (slot : ℕ) (P : List TurnTrace → Option Record → Type
 
   of_answer_at : (at : ℕ) (r : Record) → slice_get w.records at ≡ Some r → (a : DeviceAnswer)
       → IsAnswer a.answer.event
-      → P (flat_map (turns_in slot) (answered w at r a).labels) (slice_get (answered w at r a).after.records slot)
+      → P (flat_map (turns_in slot) (one_answered w at r a).labels) (slice_get (one_answered w at r a).after.records slot)
   of_answer_at at r there a is =
-      subst (λ (tolds : List TurnTrace). P tolds (slice_get (answered w at r a).after.records slot))
+      subst (λ (tolds : List TurnTrace). P tolds (slice_get (one_answered w at r a).after.records slot))
       (sym (nothing_printed (turns_in slot) at a.answer.printed refl)) (by_slot (at == slot) refl)
     where
       s : Record

@@ -13,7 +13,7 @@ use Rattle.script_text.specs.Settings.{ScriptEvent as Arrival}
 use Rattle.kernel_model.specs.Record.{Record}
 use Rattle.kernel_model.specs.declared.settings.Settings.{Settings}
 use Rattle.kernel_model.specs.Turn.{apply}
-use Rattle.kernel_model.specs.Laws.{ComesTo, DevicesAnswerOne, answered, quiet}
+use Rattle.kernel_model.specs.Laws.{ComesTo, DevicesAnswerOne, one_answered, quiet}
 use Rattle.kernel_model.specs.World.{Answer, DeviceAnswer, Devices, Label, Stepped, World, alarmed, answering}
 use Rattle.kernel_model.specs.World.{arrived, device_step_of, done, happens, labels_of, labels_told}
 use Rattle.kernel_model.specs.World.{random_step, receive_step, records_told, served_by, serving, storing, transmitting}
@@ -102,7 +102,7 @@ done_quietly w devices =
     (labels_none (λ slot. None) 0 w.records (λ slot past. refl))
 
 pub done_one : (w : World) (slot : ℕ) (a : DeviceAnswer) (r : Record) → slice_get w.records slot ≡ Some r
-    → done w (Some (answering slot a)) ≡ answered w slot r a
+    → done w (Some (answering slot a)) ≡ one_answered w slot r a
 done_one w slot a r there =
     ap₂ (with_told w a.devices) (told_one w.settings told slot a.answer w.records r is none there)
     (labels_one told 0 slot slot a.answer w.records r (omega arith) is none there)
@@ -125,19 +125,19 @@ pub record OfEachDevice (w : World) (P : Stepped → Type 0) : Type 0 where
   pub none : P (unmade w)
   pub arrives : (a : Arrival) (rest : List Arrival) → P (quiet w (with_arrived w.devices a rest))
   pub alarms : (slot : ℕ) (r : Record) → slice_get w.records slot ≡ Some r
-      → P (answered w slot r (alarmed w.settings w.clock.time w.devices))
+      → P (one_answered w slot r (alarmed w.settings w.clock.time w.devices))
   pub sends : (slot : ℕ) (r : Record) → slice_get w.records slot ≡ Some r
-      → P (answered w slot r (transmitting w.clock.time w.devices slot r))
+      → P (one_answered w slot r (transmitting w.clock.time w.devices slot r))
   pub receives : (slot : ℕ) (r : Record) → slice_get w.records slot ≡ Some r
-      → P (answered w slot r (receive_step w.devices slot r))
+      → P (one_answered w slot r (receive_step w.devices slot r))
   pub draws : (slot : ℕ) (r : Record) → slice_get w.records slot ≡ Some r
-      → P (answered w slot r (random_step w.devices slot r))
+      → P (one_answered w slot r (random_step w.devices slot r))
   pub stores : (slot : ℕ) (r : Record) → slice_get w.records slot ≡ Some r
-      → P (answered w slot r (storing w.devices slot r))
+      → P (one_answered w slot r (storing w.devices slot r))
 
 module _ (w : World) (P : Stepped → Type 0) (none : P (unmade w)) where
   of_serving : (answer : ℕ → Record → DeviceAnswer)
-      → ((slot : ℕ) (r : Record) → slice_get w.records slot ≡ Some r → P (answered w slot r (answer slot r)))
+      → ((slot : ℕ) (r : Record) → slice_get w.records slot ≡ Some r → P (one_answered w slot r (answer slot r)))
       → (served : Option ℕ) → P (done w (serving w answer served))
   of_serving answer each None = none
   of_serving answer each (Some slot) = by_record (slice_get w.records slot) refl
@@ -167,7 +167,7 @@ of_device w P each dev.Store = of_serving w P each.none (storing w.devices) each
 
 -- what holds whatever is answered
 pub of_answered : (w : World) (P : Stepped → Type 0) → P (unmade w) → ((devices : Devices) → P (quiet w devices))
-    → ((slot : ℕ) (r : Record) → slice_get w.records slot ≡ Some r → (a : DeviceAnswer) → P (answered w slot r a))
+    → ((slot : ℕ) (r : Record) → slice_get w.records slot ≡ Some r → (a : DeviceAnswer) → P (one_answered w slot r a))
     → (device : Dev) → P (done w (device_step_of w device))
 of_answered w P none quietly each device =
     of_device w P (record {

@@ -57,8 +57,8 @@ quiet w devices = record {
 }
 
 -- a step that answers one process, which has this record
-abbrev pub answered : World → ℕ → Record → DeviceAnswer → Stepped
-answered w slot r a = record {
+abbrev pub one_answered : World → ℕ → Record → DeviceAnswer → Stepped
+one_answered w slot r a = record {
   after = record w {
     records = slice_set w.records slot (apply w.settings a.answer.event r);
     devices = a.devices;
@@ -68,21 +68,21 @@ answered w slot r a = record {
 }
 
 -- a step is one that answers a process
-pub record IsAnswered (w : World) (s : Stepped) : Type 0 where
+pub record IsOneAnswered (w : World) (s : Stepped) : Type 0 where
   pub slot : ℕ
   pub there : Record
   pub is_there : slice_get w.records slot ≡ Some there
   pub answer : DeviceAnswer
-  pub is : s ≡ answered w slot there answer
+  pub is : s ≡ one_answered w slot there answer
 
 -- it is none, or one that tells nobody anything, or one that answers a process
 abbrev pub ComesTo : World → Stepped → Type 0
-ComesTo w s = (s ≡ unmade w) ⊎ (((devices : Devices) × (s ≡ quiet w devices)) ⊎ IsAnswered w s)
+ComesTo w s = (s ≡ unmade w) ⊎ (((devices : Devices) × (s ≡ quiet w devices)) ⊎ IsOneAnswered w s)
 
 -- A device's step that answers one process, or nobody, is that; and each is one of these, or none.
 pub record DevicesAnswerOne : Type 0 where
   pub one : (w : World) (slot : ℕ) (a : DeviceAnswer) (r : Record) → slice_get w.records slot ≡ Some r →
-      done w (Some (answering slot a)) ≡ answered w slot r a
+      done w (Some (answering slot a)) ≡ one_answered w slot r a
   pub nobody : (w : World) (devices : Devices) →
       done w (Some (record { told = λ slot. None; devices = devices })) ≡ quiet w devices
   pub each : (w : World) (device : Dev) → ComesTo w (done w (device_step_of w device))
