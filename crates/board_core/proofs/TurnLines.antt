@@ -13,7 +13,6 @@ use Rattle.process_record.specs.declared.process.Process.{Process}
 use Rattle.driver_model.specs.Commands.{BoardRequest, QueueName}
 use Rattle.driver_model.specs.Lines.{IsWithin, RequestOf, has_waiting, kind_in}
 use Rattle.driver_model.specs.Requests.{request_in}
-use Rattle.driver_requests.specs.Waiting.{queue_after}
 use Rattle.grant_enter.specs.Homes.{Homes, nobody, own_of}
 use Rattle.kernel_calls.specs.Own.{HasStart, IsApplication}
 use Rattle.kernel_model.specs.Lives.{is_alive}

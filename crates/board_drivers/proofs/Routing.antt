@@ -1,5 +1,5 @@
 -- What the drivers show after what a turn asks of them is what the world routes.
-use Rattle.std.proofs.Common.{◌≡◌, ℕ, ◌==◌, Bool, true, false, not, cond, List, [], ◌∷◌, ◌++◌, refl, sym, ap, ap₂, ◌∙◌}
+use Rattle.std.proofs.Common.{◌≡◌, ℕ, ◌==◌, Bool, true, false, not, cond, List, [], ◌∷◌, ◌++◌, refl, sym, ap, ◌∙◌}
 use Rattle.std.proofs.lemmas.List.{map-append}
 use Rattle.tk_base.specs.declared.process.ProcessId.{ProcessId}
 use Rattle.driver_model.specs.Commands.{BoardRequest, Waits, Leaves, Lights, QueueName, Writes, Reads, Randoms, Stores}
@@ -8,9 +8,7 @@ use Rattle.driver_model.specs.Leds.{led_bits, lit_after, lit_by}
 use Rattle.driver_requests.specs.Waiting.{after_act, queue_after, without}
 use Rattle.kernel_model.specs.World as world
 use Rattle.kernel_model.specs.World.{Devices, acted, routed, slots_in}
-use Rattle.board_devices.specs.SerialLine.{SerialLine}
 use Rattle.board_devices.specs.Storage.{StoredSlots}
-use Rattle.script_text.specs.Settings.{ScriptEvent as Arrival}
 use Rattle.board_drivers.specs.declared.drivers.Drivers.{Drivers}
 use Rattle.board_drivers.specs.Driven.{Drives, devices_of, ids_waiting_in, slots_of, waiting_by}
 

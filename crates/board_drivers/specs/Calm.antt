@@ -1,12 +1,9 @@
 -- As long as no device step is ready. Only proofs use this.
-use Rattle.std.specs.Prelude.{◌≡◌, ◌≤◌, ◌<◌, ℕ, ◌+◌, Bool, false, List, [], Option, None, Some}
-use Rattle.std.specs.Option.{option_map}
+use Rattle.std.specs.Prelude.{◌≡◌, ◌≤◌, ◌<◌, ℕ, Bool, false, List, [], Option, None, Some}
 use Rattle.tk_base.specs.declared.process.Dev.{Dev}
 use Rattle.tk_base.specs.declared.process.Dev.TheVariants.{Receive, Random, Store}
-use Rattle.board_devices.specs.Arriving.{first_arrival_time}
 use Rattle.board_devices.specs.Clock.{clock_at}
 use Rattle.process_model.specs.Own.{Own}
-use Rattle.driver_model.specs.Alarm.{nearer, next_left}
 use Rattle.kernel_model.specs.Run.{next_time_at}
 use Rattle.kernel_model.specs.World.{can_act_at}
 use Rattle.board_drivers.specs.declared.drivers.Drivers.{Drivers}

@@ -1,10 +1,9 @@
 -- What a device tells a process, as a step of the board. Only proofs use this.
 use Rattle.std.specs.Prelude.{◌≡◌, ◌≤◌, ◌<◌, ℕ, ◌+◌, Bool, true, false, List, [], length, slice_get, slice_set}
-use Rattle.std.specs.Prelude.{slice_index_or, Option, None, Some, Result, Ok, Err}
+use Rattle.std.specs.Prelude.{slice_index_or, Some, Result, Ok, Err}
 use Rattle.tk_base.specs.declared.limits.TheConstants.{SENDING_LIMIT}
 use Rattle.tk_base.specs.declared.process.Dev.{Dev}
 use Rattle.tk_base.specs.declared.process.Dev.TheVariants.{Event as Arrival, Alarm, Uart, Receive, Random, Store}
-use Rattle.tk_base.specs.declared.process.ProcessId.{ProcessId}
 use Rattle.board_devices.specs.declared.answer.Answer.{Answer}
 use Rattle.tk_base.specs.declared.process.NotReady.{NotReady}
 use Rattle.board_devices.specs.SerialLine.{SerialLine}

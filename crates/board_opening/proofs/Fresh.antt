@@ -5,7 +5,7 @@ use Rattle.std.specs.List.{zip}
 use Rattle.std.proofs.lemmas.List.{length-replicate}
 use Rattle.tk_base.specs.declared.limits.TheConstants.{BYTE_TICKS_LIMIT, SLOT_COUNT}
 use Rattle.tk_base.specs.declared.process.ProcessId.{ProcessId}
-use Rattle.script_text.specs.Settings.{ScriptEvent, ScriptSettings as Script}
+use Rattle.script_text.specs.Settings.{ScriptSettings as Script}
 use Rattle.board_devices.specs.SerialLine.{SerialLine}
 use Rattle.board_devices.specs.Storage.{StoredSlots}
 use Rattle.process_model.specs.declared.place.Footprint.{Footprint}

@@ -118,7 +118,8 @@ module _ (w : World) (slot : ℕ) (P : List TurnTrace → Option Record → Type
 
   of_answer_at : (at : ℕ) (r : Record) → slice_get w.records at ≡ Some r → (a : DeviceAnswer)
       → IsAnswer a.answer.event
-      → P (flat_map (turns_in slot) (one_answered w at r a).labels) (slice_get (one_answered w at r a).after.records slot)
+      → P (flat_map (turns_in slot) (one_answered w at r a).labels)
+      (slice_get (one_answered w at r a).after.records slot)
   of_answer_at at r there a is =
       subst (λ (tolds : List TurnTrace). P tolds (slice_get (one_answered w at r a).after.records slot))
       (sym (nothing_printed (turns_in slot) at a.answer.printed refl)) (by_slot (at == slot) refl)
