@@ -21,6 +21,13 @@ static inline returncode_t libtock_alarm_command_read(uint32_t *tick)
     return tock_returncode_u32(command(TOCK_ALARM, TOCK_ALARM_READ, 0, 0), tick);
 }
 
+// Has the clock's tick stand in a word of the application's from each look at the clock and each alarm on; NULL takes
+// the word back.
+static inline returncode_t libtock_alarm_show_clock(volatile uint32_t *tick)
+{
+    return tock_returncode(allow_userspace_read(TOCK_ALARM, 0, tick, tick == NULL ? 0 : sizeof *tick));
+}
+
 // Disarms the alarm; RETURNCODE_EALREADY where none is armed.
 static inline returncode_t libtock_alarm_command_stop(void)
 {

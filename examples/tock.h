@@ -15,7 +15,8 @@ enum {
     TOCK_CLASS_ALLOW_READWRITE,
     TOCK_CLASS_ALLOW_READONLY,
     TOCK_CLASS_MEMOP,
-    TOCK_CLASS_EXIT
+    TOCK_CLASS_EXIT,
+    TOCK_CLASS_ALLOW_USERSPACE_READ
 };
 
 // TRD 104, "Error codes".
@@ -162,6 +163,13 @@ static inline syscall_return_t allow_readwrite(uint32_t driver, uint32_t number,
 static inline syscall_return_t allow_readonly(uint32_t driver, uint32_t number, const void *buffer, size_t size)
 {
     return tock_system_call(TOCK_CLASS_ALLOW_READONLY, driver, number, (uint32_t)buffer, size);
+}
+
+// A buffer that the application may read while the kernel writes it.
+static inline syscall_return_t allow_userspace_read(uint32_t driver, uint32_t number, volatile void *buffer,
+                                                    size_t size)
+{
+    return tock_system_call(TOCK_CLASS_ALLOW_USERSPACE_READ, driver, number, (uint32_t)buffer, size);
 }
 
 // TRD 104, "Memop": some of the operations.

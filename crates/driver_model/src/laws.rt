@@ -52,8 +52,8 @@ pub fn a_due_slot_is_there()
     ensures { DueSlotIsThere }
 {}
 
-/// An alarm that fires changes of its process what waits to be delivered, the count of dropped upcalls, by at
-/// most 1, and its grants, and nothing else.
+/// An alarm that fires changes of its process its bytes, where the clock is shown, what waits to be delivered, the count
+/// of dropped upcalls, by at most 1, and its grants, and nothing else.
 pub fn an_alarm_leaves_the_rest()
     ensures { AnAlarmLeavesTheRest }
 {}
@@ -92,9 +92,10 @@ pub fn drivers_leave_pairs()
     only_handing_changes_pairs();
 }
 
-/// No command to a driver changes a byte below the kernel break of the process that gives it; and what a device answers
-/// changes bytes inside the read-write buffer alone that the process has allowed the driver (TRD 104, "Read-Write
-/// Allow"; Levy et al., SOSP 2017).
+/// A command to a driver changes a byte below the kernel break of the process that gives it only where it shows the
+/// clock, in the readable buffer that the process has allowed for it; and what a device answers changes bytes inside the
+/// buffer alone that the process has allowed the driver (TRD 104, "Read-Write Allow"; the userspace-readable allow of
+/// Tock's kernel; Levy et al., SOSP 2017).
 pub fn drivers_write_in_buffers()
     ensures commands { CommandsWriteInBuffers }
     ensures answers { AnswersWriteInBuffers }

@@ -36,7 +36,7 @@ pub fn only_handing_changes_pairs()
 }
 
 /// Of the bytes below a process's kernel break an instruction that goes changes those that a store covers which it
-/// lists, a yield that does not wait its flag, and a driver those inside the read-write buffer that it writes. Entering a
+/// lists, a yield that does not wait its flag, and a driver those inside the buffer that it writes. Entering a
 /// driver and handing it a pair change none (Levy et al., SOSP 2017, section 4; TRD 104, "Yield", "Read-Write Allow").
 pub fn only_writes_change_bytes()
     ensures { OnlyWritesChangeBytes }
