@@ -44,24 +44,23 @@ arrived_deed d [] time e = absurd (false≢true e)
 arrived_deed d (event ∷ events) time e = refl
 
 module _ (b : Inside) (events : List ScriptEvent) (line : SerialLine)
-    (may : is_time b.moment.time b.drivers.arrivals ≡ true) (left : events ≡ drop 1 b.drivers.arrivals)
-    (with : line ≡ with_first_arrived b.drivers.arrivals b.drivers.uart) where
+    (may : is_time b.machine.moment.time b.machine.drivers.arrivals ≡ true) (left : events ≡ drop 1 b.machine.drivers.arrivals)
+    (with : line ≡ with_first_arrived b.machine.drivers.arrivals b.machine.drivers.uart) where
   abbrev pub drivers_then : Drivers
-  drivers_then = record b.drivers { arrivals = events; uart = line }
+  drivers_then = record b.machine.drivers { arrivals = events; uart = line }
 
   deed_is : device_step_of (world_of b) dev.Event
       ≡ Some (record { told = λ slot. None; devices = devices_of drivers_then })
   deed_is =
-      arrived_deed (devices_of b.drivers) b.drivers.arrivals b.moment.time may
+      arrived_deed (devices_of b.machine.drivers) b.machine.drivers.arrivals b.machine.moment.time may
       ∙ ap₂ (λ (l : SerialLine) (es : List ScriptEvent). Some
-      (deed_with (record (devices_of b.drivers) { line = l; arrivals = es }))) (sym with) (sym left)
+      (deed_with (record (devices_of b.machine.drivers) { line = l; arrivals = es }))) (sym with) (sym left)
     where
       deed_with : Devices → DeviceStep
       deed_with devices = record { told = λ slot. None; devices = devices }
 
   -- the world after they came in
-  pub world_arrived : DevicesAnswerOne → with_step b (world_of b).records (devices_of drivers_then) (a_step_later
-      b.moment) b.present
+  pub world_arrived : DevicesAnswerOne → with_step b (world_of b).records (devices_of drivers_then) (a_step_later b.machine.moment) b.present
       b.used ≡ (carried_out (world_of b) (Device dev.Event)).after
   unfolding carried_out
   world_arrived law =
@@ -76,16 +75,19 @@ module _ (b : Inside) (events : List ScriptEvent) (line : SerialLine)
       sym (ap (λ (s : Stepped). shown_by s.labels)
       (ap (done w) deed_is ∙ law.nobody w (devices_of drivers_then)))
 
-  pub soon : b.drivers.uart.free ≤ b.moment.time + SENDING_LIMIT → line.free ≤ b.moment.time + SENDING_LIMIT
-  soon h = omega (arith, ap (λ (l : SerialLine). l.free) with, (line_keeps b.drivers.arrivals b.drivers.uart).1, h)
+  pub soon : b.machine.drivers.uart.free ≤ b.machine.moment.time + SENDING_LIMIT → line.free ≤ b.machine.moment.time + SENDING_LIMIT
+  soon h = omega (arith, ap (λ (l : SerialLine). l.free) with, (line_keeps b.machine.drivers.arrivals b.machine.drivers.uart).1, h)
 
-  pub arrived_board : IsBoard b → (calm : ℕ) → b.moment.steps < STEP_LIMIT
-      → IsCalm b.moment.settings.start b.moment.time calm b.home.owns drivers_then
-      → IsBoard (record b { drivers = drivers_then; moment = a_step_later b.moment; calm = calm })
+  pub arrived_board : IsBoard b → (calm : ℕ) → b.machine.moment.steps < STEP_LIMIT
+      → IsCalm b.machine.moment.settings.start b.machine.moment.time calm b.machine.home.owns drivers_then
+      → IsBoard (record b {
+        machine = record b.machine { drivers = drivers_then; moment = a_step_later b.machine.moment };
+        calm = calm;
+      })
   arrived_board h calm below quiet = record {
-    seated = All-weaker (IsResident b.home.flash b.moment.steps) (IsResident b.home.flash (b.moment.steps + 1))
-        (rests_seated b.home.flash b.moment.steps) (residents b) h.seated;
-    lost = All-weaker (HasLost b.moment.steps) (HasLost (b.moment.steps + 1)) (λ o l. omega (arith, l)) b.home.owns
+    seated = All-weaker (IsResident b.machine.home.flash b.machine.moment.steps) (IsResident b.machine.home.flash (b.machine.moment.steps + 1))
+        (rests_seated b.machine.home.flash b.machine.moment.steps) (residents b) h.seated;
+    lost = All-weaker (HasLost b.machine.moment.steps) (HasLost (b.machine.moment.steps + 1)) (λ o l. omega (arith, l)) b.machine.home.owns
         h.lost;
     owns = h.owns;
     few = h.few;
@@ -99,7 +101,7 @@ module _ (b : Inside) (events : List ScriptEvent) (line : SerialLine)
       ticks = omega (
         arith,
         ap (λ (l : SerialLine). l.ticks) with,
-        (line_keeps b.drivers.arrivals b.drivers.uart).0,
+        (line_keeps b.machine.drivers.arrivals b.machine.drivers.uart).0,
         h.driven.ticks,
       );
       free = soon h.driven.free;

@@ -39,22 +39,22 @@ use Rattle.board_drivers.proofs.Pairs.{zip-get, get_or-zip, length-firsts}
 use Rattle.board_turns.specs.Turning.{MayTurnAt}
 
 -- each process has storage
-pub has_storage : (b : Inside) → IsBoard b → length (residents b) ≤ length b.drivers.stores.slots
+pub has_storage : (b : Inside) → IsBoard b → length (residents b) ≤ length b.machine.drivers.stores.slots
 has_storage b board =
-    omega (arith, board.few, board.driven.slots, length-firsts b.processes.items b.home.owns board.owns)
+    omega (arith, board.few, board.driven.slots, length-firsts b.processes.items b.machine.home.owns board.owns)
 
 -- what is the own of each process is whole, as it is in the home
 pub shown_whole : (b : Inside) → IsBoard b
-    → ((slot : ℕ) → slot < length b.home.owns → HoldsInPlace (own_of b.home slot))
-    → ((slot : ℕ) → slot < length b.home.owns → IsInPlace (own_of b.home slot)) → AreWhole (world_of b)
+    → ((slot : ℕ) → slot < length b.machine.home.owns → HoldsInPlace (own_of b.machine.home slot))
+    → ((slot : ℕ) → slot < length b.machine.home.owns → IsInPlace (own_of b.machine.home slot)) → AreWhole (world_of b)
 shown_whole b board holds lies slot r is =
-    let there : slice_get b.home.owns slot ≡ Some r.own
+    let there : slice_get b.machine.home.owns slot ≡ Some r.own
     = ap (λ (owns : List Own). slice_get owns slot)
-    (sym (owns_shown b.home.flash b.processes.items b.home.owns b.drivers.stores.slots board.owns
+    (sym (owns_shown b.machine.home.flash b.processes.items b.machine.home.owns b.machine.drivers.stores.slots board.owns
     (has_storage b board)))
     ∙ slice_get-map (λ (x : Record). x.own) (world_of b).records slot ∙ ap (option_map (λ (x : Record). x.own)) is in
-    let within = slice_get_within b.home.owns slot r.own there in
-    let same : own_of b.home slot ≡ r.own = get_or_from_slice_get b.home.owns slot r.own nobody there in
+    let within = slice_get_within b.machine.home.owns slot r.own there in
+    let same : own_of b.machine.home slot ≡ r.own = get_or_from_slice_get b.machine.home.owns slot r.own nobody there in
     record {
       bytes =
           subst (λ (o : Own). length o.ram ≡ o.layout.kernel_break - o.layout.start) same (lies slot within).ram;
@@ -64,7 +64,7 @@ shown_whole b board holds lies slot r is =
 -- which slots are ready
 ready_slots_shown : (b : Inside) → IsBoard b → ready_slots (world_of b) ≡ map resident_turns (residents b)
 ready_slots_shown b board =
-    reads_shown may_turn resident_turns b.home.flash (residents b) b.drivers.stores.slots (has_storage b board)
+    reads_shown may_turn resident_turns b.machine.home.flash (residents b) b.machine.drivers.stores.slots (has_storage b board)
     (λ p. refl)
 
 -- the status of the world that a board shows
@@ -80,22 +80,22 @@ status_shown b ready devices nearest board e f g =
 
 -- its summary
 pub summary_shown : (b : Inside) (lines : ArrayVec SlotLine) (unplaced : ArrayVec Unplaced) (leds : ℕ) → IsBoard b
-    → lines.items ≡ map (line_in b.home.flash) (residents b) → unplaced.items ≡ b.unplaced.items
-    → leds ≡ led_bits b.drivers.leds
+    → lines.items ≡ map (line_in b.machine.home.flash) (residents b) → unplaced.items ≡ b.unplaced.items
+    → leds ≡ led_bits b.machine.drivers.leds
     → ◌≡◌ {A = Summary} (record {
       slots = lines;
       unplaced = unplaced;
       leds = leds;
       led_count =
-          b.moment.settings.leds;
-      steps = b.moment.steps;
-      time = b.moment.time;
+          b.machine.moment.settings.leds;
+      steps = b.machine.moment.steps;
+      time = b.machine.moment.time;
     }) (summary_of (world_of b))
 unfolding summary_of
 summary_shown b lines unplaced leds board e f lit =
     let s = summary_of (world_of b) in
     ap (λ (xs : List SlotLine). record s { slots = record { items = xs }; unplaced = unplaced; leds = leds })
-    (e ∙ sym (reads_shown slot_line_of (line_in b.home.flash) b.home.flash (residents b) b.drivers.stores.slots
+    (e ∙ sym (reads_shown slot_line_of (line_in b.machine.home.flash) b.machine.home.flash (residents b) b.machine.drivers.stores.slots
     (has_storage b board) (λ p. refl)))
     ∙ ap₂ (λ (xs : List Unplaced) (bits : ℕ). record s { unplaced = record { items = xs }; leds = bits }) f lit
 
@@ -156,17 +156,17 @@ lines_all f ps owns i lines n h so =
 -- whether a slot can run, by the residents
 pub ready_shown : (b : Inside) (slot : ℕ) → IsBoard b
     → is_ready (world_of b) (Run slot)
-    ≡ (nat_lt b.moment.steps STEP_LIMIT && can_turn_in (slice_get (residents b) slot))
+    ≡ (nat_lt b.machine.moment.steps STEP_LIMIT && can_turn_in (slice_get (residents b) slot))
 unfolding may_be_made
 ready_shown b slot board =
-    let slots = b.drivers.stores.slots in
-    ap (λ (c : Bool). nat_lt b.moment.steps STEP_LIMIT && c)
-    (ap can_run (slice_get-map (record_of b.home.flash) (zip (residents b) slots) slot
-    ∙ ap (option_map (record_of b.home.flash)) (beside_get (residents b) slots slot (has_storage b board)))
+    let slots = b.machine.drivers.stores.slots in
+    ap (λ (c : Bool). nat_lt b.machine.moment.steps STEP_LIMIT && c)
+    (ap can_run (slice_get-map (record_of b.machine.home.flash) (zip (residents b) slots) slot
+    ∙ ap (option_map (record_of b.machine.home.flash)) (beside_get (residents b) slots slot (has_storage b board)))
     ∙ of_resident (slice_index_or slots slot []) (slice_get (residents b) slot))
   where
     of_resident : (storage : List ℕ) (o : Option Resident)
-        → can_run (option_map (record_of b.home.flash) (option_map (λ (r : Resident). (r, storage)) o)) ≡ can_turn_in o
+        → can_run (option_map (record_of b.machine.home.flash) (option_map (λ (r : Resident). (r, storage)) o)) ≡ can_turn_in o
     of_resident storage None = refl
     of_resident storage (Some r) = refl
 
@@ -196,11 +196,11 @@ slot_missing home processes slot index n i lt =
     past (x ∷ xs) (suc k) h = past xs k (omega arith)
 
 -- below the limit of steps the process decides
-pub below_limit : (b : Inside) (slot : ℕ) → IsBoard b → b.moment.steps < STEP_LIMIT
+pub below_limit : (b : Inside) (slot : ℕ) → IsBoard b → b.machine.moment.steps < STEP_LIMIT
     → can_turn_in (slice_get (residents b) slot) ≡ is_ready (world_of b) (Run slot)
 below_limit b slot board h = sym (ready_shown b slot board ∙ under (can_turn_in (slice_get (residents b) slot)))
   where
-    under : (c : Bool) → (nat_lt b.moment.steps STEP_LIMIT && c) ≡ c
+    under : (c : Bool) → (nat_lt b.machine.moment.steps STEP_LIMIT && c) ≡ c
     under c = grind (arith, nat_tests)
 
 both : (b c : Bool) → (b && c) ≡ true → (b ≡ true) × (c ≡ true)
@@ -209,14 +209,14 @@ both false c e = cc
 
 -- a slot that is ready is one of the table's
 pub ready_within : (b : Inside) (slot : ℕ) → IsBoard b → is_ready (world_of b) (Run slot) ≡ true
-    → (b.moment.steps < STEP_LIMIT) × (slot < length b.processes.items)
+    → (b.machine.moment.steps < STEP_LIMIT) × (slot < length b.processes.items)
 ready_within b slot board e =
-    let t = both (nat_lt b.moment.steps STEP_LIMIT) (can_turn_in (slice_get (residents b) slot))
+    let t = both (nat_lt b.machine.moment.steps STEP_LIMIT) (can_turn_in (slice_get (residents b) slot))
     (sym (ready_shown b slot board) ∙ e) in
     let within : slot < length (residents b) = resident (slice_get (residents b) slot) refl t.1 in
-    (below t.0, omega (arith, within, length-firsts b.processes.items b.home.owns board.owns))
+    (below t.0, omega (arith, within, length-firsts b.processes.items b.machine.home.owns board.owns))
   where
-    below : nat_lt b.moment.steps STEP_LIMIT ≡ true → b.moment.steps < STEP_LIMIT
+    below : nat_lt b.machine.moment.steps STEP_LIMIT ≡ true → b.machine.moment.steps < STEP_LIMIT
     below h = grind (arith, nat_tests)
 
     resident : (o : Option Resident) → slice_get (residents b) slot ≡ o → can_turn_in o ≡ true
@@ -232,7 +232,7 @@ pub next_in_calm : (b : Inside) (ready : List Bool) (o : Option ℕ) → IsBoard
 unfolding next choice ready_device
 next_in_calm b ready None board r calm is = tt
 next_in_calm b ready (Some slot) board r calm is =
-    let passes : Option Choice = option_map (λ at. Pass (at - b.moment.time)) (next_time (world_of b)) in
+    let passes : Option Choice = option_map (λ at. Pass (at - b.machine.moment.time)) (next_time (world_of b)) in
     sym (ap (λ (ds : List Bool). option_or (option_map Device (ready_device ds))
     (option_or (option_map Run (next_slot (ready_slots (world_of b)) b.present b.used b.slice)) passes)) calm
     ∙ ap (λ (xs : List Bool). option_or (option_map Run (next_slot xs b.present b.used b.slice)) passes)
@@ -260,7 +260,7 @@ next_ahead s w e near law none at is =
 
 -- turns of a slot of a board's tables may be made while steps are left
 pub may_turn_on : (turns : ℕ) (b : Inside) (slot : ℕ) → IsBoard b → slot < length b.processes.items
-    → b.moment.steps + turns ≤ STEP_LIMIT
-    → MayTurnAt turns b.moment slot b.home b.processes.items b.guard
+    → b.machine.moment.steps + turns ≤ STEP_LIMIT
+    → MayTurnAt turns slot b.machine b.processes.items
 may_turn_on turns b slot board within limit =
     record { within = within; owns = board.owns; seated = board.seated; limit = limit; guard = board.guard }

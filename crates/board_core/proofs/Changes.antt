@@ -17,7 +17,6 @@ use Rattle.kernel_model.specs.Turn.{Turned, turned}
 use Rattle.kernel_model.specs.World.{World, Devices, carried_out, ran, routed}
 use Rattle.kernel_model.specs.Shown.{shown_by}
 use Rattle.board_core.specs.declared.board.Board.TheInside.{Inside}
-use Rattle.board_drivers.specs.declared.drivers.Drivers.{Drivers}
 use Rattle.board_drivers.specs.declared.moment.Moment.{Moment}
 use Rattle.board_turns.specs.declared.turn.Shown.{Shown}
 use Rattle.board_drivers.specs.Driven.{devices_of}
@@ -29,6 +28,7 @@ use Rattle.board_turns.proofs.Turns.{rests_seated_on}
 use Rattle.board_drivers.proofs.Pairs.{zip-set, zip-get}
 use Rattle.board_drivers.proofs.Routing.{drives_shown}
 use Rattle.board_drivers.proofs.Records.{bytes_of, record_found}
+use Rattle.board_turns.specs.declared.machine.Machine.{Machine}
 
 module _ (i : ℕ) (home home_after : Homes) (old new : List Process) (t : ChangesSlot i home home_after old new) where
   -- the residents after the change
@@ -96,7 +96,7 @@ abbrev pub with_step : Inside → List Record → Devices → Moment → Option 
 with_step b records devices m present used = record {
   records = records;
   unplaced = b.unplaced.items;
-  settings = b.moment.settings;
+  settings = b.machine.moment.settings;
   pace = pace b.slice;
   devices = devices;
   clock = record { time = m.time; steps = m.steps };
@@ -111,37 +111,37 @@ turn_later m = record m { time = m.time + 1; steps = m.steps + 1 }
 abbrev pub a_step_later : Moment → Moment
 a_step_later m = record m { steps = m.steps + 1 }
 
-module _ (b : Inside) (slot : ℕ) (home : Homes) (processes : List Process) (shown : Shown) (d : Drivers)
-    (t : TurnsAt b.moment slot b.home home b.processes.items processes shown b.drivers d)
-    (few : length (residents b) ≤ length b.drivers.stores.slots) where
+module _ (b : Inside) (slot : ℕ) (x : Machine) (processes : List Process) (shown : Shown)
+    (t : TurnsAt slot b.machine x b.processes.items processes shown)
+    (few : length (residents b) ≤ length b.machine.drivers.stores.slots) where
   -- the record before the turn, and the turn
   abbrev pub before_turn : Record
-  before_turn = record_of b.home.flash (t.at.before, bytes_of b.drivers.stores.slots slot)
+  before_turn = record_of b.machine.home.flash (t.at.before, bytes_of b.machine.drivers.stores.slots slot)
 
   abbrev pub turn_made : Turned
-  turn_made = turned b.moment.settings b.moment.time before_turn
+  turn_made = turned b.machine.moment.settings b.machine.moment.time before_turn
 
   turn_found : slice_get (world_of b).records slot ≡ Some before_turn
-  turn_found = found slot b.home home b.processes.items processes t.at b.drivers.stores.slots few
+  turn_found = found slot b.machine.home x.home b.processes.items processes t.at b.machine.drivers.stores.slots few
 
   -- the world after the turn
   pub world_after : (used : ℕ) → used ≡ used_after b.present b.used b.slice slot
-      → with_step b (map (record_of home.flash) (zip (zip processes home.owns) d.stores.slots)) (devices_of d)
-      (turn_later b.moment) (Some slot) used ≡ (carried_out (world_of b) (Run slot)).after
+      → with_step b (map (record_of x.home.flash) (zip (zip processes x.home.owns) x.drivers.stores.slots)) (devices_of x.drivers)
+      (turn_later b.machine.moment) (Some slot) used ≡ (carried_out (world_of b) (Run slot)).after
   unfolding carried_out
   world_after used u =
-      let m = turn_later b.moment in
-      let does = t.turns (bytes_of b.drivers.stores.slots slot) in
-      let records : map (record_of home.flash) (zip (zip processes home.owns) d.stores.slots)
+      let m = turn_later b.machine.moment in
+      let does = t.turns (bytes_of b.machine.drivers.stores.slots slot) in
+      let records : map (record_of x.home.flash) (zip (zip processes x.home.owns) x.drivers.stores.slots)
       ≡ slice_set (world_of b).records slot turn_made.after =
-      ap (λ (s : _). map (record_of home.flash) (zip (zip processes home.owns) s.slots)) does.2.bytes
-      ∙ kept_records slot b.home home b.processes.items processes t.at b.drivers.stores.slots
+      ap (λ (s : _). map (record_of x.home.flash) (zip (zip processes x.home.owns) s.slots)) does.2.bytes
+      ∙ kept_records slot b.machine.home x.home b.processes.items processes t.at b.machine.drivers.stores.slots
       ∙ ap (slice_set (world_of b).records slot) (sym does.0) in
-      ap (λ (rs : List Record). with_step b rs (devices_of d) m (Some slot) used) records
+      ap (λ (rs : List Record). with_step b rs (devices_of x.drivers) m (Some slot) used) records
       ∙ ap (λ (ds : Devices). with_step b (slice_set (world_of b).records slot turn_made.after) ds m (Some slot) used)
-      (drives_shown (id_of slot t.at.before.1) turn_made.acts b.drivers d does.2)
+      (drives_shown (id_of slot t.at.before.1) turn_made.acts b.machine.drivers x.drivers does.2)
       ∙ ap (λ (n : ℕ). with_step b (slice_set (world_of b).records slot turn_made.after)
-      (routed slot turn_made.acts (devices_of b.drivers)) m (Some slot) n) u
+      (routed slot turn_made.acts (devices_of b.machine.drivers)) m (Some slot) n) u
       ∙ sym (ap (λ (o : Option Record). (ran (world_of b) slot o).after) turn_found)
 
   -- what the turn shows
@@ -150,7 +150,7 @@ module _ (b : Inside) (slot : ℕ) (home : Homes) (processes : List Process) (sh
       (shown_by (carried_out (world_of b) (Run slot)).labels)
   unfolding carried_out shown_by
   turn_shown printed p =
-      let shows = (t.turns (bytes_of b.drivers.stores.slots slot)).1 in
+      let shows = (t.turns (bytes_of b.machine.drivers.stores.slots slot)).1 in
       ap (λ (xs : List ℕ). record {
         printed = record { items = xs };
         slot = Some slot;

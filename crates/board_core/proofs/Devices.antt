@@ -163,13 +163,13 @@ remains_seated flash steps process own o rest s =
 
 module _ (b : Inside) (device : Dev) (slot : ℕ) (printed : List ℕ) (home : Homes) (d : Drivers)
     (t : DeviceTold (parts_of b) device slot printed home d) (h : IsBoard b) where
-  own_was : slice_get b.home.owns slot ≡ Some (own_of b.home slot)
-  own_was = slice_get-get_or b.home.owns slot nobody t.there
+  own_was : slice_get b.machine.home.owns slot ≡ Some (own_of b.machine.home slot)
+  own_was = slice_get-get_or b.machine.home.owns slot nobody t.there
 
   -- the change of its process
-  pub told_at : ChangesSlot slot b.home home b.processes.items b.processes.items
+  pub told_at : ChangesSlot slot b.machine.home home b.processes.items b.processes.items
   told_at = record {
-    before = (t.process, own_of b.home slot);
+    before = (t.process, own_of b.machine.home slot);
     after = (t.process, own_of home slot);
     was = t.was;
     own_was = own_was;
@@ -180,37 +180,38 @@ module _ (b : Inside) (device : Dev) (slot : ℕ) (printed : List ℕ) (home : H
       same : (ps : List Process) (i : ℕ) (p : Process) → slice_get ps i ≡ Some p → slice_set ps i p ≡ ps
       same ps i p was = ap (slice_set ps i) (sym (get_or_from_slice_get ps i p p was)) ∙ set-get_or ps i p
 
-  few : length (residents b) ≤ length b.drivers.stores.slots
-  few = beside b.processes.items b.home.owns b.drivers.stores.slots h.owns h.few h.driven.slots
+  few : length (residents b) ≤ length b.machine.drivers.stores.slots
+  few = beside b.processes.items b.machine.home.owns b.machine.drivers.stores.slots h.owns h.few h.driven.slots
 
   told_found : slice_get (world_of b).records slot
-      ≡ Some (record_of b.home.flash ((t.process, own_of b.home slot), bytes_of b.drivers.stores.slots slot))
+      ≡ Some (record_of b.machine.home.flash ((t.process, own_of b.machine.home slot), bytes_of b.machine.drivers.stores.slots slot))
   unfolding told_at
-  told_found = found slot b.home home b.processes.items b.processes.items told_at b.drivers.stores.slots few
+  told_found = found slot b.machine.home home b.processes.items b.processes.items told_at b.machine.drivers.stores.slots few
 
   -- its process alone was answered
   answered_so : DevicesAnswerOne → done (world_of b) (device_step_of (world_of b) device)
       ≡ one_answered (world_of b) slot
-      (record_of b.home.flash ((t.process, own_of b.home slot), bytes_of b.drivers.stores.slots slot))
+      (record_of b.machine.home.flash
+      ((t.process, own_of b.machine.home slot), bytes_of b.machine.drivers.stores.slots slot))
       (record { answer = record { event = t.serves.event; printed = printed }; devices = devices_of d })
   answered_so law = ap (done (world_of b)) t.serves.deed ∙ law.one (world_of b) slot
       (record { answer = record { event = t.serves.event; printed = printed }; devices = devices_of d })
-      (record_of b.home.flash ((t.process, own_of b.home slot), bytes_of b.drivers.stores.slots slot)) told_found
+      (record_of b.machine.home.flash ((t.process, own_of b.machine.home slot), bytes_of b.machine.drivers.stores.slots slot)) told_found
 
   -- the world after it
   pub world_told : DevicesAnswerOne → with_step b (map (record_of home.flash) (zip (zip b.processes.items home.owns)
       d.stores.slots))
-      (devices_of d) (a_step_later b.moment) b.present b.used ≡ (carried_out (world_of b) (Device device)).after
+      (devices_of d) (a_step_later b.machine.moment) b.present b.used ≡ (carried_out (world_of b) (Device device)).after
   unfolding carried_out told_at
   world_told law =
       let w = world_of b in
       let changed : map (record_of home.flash) (zip (zip b.processes.items home.owns) d.stores.slots)
-      ≡ slice_set w.records slot (record_of b.home.flash ((t.process, own_of home slot), t.serves.bytes)) =
+      ≡ slice_set w.records slot (record_of b.machine.home.flash ((t.process, own_of home slot), t.serves.bytes)) =
       ap (λ (s : List (List ℕ)). map (record_of home.flash) (zip (zip b.processes.items home.owns) s))
       t.serves.stores.slots
-      ∙ changed_records slot b.home home b.processes.items b.processes.items told_at b.drivers.stores.slots
+      ∙ changed_records slot b.machine.home home b.processes.items b.processes.items told_at b.machine.drivers.stores.slots
       t.serves.bytes in
-      ap (λ (rs : List Record). with_step b rs (devices_of d) (a_step_later b.moment) b.present b.used)
+      ap (λ (rs : List Record). with_step b rs (devices_of d) (a_step_later b.machine.moment) b.present b.used)
       (changed ∙ ap (slice_set w.records slot) (sym t.serves.tells))
       ∙ sym (ap (λ (s : Stepped). s.after) (answered_so law))
 
@@ -222,50 +223,53 @@ module _ (b : Inside) (device : Dev) (slot : ℕ) (printed : List ℕ) (home : H
       (answered_so law))
 
   -- it may be made below the limit of steps
-  pub may_tell : b.moment.steps < STEP_LIMIT → IsTrue (is_ready (world_of b) (Device device))
+  pub may_tell : b.machine.moment.steps < STEP_LIMIT → IsTrue (is_ready (world_of b) (Device device))
   may_tell below = may_act (world_of b) device below t.may
 
-  told_owns : home.owns ≡ slice_set b.home.owns slot (own_of home slot)
+  told_owns : home.owns ≡ slice_set b.machine.home.owns slot (own_of home slot)
   told_owns = ap (λ (x : Homes). x.owns) t.only
 
-  own_life : (own_of home slot).life ≡ (own_of b.home slot).life
+  own_life : (own_of home slot).life ≡ (own_of b.machine.home slot).life
   own_life = ap (λ (o : Own). o.life) t.serves.follows.rest
 
   -- who waits in a line has a request there then, and no other
   told_line : (queue : QueueName)
-      → IsQueueOf queue (ids_waiting_in d queue) (slice_set b.home.owns slot (own_of home slot))
+      → IsQueueOf queue (ids_waiting_in d queue) (slice_set b.machine.home.owns slot (own_of home slot))
   told_line queue =
-      left_line queue (t.serves.left queue) (ids_waiting_in b.drivers queue) (ids_waiting_in d queue) b.home.owns slot
-      (own_of b.home slot) (own_of home slot) (h.driven.queues queue) own_was (t.serves.follows.lines queue) own_life
+      left_line queue (t.serves.left queue) (ids_waiting_in b.machine.drivers queue) (ids_waiting_in d queue) b.machine.home.owns slot
+      (own_of b.machine.home slot) (own_of home slot) (h.driven.queues queue) own_was (t.serves.follows.lines queue) own_life
       (t.serves.lines queue)
 
-  told_driven : AreDriven b.moment.settings b.moment.time home.owns d
-  told_driven = subst (λ (owns : List Own). AreDriven b.moment.settings b.moment.time owns d) (sym told_owns) (record {
+  told_driven : AreDriven b.machine.moment.settings b.machine.moment.time home.owns d
+  told_driven = subst (λ (owns : List Own). AreDriven b.machine.moment.settings b.machine.moment.time owns d) (sym told_owns) (record {
     queues = told_line;
-    within = All-set (IsWithin b.moment.settings.storage) b.home.owns slot (own_of home slot)
-        (t.serves.follows.within b.moment.settings.storage (h.driven.within slot nobody t.there)) h.driven.within;
+    within = All-set (IsWithin b.machine.moment.settings.storage) b.machine.home.owns slot (own_of home slot)
+        (t.serves.follows.within b.machine.moment.settings.storage (h.driven.within slot nobody t.there)) h.driven.within;
     leds = t.serves.leds ∙ h.driven.leds;
     size = t.serves.stores.size ∙ h.driven.size;
-    slots = ap length t.serves.stores.slots ∙ length-set b.drivers.stores.slots slot t.serves.bytes ∙ h.driven.slots;
+    slots = ap length t.serves.stores.slots ∙ length-set b.machine.drivers.stores.slots slot t.serves.bytes ∙ h.driven.slots;
     ticks = omega (arith, t.serves.uart.ticks, h.driven.ticks);
     free = t.serves.uart.free;
   })
 
   -- what always holds of a board holds then
-  pub told_board : (calm : ℕ) → b.moment.steps < STEP_LIMIT
-      → IsCalm b.moment.settings.start b.moment.time calm home.owns d
-      → IsBoard (record b { home = home; drivers = d; moment = a_step_later b.moment; calm = calm })
+  pub told_board : (calm : ℕ) → b.machine.moment.steps < STEP_LIMIT
+      → IsCalm b.machine.moment.settings.start b.machine.moment.time calm home.owns d
+      → IsBoard (record b {
+        machine = record b.machine { home = home; drivers = d; moment = a_step_later b.machine.moment };
+        calm = calm;
+      })
   unfolding told_at
   told_board calm below quiet = record {
-    seated = still_seated slot b.home home b.processes.items b.processes.items told_at b.moment.steps
-        (remains_seated b.home.flash b.moment.steps t.process (own_of b.home slot) (own_of home slot)
-        t.serves.follows.rest (seated_there b.home.flash b.moment.steps b.processes.items b.home.owns slot
-        (t.process, own_of b.home slot) t.was own_was h.seated)) h.seated;
-    lost = still_lost b.moment.steps slot b.home home (own_of home slot) t.only
-        (omega (arith, t.serves.follows.dropped.not_more, lost_there b.moment.steps b.home slot h.lost)) h.lost;
-    owns = as_many_owns slot b.home home b.processes.items b.processes.items told_at ∙ h.owns;
+    seated = still_seated slot b.machine.home home b.processes.items b.processes.items told_at b.machine.moment.steps
+        (remains_seated b.machine.home.flash b.machine.moment.steps t.process (own_of b.machine.home slot) (own_of home slot)
+        t.serves.follows.rest (seated_there b.machine.home.flash b.machine.moment.steps b.processes.items b.machine.home.owns slot
+        (t.process, own_of b.machine.home slot) t.was own_was h.seated)) h.seated;
+    lost = still_lost b.machine.moment.steps slot b.machine.home home (own_of home slot) t.only
+        (omega (arith, t.serves.follows.dropped.not_more, lost_there b.machine.moment.steps b.machine.home slot h.lost)) h.lost;
+    owns = as_many_owns slot b.machine.home home b.processes.items b.processes.items told_at ∙ h.owns;
     few = h.few;
-    guard = still_guards b.guard b.home home slot t.only (ap (λ (o : Own). o.layout) t.serves.follows.rest) h.guard;
+    guard = still_guards b.machine.guard b.machine.home home slot t.only (ap (λ (o : Own). o.layout) t.serves.follows.rest) h.guard;
     driven = told_driven;
     served = omega (arith, t.serves.stores.counts, h.served);
     steps = omega (arith, below);
@@ -292,7 +296,7 @@ pub ready_now : (w : World) (choice : Choice) → IsTrue (is_ready w choice)
 ready_now w choice is = (λ e. is, λ h. refl)
 
 -- a board that shows a world below the limit of steps is below it
-pub below_shown : (b : Inside) (w : World) → world_of b ≡ w → w.clock.steps < STEP_LIMIT → b.moment.steps < STEP_LIMIT
+pub below_shown : (b : Inside) (w : World) → world_of b ≡ w → w.clock.steps < STEP_LIMIT → b.machine.moment.steps < STEP_LIMIT
 below_shown b w is h = subst (λ (x : World). x.clock.steps < STEP_LIMIT) (sym is) h
 
 -- a choice that may not be made, in a world that a board shows, is refused

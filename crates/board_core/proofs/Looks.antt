@@ -33,33 +33,33 @@ module _ (b : Inside) (board : IsBoard b) (slot : ℕ) where
   -- the record in a slot, by what is kept for the slot
   looked : (o : Option Resident) → slice_get (residents b) slot ≡ o
       → slice_get (world_of b).records slot
-      ≡ option_map (λ (r : Resident). record_of b.home.flash (r, slot_bytes b.drivers.stores slot)) o
+      ≡ option_map (λ (r : Resident). record_of b.machine.home.flash (r, slot_bytes b.machine.drivers.stores slot)) o
   looked o is =
-      slice_get-map (record_of b.home.flash) (zip (residents b) b.drivers.stores.slots) slot
-      ∙ ap (option_map (record_of b.home.flash))
-      (beside_get (residents b) b.drivers.stores.slots slot (has_storage b board)
-      ∙ ap (option_map (λ (r : Resident). (r, slot_bytes b.drivers.stores slot))) is)
+      slice_get-map (record_of b.machine.home.flash) (zip (residents b) b.machine.drivers.stores.slots) slot
+      ∙ ap (option_map (record_of b.machine.home.flash))
+      (beside_get (residents b) b.machine.drivers.stores.slots slot (has_storage b board)
+      ∙ ap (option_map (λ (r : Resident). (r, slot_bytes b.machine.drivers.stores slot))) is)
       ∙ joined o
     where
       joined : (o : Option Resident)
-          → option_map (record_of b.home.flash) (option_map (λ (r : Resident). (r, slot_bytes b.drivers.stores slot)) o)
-          ≡ option_map (λ (r : Resident). record_of b.home.flash (r, slot_bytes b.drivers.stores slot)) o
+          → option_map (record_of b.machine.home.flash) (option_map (λ (r : Resident). (r, slot_bytes b.machine.drivers.stores slot)) o)
+          ≡ option_map (λ (r : Resident). record_of b.machine.home.flash (r, slot_bytes b.machine.drivers.stores slot)) o
       joined None = refl
       joined (Some r) = refl
 
   -- a slot that has a process
   pub there : (p : Process) → slice_get b.processes.items slot ≡ Some p
       → slice_get (world_of b).records slot
-      ≡ Some (record_of b.home.flash ((p, own_of b.home slot), slot_bytes b.drivers.stores slot))
+      ≡ Some (record_of b.machine.home.flash ((p, own_of b.machine.home slot), slot_bytes b.machine.drivers.stores slot))
   there p is =
       let within : slot < length b.processes.items = slice_get_within b.processes.items slot p is in
-      looked (Some (p, own_of b.home slot)) (zip-get b.processes.items b.home.owns slot p (own_of b.home slot) is
-      (slice_get-get_or b.home.owns slot nobody (omega (arith, within, board.owns))))
+      looked (Some (p, own_of b.machine.home slot)) (zip-get b.processes.items b.machine.home.owns slot p (own_of b.machine.home slot) is
+      (slice_get-get_or b.machine.home.owns slot nobody (omega (arith, within, board.owns))))
 
   -- one without a process
   pub missing : length b.processes.items ≤ slot → slice_get (world_of b).records slot ≡ None
   missing h = looked None (past (residents b) slot
-      (omega (arith, h, length-firsts b.processes.items b.home.owns board.owns)))
+      (omega (arith, h, length-firsts b.processes.items b.machine.home.owns board.owns)))
     where
       past : (xs : List Resident) (k : ℕ) → length xs ≤ k → slice_get xs k ≡ None
       past [] k h = refl
@@ -73,7 +73,7 @@ module _ (b : Inside) (board : IsBoard b) (slot : ℕ) where
 
     pub read_there : (x : X) → slot < length b.processes.items
         → ((p : Process) → slice_get b.processes.items slot ≡ Some p
-        → x ≡ read (record_of b.home.flash ((p, own_of b.home slot), slot_bytes b.drivers.stores slot)))
+        → x ≡ read (record_of b.machine.home.flash ((p, own_of b.machine.home slot), slot_bytes b.machine.drivers.stores slot)))
         → Some x ≡ option_map read (slice_get (world_of b).records slot)
     read_there x within is =
         let found = some_at b.processes.items slot within in
@@ -104,10 +104,10 @@ module _ (b : Inside) (board : IsBoard b) (slot : ℕ) where
 module _ (b : Inside) (board : IsBoard b) where
   -- what is the own of the process in a slot, if there is one
   pub own_read : (slot : ℕ)
-      → slice_get b.home.owns slot ≡ option_map (λ (r : Record). r.own) (slice_get (world_of b).records slot)
+      → slice_get b.machine.home.owns slot ≡ option_map (λ (r : Record). r.own) (slice_get (world_of b).records slot)
   own_read slot =
       ap (λ (owns : List Own). slice_get owns slot)
-      (sym (owns_shown b.home.flash b.processes.items b.home.owns b.drivers.stores.slots board.owns
+      (sym (owns_shown b.machine.home.flash b.processes.items b.machine.home.owns b.machine.drivers.stores.slots board.owns
       (has_storage b board)))
       ∙ slice_get-map (λ (r : Record). r.own) (world_of b).records slot
 
@@ -119,7 +119,7 @@ module _ (b : Inside) (board : IsBoard b) where
       by_life true e = refl
       by_life false e = absurd (false≢true e)
 
-  lives_so : (id : ProcessId) (own : Own) → slice_get b.home.owns id.slot ≡ Some own → own.lives ≡ true
+  lives_so : (id : ProcessId) (own : Own) → slice_get b.machine.home.owns id.slot ≡ Some own → own.lives ≡ true
       → own.life ≡ id.life → LivesThere (world_of b) id
   lives_so id own is lives life = by_record (slice_get (world_of b).records id.slot) refl
     where
@@ -141,27 +141,27 @@ module _ (b : Inside) (board : IsBoard b) where
           }
 
   -- so do all that wait in a line
-  pub queue_lives : (queue : QueueName) → All (LivesThere (world_of b)) (ids_waiting_in b.drivers queue)
+  pub queue_lives : (queue : QueueName) → All (LivesThere (world_of b)) (ids_waiting_in b.machine.drivers queue)
   queue_lives queue = each ids line.there (λ id waits_there. waits_there)
     where
       ids : List ProcessId
-      ids = ids_waiting_in b.drivers queue
+      ids = ids_waiting_in b.machine.drivers queue
 
-      line : IsQueueOf queue ids b.home.owns
+      line : IsQueueOf queue ids b.machine.home.owns
       line = board.driven.queues queue
 
-      each : (rest : List ProcessId) → AllByRecursion (IsThere b.home.owns) rest
+      each : (rest : List ProcessId) → AllByRecursion (IsThere b.machine.home.owns) rest
           → ((id : ProcessId) → waits id.slot rest ≡ true → waits id.slot ids ≡ true)
           → All (LivesThere (world_of b)) rest
       each [] there within = All-nil (LivesThere (world_of b))
       each (id ∷ rest) there within =
-          let at : slice_get b.home.owns id.slot ≡ Some (slice_index_or b.home.owns id.slot nobody) =
-          slice_get-get_or b.home.owns id.slot nobody there.0.0 in
+          let at : slice_get b.machine.home.owns id.slot ≡ Some (slice_index_or b.machine.home.owns id.slot nobody) =
+          slice_get-get_or b.machine.home.owns id.slot nobody there.0.0 in
           let waits_so : waits id.slot ids ≡ true =
           within id (ap (λ (t : Bool). t || waits id.slot rest) (eq-eqb id.slot id.slot refl)) in
           All-cons (LivesThere (world_of b)) id rest
-          (lives_so id (slice_index_or b.home.owns id.slot nobody) at
-          (waits_lives queue (slice_index_or b.home.owns id.slot nobody)
+          (lives_so id (slice_index_or b.machine.home.owns id.slot nobody) at
+          (waits_lives queue (slice_index_or b.machine.home.owns id.slot nobody)
           (sym (line.each id.slot there.0.0) ∙ waits_so)) there.0.1)
           (each rest there.1 (λ x later.
           within x (ap (λ (t : Bool). (id.slot == x.slot) || t) later ∙ or_true (id.slot == x.slot))))

@@ -36,27 +36,27 @@ calm_ready m owns d calm =
 
 module _ (b : Inside) (board : IsBoard b) where
   -- what the owns of the world that a board shows are
-  pub owns_in_world : owns_in (world_of b) ≡ b.home.owns
+  pub owns_in_world : owns_in (world_of b) ≡ b.machine.home.owns
   owns_in_world =
-      owns_shown b.home.flash b.processes.items b.home.owns b.drivers.stores.slots board.owns (has_storage b board)
+      owns_shown b.machine.home.flash b.processes.items b.machine.home.owns b.machine.drivers.stores.slots board.owns (has_storage b board)
 
   -- the nearest time at which a device step becomes ready by itself
-  pub next_shown : nearer (arrival_time b.drivers.arrivals)
-      (nearer (option_map (λ n. b.moment.time + n)
-      (next_left (clock_at b.moment.settings.start b.moment.time) b.home.owns)) (sending_time (devices_of b.drivers)))
+  pub next_shown : nearer (arrival_time b.machine.drivers.arrivals)
+      (nearer (option_map (λ n. b.machine.moment.time + n)
+      (next_left (clock_at b.machine.moment.settings.start b.machine.moment.time) b.machine.home.owns)) (sending_time (devices_of b.machine.drivers)))
       ≡ next_time (world_of b)
-  next_shown = ap (λ (owns : List Own). nearer (arrival_time b.drivers.arrivals)
-      (nearer (option_map (λ n. b.moment.time + n) (next_left (clock_at b.moment.settings.start b.moment.time) owns))
-      (sending_time (devices_of b.drivers)))) (sym owns_in_world)
+  next_shown = ap (λ (owns : List Own). nearer (arrival_time b.machine.drivers.arrivals)
+      (nearer (option_map (λ n. b.machine.moment.time + n) (next_left (clock_at b.machine.moment.settings.start b.machine.moment.time) owns))
+      (sending_time (devices_of b.machine.drivers)))) (sym owns_in_world)
 
   -- which device steps are ready
-  pub devices_shown : ready_in b.moment b.home.owns b.drivers ≡ ready_devices (world_of b)
-  devices_shown = ap (λ (owns : List Own). ready_in b.moment owns b.drivers) (sym owns_in_world)
+  pub devices_shown : ready_in b.machine.moment b.machine.home.owns b.machine.drivers ≡ ready_devices (world_of b)
+  devices_shown = ap (λ (owns : List Own). ready_in b.machine.moment owns b.machine.drivers) (sym owns_in_world)
 
   -- as long as it is calm no device step is ready
-  pub calm_shown : IsCalmAt b.moment.settings.start b.moment.time b.home.owns b.drivers
+  pub calm_shown : IsCalmAt b.machine.moment.settings.start b.machine.moment.time b.machine.home.owns b.machine.drivers
       → ready_devices (world_of b) ≡ false ∷ false ∷ false ∷ false ∷ false ∷ false ∷ []
-  calm_shown calm = sym devices_shown ∙ calm_ready b.moment b.home.owns b.drivers calm
+  calm_shown calm = sym devices_shown ∙ calm_ready b.machine.moment b.machine.home.owns b.machine.drivers calm
 
 -- a choice that is ready is made
 pub is_carried_out : (w : World) (choice : Choice) → IsTrue (is_ready w choice)
@@ -72,7 +72,11 @@ is_carried_out w choice ready = by_ready (is_ready w choice) ready
 pub passes : (b : Inside) (w : World) (ticks n : ℕ) (before after_it : Emit) → world_of b ≡ w → n ≡ ticks
     → IsTrue (is_ready w (Pass ticks)) → after_it ≡ nothing
     → MakesStep (Pass ticks) w (world_of
-    (record b { moment = record b.moment { time = b.moment.time + n; steps = b.moment.steps + 1 } })) before after_it
+    (record b {
+      machine = record b.machine {
+        moment = record b.machine.moment { time = b.machine.moment.time + n; steps = b.machine.moment.steps + 1 };
+      };
+    })) before after_it
     (Ok tt)
 unfolding carried_out shown_by
 passes b w ticks n before after_it view is ready hidden =
@@ -81,8 +85,9 @@ passes b w ticks n before after_it view is ready hidden =
       ready = (λ e. ready, λ h. refl);
       ok =
           ap (λ (k : ℕ). world_of (record b {
-            moment =
-                record b.moment { time = b.moment.time + k; steps = b.moment.steps + 1 };
+            machine = record b.machine {
+              moment = record b.machine.moment { time = b.machine.moment.time + k; steps = b.machine.moment.steps + 1 };
+            };
           })) is
           ∙ ap (λ (x : World). (carried_out x (Pass ticks)).after) view ∙ sym (ap (λ (s : Stepped). s.after) steps);
       shown = hidden ∙ sym (ap (λ (s : Stepped). shown_by s.labels) steps);

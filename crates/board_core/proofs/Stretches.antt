@@ -47,6 +47,7 @@ use Rattle.board_drivers.proofs.Pairs.{get-firsts}
 use Rattle.board_drivers.proofs.Records.{reads_shown}
 use Rattle.board_core.proofs.Ready.{calm_ready, devices_shown, next_shown, owns_in_world}
 use Rattle.board_turns.proofs.Quiet.{own_after, none_more, kept_own}
+use Rattle.board_turns.specs.declared.machine.Machine.{Machine}
 
 -- drivers of which nothing is asked, and who waits, while a process's RAM changes and time passes
 pub ram_driven : (settings : Settings) (time later slot : ℕ) (owns : List Own) (d : Drivers) (own : Own) (ram : List ℕ)
@@ -83,12 +84,12 @@ turns_later k m = record m { time = m.time + k; steps = m.steps + k }
 
 -- what always holds of a board, after so many turns that left these processes and what is their own
 pub record StillHolds (b : Inside) (k : ℕ) (home : Homes) (processes : List Process) : Type 0 where
-  pub seated : All (IsResident home.flash (b.moment.steps + k)) (zip processes home.owns)
-  pub lost : All (HasLost (b.moment.steps + k)) home.owns
+  pub seated : All (IsResident home.flash (b.machine.moment.steps + k)) (zip processes home.owns)
+  pub lost : All (HasLost (b.machine.moment.steps + k)) home.owns
   pub owns : length home.owns ≡ length processes
   pub few : length processes ≤ SLOT_COUNT
-  pub driven : AreDriven b.moment.settings (b.moment.time + k) home.owns b.drivers
-  pub calm : IsCalm b.moment.settings.start (b.moment.time + k) b.calm home.owns b.drivers
+  pub driven : AreDriven b.machine.moment.settings (b.machine.moment.time + k) home.owns b.machine.drivers
+  pub calm : IsCalm b.machine.moment.settings.start (b.machine.moment.time + k) b.calm home.owns b.machine.drivers
 
 set-same : {X : Type 0} (xs : List X) (i : ℕ) (x : X) → slice_get xs i ≡ Some x → slice_set xs i x ≡ xs
 set-same xs i x e = ap (slice_set xs i) (sym (get_or_from_slice_get xs i x x e)) ∙ set-get_or xs i x
@@ -138,17 +139,17 @@ still_runs (suc j) r = still_runs j (instruction_made r)
 module _ (b : Inside) (board : IsBoard b) where
   -- a board of which nobody is served at once, and no device step is to come by now, does not have one that is ready
   pub nothing_comes : ready_device (ready_devices (world_of b)) ≡ None → NextLiesAhead
-      → (ServesNobody b.drivers → HasCome b.moment.time (coming b.moment b.home.owns b.drivers)) → ⊥
+      → (ServesNobody b.machine.drivers → HasCome b.machine.moment.time (coming b.machine.moment b.machine.home.owns b.machine.drivers)) → ⊥
   nothing_comes none law comes =
       let idle = served_by_none _ _ _ _ _ _ (ap ready_device (devices_shown b board) ∙ none) in
       not_both _ (sym (next_shown b board)) (law (world_of b) none)
       (comes (record { receive = idle.0; random = idle.1; store = idle.2 }))
     where
       not_both : (at : Option ℕ) → world_next_time (world_of b) ≡ at
-          → IfSome (world_next_time (world_of b)) (λ n. b.moment.time < n) → HasCome b.moment.time at → ⊥
+          → IfSome (world_next_time (world_of b)) (λ n. b.machine.moment.time < n) → HasCome b.machine.moment.time at → ⊥
       not_both None e ahead come = come
-      not_both (Some n) e ahead come = let later : b.moment.time < n =
-          subst (λ (o : Option ℕ). IfSome o (λ n. b.moment.time < n)) e ahead in omega (arith, later, come)
+      not_both (Some n) e ahead come = let later : b.machine.moment.time < n =
+          subst (λ (o : Option ℕ). IfSome o (λ n. b.machine.moment.time < n)) e ahead in omega (arith, later, come)
 
   -- the process of the record in a slot
   process_there : (slot : ℕ)
@@ -156,11 +157,11 @@ module _ (b : Inside) (board : IsBoard b) where
   process_there slot =
       sym (slice_get-map (λ (r : Record). r.process) (world_of b).records slot)
       ∙ ap (λ (ps : List Process). slice_get ps slot)
-      (reads_shown (λ (r : Record). r.process) (λ (r : Resident). r.0) b.home.flash (residents b)
-      b.drivers.stores.slots (beside b.processes.items b.home.owns b.drivers.stores.slots board.owns board.few
+      (reads_shown (λ (r : Record). r.process) (λ (r : Resident). r.0) b.machine.home.flash (residents b)
+      b.machine.drivers.stores.slots (beside b.processes.items b.machine.home.owns b.machine.drivers.stores.slots board.owns board.few
       board.driven.slots) (λ p. refl))
       ∙ slice_get-map (λ (r : Resident). r.0) (residents b) slot
-      ∙ sym (get-firsts b.processes.items b.home.owns slot board.owns)
+      ∙ sym (get-firsts b.processes.items b.machine.home.owns slot board.owns)
 
   -- where the process that has the next turn does not run, no stretch goes on
   pub rests_there : (slot : ℕ) → next (world_of b) ≡ Some (Run slot)
@@ -174,55 +175,55 @@ module _ (b : Inside) (board : IsBoard b) where
       let runs : slot_runs (slice_get b.processes.items slot) ≡ true = ap slot_runs there ∙ ap is_running g.runs in
       cc
 
-  module _ (slot k most used : ℕ) (present : Option ℕ) (home : Homes) (processes : List Process)
-      (q : QuietAt k most b.moment slot b.home home b.processes.items processes) where
-    few : length (residents b) ≤ length b.drivers.stores.slots
-    few = beside b.processes.items b.home.owns b.drivers.stores.slots board.owns board.few board.driven.slots
+  module _ (slot k most used : ℕ) (present : Option ℕ) (x : Machine) (processes : List Process)
+      (q : QuietAt k most slot b.machine x b.processes.items processes) where
+    few : length (residents b) ≤ length b.machine.drivers.stores.slots
+    few = beside b.processes.items b.machine.home.owns b.machine.drivers.stores.slots board.owns board.few board.driven.slots
 
     abbrev storage : List ℕ
-    storage = bytes_of b.drivers.stores.slots slot
+    storage = bytes_of b.machine.drivers.stores.slots slot
 
     -- the record before the turns, and after them
     abbrev before : Record
-    before = record_of b.home.flash (q.at.before, bytes_of b.drivers.stores.slots slot)
+    before = record_of b.machine.home.flash (q.at.before, bytes_of b.machine.drivers.stores.slots slot)
 
     abbrev after : Record
-    after = record_of b.home.flash (q.at.after, bytes_of b.drivers.stores.slots slot)
+    after = record_of b.machine.home.flash (q.at.after, bytes_of b.machine.drivers.stores.slots slot)
 
     was_there : slice_get (world_of b).records slot ≡ Some before
-    was_there = found slot b.home home b.processes.items processes q.at b.drivers.stores.slots few
+    was_there = found slot b.machine.home x.home b.processes.items processes q.at b.machine.drivers.stores.slots few
 
     -- what is each process's own on the way
     owns_then : (j : ℕ)
         → owns_in (after_stretch j (world_of b) slot (after_instructions j before))
-        ≡ slice_set b.home.owns slot (after_instructions j before).own
+        ≡ slice_set b.machine.home.owns slot (after_instructions j before).own
     owns_then j = map-set (λ (r : Record). r.own) (world_of b).records slot (after_instructions j before)
         ∙ ap (λ (owns : List Own). slice_set owns slot (after_instructions j before).own) (owns_in_world b board)
 
     -- on the way no device step is ready
-    none_acts : b.moment.time + k ≤ b.calm → NoneActs k (world_of b) slot before
+    none_acts : b.machine.moment.time + k ≤ b.calm → NoneActs k (world_of b) slot before
     unfolding ready_device
     none_acts until j h =
         let then = (after_instructions j before).own in
-        let m = turns_later j b.moment in
-        let calm = kept_calm m.settings.start b.moment.time b.calm slot b.home.owns b.drivers q.at.before.1
+        let m = turns_later j b.machine.moment in
+        let calm = kept_calm m.settings.start b.machine.moment.time b.calm slot b.machine.home.owns b.machine.drivers q.at.before.1
         then q.at.own_was (ap (λ (o : Own). o.grants) (own_after j before))
         (ap (λ (o : Own). o.lives) (own_after j before)) board.calm m.time (omega arith)
         (omega (arith, h, until)) in
-        ap ready_device (ap (λ (owns : List Own). ready_in m owns b.drivers) (owns_then j)
-        ∙ calm_ready m (slice_set b.home.owns slot then) b.drivers calm)
+        ap ready_device (ap (λ (owns : List Own). ready_in m owns b.machine.drivers) (owns_then j)
+        ∙ calm_ready m (slice_set b.machine.home.owns slot then) b.machine.drivers calm)
 
     -- the world after the turns, which took so many ticks
     abbrev world_after_ticks : ℕ → World
     world_after_ticks ticks =
-        with_step b (map (record_of home.flash) (zip (zip processes home.owns) b.drivers.stores.slots))
-        (devices_of b.drivers) (turns_later ticks b.moment) present used
+        with_step b (map (record_of x.home.flash) (zip (zip processes x.home.owns) b.machine.drivers.stores.slots))
+        (devices_of b.machine.drivers) (turns_later ticks b.machine.moment) present used
 
     abbrev world_then : World
     world_then = world_after_ticks k
 
     records_then : world_then.records ≡ slice_set (world_of b).records slot after
-    records_then = kept_records slot b.home home b.processes.items processes q.at b.drivers.stores.slots
+    records_then = kept_records slot b.machine.home x.home b.processes.items processes q.at b.machine.drivers.stores.slots
 
     state_is : (s : State) → is_running s ≡ true → s ≡ Running
     state_is Running e = refl
@@ -234,22 +235,22 @@ module _ (b : Inside) (board : IsBoard b) where
     none_left : k ≡ 0 → present ≡ b.present → used ≡ b.used → world_then ≡ world_of b
     unfolding after_instructions
     none_left none p u =
-        ap (λ (rs : List Record). with_step b rs (devices_of b.drivers) (turns_later k b.moment) present used)
+        ap (λ (rs : List Record). with_step b rs (devices_of b.machine.drivers) (turns_later k b.machine.moment) present used)
         (records_then ∙ ap (slice_set (world_of b).records slot)
         (q.quiet.leads storage ∙ ap (λ (n : ℕ). after_instructions n before) none)
         ∙ set-same (world_of b).records slot before was_there)
-        ∙ ap₂ (λ (o : Option ℕ) (n : ℕ). with_step b (world_of b).records (devices_of b.drivers)
-        (turns_later k b.moment) o n) p u
-        ∙ ap (λ (n : ℕ). with_step b (world_of b).records (devices_of b.drivers) (turns_later n b.moment) b.present
+        ∙ ap₂ (λ (o : Option ℕ) (n : ℕ). with_step b (world_of b).records (devices_of b.machine.drivers)
+        (turns_later k b.machine.moment) o n) p u
+        ∙ ap (λ (n : ℕ). with_step b (world_of b).records (devices_of b.machine.drivers) (turns_later n b.machine.moment) b.present
         b.used) none
-        ∙ ap₂ (λ (time steps : ℕ). with_step b (world_of b).records (devices_of b.drivers)
-        (record b.moment { time = time; steps = steps }) b.present b.used) (none_more b.moment.time)
-        (none_more b.moment.steps)
+        ∙ ap₂ (λ (time steps : ℕ). with_step b (world_of b).records (devices_of b.machine.drivers)
+        (record b.machine.moment { time = time; steps = steps }) b.present b.used) (none_more b.machine.moment.time)
+        (none_more b.machine.moment.steps)
 
     -- some are a stretch
     module _ (f : next (world_of b) ≡ Some (Run slot)) (runs : is_running q.at.before.0.state ≡ true) (first : ℕ)
         (begins : first ≡ used_after b.present b.used b.slice slot - 1) (lasts : first + k ≤ b.slice)
-        (until : b.moment.time + k ≤ b.calm) (limit : b.moment.steps + k ≤ STEP_LIMIT)
+        (until : b.machine.moment.time + k ≤ b.calm) (limit : b.machine.moment.steps + k ≤ STEP_LIMIT)
         (none : k ≡ 0 → (present ≡ b.present) × (used ≡ b.used))
         (some : 0 < k → (present ≡ Some slot) × (used ≡ first + k)) where
       stretched : RoundIsStretch → PresentIsNextOnTheWay → 0 < k → IsStretch k (world_of b) world_then
@@ -265,11 +266,11 @@ module _ (b : Inside) (board : IsBoard b) where
 
           same : world_then ≡ after_stretch k (at_turn (world_of b) slot) slot (after_instructions k before)
           same =
-              ap (λ (rs : List Record). with_step b rs (devices_of b.drivers) (turns_later k b.moment) present used)
+              ap (λ (rs : List Record). with_step b rs (devices_of b.machine.drivers) (turns_later k b.machine.moment) present used)
               (records_then ∙ ap (slice_set (world_of b).records slot) (q.quiet.leads storage))
               ∙ ap₂ (λ (o : Option ℕ) (n : ℕ). with_step b
-              (slice_set (world_of b).records slot (after_instructions k before)) (devices_of b.drivers)
-              (turns_later k b.moment) o n) (some more).0 ((some more).1 ∙ ap (λ (n : ℕ). n + k) begins)
+              (slice_set (world_of b).records slot (after_instructions k before)) (devices_of b.machine.drivers)
+              (turns_later k b.machine.moment) o n) (some more).0 ((some more).1 ∙ ap (λ (n : ℕ). n + k) begins)
 
       by_count : RoundIsStretch → PresentIsNextOnTheWay → NoneIsStretch → (n : ℕ) → n ≡ k
           → IsStretch k (world_of b) world_then
@@ -322,46 +323,46 @@ module _ (b : Inside) (board : IsBoard b) where
 
       -- nor where none were left
       pub ends_shown : PresentStaysOn → (ticks asked until : ℕ) → ticks ≡ k → k ≤ most → (most ≤ k → most ≡ 0)
-          → first + most ≤ b.slice → first < b.slice → b.moment.time < until → 0 < asked
-          → (most < asked → first + most < b.slice → b.moment.steps + most < STEP_LIMIT → b.moment.time + most < until
+          → first + most ≤ b.slice → first < b.slice → b.machine.moment.time < until → 0 < asked
+          → (most < asked → first + most < b.slice → b.machine.moment.steps + most < STEP_LIMIT → b.machine.moment.time + most < until
           → ⊥)
           → GoesOn (world_after_ticks ticks) → ⊥
       ends_shown law ticks asked until is made ends last below ahead asks all g =
           let goes : GoesOn world_then = subst (λ (n : ℕ). GoesOn (world_after_ticks n)) is g in
           let not_fewer : k < most → ⊥ = λ h. stops_there law last h goes in
           let zero_left : most ≡ 0 = ends (omega (arith, not_fewer)) in
-          let limit : b.moment.steps + k < STEP_LIMIT = goes.limit in
+          let limit : b.machine.moment.steps + k < STEP_LIMIT = goes.limit in
           all (omega (arith, zero_left, asks)) (omega (arith, zero_left, below)) (omega (arith, zero_left, made, limit))
           (omega (arith, zero_left, ahead))
 
     kept : q.at.after.1 ≡ record q.at.before.1 { ram = q.at.after.1.ram }
-    kept = kept_own k most b.home.flash q.at.before q.at.after q.quiet
+    kept = kept_own k most b.machine.home.flash q.at.before q.at.after q.quiet
 
     many : length b.processes.items ≡ length processes
-    many = as_many slot b.home home b.processes.items processes q.at
+    many = as_many slot b.machine.home x.home b.processes.items processes q.at
 
     -- what always holds of a board holds after them
-    pub still : StillHolds b k home processes
+    pub still : StillHolds b k x.home processes
     still = record {
-      seated = still_seated_on slot b.home home b.processes.items processes q.at b.moment.steps k q.seated board.seated;
-      lost = still_lost_on b.moment.steps k slot b.home home q.at.after.1 q.at.own_is
+      seated = still_seated_on slot b.machine.home x.home b.processes.items processes q.at b.machine.moment.steps k q.seated board.seated;
+      lost = still_lost_on b.machine.moment.steps k slot b.machine.home x.home q.at.after.1 q.at.own_is
           (omega (
             arith,
             ap (λ (o : Own). o.inbox.dropped) kept,
-            lost_where b.moment.steps b.home.owns slot q.at.before.1 q.at.own_was board.lost,
+            lost_where b.machine.moment.steps b.machine.home.owns slot q.at.before.1 q.at.own_was board.lost,
           )) board.lost;
-      owns = as_many_owns slot b.home home b.processes.items processes q.at ∙ board.owns ∙ many;
+      owns = as_many_owns slot b.machine.home x.home b.processes.items processes q.at ∙ board.owns ∙ many;
       few = omega (arith, many, board.few);
-      driven = subst (λ (h : Homes). AreDriven b.moment.settings (b.moment.time + k) h.owns b.drivers) (sym q.at.own_is)
-          (subst (λ (o : Own). AreDriven b.moment.settings (b.moment.time + k) (slice_set b.home.owns slot o) b.drivers)
+      driven = subst (λ (h : Homes). AreDriven b.machine.moment.settings (b.machine.moment.time + k) h.owns b.machine.drivers) (sym q.at.own_is)
+          (subst (λ (o : Own). AreDriven b.machine.moment.settings (b.machine.moment.time + k) (slice_set b.machine.home.owns slot o) b.machine.drivers)
           (sym kept)
-          (ram_driven b.moment.settings b.moment.time (b.moment.time + k) slot b.home.owns b.drivers q.at.before.1
+          (ram_driven b.machine.moment.settings b.machine.moment.time (b.machine.moment.time + k) slot b.machine.home.owns b.machine.drivers q.at.before.1
           q.at.after.1.ram q.at.own_was (omega arith) board.driven));
-      calm = subst (λ (h : Homes). IsCalm b.moment.settings.start (b.moment.time + k) b.calm h.owns b.drivers)
+      calm = subst (λ (h : Homes). IsCalm b.machine.moment.settings.start (b.machine.moment.time + k) b.calm h.owns b.machine.drivers)
           (sym q.at.own_is)
-          (kept_calm b.moment.settings.start (b.moment.time + k) b.calm slot b.home.owns b.drivers q.at.before.1
+          (kept_calm b.machine.moment.settings.start (b.machine.moment.time + k) b.calm slot b.machine.home.owns b.machine.drivers q.at.before.1
           q.at.after.1 q.at.own_was (ap (λ (o : Own). o.grants) kept) (ap (λ (o : Own). o.lives) kept)
-          (later_calm b.moment.settings.start b.moment.time (b.moment.time + k) b.calm b.home.owns b.drivers
+          (later_calm b.machine.moment.settings.start b.machine.moment.time (b.machine.moment.time + k) b.calm b.machine.home.owns b.machine.drivers
           (omega arith) board.calm));
     }
 
@@ -382,7 +383,7 @@ runs_within processes slot e = by_process (slice_get processes slot) refl e
 
 -- a board that looked up to when no device step is ready
 pub looked_ahead : (b : Inside) (calm : ℕ) → IsBoard b
-    → IsCalm b.moment.settings.start b.moment.time calm b.home.owns b.drivers → IsBoard (record b { calm = calm })
+    → IsCalm b.machine.moment.settings.start b.machine.moment.time calm b.machine.home.owns b.machine.drivers → IsBoard (record b { calm = calm })
 looked_ahead b calm board is = record {
   seated = board.seated;
   lost = board.lost;

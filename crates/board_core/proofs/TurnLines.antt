@@ -25,14 +25,12 @@ use Rattle.process_record.specs.declared.process.State.{State}
 use Rattle.process_record.specs.declared.process.State.TheVariants.{Running, Yielded, Faulted, Terminated}
 use Rattle.std.proofs.lemmas.Bool.{false≢true}
 use Rattle.board_core.specs.declared.board.Board.TheInside.{Inside}
-use Rattle.board_drivers.specs.declared.drivers.Drivers.{Drivers}
 use Rattle.board_turns.specs.declared.turn.Shown.{Shown}
 use Rattle.board_drivers.specs.Driven.{AreDriven, Drives, IsQueueOf, MayServe, ids_waiting_in}
 use Rattle.board_drivers.specs.Residents.{IsResident, id_of, record_of, resident_turns}
 use Rattle.board_turns.specs.Turning.{TurnsAt, nothing_shown}
 use Rattle.board_drivers.specs.Residents.{can_turn_in}
 use Rattle.board_drivers.specs.Calm.{IsCalm}
-use Rattle.board_turns.specs.Guards.{GuardsOnly}
 use Rattle.board_core.specs.Shows.{IsBoard, residents, world_of}
 use Rattle.board_core.proofs.Boards.{below_limit, ready_within}
 use Rattle.board_core.proofs.Changes.{as_many, as_many_owns, still_seated, turn_later}
@@ -41,6 +39,7 @@ use Rattle.board_drivers.proofs.Records.{lost_there, seated_there}
 use Rattle.board_drivers.proofs.Lines.{line_after}
 use Rattle.board_drivers.proofs.Pairs.{zip-get}
 use Rattle.board_turns.proofs.Turns.{loses_one}
+use Rattle.board_turns.specs.declared.machine.Machine.{Machine}
 
 -- an application that started can start again
 can_start_again : (address : ℕ) (e : LayoutView) (read : Result Meaning HeaderFault) → IsApplication address e read
@@ -62,64 +61,64 @@ no_request queue own none =
     by_life false = refl
 
 -- what the drivers ask of a moment holds at each turn
-pub may_serve : (b : Inside) (slot : ℕ) → IsBoard b → slot < length b.home.owns
-    → MayServe b.moment b.drivers slot (own_of b.home slot)
+pub may_serve : (b : Inside) (slot : ℕ) → IsBoard b → slot < length b.machine.home.owns
+    → MayServe b.machine.moment b.machine.drivers slot (own_of b.machine.home slot)
 may_serve b slot h there = record {
-  asks = λ queue none. (h.driven.queues queue).each slot there ∙ no_request queue (own_of b.home slot) none;
-  lost = lost_there b.moment.steps b.home slot h.lost;
+  asks = λ queue none. (h.driven.queues queue).each slot there ∙ no_request queue (own_of b.machine.home slot) none;
+  lost = lost_there b.machine.moment.steps b.machine.home slot h.lost;
   leds = h.driven.leds;
   size = h.driven.size;
 }
 
-module _ (b : Inside) (slot : ℕ) (home : Homes) (processes : List Process) (shown : Shown) (d : Drivers) (h : IsBoard b)
-    (t : TurnsAt b.moment slot b.home home b.processes.items processes shown b.drivers d) where
+module _ (b : Inside) (slot : ℕ) (x : Machine) (processes : List Process) (shown : Shown) (h : IsBoard b)
+    (t : TurnsAt slot b.machine x b.processes.items processes shown) where
   abbrev turn : Turned
-  turn = turned b.moment.settings b.moment.time (record_of b.home.flash (t.at.before, []))
+  turn = turned b.machine.moment.settings b.machine.moment.time (record_of b.machine.home.flash (t.at.before, []))
 
-  drives : Drives (id_of slot t.at.before.1) turn.acts b.drivers d
+  drives : Drives (id_of slot t.at.before.1) turn.acts b.machine.drivers x.drivers
   drives = (t.turns []).2
 
   own_is : turn.after.own ≡ t.at.after.1
   own_is = ap (λ (r : Record). r.own) (t.turns []).0
 
-  seat : IsResident b.home.flash b.moment.steps t.at.before
-  seat = seated_there b.home.flash b.moment.steps b.processes.items b.home.owns slot t.at.before t.at.was t.at.own_was
+  seat : IsResident b.machine.home.flash b.machine.moment.steps t.at.before
+  seat = seated_there b.machine.home.flash b.machine.moment.steps b.processes.items b.machine.home.owns slot t.at.before t.at.was t.at.own_was
       h.seated
 
   -- where nothing was shown, nothing was asked of the drivers
-  pub turn_is_idle : TurnsActAtCalls → shown ≡ nothing_shown → Drives (id_of slot t.at.before.1) [] b.drivers d
+  pub turn_is_idle : TurnsActAtCalls → shown ≡ nothing_shown → Drives (id_of slot t.at.before.1) [] b.machine.drivers x.drivers
   turn_is_idle law quiet =
       let says = (t.turns []).1 in
-      subst (λ (acts : List BoardRequest). Drives (id_of slot t.at.before.1) acts b.drivers d)
-      (law b.moment.settings b.moment.time (record_of b.home.flash (t.at.before, []))
+      subst (λ (acts : List BoardRequest). Drives (id_of slot t.at.before.1) acts b.machine.drivers x.drivers)
+      (law b.machine.moment.settings b.machine.moment.time (record_of b.machine.home.flash (t.at.before, []))
       (says.call ∙ ap (λ (s : Shown). s.call) quiet) (says.denial ∙ ap (λ (s : Shown). s.denial) quiet))
       drives
 
   -- the serial line goes on
-  pub line_stays : d.uart ≡ b.drivers.uart
+  pub line_stays : x.drivers.uart ≡ b.machine.drivers.uart
   line_stays = drives.line
 
   module _ (law : TurnsKeepLines) (lives : t.at.before.1.lives ≡ true) where
-    keeps : KeepsLines b.moment.settings.storage t.at.before.1 t.at.after.1 turn.acts
-    keeps = subst (λ (o : Own). KeepsLines b.moment.settings.storage t.at.before.1 o turn.acts) own_is
-        (law b.moment.settings b.moment.time (record_of b.home.flash (t.at.before, [])) lives
+    keeps : KeepsLines b.machine.moment.settings.storage t.at.before.1 t.at.after.1 turn.acts
+    keeps = subst (λ (o : Own). KeepsLines b.machine.moment.settings.storage t.at.before.1 o turn.acts) own_is
+        (law b.machine.moment.settings b.machine.moment.time (record_of b.machine.home.flash (t.at.before, [])) lives
         (can_start_again t.at.before.0.object.address t.at.before.1.layout
-        (header_reading (record_of b.home.flash (t.at.before, [])).object) seat.own.object.application))
+        (header_reading (record_of b.machine.home.flash (t.at.before, [])).object) seat.own.object.application))
 
     line_is : (queue : QueueName)
-        → IsQueueOf queue (ids_waiting_in d queue) (slice_set b.home.owns slot t.at.after.1)
+        → IsQueueOf queue (ids_waiting_in x.drivers queue) (slice_set b.machine.home.owns slot t.at.after.1)
     line_is queue =
-        subst (λ (xs : List ProcessId). IsQueueOf queue xs (slice_set b.home.owns slot t.at.after.1))
+        subst (λ (xs : List ProcessId). IsQueueOf queue xs (slice_set b.machine.home.owns slot t.at.after.1))
         (sym (drives.queues queue))
-        (line_after queue (ids_waiting_in b.drivers queue) b.home.owns slot t.at.before.1 t.at.after.1 turn.acts
+        (line_after queue (ids_waiting_in b.machine.drivers queue) b.machine.home.owns slot t.at.before.1 t.at.after.1 turn.acts
         (h.driven.queues queue) t.at.own_was (keeps.lines queue) (keeps.life queue))
 
     -- who waits has a request then, and no other
-    turn_driven : AreDriven b.moment.settings (b.moment.time + 1) home.owns d
-    turn_driven = subst (λ (x : Homes). AreDriven b.moment.settings (b.moment.time + 1) x.owns d) (sym t.at.own_is)
+    turn_driven : AreDriven b.machine.moment.settings (b.machine.moment.time + 1) x.home.owns x.drivers
+    turn_driven = subst (λ (y : Homes). AreDriven b.machine.moment.settings (b.machine.moment.time + 1) y.owns x.drivers) (sym t.at.own_is)
         (record {
           queues = line_is;
-          within = All-set (IsWithin b.moment.settings.storage) b.home.owns slot t.at.after.1
+          within = All-set (IsWithin b.machine.moment.settings.storage) b.machine.home.owns slot t.at.after.1
               (keeps.within before_within)
               h.driven.within;
           leds = drives.lit ∙ h.driven.leds;
@@ -129,21 +128,21 @@ module _ (b : Inside) (slot : ℕ) (home : Homes) (processes : List Process) (sh
           free = omega (arith, ap (λ (l : _). l.free) drives.line, h.driven.free);
         })
       where
-        before_within : IsWithin b.moment.settings.storage t.at.before.1
+        before_within : IsWithin b.machine.moment.settings.storage t.at.before.1
         before_within =
-            subst (IsWithin b.moment.settings.storage)
-            (get_or_from_slice_get b.home.owns slot t.at.before.1 nobody t.at.own_was)
-            (h.driven.within slot nobody (slice_get_within b.home.owns slot t.at.before.1 t.at.own_was))
+            subst (IsWithin b.machine.moment.settings.storage)
+            (get_or_from_slice_get b.machine.home.owns slot t.at.before.1 nobody t.at.own_was)
+            (h.driven.within slot nobody (slice_get_within b.machine.home.owns slot t.at.before.1 t.at.own_was))
 
   -- it served as many requests as before
-  served_stays : d.stores.served ≡ b.drivers.stores.served
+  served_stays : x.drivers.stores.served ≡ b.machine.drivers.stores.served
   served_stays = ap (λ (s : _). s.served) drives.bytes
 
   -- a process that can have a turn lives
   turn_lives : can_turn_in (slice_get (residents b) slot) ≡ true → t.at.before.1.lives ≡ true
   turn_lives can =
       let may : resident_turns t.at.before ≡ true =
-      sym (ap can_turn_in (zip-get b.processes.items b.home.owns slot t.at.before.0 t.at.before.1 t.at.was
+      sym (ap can_turn_in (zip-get b.processes.items b.machine.home.owns slot t.at.before.0 t.at.before.1 t.at.was
       t.at.own_was)) ∙ can in
       seat.own.lives ∙ by_state t.at.before.0.state may
     where
@@ -155,36 +154,32 @@ module _ (b : Inside) (slot : ℕ) (home : Homes) (processes : List Process) (sh
 
 -- A board whose tables, registers and drivers are then these: after the turn it is one again, and the slot is present.
 module _ (b a : Inside) (slot : ℕ) (shown : Shown) (h : IsBoard b)
-    (t : TurnsAt b.moment slot b.home a.home b.processes.items a.processes.items shown b.drivers a.drivers) where
+    (t : TurnsAt slot b.machine a.machine b.processes.items a.processes.items shown) where
   pub turned_board : (calm used : ℕ) → DropsAtMostOne → TurnsKeepLines → is_ready (world_of b) (Run slot) ≡ true
-      → GuardsOnly a.guard a.home → IsCalm b.moment.settings.start (b.moment.time + 1) calm a.home.owns a.drivers
+      → IsCalm b.machine.moment.settings.start (b.machine.moment.time + 1) calm a.machine.home.owns a.machine.drivers
       → used ≤ b.slice
       → IsBoard (record b {
-        home = a.home;
+        machine = record a.machine { moment = turn_later b.machine.moment };
         processes = a.processes;
-        guard = a.guard;
-        drivers = a.drivers;
-        moment =
-            turn_later b.moment;
         calm = calm;
         present = Some slot;
         used = used;
       })
-  turned_board calm used drops keeps ready guards quiet within = record {
-    seated = still_seated slot b.home a.home b.processes.items a.processes.items t.at b.moment.steps t.seated h.seated;
-    lost = still_lost b.moment.steps slot b.home a.home t.at.after.1 t.at.own_is
+  turned_board calm used drops keeps ready quiet within = record {
+    seated = still_seated slot b.machine.home a.machine.home b.processes.items a.processes.items t.at b.machine.moment.steps t.seated h.seated;
+    lost = still_lost b.machine.moment.steps slot b.machine.home a.machine.home t.at.after.1 t.at.own_is
         (omega (
           arith,
-          loses_one b.moment slot b.home.flash t.at.before t.at.after shown b.drivers a.drivers drops
+          loses_one b.machine.moment slot b.machine.home.flash t.at.before t.at.after shown b.machine.drivers a.machine.drivers drops
               t.turns,
-          lost_where b.moment.steps b.home.owns slot t.at.before.1 t.at.own_was h.lost,
+          lost_where b.machine.moment.steps b.machine.home.owns slot t.at.before.1 t.at.own_was h.lost,
         )) h.lost;
-    owns = as_many_owns slot b.home a.home b.processes.items a.processes.items t.at ∙ h.owns
-        ∙ as_many slot b.home a.home b.processes.items a.processes.items t.at;
-    few = omega (arith, as_many slot b.home a.home b.processes.items a.processes.items t.at, h.few);
-    guard = guards;
-    driven = turn_driven b slot a.home a.processes.items shown a.drivers h t keeps lives;
-    served = omega (arith, served_stays b slot a.home a.processes.items shown a.drivers h t, h.served);
+    owns = as_many_owns slot b.machine.home a.machine.home b.processes.items a.processes.items t.at ∙ h.owns
+        ∙ as_many slot b.machine.home a.machine.home b.processes.items a.processes.items t.at;
+    few = omega (arith, as_many slot b.machine.home a.machine.home b.processes.items a.processes.items t.at, h.few);
+    guard = t.guard;
+    driven = turn_driven b slot a.machine a.processes.items shown h t keeps lives;
+    served = omega (arith, served_stays b slot a.machine a.processes.items shown h t, h.served);
     steps = omega (arith, (ready_within b slot h ready).0);
     time = omega (arith, h.time);
     calm = quiet;
@@ -193,5 +188,5 @@ module _ (b a : Inside) (slot : ℕ) (shown : Shown) (h : IsBoard b)
   }
     where
       lives : t.at.before.1.lives ≡ true
-      lives = turn_lives b slot a.home a.processes.items shown a.drivers h t
+      lives = turn_lives b slot a.machine a.processes.items shown h t
           (below_limit b slot h (ready_within b slot h ready).0 ∙ ready)

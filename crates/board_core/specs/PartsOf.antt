@@ -7,8 +7,8 @@ use Rattle.board_core.specs.Shows.{world_of}
 abbrev pub parts_of : Inside → BoardParts
 parts_of b = record {
   processes = b.processes.items;
-  home = b.home;
-  drivers = b.drivers;
-  moment = b.moment;
+  home = b.machine.home;
+  drivers = b.machine.drivers;
+  moment = b.machine.moment;
   rest = world_of b;
 }

@@ -13,30 +13,30 @@ use Rattle.board_core.specs.declared.board.Board.TheInside.{Inside}
 
 -- each process with what is its own
 abbrev pub residents : Inside → List Resident
-residents b = zip b.processes.items b.home.owns
+residents b = zip b.processes.items b.machine.home.owns
 
 -- the records are those of the processes with their own and their storage, their objects in flash
 abbrev pub world_of : Inside → World
 world_of b = record {
-  records = map (record_of b.home.flash) (zip (residents b) b.drivers.stores.slots);
+  records = map (record_of b.machine.home.flash) (zip (residents b) b.machine.drivers.stores.slots);
   unplaced = b.unplaced.items;
-  settings = b.moment.settings;
+  settings = b.machine.moment.settings;
   pace = pace b.slice;
-  devices = devices_of b.drivers;
-  clock = record { time = b.moment.time; steps = b.moment.steps };
+  devices = devices_of b.machine.drivers;
+  clock = record { time = b.machine.moment.time; steps = b.machine.moment.steps };
   present = record { slot = b.present; used = b.used };
 }
 
 pub record IsBoard (b : Inside) : Type 0 where
-  pub seated : All (IsResident b.home.flash b.moment.steps) (residents b)
-  pub lost : All (HasLost b.moment.steps) b.home.owns
-  pub owns : length b.home.owns ≡ length b.processes.items
+  pub seated : All (IsResident b.machine.home.flash b.machine.moment.steps) (residents b)
+  pub lost : All (HasLost b.machine.moment.steps) b.machine.home.owns
+  pub owns : length b.machine.home.owns ≡ length b.processes.items
   pub few : length b.processes.items ≤ SLOT_COUNT
-  pub guard : GuardsOnly b.guard b.home
-  pub driven : AreDriven b.moment.settings b.moment.time b.home.owns b.drivers
-  pub served : b.drivers.stores.served ≤ b.moment.steps
-  pub steps : b.moment.steps ≤ STEP_LIMIT
-  pub time : b.moment.time ≤ b.moment.steps * 2 ^ 32
-  pub calm : IsCalm b.moment.settings.start b.moment.time b.calm b.home.owns b.drivers
+  pub guard : GuardsOnly b.machine.guard b.machine.home
+  pub driven : AreDriven b.machine.moment.settings b.machine.moment.time b.machine.home.owns b.machine.drivers
+  pub served : b.machine.drivers.stores.served ≤ b.machine.moment.steps
+  pub steps : b.machine.moment.steps ≤ STEP_LIMIT
+  pub time : b.machine.moment.time ≤ b.machine.moment.steps * 2 ^ 32
+  pub calm : IsCalm b.machine.moment.settings.start b.machine.moment.time b.calm b.machine.home.owns b.machine.drivers
   pub slice : 1 ≤ b.slice
   pub used : b.used ≤ b.slice

@@ -28,7 +28,7 @@ use alarm_capsule::next_due;
 use arrayvec::ArrayVec;
 use board_drivers::{Drivers, Moment};
 use board_opening::{LoadedProcesses, first_crew, placed_in, unplaced};
-use board_turns::{ActivePmp, can_turn, turn_at};
+use board_turns::{ActivePmp, Machine, can_turn};
 use driver_model::an_alarm_is_due_where_no_ticks_are_left;
 use grant_enter::Home;
 use kernel_laws::{grants_change_at_calls, turns_keep_lines};
@@ -53,18 +53,12 @@ use turn_scheduler::{Status, next_choice, next_slot, used_after};
 /// A board with its processes. Contracts see the world that it shows.
 #[derive(Drop)]
 pub struct Board {
-    /// The memory of the processes.
-    pub(crate) home: Home,
+    /// The memory of the processes, the registers under which they run, the drivers and the moment.
+    pub(crate) machine: Machine,
     /// The processes, slot 0 first.
     pub(crate) processes: Vec<Process>,
-    /// The registers under which they run.
-    pub(crate) guard: ActivePmp,
     /// The applications that have no place.
     unplaced: ArrayVec<(u32, PlaceFault), OBJECT_LIMIT>,
-    /// The settings, the time and the steps so far.
-    pub(crate) moment: Moment,
-    /// The drivers, with who waits for them and the devices that they serve.
-    pub(crate) drivers: Drivers,
     /// A time up to which no device step is ready.
     pub(crate) calm: u64,
     /// How many turns a process may have in a row while another is ready.
@@ -268,13 +262,16 @@ impl Board {
         let slice = script.slice;
         let drivers = Drivers::new(alloc, script)?;
         let calm = moment.look_ahead(&home, &drivers);
-        Ok(Board {
+        let machine = Machine {
             home,
-            processes,
             guard: ActivePmp::new(),
-            unplaced: unplaced(&placed),
-            moment,
             drivers,
+            moment,
+        };
+        Ok(Board {
+            machine,
+            processes,
+            unplaced: unplaced(&placed),
             calm,
             slice,
             present: None,
@@ -287,7 +284,7 @@ impl Board {
         requires { self.now.clock.steps < STEP_LIMIT }
         ensures { result ≡ is_ready self.now (Run slot) }
     {
-        can_run(&self.home, &self.processes, slot)
+        can_run(&self.machine.home, &self.processes, slot)
     }
 
     /// A turn of the process in a slot. Whether an alarm is due is looked at again where it showed something:
@@ -304,20 +301,18 @@ impl Board {
         }
         clear(emit);
         emit.slot = Some(slot);
-        turn_at(
-            &mut self.home,
-            &mut self.processes,
-            &mut self.guard,
-            &mut self.drivers,
-            slot,
-            &self.moment,
-            emit,
-        );
+        self.machine.turn_at(&mut self.processes, slot, emit);
         self.used = used_after(self.present, self.used, self.slice, slot);
         self.present = Some(slot);
-        self.moment.time += 1;
-        self.moment.steps += 1;
-        self.calm = calm_after(self.calm, &self.moment, &self.home, &self.drivers, emit);
+        self.machine.moment.time += 1;
+        self.machine.moment.steps += 1;
+        self.calm = calm_after(
+            self.calm,
+            &self.machine.moment,
+            &self.machine.home,
+            &self.machine.drivers,
+            emit,
+        );
         Ok(())
     }
 
@@ -327,13 +322,24 @@ impl Board {
         ensures { MakesStep (Device Event) self.old self.new emit.old emit.new result }
     {
         devices_answer_one();
-        if !self.drivers.arrivals.is_time(self.moment.time) {
+        if !self
+            .machine
+            .drivers
+            .arrivals
+            .is_time(self.machine.moment.time)
+        {
             return Err(NotReady);
         }
-        self.drivers.arrivals.arrive(&mut self.drivers.uart);
+        self.machine
+            .drivers
+            .arrivals
+            .arrive(&mut self.machine.drivers.uart);
         hide(emit);
-        self.moment.steps += 1;
-        self.calm = self.moment.look_ahead(&self.home, &self.drivers);
+        self.machine.moment.steps += 1;
+        self.calm = self
+            .machine
+            .moment
+            .look_ahead(&self.machine.home, &self.machine.drivers);
         Ok(())
     }
 
@@ -345,15 +351,21 @@ impl Board {
     {
         devices_answer_one();
         let mut printed = ArrayVec::new();
-        let Ok(answer) = self
-            .drivers
-            .act(&mut self.home, device, &self.moment, &mut printed)
+        let Ok(answer) = self.machine.drivers.act(
+            &mut self.machine.home,
+            device,
+            &self.machine.moment,
+            &mut printed,
+        )
         else {
             return Err(NotReady);
         };
         show(emit, answer.to.slot, printed);
-        self.moment.steps += 1;
-        self.calm = self.moment.look_ahead(&self.home, &self.drivers);
+        self.machine.moment.steps += 1;
+        self.calm = self
+            .machine
+            .moment
+            .look_ahead(&self.machine.home, &self.machine.drivers);
         Ok(())
     }
 
@@ -390,8 +402,8 @@ impl Board {
             return Err(NotReady);
         }
         hide(emit);
-        self.moment.time += u64::from(ticks);
-        self.moment.steps += 1;
+        self.machine.moment.time += u64::from(ticks);
+        self.machine.moment.steps += 1;
         Ok(())
     }
 
@@ -401,8 +413,8 @@ impl Board {
     fn owns_are_whole(&self)
         ensures { AreWhole self.now }
     {
-        self.home.held_buffers_lie_in_place();
-        self.home.owns_lie_in_place();
+        self.machine.home.held_buffers_lie_in_place();
+        self.machine.home.owns_lie_in_place();
     }
 
     /// Makes one step, and shows it in `emit`. Afterwards the board shows the world after the abstract
@@ -426,7 +438,7 @@ impl Board {
         self.owns_are_whole();
         steps_are_accounted_for();
         a_record_is_the_replay_of_its_events();
-        if self.moment.steps >= STEP_LIMIT {
+        if self.machine.moment.steps >= STEP_LIMIT {
             return Err(NotReady);
         }
         match choice {
@@ -446,14 +458,21 @@ impl Board {
         an_alarm_is_due_where_no_ticks_are_left();
         let mut status = Status {
             ready: ArrayVec::new(),
-            devices: devices_ready(&self.home, &self.drivers, &self.moment),
-            next: self.moment.next_time(&self.home, &self.drivers),
-            time: self.moment.time,
+            devices: devices_ready(
+                &self.machine.home,
+                &self.machine.drivers,
+                &self.machine.moment,
+            ),
+            next: self
+                .machine
+                .moment
+                .next_time(&self.machine.home, &self.machine.drivers),
+            time: self.machine.moment.time,
             present: self.present,
             used: self.used,
             slice: self.slice,
         };
-        add_ready(&self.home, &self.processes, &mut status.ready);
+        add_ready(&self.machine.home, &self.processes, &mut status.ready);
         status
     }
 
@@ -462,11 +481,11 @@ impl Board {
     fn next_in_calm(&self) -> Option<Slot>
         ensures { IfSome result (λ slot. Some (Run slot) ≡ next self.now) }
     {
-        if self.moment.time >= self.calm {
+        if self.machine.moment.time >= self.calm {
             return None;
         }
         let mut ready = ArrayVec::new();
-        add_ready(&self.home, &self.processes, &mut ready);
+        add_ready(&self.machine.home, &self.processes, &mut ready);
         next_slot(&ready, self.present, self.used, self.slice)
     }
 
@@ -493,12 +512,12 @@ impl Board {
         ensures { result ≡ summary_of self.now }
     {
         Summary {
-            slots: slot_lines(&self.home, &self.processes),
+            slots: slot_lines(&self.machine.home, &self.processes),
             unplaced: copied(&self.unplaced),
-            leds: bits(&self.drivers.leds),
-            led_count: self.moment.settings.leds,
-            steps: self.moment.steps,
-            time: self.moment.time,
+            leds: bits(&self.machine.drivers.leds),
+            led_count: self.machine.moment.settings.leds,
+            steps: self.machine.moment.steps,
+            time: self.machine.moment.time,
         }
     }
 }

@@ -30,7 +30,7 @@ impl Board {
         if slot.index() >= self.processes.len() {
             return None;
         }
-        Some(self.home.layout(slot))
+        Some(self.machine.home.layout(slot))
     }
 
     /// The block of the process in a slot, as it lies in memory: the bytes of its record, and then those of its grants,
@@ -42,7 +42,7 @@ impl Board {
         if slot.index() >= self.processes.len() {
             return None;
         }
-        Some(self.home.block(slot))
+        Some(self.machine.home.block(slot))
     }
 
     /// The bytes of storage of the process in a slot.
@@ -53,7 +53,7 @@ impl Board {
         if slot.index() >= self.processes.len() {
             return None;
         }
-        Some(self.drivers.stores.bytes(slot))
+        Some(self.machine.drivers.stores.bytes(slot))
     }
 
     /// The upcalls that wait to be delivered to the process in a slot, the first one first.
@@ -64,7 +64,7 @@ impl Board {
         if slot.index() >= self.processes.len() {
             return None;
         }
-        Some(self.home.pending(slot))
+        Some(self.machine.home.pending(slot))
     }
 
     /// How many upcalls of the process in a slot were dropped.
@@ -74,7 +74,7 @@ impl Board {
         if slot.index() >= self.processes.len() {
             return None;
         }
-        Some(self.home.dropped(slot))
+        Some(self.machine.home.dropped(slot))
     }
 
     /// The process that lives in a slot, by its present life. None exactly where none lives there.
@@ -82,7 +82,7 @@ impl Board {
         ensures { result
             ≡ living slot (option_map (λ r. r.own) (slice_get self.now.records slot)) }
     {
-        self.home.id(slot)
+        self.machine.home.id(slot)
     }
 
     /// The processes that wait for a device step, the one that waits longest first. Each lives in its slot, in the life
@@ -93,10 +93,10 @@ impl Board {
     {
         match device {
             Dev::Event | Dev::Alarm => &[],
-            Dev::Uart => self.drivers.console.writes.as_slice(),
-            Dev::Receive => self.drivers.console.reads.as_slice(),
-            Dev::Random => self.drivers.random.waiting.as_slice(),
-            Dev::Store => self.drivers.storage.waiting.as_slice(),
+            Dev::Uart => self.machine.drivers.console.writes.as_slice(),
+            Dev::Receive => self.machine.drivers.console.reads.as_slice(),
+            Dev::Random => self.machine.drivers.random.waiting.as_slice(),
+            Dev::Store => self.machine.drivers.storage.waiting.as_slice(),
         }
     }
 }

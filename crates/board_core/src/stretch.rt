@@ -13,7 +13,6 @@ ghost use Rattle.board_core.specs.Stretches.{EndsStretch, slot_runs};
 
 use crate::board::Board;
 use board_drivers::{Drivers, Moment};
-use board_turns::turns_at;
 use grant_enter::Home;
 use kernel_laws::round_is_stretch;
 use kernel_lives::steps_are_accounted_for;
@@ -149,26 +148,24 @@ impl Board {
         if !runs(&self.processes, slot) {
             return ends;
         }
-        self.calm = calm_ahead(self.calm, &self.moment, &self.home, &self.drivers);
-        if self.calm <= self.moment.time {
+        self.calm = calm_ahead(
+            self.calm,
+            &self.machine.moment,
+            &self.machine.home,
+            &self.machine.drivers,
+        );
+        if self.calm <= self.machine.moment.time {
             return ends;
         }
         let before = used_before(self.present, self.used, self.slice, slot);
-        let left = turns_left(before, self.slice, &self.moment, self.calm, most);
-        let made = turns_at(
-            &mut self.home,
-            &mut self.processes,
-            &mut self.guard,
-            slot,
-            &self.moment,
-            left,
-        );
+        let left = turns_left(before, self.slice, &self.machine.moment, self.calm, most);
+        let made = self.machine.turns_at(&mut self.processes, slot, left);
         let (present, used) = present_after(self.present, self.used, slot, before, made);
         self.present = present;
         self.used = used;
         let ticks = u64::from(made);
-        self.moment.time += ticks;
-        self.moment.steps += ticks;
+        self.machine.moment.time += ticks;
+        self.machine.moment.steps += ticks;
         Part {
             made,
             is_over: is_over(made, left),

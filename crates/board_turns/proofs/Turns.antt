@@ -27,12 +27,15 @@ use Rattle.kernel_model.specs.Turn.{Turned, turn_counted, delivery, at_turn_end,
 use Rattle.driver_model.specs.Commands.{leaving_all}
 use Rattle.board_drivers.specs.declared.drivers.Drivers.{Drivers}
 use Rattle.board_turns.specs.declared.guard.ActivePmp.{ActivePmp}
+use Rattle.board_turns.specs.declared.machine.Machine.{Machine}
+use Rattle.board_turns.specs.Guards.{GuardsOnly, IsSetFor}
+use Rattle.board_memory.specs.Registers.{Protect}
 use Rattle.board_drivers.specs.declared.moment.Moment.{Moment}
 use Rattle.board_turns.specs.declared.turn.Shown.{Shown}
 use Rattle.kernel_model.specs.Laws.{DropsAtMostOne, GrantsChangeAtCalls}
 use Rattle.board_drivers.specs.Driven.{Drives, MayServe}
 use Rattle.board_drivers.specs.Residents.{Resident, IsResident}
-use Rattle.board_turns.specs.Turning.{InTurn, IsMade, LeavesSlot, MayTurn, ServesCall, Settles}
+use Rattle.board_turns.specs.Turning.{InTurn, IsMade, LeavesOn, LeavesSlot, MayTurn, ServesCall, Settles}
 use Rattle.board_drivers.specs.Residents.{id_of}
 use Rattle.board_turns.specs.Turning.{Shows, Turns, after_instruction, next_instruction, nothing_shown}
 use Rattle.board_drivers.specs.Residents.{resident}
@@ -93,6 +96,26 @@ leaves_then steps slot a b c p first h = record {
   seated = subst (λ (f : List ℕ). IsResident f steps (resident c slot p)) (only_flash slot a b first) h.seated;
   rest = only_twice slot a b c first h.rest;
 }
+
+-- and of a machine
+pub leaves_on : (slot : ℕ) (x : Machine) (home : Homes) (guard : ActivePmp) (y : Machine) (p : Process)
+    → ChangesOnly slot x.home home → LeavesOn 1 slot (record x { home = home; guard = guard }) y p
+    → LeavesOn 1 slot x y p
+leaves_on slot x home guard y p first h = record {
+  left = leaves_then (x.moment.steps + 1) slot x.home home y.home p first h.left;
+  guard = h.guard;
+  moment = h.moment;
+}
+
+-- registers that are set for a slot fit
+pub guards_only : (slot : ℕ) (guard : ActivePmp) (home : Homes) → IsSetFor slot guard home → GuardsOnly guard home
+guards_only slot guard home set = record {
+  protects = λ other is. subst (λ (s : ℕ). Protect guard.pmp (own_of home s).layout)
+      (same slot other (sym set.slot_is ∙ is)) set.protects;
+}
+  where
+    same : (a b : ℕ) → ◌≡◌ {A = Option ℕ} (Some a) (Some b) → a ≡ b
+    same a b e = cc
 
 -- the instruction of the process in a slot, which left the home and the process so
 module _ (m : Moment) (slot : ℕ) (home made : Homes) (p q : Process) (is : IsMade slot home made p q)

@@ -2,10 +2,10 @@
 use Rattle.std.specs.Prelude.{◌≡◌, ◌≢◌, ◌<◌, ℕ, ◌+◌, List}
 use Rattle.process_record.specs.declared.process.Process.{Process}
 use Rattle.rv32_model.specs.declared.turn_end.TurnEnd.TheVariants.{Went}
-use Rattle.grant_enter.specs.Homes.{Homes}
 use Rattle.kernel_model.specs.Record.{instruction}
 use Rattle.kernel_model.specs.Stretch.{AllGo, after_instructions}
-use Rattle.board_drivers.specs.declared.moment.Moment.{Moment}
+use Rattle.board_turns.specs.declared.machine.Machine.{Machine}
+use Rattle.board_turns.specs.Guards.{GuardsOnly}
 use Rattle.board_drivers.specs.Residents.{IsResident, Resident, record_of}
 use Rattle.board_turns.specs.Turning.{ChangesSlot}
 
@@ -18,8 +18,9 @@ pub record Quietly (k most : ℕ) (flash : List ℕ) (old new : Resident) : Type
   pub stops : k < most → (storage : List ℕ) → (instruction (record_of flash (new, storage))).end ≢ Went
 
 -- so many quiet turns of the process in a slot, and of no other
-pub record QuietAt (k most : ℕ) (m : Moment) (slot : ℕ) (home home_after : Homes)
-    (processes processes_after : List Process) : Type 0 where
-  pub at : ChangesSlot slot home home_after processes processes_after
-  pub quiet : Quietly k most home.flash at.before at.after
-  pub seated : IsResident home.flash (m.steps + k) at.after
+pub record QuietAt (k most slot : ℕ) (old new : Machine) (processes processes_after : List Process) : Type 0 where
+  pub at : ChangesSlot slot old.home new.home processes processes_after
+  pub quiet : Quietly k most old.home.flash at.before at.after
+  pub seated : IsResident old.home.flash (old.moment.steps + k) at.after
+  pub guard : GuardsOnly new.guard new.home
+  pub moment : new.moment ≡ old.moment

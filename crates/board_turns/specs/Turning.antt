@@ -24,8 +24,9 @@ use Rattle.board_drivers.specs.declared.moment.Moment.{Moment}
 use Rattle.board_turns.specs.declared.turn.Shown.{Shown}
 use Rattle.board_drivers.specs.declared.drivers.Drivers.{Drivers}
 use Rattle.board_turns.specs.declared.guard.ActivePmp.{ActivePmp}
-use Rattle.board_turns.specs.Guards.{GuardsOnly}
-use Rattle.board_drivers.specs.Driven.{Drives}
+use Rattle.board_turns.specs.declared.machine.Machine.{Machine}
+use Rattle.board_turns.specs.Guards.{GuardsOnly, IsSetFor}
+use Rattle.board_drivers.specs.Driven.{Drives, MayServe}
 use Rattle.driver_model.specs.Commands.{BoardRequest}
 use Rattle.board_drivers.specs.Residents.{Resident, resident, id_of, IsResident}
 
@@ -101,13 +102,12 @@ pub record MayTurn (turns : ℕ) (m : Moment) (place : ℕ) (home : Homes) (proc
   pub guard : GuardsOnly registers home
 
 -- the same of a slot of the tables of a board
-pub record MayTurnAt (turns : ℕ) (m : Moment) (place : ℕ) (home : Homes) (processes : List Process)
-    (registers : ActivePmp) : Type 0 where
+pub record MayTurnAt (turns place : ℕ) (x : Machine) (processes : List Process) : Type 0 where
   pub within : place < length processes
-  pub owns : length home.owns ≡ length processes
-  pub seated : All (IsResident home.flash m.steps) (zip processes home.owns)
-  pub limit : m.steps + turns ≤ STEP_LIMIT
-  pub guard : GuardsOnly registers home
+  pub owns : length x.home.owns ≡ length processes
+  pub seated : All (IsResident x.home.flash x.moment.steps) (zip processes x.home.owns)
+  pub limit : x.moment.steps + turns ≤ STEP_LIMIT
+  pub guard : GuardsOnly x.guard x.home
 
 -- A turn of the process in a slot was counted and is not over: the process lives, and is as it is to be a step later.
 pub record InTurn (m : Moment) (place : ℕ) (home : Homes) (process : Process) : Type 0 where
@@ -134,8 +134,46 @@ pub record ChangesSlot (slot : ℕ) (home home_after : Homes) (processes process
   pub own_is : home_after ≡ record home { owns = slice_set home.owns slot after.1 }
 
 -- one turn of the process in a slot, and of no other
-pub record TurnsAt (m : Moment) (slot : ℕ) (home home_after : Homes) (processes processes_after : List Process)
-    (shown : Shown) (d d_after : Drivers) : Type 0 where
-  pub at : ChangesSlot slot home home_after processes processes_after
-  pub turns : Turns m slot home.flash at.before at.after shown d d_after
-  pub seated : IsResident home.flash (m.steps + 1) at.after
+pub record TurnsAt (slot : ℕ) (old new : Machine) (processes processes_after : List Process) (shown : Shown) : Type
+    0 where
+  pub at : ChangesSlot slot old.home new.home processes processes_after
+  pub turns : Turns old.moment slot old.home.flash at.before at.after shown old.drivers new.drivers
+  pub seated : IsResident old.home.flash (old.moment.steps + 1) at.after
+  pub guard : GuardsOnly new.guard new.home
+  pub moment : new.moment ≡ old.moment
+
+-- so many turns of the process in a slot may be made on a machine
+abbrev pub MayTurnOn : ℕ → ℕ → Machine → Process → Type 0
+MayTurnOn turns slot x process = MayTurn turns x.moment slot x.home process x.guard
+
+-- one was counted there and is not over: the registers are set for it
+pub record InTurnOn (slot : ℕ) (x : Machine) (process : Process) : Type 0 where
+  pub turn : InTurn x.moment slot x.home process
+  pub set : IsSetFor slot x.guard x.home
+
+-- what it leaves of the machine and of the process: the registers fit, and it is the same moment
+pub record LeavesOn (steps slot : ℕ) (old new : Machine) (process : Process) : Type 0 where
+  pub left : LeavesSlot (old.moment.steps + steps) slot old.home new.home process
+  pub guard : GuardsOnly new.guard new.home
+  pub moment : new.moment ≡ old.moment
+
+-- what a turn does on a machine
+abbrev pub TurnsOn : ℕ → Machine → Machine → Process → Process → Shown → Type 0
+TurnsOn slot old new process process_after shown =
+    Turns old.moment slot old.home.flash (resident old.home slot process) (resident new.home slot process_after) shown
+    old.drivers new.drivers
+
+-- what serving a call does there
+abbrev pub ServesCallOn : ℕ → Machine → Machine → Process → Process → Shown → Type 0
+ServesCallOn slot old new process process_after shown =
+    ServesCall old.moment slot old.home.flash (resident old.home slot process)
+    (resident new.home slot process_after) shown old.drivers new.drivers
+
+-- what a call leaves there, and what comes of it
+abbrev pub FinishesOn : ℕ → Machine → Machine → Process → Process → Call → Outcome → Type 0
+FinishesOn slot old new process process_after call outcome =
+    Finishes old.moment slot old.home process call new.home process_after outcome old.drivers new.drivers
+
+-- what the drivers of a machine ask of the moment at which they serve a call of the process in a slot
+abbrev pub MayServeOn : ℕ → Machine → Type 0
+MayServeOn slot x = MayServe x.moment x.drivers slot (own_of x.home slot)

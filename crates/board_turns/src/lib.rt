@@ -3,9 +3,10 @@
 #![tactic(auto)]
 
 mod guard;
+mod machine;
 mod quiet_turns;
 mod turn;
 
 pub use guard::ActivePmp;
-pub use quiet_turns::{take_turns, turns_at};
-pub use turn::{Shown, can_turn, take_turn, turn_at};
+pub use machine::Machine;
+pub use turn::{Shown, can_turn};

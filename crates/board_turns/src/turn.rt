@@ -8,16 +8,16 @@ ghost use Rattle.driver_model.specs.Commands.{leaving_all};
 ghost use Rattle.kernel_calls.specs.Outcomes.{acts_for, is_for_driver};
 ghost use Rattle.process_model.specs.Flash.{object_in};
 ghost use Rattle.kernel_calls.specs.Own.{record_in};
-ghost use Rattle.board_drivers.specs.Driven.{Drives, MayServe};
-ghost use Rattle.board_drivers.specs.declared.drivers.Drivers.{Drivers};
+ghost use Rattle.board_drivers.specs.Driven.{Drives};
 ghost use Rattle.kernel_model.specs.Calls.{restart};
 ghost use Rattle.kernel_model.specs.Turn.{arguments, made, unknown_call};
-ghost use Rattle.board_turns.specs.Guards.{GuardsOnly, IsSetFor};
+ghost use Rattle.board_turns.specs.Guards.{IsSetFor};
 ghost use Rattle.board_drivers.specs.Residents.{id_of, resident, resident_turns};
-ghost use Rattle.board_turns.specs.Turning.{Finishes, InTurn, IsMade, LeavesSlot, MayTurn, ServesCall, Settles, Turns, next_instruction, nothing_shown, told_in_emit, with_shown, MayTurnAt, TurnsAt};
+ghost use Rattle.board_turns.specs.Turning.{InTurn, InTurnOn, FinishesOn, IsMade, LeavesOn, LeavesSlot, MayServeOn, MayTurn, MayTurnOn, ServesCallOn, Settles, TurnsOn, next_instruction, nothing_shown, told_in_emit, with_shown, MayTurnAt, TurnsAt};
 
 use crate::guard::ActivePmp;
-use board_drivers::{Drivers, Moment, Order};
+use crate::machine::Machine;
+use board_drivers::{Moment, Order};
 use driver_model::commands_stay_in_place;
 use fault_policy::{Action, decide};
 use grant_enter::Home;
@@ -122,39 +122,6 @@ fn restart_at(
     guard.refresh(home, slot, &layout);
 }
 
-/// A denial: the process in a slot faults, and has ended or starts again, as the policy decides.
-fn fault_at(
-    home: &mut Home,
-    process: &mut Process,
-    guard: &mut ActivePmp,
-    drivers: &mut Drivers,
-    slot: Slot,
-    denial: Denial,
-    moment: &Moment,
-) -> Shown
-    requires turn { InTurn moment.now slot home.old process.old }
-    requires guard { IsSetFor slot guard.old home.old }
-    ensures settles { Settles moment.now.settings.policy home.old.flash process.old
-        (own_of home.old slot) denial (resident home.new slot process.new) }
-    ensures gone { Drives (id_of slot (own_of home.old slot)) leaving_all drivers.old
-        drivers.new }
-    ensures leaves { LeavesSlot (moment.now.steps + 1) slot home.old home.new process.new }
-    ensures guard { IsSetFor slot guard.new home.new }
-    ensures shown { result ≡ record { call = None; denial = Some denial } }
-{
-    let life = process.restarts;
-    let id = ProcessId { slot, life };
-    drivers.gone(&id);
-    match decide(moment.settings.policy, process.restarts) {
-        Action::Stop => stop_at(home, process, slot, denial),
-        Action::Restart => restart_at(home, process, guard, slot, denial, moment),
-    }
-    Shown {
-        call: None,
-        denial: Some(denial),
-    }
-}
-
 /// The call that the registers make is of an unknown class.
 fn unknown_class(process: &Process) -> Denial
     ensures { result ≡ unknown_call process.now }
@@ -166,116 +133,12 @@ fn unknown_class(process: &Process) -> Denial
     }
 }
 
-/// The driver of a command of the process in a slot, which the kernel left to it, replies to it or refuses it.
-#[inline(never)]
-fn command_driver(
-    home: &mut Home,
-    process: &mut Process,
-    drivers: &mut Drivers,
-    slot: Slot,
-    call: &Call,
-    moment: &Moment,
-) -> Outcome
-    requires turn { InTurn moment.now slot home.old process.old }
-    requires may { MayServe moment.now drivers.old slot (own_of home.old slot) }
-    requires left { is_for_driver moment.now.settings.strict
-        (object_in home.old.flash process.old.object) call.now ≡ true }
-    ensures serves { Finishes moment.now slot home.old process.old call.now home.new process.new
-        result drivers.old drivers.new }
-    ensures leaves { LeavesSlot (moment.now.steps + 1) slot home.old home.new process.new }
-{
-    commands_stay_in_place();
-    let Call::Command {
-        driver,
-        command,
-        a2,
-        a3,
-    } = *call
-    else {
-        unreachable!()
-    };
-    let Some(id) = home.id(slot) else {
-        unreachable!()
-    };
-    let order = Order {
-        driver,
-        number: command,
-        a2,
-        a3,
-    };
-    let (reply, rule) = drivers.command(home, moment.tick(), id, &order);
-    give_reply(process, reply, rule)
-}
-
 /// Whether the process has ended, or starts again.
 fn is_gone(outcome: Outcome) -> bool
     ensures gone { result ≡ true → acts_for outcome ≡ leaving_all }
     ensures none { result ≡ false → acts_for outcome ≡ [] }
 {
     matches!(outcome, Outcome::Ended | Outcome::Again)
-}
-
-/// Serves a system call, and protects the process as its layout is afterwards.
-fn serve(
-    home: &mut Home,
-    process: &mut Process,
-    guard: &mut ActivePmp,
-    drivers: &mut Drivers,
-    slot: Slot,
-    call: &Call,
-    moment: &Moment,
-) -> Outcome
-    requires turn { InTurn moment.now slot home.old process.old }
-    requires may { MayServe moment.now drivers.old slot (own_of home.old slot) }
-    requires guard { IsSetFor slot guard.old home.old }
-    ensures serves { Finishes moment.now slot home.old process.old call.now home.new process.new
-        result drivers.old drivers.new }
-    ensures leaves { LeavesSlot (moment.now.steps + 1) slot home.old home.new process.new }
-    ensures guard { IsSetFor slot guard.new home.new }
-{
-    let layout = home.layout(slot);
-    let life = process.restarts;
-    let id = ProcessId { slot, life };
-    let outcome = match kernel_call(home, process, slot, call, moment.settings.strict) {
-        Outcome::ToDriver => command_driver(home, process, drivers, slot, call, moment),
-        outcome => {
-            if is_gone(outcome) {
-                drivers.gone(&id);
-            }
-            outcome
-        }
-    };
-    guard.refresh(home, slot, &layout);
-    outcome
-}
-
-/// Serves the system call that the registers make.
-fn serve_call(
-    home: &mut Home,
-    process: &mut Process,
-    guard: &mut ActivePmp,
-    drivers: &mut Drivers,
-    slot: Slot,
-    moment: &Moment,
-) -> Shown
-    requires turn { InTurn moment.now slot home.old process.old }
-    requires may { MayServe moment.now drivers.old slot (own_of home.old slot) }
-    requires guard { IsSetFor slot guard.old home.old }
-    ensures serves { ServesCall moment.now slot home.old.flash (resident home.old slot process.old)
-        (resident home.new slot process.new) result drivers.old drivers.new }
-    ensures leaves { LeavesSlot (moment.now.steps + 1) slot home.old home.new process.new }
-    ensures guard { IsSetFor slot guard.new home.new }
-{
-    let before = process.regs;
-    let Some(call) = Call::of(&before) else {
-        let denial = unknown_class(process);
-        return fault_at(home, process, guard, drivers, slot, denial, moment);
-    };
-    let outcome = serve(home, process, guard, drivers, slot, &call, moment);
-    Shown {
-        call: Some(call_shown(&before, outcome)),
-        denial: None,
-    }
 }
 
 /// One instruction of the process in a slot, which counts as a turn.
@@ -300,103 +163,187 @@ fn make_instruction(
     home.instruct(slot, &guard.pmp, &mut process.regs)
 }
 
-/// The turn of a process that runs: an instruction of it, and what a system call or a denial asks for. What it
-/// shows is told in `emit`, where nothing was told before: most turns show nothing, and write nothing there.
-fn run_on(
-    home: &mut Home,
-    process: &mut Process,
-    guard: &mut ActivePmp,
-    drivers: &mut Drivers,
-    slot: Slot,
-    moment: &Moment,
-    emit: &mut Emit,
-)
-    requires turn { MayTurn 1 moment.now slot home.old process.old guard.old }
-    requires runs { process.old.state ≡ Running }
-    requires may { MayServe moment.now drivers.old slot (own_of home.old slot) }
-    requires quiet { told_in_emit emit.old ≡ nothing_shown }
-    ensures turns { Turns moment.now slot home.old.flash (resident home.old slot process.old)
-        (resident home.new slot process.new) (told_in_emit emit.new) drivers.old drivers.new }
-    ensures leaves { LeavesSlot (moment.now.steps + 1) slot home.old home.new process.new }
-    ensures guard { IsSetFor slot guard.new home.new }
-    ensures emit { emit.new ≡ with_shown emit.old (told_in_emit emit.new) }
-{
-    match make_instruction(home, process, guard, slot, moment) {
-        TurnEnd::Went => {}
-        TurnEnd::Call => {
-            let shown = serve_call(home, process, guard, drivers, slot, moment);
-            tell(emit, shown);
+impl Machine {
+    /// A denial: the process in a slot faults, and has ended or starts again, as the policy decides.
+    fn fault_at(&mut self, process: &mut Process, slot: Slot, denial: Denial) -> Shown
+        requires turn { InTurnOn slot self.old process.old }
+        ensures settles { Settles self.old.moment.settings.policy self.old.home.flash process.old
+            (own_of self.old.home slot) denial (resident self.new.home slot process.new) }
+        ensures gone { Drives (id_of slot (own_of self.old.home slot)) leaving_all
+            self.old.drivers self.new.drivers }
+        ensures leaves { LeavesOn 1 slot self.old self.new process.new }
+        ensures shown { result ≡ record { call = None; denial = Some denial } }
+    {
+        let life = process.restarts;
+        let id = ProcessId { slot, life };
+        self.drivers.gone(&id);
+        match decide(self.moment.settings.policy, process.restarts) {
+            Action::Stop => stop_at(&mut self.home, process, slot, denial),
+            Action::Restart => restart_at(
+                &mut self.home,
+                process,
+                &mut self.guard,
+                slot,
+                denial,
+                &self.moment,
+            ),
         }
-        TurnEnd::Trap(denial) => {
-            let shown = fault_at(home, process, guard, drivers, slot, denial, moment);
-            tell(emit, shown);
+        Shown {
+            call: None,
+            denial: Some(denial),
         }
     }
-}
 
-/// The turn of a process that waits: the first of its pending upcalls is delivered, if there is one. The
-/// registers are set for it, since it is the next to run. It shows nothing.
-fn wake(home: &mut Home, process: &mut Process, guard: &mut ActivePmp, slot: Slot, moment: &Moment)
-    requires turn { MayTurn 1 moment.now slot home.old process.old guard.old }
-    requires waits { process.old.state ≡ Yielded }
-    ensures turns { (drivers : Drivers) → Turns moment.now slot home.old.flash
-        (resident home.old slot process.old) (resident home.new slot process.new) nothing_shown
-        drivers drivers }
-    ensures leaves { LeavesSlot (moment.now.steps + 1) slot home.old home.new process.new }
-    ensures guard { IsSetFor slot guard.new home.new }
-{
-    guard.switch_to(home, slot);
-    if home.has_pending(slot) {
-        process.count_turn();
-        deliver(home, process, slot);
+    /// The driver of a command of the process in a slot, which the kernel left to it, replies to it or refuses it.
+    #[inline(never)]
+    fn command_driver(&mut self, process: &mut Process, slot: Slot, call: &Call) -> Outcome
+        requires turn { InTurn self.old.moment slot self.old.home process.old }
+        requires may { MayServeOn slot self.old }
+        requires left { is_for_driver self.old.moment.settings.strict
+            (object_in self.old.home.flash process.old.object) call.now ≡ true }
+        ensures serves { FinishesOn slot self.old self.new process.old process.new call.now
+            result }
+        ensures leaves { LeavesSlot (self.old.moment.steps + 1) slot self.old.home self.new.home
+            process.new }
+        ensures rest { (self.new.guard ≡ self.old.guard) × (self.new.moment ≡ self.old.moment) }
+    {
+        commands_stay_in_place();
+        let Call::Command {
+            driver,
+            command,
+            a2,
+            a3,
+        } = *call
+        else {
+            unreachable!()
+        };
+        let Some(id) = self.home.id(slot) else {
+            unreachable!()
+        };
+        let order = Order {
+            driver,
+            number: command,
+            a2,
+            a3,
+        };
+        let tick = self.moment.tick();
+        let (reply, rule) = self.drivers.command(&mut self.home, tick, id, &order);
+        give_reply(process, reply, rule)
     }
-}
 
-/// One turn of the process in a slot, which tells in `emit` what it shows. One that has ended has none, and
-/// nothing changes.
-pub fn take_turn(
-    home: &mut Home,
-    process: &mut Process,
-    guard: &mut ActivePmp,
-    drivers: &mut Drivers,
-    slot: Slot,
-    moment: &Moment,
-    emit: &mut Emit,
-)
-    requires turn { MayTurn 1 moment.now slot home.old process.old guard.old }
-    requires may { MayServe moment.now drivers.old slot (own_of home.old slot) }
-    requires quiet { told_in_emit emit.old ≡ nothing_shown }
-    ensures turns { Turns moment.now slot home.old.flash (resident home.old slot process.old)
-        (resident home.new slot process.new) (told_in_emit emit.new) drivers.old drivers.new }
-    ensures leaves { LeavesSlot (moment.now.steps + 1) slot home.old home.new process.new }
-    ensures guard { GuardsOnly guard.new home.new }
-    ensures emit { emit.new ≡ with_shown emit.old (told_in_emit emit.new) }
-{
-    match process.state {
-        State::Running => run_on(home, process, guard, drivers, slot, moment, emit),
-        State::Yielded => wake(home, process, guard, slot, moment),
-        State::Faulted | State::Terminated(_) => {}
+    /// Serves a system call, and protects the process as its layout is afterwards.
+    fn serve(&mut self, process: &mut Process, slot: Slot, call: &Call) -> Outcome
+        requires turn { InTurnOn slot self.old process.old }
+        requires may { MayServeOn slot self.old }
+        ensures serves { FinishesOn slot self.old self.new process.old process.new call.now
+            result }
+        ensures leaves { LeavesOn 1 slot self.old self.new process.new }
+    {
+        let layout = self.home.layout(slot);
+        let life = process.restarts;
+        let id = ProcessId { slot, life };
+        let strict = self.moment.settings.strict;
+        let outcome = match kernel_call(&mut self.home, process, slot, call, strict) {
+            Outcome::ToDriver => self.command_driver(process, slot, call),
+            outcome => {
+                if is_gone(outcome) {
+                    self.drivers.gone(&id);
+                }
+                outcome
+            }
+        };
+        self.guard.refresh(&self.home, slot, &layout);
+        outcome
     }
-}
 
-/// One turn of the process in a slot, which tells in `emit` what it shows.
-pub fn turn_at(
-    home: &mut Home,
-    processes: &mut Vec<Process>,
-    guard: &mut ActivePmp,
-    drivers: &mut Drivers,
-    slot: Slot,
-    moment: &Moment,
-    emit: &mut Emit,
-)
-    requires turn { MayTurnAt 1 moment.now slot home.old processes.old.items guard.old }
-    requires may { MayServe moment.now drivers.old slot (own_of home.old slot) }
-    requires quiet { told_in_emit emit.old ≡ nothing_shown }
-    ensures turn { TurnsAt moment.now slot home.old home.new
-        processes.old.items processes.new.items (told_in_emit emit.new) drivers.old drivers.new }
-    ensures guard { GuardsOnly guard.new home.new }
-    ensures emit { emit.new ≡ with_shown emit.old (told_in_emit emit.new) }
-{
-    let process = &mut processes[slot.index()];
-    take_turn(home, process, guard, drivers, slot, moment, emit);
+    /// Serves the system call that the registers make.
+    fn serve_call(&mut self, process: &mut Process, slot: Slot) -> Shown
+        requires turn { InTurnOn slot self.old process.old }
+        requires may { MayServeOn slot self.old }
+        ensures serves { ServesCallOn slot self.old self.new process.old process.new result }
+        ensures leaves { LeavesOn 1 slot self.old self.new process.new }
+    {
+        let before = process.regs;
+        let Some(call) = Call::of(&before) else {
+            let denial = unknown_class(process);
+            return self.fault_at(process, slot, denial);
+        };
+        let outcome = self.serve(process, slot, &call);
+        Shown {
+            call: Some(call_shown(&before, outcome)),
+            denial: None,
+        }
+    }
+
+    /// The turn of a process that runs: an instruction of it, and what a system call or a denial asks for. What it
+    /// shows is told in `emit`, where nothing was told before: most turns show nothing, and write nothing there.
+    fn run_on(&mut self, process: &mut Process, slot: Slot, emit: &mut Emit)
+        requires turn { MayTurnOn 1 slot self.old process.old }
+        requires runs { process.old.state ≡ Running }
+        requires may { MayServeOn slot self.old }
+        requires quiet { told_in_emit emit.old ≡ nothing_shown }
+        ensures turns { TurnsOn slot self.old self.new process.old process.new
+            (told_in_emit emit.new) }
+        ensures leaves { LeavesOn 1 slot self.old self.new process.new }
+        ensures emit { emit.new ≡ with_shown emit.old (told_in_emit emit.new) }
+    {
+        let end = make_instruction(&mut self.home, process, &mut self.guard, slot, &self.moment);
+        match end {
+            TurnEnd::Went => {}
+            TurnEnd::Call => {
+                let shown = self.serve_call(process, slot);
+                tell(emit, shown);
+            }
+            TurnEnd::Trap(denial) => {
+                let shown = self.fault_at(process, slot, denial);
+                tell(emit, shown);
+            }
+        }
+    }
+
+    /// The turn of a process that waits: the first of its pending upcalls is delivered, if there is one. The
+    /// registers are set for it, since it is the next to run. It shows nothing.
+    fn wake(&mut self, process: &mut Process, slot: Slot)
+        requires turn { MayTurnOn 1 slot self.old process.old }
+        requires waits { process.old.state ≡ Yielded }
+        ensures turns { TurnsOn slot self.old self.new process.old process.new nothing_shown }
+        ensures leaves { LeavesOn 1 slot self.old self.new process.new }
+    {
+        self.guard.switch_to(&self.home, slot);
+        if self.home.has_pending(slot) {
+            process.count_turn();
+            deliver(&mut self.home, process, slot);
+        }
+    }
+
+    /// One turn of the process in a slot, which tells in `emit` what it shows. One that has ended has none, and
+    /// nothing changes.
+    pub fn take_turn(&mut self, process: &mut Process, slot: Slot, emit: &mut Emit)
+        requires turn { MayTurnOn 1 slot self.old process.old }
+        requires may { MayServeOn slot self.old }
+        requires quiet { told_in_emit emit.old ≡ nothing_shown }
+        ensures turns { TurnsOn slot self.old self.new process.old process.new
+            (told_in_emit emit.new) }
+        ensures leaves { LeavesOn 1 slot self.old self.new process.new }
+        ensures emit { emit.new ≡ with_shown emit.old (told_in_emit emit.new) }
+    {
+        match process.state {
+            State::Running => self.run_on(process, slot, emit),
+            State::Yielded => self.wake(process, slot),
+            State::Faulted | State::Terminated(_) => {}
+        }
+    }
+
+    /// One turn of the process in a slot, which tells in `emit` what it shows.
+    pub fn turn_at(&mut self, processes: &mut Vec<Process>, slot: Slot, emit: &mut Emit)
+        requires turn { MayTurnAt 1 slot self.old processes.old.items }
+        requires may { MayServeOn slot self.old }
+        requires quiet { told_in_emit emit.old ≡ nothing_shown }
+        ensures turn { TurnsAt slot self.old self.new processes.old.items processes.new.items
+            (told_in_emit emit.new) }
+        ensures emit { emit.new ≡ with_shown emit.old (told_in_emit emit.new) }
+    {
+        let process = &mut processes[slot.index()];
+        self.take_turn(process, slot, emit);
+    }
 }

@@ -2,7 +2,7 @@
 -- since (TRD 104, "Subscribe", "Yield", "Exit").
 use Rattle.std.specs.Prelude.{◌≡◌, ◌<◌, ◌≤◌, ℕ, ◌+◌, ◌==◌, Bool, true, false, not, ◌&&◌, ◌||◌, if◌then◌else◌, List, []}
 use Rattle.std.specs.Prelude.{◌∷◌, ◌++◌, drop, filter, length, map, slice_get, slice_index, All, Option, None, Some}
-use Rattle.std.specs.Prelude.{IfSome, is_some, is_none, option_and_then}
+use Rattle.std.specs.Prelude.{IfSome, is_some, is_none, option_and_then, option_map, unwrap_or}
 use Rattle.std.specs.List.{flat_map}
 use Rattle.tk_base.specs.declared.process.Choice.{Choice}
 use Rattle.tk_base.specs.declared.upcall.Upcall.{Upcall as Scheduled}
@@ -60,13 +60,11 @@ schedulings_left_by yielded (told ∷ rest) waiting = schedulings_left_by yielde
 
 -- whether the process in a slot waits for an upcall; the upcalls that wait for it, the first one first
 abbrev pub yielded_of : Option Record → Bool
-yielded_of None = false
-yielded_of (Some r) = is_yielded r.process.state
+yielded_of r = unwrap_or (option_map (λ r. is_yielded r.process.state) r) false
 
 -- the upcalls that wait for a process, if there is one
 abbrev pub pending_of : Option Record → List Scheduled
-pending_of None = []
-pending_of (Some r) = r.own.inbox.pending
+pending_of r = unwrap_or (option_map (λ r. r.own.inbox.pending) r) []
 
 -- the upcalls that wait for the process in a slot
 abbrev pub pending_in : ℕ → World → List Scheduled

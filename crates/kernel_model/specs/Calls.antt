@@ -187,8 +187,7 @@ restarted_with r h m =
 
 -- a process that starts again by what its header says of its entry; as it was where it says nothing
 abbrev pub restarted_main : Record → Meaning → Option Main → Record
-restarted_main r h None = r
-restarted_main r h (Some m) = restarted_with r h m
+restarted_main r h main = unwrap_or (option_map (restarted_with r h) main) r
 
 -- the same by what the header means; as it was where it has a fault
 abbrev pub restarted_by : Record → Result Meaning HeaderFault → Record

@@ -1,7 +1,7 @@
 -- What changes the bytes of a process: of its own RAM, of its whole block, of its storage (Levy et al., SOSP 2017; TRD
 -- 104, "Yield", "Exit", "Read-Write Allow"; the userspace-readable allow of Tock's kernel).
 use Rattle.std.specs.Prelude.{◌≡◌, ◌≢◌, ◌⊎◌, ◌≤◌, ◌<◌, ℕ, ◌+◌, ◌==◌, ◌&&◌, Bool, true, false, IsTrue, List, [], length, slice_get}
-use Rattle.std.specs.Prelude.{slice_index, Option, None, Some, is_none, is_some, IfSome}
+use Rattle.std.specs.Prelude.{slice_index, Option, None, Some, is_none, is_some, IfSome, option_map, unwrap_or}
 use Rattle.std.specs.List.{Any, list_any}
 use Rattle.tk_base.specs.declared.process.Choice.{Choice}
 use Rattle.tk_base.specs.declared.process.Choice.TheVariants.{Run}
@@ -23,10 +23,9 @@ use Rattle.kernel_model.specs.Stretch.{IsStretch}
 
 -- whether a call showed its process the clock: the command that does so, which broke no rule
 abbrev pub showed_clock : Option CallMade → Bool
-showed_clock None = false
-showed_clock (Some made) =
-    made.class == 2
-    && (shows_clock (slice_index made.args 0) (slice_index made.args 1) && is_none made.rule)
+showed_clock call =
+    unwrap_or (option_map (λ made. made.class == 2
+    && (shows_clock (slice_index made.args 0) (slice_index made.args 1) && is_none made.rule)) call) false
 
 -- A cause in a process's own turn, by what the turn told and by the record before and after it: a store that covers the
 -- address; the flag of its yield; that it started again, where the turn told an exit or a denial; the clock that was

@@ -2,7 +2,7 @@
 -- "Read-Write Allow"): each swap gives back the pair of the last one.
 use Rattle.std.specs.Prelude.{◌≡◌, ℕ, ◌==◌, Bool, false, ◌&&◌, ◌||◌, if◌then◌else◌, List, [], ◌∷◌, ◌++◌, reverse}
 use Rattle.std.specs.Prelude.{slice_get, slice_index, Option, None, Some, is_some, is_none, option_and_then, unwrap_or}
-use Rattle.std.specs.Prelude.{IfSome}
+use Rattle.std.specs.Prelude.{IfSome, option_map}
 use Rattle.std.specs.List.{flat_map}
 use Rattle.tk_base.specs.declared.process.Choice.{Choice}
 use Rattle.tk_base.specs.declared.process.Choice.TheVariants.{Run}
@@ -57,8 +57,7 @@ is_exit made = made.class == 6 && is_none made.rule
 
 -- whether a turn ended a life of its process by a call, if it made one
 abbrev pub exits : Option CallMade → Bool
-exits None = false
-exits (Some made) = is_exit made
+exits call = unwrap_or (option_map is_exit call) false
 
 -- whether a turn ended a life: by an exit, or by a denial, whatever the fault policy makes of it
 abbrev pub ends_life : TurnTrace → Bool

@@ -183,8 +183,7 @@ flash_of r = object_byte r.process.object r.object
 
 -- a storage of which bytes were written over, if any were
 abbrev pub written_over : List ℕ → Option (ℕ × List ℕ) → List ℕ
-written_over bytes None = bytes
-written_over bytes (Some written) = overwritten bytes written.0 written.1
+written_over bytes write = unwrap_or (option_map (λ w. overwritten bytes w.0 w.1) write) bytes
 
 -- a process whose storage request was served, or failed
 abbrev pub stored : Bool → Record → Record

@@ -11,7 +11,7 @@ use Rattle.board_core.proofs.board.Board.may_run.Goals as goal
 pub returns : goal.returns
 returns c =
     c.can_run.ensures
-    ∙ ap (λ (xs : List Process). can_turn_in (slice_get (zip xs c.self.inside.home.owns) c.args.slot))
+    ∙ ap (λ (xs : List Process). can_turn_in (slice_get (zip xs c.self.inside.machine.home.owns) c.args.slot))
     c.deref.ensures.value
     ∙ below_limit c.self.inside c.args.slot c.self.invariant
     (below_shown c.self.inside c.args.self.now c.self.view_is c.requires)

@@ -13,8 +13,8 @@ pub returns : goal.returns
 returns c =
     let b = c.self.inside in
     let ready = c.deref-2.ensures.0 ∙ c.add_ready.ensures
-    ∙ ap (λ (ps : List Process). map resident_turns (zip ps b.home.owns)) c.deref.ensures.value in
+    ∙ ap (λ (ps : List Process). map resident_turns (zip ps b.machine.home.owns)) c.deref.ensures.value in
     let calm = calm_shown b c.self.invariant
-    (c.self.invariant.calm b.moment.time (omega arith) (omega (arith, c.if-self.false))) in
+    (c.self.invariant.calm b.machine.moment.time (omega arith) (omega (arith, c.if-self.false))) in
     subst (λ (w : World). IfSome c.next_slot.result (λ slot. Some (Run slot) ≡ next w)) c.self.view_is
     (next_in_calm b c.deref-2.result.now c.next_slot.result c.self.invariant ready calm c.next_slot.ensures)

@@ -3,15 +3,16 @@ use Rattle.tk_base.specs.declared.process.Choice.TheVariants.{Run}
 use Rattle.tk_base.specs.declared.limits.TheConstants.{STEP_LIMIT}
 use Rattle.board_devices.specs.SerialLine.{SerialLine}
 use Rattle.grant_enter.specs.Homes.{Homes}
-use Rattle.kernel_model.specs.World.{World, is_ready}
+use Rattle.kernel_model.specs.World.{World, carried_out, is_ready}
 use Rattle.process_record.specs.declared.emit.Emit.{Emit}
 use Rattle.board_drivers.specs.Calm.{IsCalm}
 use Rattle.board_drivers.specs.Residents.{id_of}
 use Rattle.board_turns.specs.Turning.{told_in_emit, with_shown}
-use Rattle.board_core.specs.Shows.{world_of}
+use Rattle.board_drivers.specs.declared.moment.Moment.{Moment}
+use Rattle.board_core.specs.Shows.{IsBoard, world_of}
 use Rattle.board_core.proofs.Boards.{ready_within}
 use Rattle.board_drivers.proofs.Calm.{idle_calm, kept_calm, later_calm}
-use Rattle.board_core.proofs.Changes.{turn_shown, world_after}
+use Rattle.board_core.proofs.Changes.{turn_later, turn_shown, world_after}
 use Rattle.board_drivers.proofs.Records.{beside}
 use Rattle.board_core.proofs.Devices.{made_so}
 use Rattle.board_core.proofs.Boards.{may_turn_on}
@@ -26,7 +27,7 @@ can_run_is c = ap (λ (w : World). is_ready w (Run c.args.slot)) c.self.view_is 
     ∙ c.if-not-may_run.false
 
 within : (c : After-clear)
-    → (c.self.inside.moment.steps < STEP_LIMIT) × (c.args.slot < length c.self.inside.processes.items)
+    → (c.self.inside.machine.moment.steps < STEP_LIMIT) × (c.args.slot < length c.self.inside.processes.items)
 within c = ready_within c.self.inside c.args.slot c.self.invariant (can_run_is c)
 
 pub turn_at-requires-clause-turn : goal.turn_at-requires-clause-turn
@@ -42,59 +43,74 @@ turn_at-requires-clause-may c =
 pub calm_after-self-inside-requires-clause-free : goal.calm_after-self-inside-requires-clause-free
 calm_after-self-inside-requires-clause-free c =
     let b = c.self.inside in
+    let t = c.turn_at.ensures.turn in
     omega (
       arith,
       ap (λ (l : SerialLine). l.free)
-          (line_stays b c.args.slot c.turn_at.new.home c.turn_at.new.processes.items (told_in_emit c.turn_at.new.emit)
-          c.turn_at.new.drivers c.self.invariant c.turn_at.ensures.turn),
+          (line_stays b c.args.slot c.turn_at.new.self c.turn_at.new.processes.items (told_in_emit c.turn_at.new.emit)
+          c.self.invariant t),
+      ap (λ (m : Moment). m.time) t.moment,
       c.self.invariant.driven.free,
     )
 
 pub calm_after-self-inside-requires-clause-calm : goal.calm_after-self-inside-requires-clause-calm
 calm_after-self-inside-requires-clause-calm c quiet =
     let b = c.self.inside in
+    let x = c.turn_at.new.self in
     let t = c.turn_at.ensures.turn in
-    let d = c.turn_at.new.drivers in
-    let start = b.moment.settings.start in
-    let keeps = keeps_quiet b.moment c.args.slot b.home.flash t.at.before t.at.after (told_in_emit c.turn_at.new.emit)
-    b.drivers d c.grants_change_at_calls.ensures.grants quiet t.turns in
-    subst (λ (h : Homes). IsCalm start (b.moment.time + 1) b.calm h.owns d) (sym t.at.own_is)
-    (kept_calm start (b.moment.time + 1) b.calm c.args.slot b.home.owns d t.at.before.1 t.at.after.1 t.at.own_was
-    keeps.0 keeps.1
-    (idle_calm start (b.moment.time + 1) b.calm b.home.owns (id_of c.args.slot t.at.before.1) b.drivers d
-    (turn_is_idle b c.args.slot c.turn_at.new.home c.turn_at.new.processes.items (told_in_emit c.turn_at.new.emit) d
-    c.self.invariant t c.turns_keep_lines.ensures.acts quiet)
-    (later_calm start b.moment.time (b.moment.time + 1) b.calm b.home.owns b.drivers (omega arith)
-    c.self.invariant.calm)))
+    let start = b.machine.moment.settings.start in
+    let keeps = keeps_quiet b.machine.moment c.args.slot b.machine.home.flash t.at.before t.at.after
+    (told_in_emit c.turn_at.new.emit) b.machine.drivers x.drivers c.grants_change_at_calls.ensures.grants quiet t.turns in
+    subst (λ (m : Moment). IsCalm m.settings.start (m.time + 1) b.calm x.home.owns x.drivers) (sym t.moment)
+    (subst (λ (h : Homes). IsCalm start (b.machine.moment.time + 1) b.calm h.owns x.drivers) (sym t.at.own_is)
+    (kept_calm start (b.machine.moment.time + 1) b.calm c.args.slot b.machine.home.owns x.drivers t.at.before.1
+    t.at.after.1 t.at.own_was keeps.0 keeps.1
+    (idle_calm start (b.machine.moment.time + 1) b.calm b.machine.home.owns (id_of c.args.slot t.at.before.1)
+    b.machine.drivers x.drivers
+    (turn_is_idle b c.args.slot x c.turn_at.new.processes.items (told_in_emit c.turn_at.new.emit) c.self.invariant t
+    c.turns_keep_lines.ensures.acts quiet)
+    (later_calm start b.machine.moment.time (b.machine.moment.time + 1) b.calm b.machine.home.owns b.machine.drivers
+    (omega arith) c.self.invariant.calm))))
 
 pub invariant_of-self : goal.invariant_of-self
 invariant_of-self c =
+    let b = c.self.inside in
     let t = c.turn_at in
-    let left = record c.self.inside {
-      home = t.new.home;
+    let left = record b { machine = t.new.self; processes = t.new.processes } in
+    let calm = c.calm_after-self-inside.result in
+    subst (λ (m : Moment). IsBoard (record b {
+      machine = record t.new.self { moment = turn_later m };
       processes = t.new.processes;
-      guard = t.new.guard;
-      drivers =
-          t.new.drivers;
-    } in
-    turned_board c.self.inside left c.args.slot (told_in_emit t.new.emit) c.self.invariant t.ensures.turn _ _
-    c.grants_change_at_calls.ensures.drops c.turns_keep_lines.ensures.lines
-    (can_run_is (goal.at.invariant_of-self c).After-clear) t.ensures.guard c.calm_after-self-inside.ensures
-    (c.used_after-self-inside.ensures.within c.self.invariant.slice c.self.invariant.used)
+      calm = calm;
+      present = Some c.args.slot;
+      used = c.used_after-self-inside.result;
+    })) (sym t.ensures.turn.moment)
+    (turned_board b left c.args.slot (told_in_emit t.new.emit) c.self.invariant t.ensures.turn calm
+    c.used_after-self-inside.result c.grants_change_at_calls.ensures.drops c.turns_keep_lines.ensures.lines
+    (can_run_is (goal.at.invariant_of-self c).After-clear)
+    (subst (λ (m : Moment). IsCalm m.settings.start (m.time + 1) calm t.new.self.home.owns t.new.self.drivers)
+    t.ensures.turn.moment c.calm_after-self-inside.ensures)
+    (c.used_after-self-inside.ensures.within c.self.invariant.slice c.self.invariant.used))
 
 pub returns : goal.returns
 returns c =
     let b = c.self.inside in
+    let x = c.turn_at.new.self in
     let t = c.turn_at.ensures.turn in
-    let home = c.turn_at.new.home in
-    let d = c.turn_at.new.drivers in
     let shown = told_in_emit c.turn_at.new.emit in
-    let processes = c.turn_at.new.processes.items in
-    let few = beside b.processes.items b.home.owns b.drivers.stores.slots c.self.invariant.owns c.self.invariant.few
-    c.self.invariant.driven.slots in
+    let processes = c.turn_at.new.processes in
+    let few = beside b.processes.items b.machine.home.owns b.machine.drivers.stores.slots c.self.invariant.owns
+    c.self.invariant.few c.self.invariant.driven.slots in
     made_so (world_of b) c.args.self.now _ (Run c.args.slot) c.args.emit.now c.turn_at.new.emit c.self.view_is
     (can_run_is (goal.at.returns c).After-clear)
-    (world_after b c.args.slot home processes shown d t few c.used_after-self-inside.result
-    c.used_after-self-inside.ensures.value)
+    (subst (λ (m : Moment). world_of (record b {
+      machine = record x { moment = turn_later m };
+      processes = processes;
+      calm = c.calm_after-self-inside.result;
+      present = Some c.args.slot;
+      used = c.used_after-self-inside.result;
+    }) ≡ (carried_out (world_of b) (Run c.args.slot)).after) (sym t.moment)
+    (world_after b c.args.slot x processes.items shown t few c.used_after-self-inside.result
+    c.used_after-self-inside.ensures.value))
     (c.turn_at.ensures.emit ∙ ap (λ (e : Emit). with_shown (record e { slot = Some c.args.slot }) shown) c.clear.ensures
-    ∙ turn_shown b c.args.slot home processes shown d t few (record { items = [] }) refl)
+    ∙ turn_shown b c.args.slot x processes.items shown t few (record { items = [] }) refl)

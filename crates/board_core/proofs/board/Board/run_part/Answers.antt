@@ -1,13 +1,17 @@
-use Rattle.std.proofs.Common.{◌≡◌, ◌+◌, ℕ, List, Some, true, All, slice_get, sym, ap, subst, ◌∙◌, arith}
+use Rattle.std.proofs.Common.{◌≡◌, ◌+◌, ℕ, List, Some, true, All, slice_get, sym, ap, ap₂, subst, ◌∙◌, arith}
 use Rattle.std.specs.List.{zip}
 use Rattle.tk_base.specs.declared.process.Choice.TheVariants.{Run}
 use Rattle.process_record.specs.declared.process.Process.{Process}
 use Rattle.kernel_model.specs.Run.{next}
-use Rattle.kernel_model.specs.Stretch.{GoesOn}
+use Rattle.kernel_model.specs.Stretch.{GoesOn, IsStretch}
 use Rattle.board_drivers.specs.Calm.{IsCalm}
 use Rattle.board_drivers.specs.Driven.{AreDriven}
 use Rattle.board_drivers.specs.Residents.{HasLost, IsResident}
-use Rattle.board_core.specs.Shows.{world_of}
+use Rattle.board_drivers.specs.declared.drivers.Drivers.{Drivers}
+use Rattle.board_drivers.specs.declared.moment.Moment.{Moment}
+use Rattle.board_turns.specs.declared.machine.Machine.{Machine}
+use Rattle.board_core.specs.declared.board.Board.TheInside.{Inside}
+use Rattle.board_core.specs.Shows.{IsBoard, world_of}
 use Rattle.board_core.specs.Stretches.{slot_runs}
 use Rattle.board_core.proofs.Stretches.{chosen_in_calm, ends_shown, looked_ahead, nothing_comes, rests_there}
 use Rattle.board_core.proofs.Stretches.{runs_within, still, stretch_shown, used_within}
@@ -43,41 +47,66 @@ runs_there : (c : After-is_over) → slot_runs (slice_get c.self.inside.processe
 runs_there c = ap (λ (ps : List Process). slot_runs (slice_get ps c.in-Some.slot)) (sym c.deref.ensures.value)
     ∙ sym c.runs.ensures ∙ c.if-not-runs.false
 
+-- the machine after the turns: the drivers and the moment are those before
+left_machine : (old new : Machine) → new.drivers ≡ old.drivers → new.moment ≡ old.moment
+    → new ≡ record old { home = new.home; guard = new.guard }
+left_machine old new d m =
+    ap₂ (λ (e : Drivers) (n : Moment). record new { drivers = e; moment = n }) d m
+
+same_machine : (c : After-is_over) → c.turns_at-made.new.self
+    ≡ record c.self.inside.machine { home = c.turns_at-made.new.self.home; guard = c.turns_at-made.new.self.guard }
+same_machine c = left_machine c.self.inside.machine c.turns_at-made.new.self c.turns_at-made.ensures.drivers
+    c.turns_at-made.ensures.quiet.moment
+
+-- a board with these turns made
+abbrev turned : After-is_over → Machine → Inside
+turned c x = record c.self.inside {
+  machine = record x {
+    moment = record x.moment { time = x.moment.time + c.from-ticks.result; steps = x.moment.steps + c.from-ticks.result };
+  };
+  processes = c.turns_at-made.new.processes;
+  calm = c.calm_ahead-self-inside.result;
+  present = c.present_after-present.result.0;
+  used = c.present_after-present.result.1;
+}
+
 pub invariant_of-self-2 : goal.invariant_of-self-2
 invariant_of-self-2 c =
+    let a = (goal.at.invariant_of-self-2 c).After-is_over in
     let b = record c.self.inside { calm = c.calm_ahead-self-inside.result } in
     let board = looked_ahead c.self.inside c.calm_ahead-self-inside.result c.self.invariant
     c.calm_ahead-self-inside.ensures.calm in
     let k = c.turns_at-made.result in
-    let home = c.turns_at-made.new.home in
+    let x = c.turns_at-made.new.self in
     let processes = c.turns_at-made.new.processes.items in
     let left = c.turns_left-left.ensures in
     let ticks = c.from-ticks.ensures in
     let present = c.present_after-present in
-    let holds = still b board c.in-Some.slot k c.turns_left-left.result present.result.1 present.result.0 home processes
+    let holds = still b board c.in-Some.slot k c.turns_left-left.result present.result.1 present.result.0 x processes
     c.turns_at-made.ensures.quiet in
-    record {
-      seated = subst (λ (n : ℕ). All (IsResident home.flash (b.moment.steps + n)) (zip processes home.owns)) (sym ticks)
-          holds.seated;
-      lost = subst (λ (n : ℕ). All (HasLost (b.moment.steps + n)) home.owns) (sym ticks) holds.lost;
+    subst (λ (y : Machine). IsBoard (turned a y)) (sym (same_machine a)) (record {
+      seated = subst (λ (n : ℕ). All (IsResident x.home.flash (b.machine.moment.steps + n)) (zip processes x.home.owns))
+          (sym ticks) holds.seated;
+      lost = subst (λ (n : ℕ). All (HasLost (b.machine.moment.steps + n)) x.home.owns) (sym ticks) holds.lost;
       owns = holds.owns;
       few = holds.few;
-      guard = c.turns_at-made.ensures.guard;
-      driven = subst (λ (n : ℕ). AreDriven b.moment.settings (b.moment.time + n) home.owns b.drivers) (sym ticks)
-          holds.driven;
+      guard = c.turns_at-made.ensures.quiet.guard;
+      driven = subst (λ (n : ℕ). AreDriven b.machine.moment.settings (b.machine.moment.time + n) x.home.owns
+          b.machine.drivers) (sym ticks) holds.driven;
       served = omega (arith, board.served);
       steps = omega (arith, ticks, left.limit, c.turns_at-made.ensures.most);
       time = omega (arith, board.time);
-      calm = subst (λ (n : ℕ). IsCalm b.moment.settings.start (b.moment.time + n) b.calm home.owns b.drivers)
-          (sym ticks) holds.calm;
+      calm = subst (λ (n : ℕ). IsCalm b.machine.moment.settings.start (b.machine.moment.time + n) b.calm x.home.owns
+          b.machine.drivers) (sym ticks) holds.calm;
       slice = board.slice;
       used = used_within b.used b.slice c.used_before-before.result k present.result.1 board.used
           (omega (arith, left.slice, c.turns_at-made.ensures.most)) (λ none. (present.ensures.none none).1)
           (λ some. (present.ensures.some some).1);
-    }
+    })
 
 pub returns-clause-stretch : goal.returns-clause-stretch
 returns-clause-stretch c =
+    let a = (goal.at.returns-clause-stretch c).After-is_over in
     let b = record c.self.inside { calm = c.calm_ahead-self-inside.result } in
     let board = looked_ahead c.self.inside c.calm_ahead-self-inside.result c.self.invariant
     c.calm_ahead-self-inside.ensures.calm in
@@ -85,17 +114,20 @@ returns-clause-stretch c =
     let most = c.turns_at-made.ensures.most in
     let present = c.present_after-present in
     let q = c.turns_at-made.ensures.quiet in
-    stretch_shown b board c.in-Some.slot c.turns_at-made.result c.turns_left-left.result present.result.1
-    present.result.0 c.turns_at-made.new.home c.turns_at-made.new.processes.items q
+    subst (λ (y : Machine). IsStretch c.turns_at-made.result c.args.self.now (world_of (turned a y)))
+    (sym (same_machine a))
+    (stretch_shown b board c.in-Some.slot c.turns_at-made.result c.turns_left-left.result present.result.1
+    present.result.0 c.turns_at-made.new.self c.turns_at-made.new.processes.items q
     (chosen c) (ap slot_runs (sym q.at.was) ∙ runs_there c) c.used_before-before.result
     c.used_before-before.ensures.value (omega (arith, left.slice, most)) (omega (arith, left.until, most))
     (omega (arith, left.limit, most)) present.ensures.none present.ensures.some
     c.from-ticks.result c.args.self.now c.round_is_stretch.ensures.round
     c.round_is_stretch.ensures.chosen c.round_is_stretch.ensures.none
-    c.from-ticks.ensures c.self.view_is
+    c.from-ticks.ensures c.self.view_is)
 
 pub returns-clause-ends : goal.returns-clause-ends
 returns-clause-ends c e h g =
+    let a = (goal.at.returns-clause-ends c).After-is_over in
     let b = record c.self.inside { calm = c.calm_ahead-self-inside.result } in
     let board = looked_ahead c.self.inside c.calm_ahead-self-inside.result c.self.invariant
     c.calm_ahead-self-inside.ensures.calm in
@@ -104,10 +136,11 @@ returns-clause-ends c e h g =
     let present = c.present_after-present in
     let q = c.turns_at-made.ensures.quiet in
     ends_shown b board c.in-Some.slot c.turns_at-made.result c.turns_left-left.result present.result.1 present.result.0
-    c.turns_at-made.new.home c.turns_at-made.new.processes.items q
+    c.turns_at-made.new.self c.turns_at-made.new.processes.items q
     (chosen c) (ap slot_runs (sym q.at.was) ∙ runs_there c) c.used_before-before.result
     c.used_before-before.ensures.value (omega (arith, left.slice, most)) (omega (arith, left.until, most))
     (omega (arith, left.limit, most)) present.ensures.none present.ensures.some
     c.round_is_stretch.ensures.stays c.from-ticks.result c.args.most c.calm_ahead-self-inside.result
     c.from-ticks.ensures most (c.is_over.ensures.over e) left.slice c.used_before-before.ensures.within
-    (omega (arith, c.if-self.false)) c.requires left.all g
+    (omega (arith, c.if-self.false)) c.requires left.all
+    (subst (λ (y : Machine). GoesOn (world_of (turned a y))) (same_machine a) g)

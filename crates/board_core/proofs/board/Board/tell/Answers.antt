@@ -25,15 +25,15 @@ pub invariant_of-self : goal.invariant_of-self
 invariant_of-self c =
     let b = c.self.inside in
     let none = idle c in
-    subst (λ (h : Homes). IsBoard (record b { home = h; drivers = c.act.new.self })) (sym none.1)
-    (subst (λ (d : Drivers). IsBoard (record b { drivers = d })) (sym none.2) c.self.invariant)
+    subst (λ (h : Homes). IsBoard (record b { machine = record b.machine { home = h; drivers = c.act.new.self } })) (sym none.1)
+    (subst (λ (d : Drivers). IsBoard (record b { machine = record b.machine { drivers = d } })) (sym none.2) c.self.invariant)
 
 pub returns-in_default : goal.returns-in_default
 returns-in_default c =
     let b = c.self.inside in
     let none = idle (goal.at.returns-in_default c).In_default in
     refused_so (world_of b) _ c.args.self.now (Device c.args.device) c.args.emit.now
-    (ap₂ (λ (h : Homes) (d : Drivers). world_of (record b { home = h; drivers = d })) none.1 none.2) c.self.view_is
+    (ap₂ (λ (h : Homes) (d : Drivers). world_of (record b { machine = record b.machine { home = h; drivers = d } })) none.1 none.2) c.self.view_is
     (not_acting (world_of b) c.args.device none.0)
 
 -- it told a process something

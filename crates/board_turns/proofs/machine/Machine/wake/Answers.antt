@@ -5,14 +5,15 @@ use Rattle.kernel_calls.specs.Own.{record_in}
 use Rattle.kernel_model.specs.Calls.{deliver}
 use Rattle.board_drivers.specs.Residents.{resident}
 use Rattle.board_turns.proofs.Turns.{only_flash, waits_on, woken}
-use Rattle.board_turns.proofs.turn.wake.Goals as goal
+use Rattle.board_turns.proofs.machine.Machine.wake.Goals as goal
 
 pub returns-then-has_pending-clause-turns : goal.returns-then-has_pending-clause-turns
-returns-then-has_pending-clause-turns c = λ drivers.
-    let home = c.args.home.now in
+returns-then-has_pending-clause-turns c =
+    let drivers = c.args.self.now.drivers in
+    let home = c.args.self.now.home in
     let own = own_of home c.args.slot in
     let flash = only_flash c.args.slot home c.deliver.new.home c.deliver.ensures.rest in
-    woken c.args.moment.now c.args.slot home.flash (resident home c.args.slot c.args.process.now)
+    woken c.args.self.now.moment c.args.slot home.flash (resident home c.args.slot c.args.process.now)
     (resident c.deliver.new.home c.args.slot c.deliver.new.process) drivers c.requires.waits
     (sym c.has_pending.ensures ∙ c.if-has_pending.true)
     (λ storage.
@@ -21,7 +22,8 @@ returns-then-has_pending-clause-turns c = λ drivers.
     ∙ ap (λ (p : Process). deliver (record_in home.flash p own storage)) c.count_turn.ensures)
 
 pub returns-else-has_pending-clause-turns : goal.returns-else-has_pending-clause-turns
-returns-else-has_pending-clause-turns c = λ drivers.
-    let home = c.args.home.now in
-    waits_on c.args.moment.now c.args.slot home.flash (resident home c.args.slot c.args.process.now) drivers
+returns-else-has_pending-clause-turns c =
+    let drivers = c.args.self.now.drivers in
+    let home = c.args.self.now.home in
+    waits_on c.args.self.now.moment c.args.slot home.flash (resident home c.args.slot c.args.process.now) drivers
     c.requires.waits (sym c.has_pending.ensures ∙ c.if-has_pending.false)

@@ -8,8 +8,8 @@ use Rattle.kernel_calls.specs.Outcomes.{is_driver_command}
 use Rattle.board_drivers.specs.declared.drivers.Order.{Order}
 use Rattle.board_drivers.specs.Residents.{id_of}
 use Rattle.board_turns.proofs.Commands.{Came, came, came_in_place, finishes, living_id, some_of, stays_seated, taken_of}
-use Rattle.board_turns.proofs.turn.command_driver.Goals as goal
-use Rattle.board_turns.proofs.turn.command_driver.Goals.{After-give_reply}
+use Rattle.board_turns.proofs.machine.Machine.command_driver.Goals as goal
+use Rattle.board_turns.proofs.machine.Machine.command_driver.Goals.{After-give_reply}
 
 -- the command
 abbrev order : After-give_reply → Order
@@ -25,27 +25,27 @@ order c = record {
 taker : (c : After-give_reply) → (t : CommandHandler) × (handler_of c.in-Command.driver ≡ Some t)
 taker c = some_of (handler_of c.in-Command.driver)
     (ap is_driver_command (sym c.in-Command.is)
-    ∙ taken_of c.args.moment.now.settings.strict (object_in c.args.home.now.flash c.args.process.now.object)
+    ∙ taken_of c.args.self.now.moment.settings.strict (object_in c.args.self.now.home.flash c.args.process.now.object)
     c.args.call.now c.requires.left)
 
 -- the id is that of the process
-known : (c : After-give_reply) → c.in-Some.id ≡ id_of c.args.slot (own_of c.args.home.now c.args.slot)
-known c = living_id c.args.slot c.args.slot c.args.home.now.owns c.in-Some.id (sym c.id.ensures ∙ c.in-Some.is)
+known : (c : After-give_reply) → c.in-Some.id ≡ id_of c.args.slot (own_of c.args.self.now.home c.args.slot)
+known c = living_id c.args.slot c.args.slot c.args.self.now.home.owns c.in-Some.id (sym c.id.ensures ∙ c.in-Some.is)
 
 -- what its driver answered
 answered : (c : After-give_reply)
-    → Came c.args.moment.now c.args.slot c.args.home.now c.command-reply.new.home (order c) c.command-reply.result
-    c.args.drivers.now c.command-reply.new.self (taker c).0
+    → Came c.args.self.now.moment c.args.slot c.args.self.now.home c.command-reply.new.home (order c) c.command-reply.result
+    c.args.self.now.drivers c.command-reply.new.self (taker c).0
 answered c =
-    came c.args.moment.now c.args.slot c.args.home.now c.command-reply.new.home (order c) c.command-reply.result
-    c.args.drivers.now c.command-reply.new.self c.in-Some.id c.tick.result (taker c).0 (taker c).1
-    (known c) c.tick.ensures c.requires.may c.command-reply.ensures.comes
+    came c.args.self.now.moment c.args.slot c.args.self.now.home c.command-reply.new.home (order c) c.command-reply.result
+    c.args.self.now.drivers c.command-reply.new.self c.in-Some.id c.tick-tick.result (taker c).0 (taker c).1
+    (known c) c.tick-tick.ensures c.requires.may c.command-reply.ensures.comes
 
 pub returns-clause-serves : goal.returns-clause-serves
 returns-clause-serves c =
     let a = (goal.at.returns-clause-serves c).After-give_reply in
-    finishes c.args.moment.now c.args.slot c.args.home.now c.command-reply.new.home (order a) c.command-reply.result
-    c.args.drivers.now c.command-reply.new.self c.args.process.now c.give_reply.new.process c.args.call.now
+    finishes c.args.self.now.moment c.args.slot c.args.self.now.home c.command-reply.new.home (order a) c.command-reply.result
+    c.args.self.now.drivers c.command-reply.new.self c.args.process.now c.give_reply.new.process c.args.call.now
     c.give_reply.result (taker a).0 (taker a).1
     c.in-Command.is c.requires.left (answered a) (ap (λ (p : Process). p.object) c.give_reply.ensures.stays)
     (ap (λ (h : Homes). h.flash) c.command-reply.ensures.rest) c.give_reply.ensures.gives
@@ -53,12 +53,12 @@ returns-clause-serves c =
 pub returns-clause-leaves : goal.returns-clause-leaves
 returns-clause-leaves c =
     let a = (goal.at.returns-clause-leaves c).After-give_reply in
-    let home = c.args.home.now in
+    let home = c.args.self.now.home in
     record {
-      seated = stays_seated home.flash (c.args.moment.now.steps + 1) c.args.process.now c.give_reply.new.process
+      seated = stays_seated home.flash (c.args.self.now.moment.steps + 1) c.args.process.now c.give_reply.new.process
           (own_of home c.args.slot) (own_of c.command-reply.new.home c.args.slot)
-          (came_in_place c.args.moment.now c.args.slot home c.command-reply.new.home (order a) c.command-reply.result
-          c.args.drivers.now c.command-reply.new.self (taker a).0 (taker a).1 c.commands_stay_in_place.ensures
+          (came_in_place c.args.self.now.moment c.args.slot home c.command-reply.new.home (order a) c.command-reply.result
+          c.args.self.now.drivers c.command-reply.new.self (taker a).0 (taker a).1 c.commands_stay_in_place.ensures
           (answered a)) c.give_reply.ensures.stays c.requires.turn.seated;
       rest = subst (λ (id : ProcessId). ChangesOnly id.slot home c.command-reply.new.home) (known a)
           c.command-reply.ensures.rest;
