@@ -1,6 +1,7 @@
 -- The turn of a process, and what else may happen to it. Its states are those of TRD 104, "Yield" and "Exit"; that a
 -- turn is one instruction is this board's own rule.
 use Rattle.std.specs.Prelude.{ℕ, ◌==◌, Bool, true, false, not, if◌then◌else◌, List, [], ◌∷◌, length, Option, None, Some}
+use Rattle.std.specs.Prelude.{option_map, unwrap_or}
 use Rattle.tk_base.specs.declared.access.Access.TheVariants.{Fetch}
 use Rattle.tk_base.specs.declared.access.Rule.TheVariants.{UnknownClass}
 use Rattle.tk_base.specs.declared.access.Denial.{Denial}
