@@ -3,7 +3,9 @@ ghost use Rattle.std.specs.Prelude.{◌≡◌, ◌<◌};
 ghost use Rattle.driver_model.specs.Alarm.{alarm_driver, showing};
 ghost use Rattle.grant_enter.specs.Seen.{Framed, IsLent, own_entered, seen};
 
-use grant_enter::{Entered, Grant, Visit, a_buffer_is_written, buffers_are_whole, frames_join, put_from};
+use grant_enter::{
+    Entered, Grant, Visit, a_buffer_is_written, buffers_are_whole, frames_join, put_from,
+};
 use grant_values::{Alarm, Armed, Driver};
 
 /// The grants that processes keep for the alarm: one upcall, and one readable buffer.
