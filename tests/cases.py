@@ -1576,6 +1576,13 @@ APPLICATIONS = [
         leds 1000
         end done steps 344 time 981
     """),
+    kept("clock", "an alarm is awaited in a word that the kernel writes, without an upcall and without a yield",
+         "clock", "empty", """
+        ==
+        slot 0 clock terminated 109 turns 161 restarts 0
+        leds 0000
+        end done steps 162 time 161
+    """),
     kept("logger", "what is in storage outlives a restart: an application counts its starts there",
          "logger", "empty", """
         start 1
