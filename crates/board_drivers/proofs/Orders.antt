@@ -4,6 +4,7 @@ use Rattle.std.proofs.Common.{Option, Some, Ok, option_map, unwrap_or, refl, sym
 use Rattle.std.specs.List.{AllByRecursion}
 use Rattle.std.specs.Option.{option_map}
 use Rattle.tk_base.specs.declared.call.CallRule.{CallRule}
+use Rattle.tk_base.specs.declared.call.CallRule.TheVariants.{NoCommand}
 use Rattle.tk_base.specs.declared.call.CallRule.TheVariants.{Range}
 use Rattle.tk_base.specs.declared.process.ProcessId.{ProcessId}
 use Rattle.syscall_abi.specs.declared.reply.Reply.{Reply}

@@ -13,7 +13,7 @@ use Rattle.driver_model.specs.Alarm.{alarm_driver, showing}
 use Rattle.process_layout.specs.LayoutView.{LayoutView}
 use Rattle.process_layout.specs.Interval.{lies_within}
 use Rattle.process_model.specs.Own.{Own}
-use Rattle.process_model.specs.Handed.{held, lies_in_ram, may_share}
+use Rattle.process_model.specs.Handed.{held, lies_in_ram}
 use Rattle.process_model.specs.Served.{with_written}
 use Rattle.tk_base.specs.Bytes.{over}
 use Rattle.driver_model.proofs.Scheduled.{AsMany}

@@ -1,6 +1,6 @@
 -- What drivers write of the bytes that are a process's own: only what it has allowed them (TRD 104, "Read-Write
 -- Allow"; the userspace-readable allow of Tock's kernel).
-use Rattle.std.specs.Prelude.{◌≡◌, ℕ, ◌==◌, ◌&&◌, Bool, true, false, List, Option, None, Some, is_ok}
+use Rattle.std.specs.Prelude.{◌≡◌, ℕ, ◌==◌, ◌&&◌, Bool, true, List, Option, None, Some, is_ok}
 use Rattle.tk_base.specs.declared.kinds.PairKind.TheVariants.{ReadWrite, Readable}
 use Rattle.process_model.specs.Own.{Own}
 use Rattle.process_model.specs.Handed.{held}

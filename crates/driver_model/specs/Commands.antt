@@ -1,5 +1,5 @@
 -- What comes of a command that a process gives to a driver (TRD 104, "Command").
-use Rattle.std.specs.Prelude.{ℕ, ◌==◌, Bool, List, [], ◌∷◌, find, Option, Result, Ok, Err, option_map}
+use Rattle.std.specs.Prelude.{ℕ, ◌==◌, Bool, List, [], ◌∷◌, find, Result, Ok, Err, option_map}
 use Rattle.std.specs.Prelude.{unwrap_or}
 use Rattle.tk_base.specs.declared.call.CallRule.{CallRule}
 use Rattle.tk_base.specs.declared.call.CallRule.TheVariants.{NoCommand}

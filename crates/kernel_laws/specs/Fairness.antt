@@ -1,10 +1,10 @@
 -- That no process which is ready waits for good in a run of the round robin. It is that of Tock's round robin, with
 -- this board's own slice.
 use Rattle.std.specs.Prelude.{◌≡◌, ◌≤◌, ℕ, ◌*◌, Bool, true, false, ◌&&◌, nat_lt, List, [], ◌∷◌, ◌++◌, filter, length}
-use Rattle.std.specs.Prelude.{slice_get, Option, None, Some, All, Any}
+use Rattle.std.specs.Prelude.{slice_get, Option, Some, All, Any}
 use Rattle.tk_base.specs.declared.limits.TheConstants.{SLOT_COUNT, STEP_LIMIT}
 use Rattle.tk_base.specs.declared.process.Choice.{Choice}
-use Rattle.tk_base.specs.declared.process.Choice.TheVariants.{Run, Device, Pass}
+use Rattle.tk_base.specs.declared.process.Choice.TheVariants.{Run}
 use Rattle.kernel_model.specs.World.{World, after, can_run}
 use Rattle.kernel_model.specs.Run.{next}
 use Rattle.kernel_model.specs.Replay.{chosen}

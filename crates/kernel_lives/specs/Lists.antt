@@ -1,7 +1,7 @@
 -- That a slot stands in a waiting list once where its process lives and keeps that request, and else not at all. This
 -- is this board's own rule.
-use Rattle.std.specs.Prelude.{◌≡◌, ℕ, ◌+◌, ◌==◌, Bool, false, if◌then◌else◌, List, [], ◌∷◌, slice_get, Option, None}
-use Rattle.std.specs.Prelude.{Some, IfSome, option_map, unwrap_or}
+use Rattle.std.specs.Prelude.{◌≡◌, ℕ, ◌+◌, ◌==◌, Bool, false, if◌then◌else◌, List, [], ◌∷◌, slice_get, Option}
+use Rattle.std.specs.Prelude.{IfSome, option_map, unwrap_or}
 use Rattle.tk_base.specs.declared.process.Choice.{Choice}
 use Rattle.driver_model.specs.Commands.{QueueName}
 use Rattle.driver_model.specs.Lines.{has_waiting}

@@ -14,7 +14,7 @@ use Rattle.process_model.specs.Own.{Own}
 use Rattle.process_model.specs.Permission.{denied}
 use Rattle.kernel_model.specs.Record.{Record, byte_at}
 use Rattle.kernel_model.specs.Turn.{TurnTrace}
-use Rattle.kernel_model.specs.World.{World, Label, TurnOf, Answered, Printed, labels}
+use Rattle.kernel_model.specs.World.{World, Label, TurnOf, labels}
 use Rattle.kernel_model.specs.Replay.{after_all}
 
 -- an access that nothing denies a process, by its layout; a load or a store is at a multiple of its width

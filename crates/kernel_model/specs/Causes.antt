@@ -13,7 +13,7 @@ use Rattle.driver_model.specs.Storage as storage
 use Rattle.process_record.specs.declared.emit.CallMade.{CallMade}
 use Rattle.kernel_model.specs.Record.{Record}
 use Rattle.kernel_model.specs.declared.settings.Settings.{Settings}
-use Rattle.kernel_model.specs.Turn.{Event, Turn, Alarmed, Taken, WriteDone, Input, Word, NoWord, Stored, TurnTrace}
+use Rattle.kernel_model.specs.Turn.{Event, Turn, Alarmed, Input, Word, Stored, TurnTrace}
 use Rattle.kernel_model.specs.Turn.{apply, flash_of, turned}
 use Rattle.kernel_model.specs.World.{World, Label, TurnOf, Answered, Printed, after, labels}
 use Rattle.kernel_model.specs.Histories.{ends_life}

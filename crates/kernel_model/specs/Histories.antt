@@ -11,7 +11,7 @@ use Rattle.tk_base.specs.declared.kinds.PairKind.TheVariants.{Upcall, ReadOnly, 
 use Rattle.process_record.specs.declared.emit.CallMade.{CallMade}
 use Rattle.kernel_model.specs.Record.{Record}
 use Rattle.kernel_model.specs.Turn.{TurnTrace}
-use Rattle.kernel_model.specs.World.{World, Label, TurnOf, Answered, Printed, after, labels}
+use Rattle.kernel_model.specs.World.{World, Label, TurnOf, after, labels}
 use Rattle.kernel_model.specs.Replay.{after_all}
 use Rattle.kernel_model.specs.Laws.{CanStartAgain}
 

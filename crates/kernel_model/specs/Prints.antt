@@ -13,7 +13,7 @@ use Rattle.driver_model.specs.Console.{console, console_writes}
 use Rattle.driver_model.specs.Requests.{request_in}
 use Rattle.kernel_model.specs.Record.{Record}
 use Rattle.kernel_model.specs.Turn.{flash_of}
-use Rattle.kernel_model.specs.World.{World, Label, TurnOf, Answered, Printed, labels}
+use Rattle.kernel_model.specs.World.{World, Label, Printed, labels}
 use Rattle.kernel_model.specs.Replay.{after_all}
 use Rattle.kernel_model.specs.Wholes.{AllHaveWholeOwns}
 

@@ -9,7 +9,7 @@ use Rattle.process_record.specs.Process.{after_refusal, after_turn}
 use Rattle.kernel_model.specs.Record.{Record, with_process}
 use Rattle.kernel_model.specs.Calls.{failure_of}
 use Rattle.kernel_model.specs.Turn.{TurnTrace}
-use Rattle.kernel_model.specs.World.{World, Label, TurnOf, Answered, Printed, after, labels}
+use Rattle.kernel_model.specs.World.{World, Label, TurnOf, after, labels}
 
 -- the rule by which the call of a turn was refused
 abbrev pub refusal_in : TurnTrace → Option CallRule

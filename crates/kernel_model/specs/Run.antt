@@ -11,7 +11,7 @@ use Rattle.driver_model.specs.Commands.{Writes}
 use Rattle.kernel_model.specs.Turn.{may_turn}
 use Rattle.board_devices.specs.Arriving.{first_arrival_time as arrival_time}
 use Rattle.driver_model.specs.Alarm.{nearer, next_left}
-use Rattle.kernel_model.specs.World.{World, Label, TurnOf, Answered, Printed, Stepped, Devices, can_act, is_waited_for}
+use Rattle.kernel_model.specs.World.{World, Label, Printed, Stepped, Devices, can_act, is_waited_for}
 use Rattle.kernel_model.specs.World.{now_in, owns_in, slots_in, stepped}
 
 -- which slots can have a turn
