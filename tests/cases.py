@@ -1658,8 +1658,8 @@ end done steps 2429 time 2645
 ]
 
 # What examples/tour runs, in its order.
-TOUR = ["greet", "echo-in-c", "blink", "logger", "random-in-c", "trespass", "applications-in-c", "permissions", "crash",
-        "victim", "spied"]
+TOUR = ["greet", "echo-in-c", "blink", "clock", "logger", "random-in-c", "trespass", "applications-in-c", "permissions",
+        "crash", "victim", "spied"]
 
 # What the tool writes of an image is what the builder of objects makes of the changed object.
 BLINK = blink(FOOTERS)
