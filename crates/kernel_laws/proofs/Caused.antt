@@ -22,6 +22,7 @@ use Rattle.kernel_model.specs.World.{unmade}
 use Rattle.kernel_model.specs.Run.{next, on_choice, round, stays as stays_at, runs_on}
 use Rattle.kernel_model.specs.Stretch.{IsQuietTurn}
 use Rattle.kernel_model.specs.Replay.{chosen, events, replay}
+use Rattle.kernel_laws.specs.Clock.{AsksNoClock, StepsWithoutClockHaveCauses, TurnsWithoutClockHaveCauses}
 use Rattle.kernel_model.specs.Causes.{AllHaveCauses, AnswerHasCauses, EachChangeHasACause, IsCause, IsDoneByTurn}
 use Rattle.kernel_model.specs.Causes.{IsStorageCause, StepsHaveCauses, StorageChangesAt, TurnHasCauses, TurnsHaveCauses}
 use Rattle.kernel_laws.proofs.Answered.{answer_has_causes}
@@ -198,6 +199,15 @@ quiet_steps turns (suc k) w quiet = by_choice (next w) quiet (λ choice. quiet_s
     by_choice (Some choice) each later =
         let both = split IsQuietTurn (labels w choice) (round k (after w choice)).labels each in
         (quiet_step turns w choice both.0, later choice both.1)
+
+pub steps_without_clock : TurnsWithoutClockHaveCauses → StepsWithoutClockHaveCauses
+steps_without_clock turns w other none slot r s is left =
+    let t = turned w.settings w.clock.time r in
+    let caused = of_run w slot r is (λ ls s. All AsksNoClock ls → Caused slot r ls s)
+    (λ ls each. caused_same slot r ls) other
+    (λ same each. caused_turn slot w.clock.time r t (turns w.settings w.clock.time r
+    (each 0 (TurnOf slot w.clock.time t.told) (omega arith)))) s left none in
+    record { own = caused.own; storage = caused.storage; others = stays_else w (Run other) slot r s is left }
 
 pub steps_have_causes : TurnsHaveCauses → AnswersWriteInBuffers → StepsHaveCauses
 steps_have_causes turns answers = record {

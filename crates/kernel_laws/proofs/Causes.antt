@@ -47,6 +47,8 @@ use Rattle.kernel_model.specs.Causes.{IsDoneByTurn, TurnHasCauses, TurnsHaveCaus
 use Rattle.process_model.specs.Permission.{denied}
 use Rattle.std.proofs.lemmas.Bool.{false≢true}
 use Rattle.kernel_laws.proofs.Refused.{only_counts}
+use Rattle.kernel_laws.specs.Clock.{TurnsWithoutClockHaveCauses, asks_clock}
+use Rattle.process_record.specs.declared.emit.CallMade.{CallMade}
 use Rattle.kernel_model.proofs.Classes.{of_registers}
 use Rattle.kernel_model.proofs.Memops.{by_test, memop_gives}
 
@@ -119,6 +121,16 @@ clock_shown regs driver number reply is clock =
     ∙ ap (λ d. shows_clock d (a1 regs) && true) is.driver_is
     ∙ ap (λ n. shows_clock driver n && true) is.number_is ∙ ap (λ b. b && true) clock
 
+-- whether registers make that command, and that they do
+abbrev asked_in : Registers → Bool
+asked_in regs = class regs == 2 && shows_clock (a0 regs) (a1 regs)
+
+clock_asked : (regs : Registers) (driver number : ℕ) → IsCommand regs driver number → shows_clock driver number ≡ true
+    → asked_in regs ≡ true
+clock_asked regs driver number is clock =
+    ap (λ c. c == 2 && shows_clock (a0 regs) (a1 regs)) is.class_is
+    ∙ ap (λ d. shows_clock d (a1 regs)) is.driver_is ∙ ap (λ n. shows_clock driver n) is.number_is ∙ clock
+
 at_flag : {A B C : Type 0} → A ⊎ B → A ⊎ (B ⊎ C)
 at_flag (inl same) = inl same
 at_flag (inr flag) = inr (inl flag)
@@ -171,12 +183,14 @@ module _ (law : OnlyWritesChangeBytes) (commands : CommandsWriteInBuffers) (arou
       by_cause at (inr shows) = absurd (false≢true (ap is_ok (sym is) ∙ shows.1))
 
   of_taken : (driver number a2 a3 : ℕ) (o : Option CommandHandler) → handler_of driver ≡ o
-      → IsCommand r.process.regs driver number → IsWhole r.own → Leaves r None (taken_by around number a2 a3 r o)
+      → IsCommand r.process.regs driver number → (asked_in r.process.regs ≡ true → IsWhole r.own)
+      → Leaves r None (taken_by around number a2 a3 r o)
   of_taken driver number a2 a3 None is command whole = same_own r None _
   of_taken driver number a2 a3 (Some taker) is command whole =
       let c = taker around number a2 a3 r.own in
       of_answer driver number c c.answer refl command
-      (commands driver taker is around number a2 a3 r.own (λ clock. whole))
+      (commands driver taker is around number a2 a3 r.own
+      (λ clock. whole (clock_asked r.process.regs driver number command clock)))
 
   of_memop : (operation argument : ℕ) → Leaves r None (memop r operation argument)
   of_memop operation argument =
@@ -190,7 +204,7 @@ module _ (law : OnlyWritesChangeBytes) (commands : CommandsWriteInBuffers) (arou
       (by_test (Leaves r None) (kind == 1) _ _ (restarts_so r None _ (ap (λ (n : ℕ). n == 6 && true) six))
       (same_own r None _))
 
-  of_form : (form : CallForm) → form_in r.process.regs ≡ Some form → IsWhole r.own
+  of_form : (form : CallForm) → form_in r.process.regs ≡ Some form → (asked_in r.process.regs ≡ true → IsWhole r.own)
       → Leaves r (yield_flag_of r form) (by_form around r form)
   unfolding by_form
   of_form (forms.Yield number a1 a2) is whole = of_yield number a1
@@ -200,7 +214,8 @@ module _ (law : OnlyWritesChangeBytes) (commands : CommandsWriteInBuffers) (arou
   of_form (forms.Memop operation argument) is whole = of_memop operation argument
   of_form (forms.Exit kind code) is whole = of_exit kind code (exit_class r.process.regs kind code is)
 
-  of_served : (strict : Bool) (call : SystemCall) → call_of r.process.regs ≡ Some call → IsWhole r.own
+  of_served : (strict : Bool) (call : SystemCall) → call_of r.process.regs ≡ Some call
+      → (asked_in r.process.regs ≡ true → IsWhole r.own)
       → Leaves r (yield_flag_of r (form_of call)) (served strict around r call)
   unfolding served
   of_served strict call is whole =
@@ -226,14 +241,14 @@ module _ (law : OnlyWritesChangeBytes) (commands : CommandsWriteInBuffers) (of_e
   Causes r t = Changes r t.told.flag (ends_life t.told) (showed_clock t.told.call) t.after
 
   of_calls : (r : Record) (accesses : List MemoryAccess) (call : Option SystemCall) → call_of r.process.regs ≡ call
-      → let t = calls settings time r accesses call in (is_some t.told.call ≡ true → IsWhole r.own) → Causes r t
+      → let t = calls settings time r accesses call in (asks_clock t.told.call ≡ true → IsWhole r.own) → Causes r t
   of_calls r accesses None is whole = of_fault settings r (unknown_call r.process)
   of_calls r accesses (Some call) is whole =
-      of_served law commands (surroundings settings time) r settings.strict call is (whole refl)
+      of_served law commands (surroundings settings time) r settings.strict call is whole
 
   of_end : (r : Record) (accesses : List MemoryAccess) (end : TurnEnd)
       → let t = at_turn_end settings time r accesses end in
-      (end ≡ ends.Call → is_some t.told.call ≡ true → IsWhole r.own) → Causes r t
+      (end ≡ ends.Call → asks_clock t.told.call ≡ true → IsWhole r.own) → Causes r t
   of_end r accesses ends.Went whole = kept r r None (λ at before after. refl) refl
   of_end r accesses ends.Call whole = of_calls r accesses (call_of r.process.regs) refl (whole refl)
   of_end r accesses (ends.Trap denial) whole = of_fault settings r denial
@@ -247,7 +262,7 @@ module _ (law : OnlyWritesChangeBytes) (commands : CommandsWriteInBuffers) (of_e
   told_store r accesses (ends.Trap denial) at went covers = absurd (cc)
 
   of_instruction : (r : Record) → let t = instructed settings time r in
-      (is_some t.told.call ≡ true → IsWhole r.own) → TurnHasCauses r t.after t.told
+      (asks_clock t.told.call ≡ true → IsWhole r.own) → TurnHasCauses r t.after t.told
   of_instruction r whole = record {
     own = λ at before after.
         joined at (law.instruction r.own (byte_at r) r.process.regs at before before) (changes.own at before after);
@@ -292,12 +307,23 @@ module _ (law : OnlyWritesChangeBytes) (commands : CommandsWriteInBuffers) (of_e
   of_delivery r (upcall ∷ more) = record { own = λ at before after. inl refl; storage = refl }
 
   of_state : (state : State) (r : Record) → let t = turn_in settings time state r in
-      (is_some t.told.call ≡ true → IsWhole r.own) → TurnHasCauses r t.after t.told
+      (asks_clock t.told.call ≡ true → IsWhole r.own) → TurnHasCauses r t.after t.told
   of_state Running r whole = of_instruction r whole
   of_state Yielded r whole = of_delivery r r.own.inbox.pending
   of_state Faulted r whole = of_idle r
   of_state (Terminated code) r whole = of_idle r
 
+-- a call that asks for the clock is one
+is_call : (call : Option CallMade) → asks_clock call ≡ true → is_some call ≡ true
+is_call None asks = absurd (false≢true asks)
+is_call (Some made) asks = refl
+
 pub turns_have_causes : OnlyWritesChangeBytes → CommandsWriteInBuffers → CallsAreOfEcall → TurnsHaveCauses
 unfolding turned
-turns_have_causes law commands of_ecall settings time r = of_state law commands of_ecall settings time r.process.state r
+turns_have_causes law commands of_ecall settings time r whole =
+    of_state law commands of_ecall settings time r.process.state r (λ asks. whole (is_call _ asks))
+
+pub turns_without_clock : OnlyWritesChangeBytes → CommandsWriteInBuffers → CallsAreOfEcall → TurnsWithoutClockHaveCauses
+unfolding turned
+turns_without_clock law commands of_ecall settings time r none =
+    of_state law commands of_ecall settings time r.process.state r (λ asks. absurd (false≢true (sym none ∙ asks)))

@@ -2,3 +2,4 @@ pub mod Fairness
 pub mod OneRun
 pub mod Tables
 pub mod Words
+pub mod Clock

@@ -14,4 +14,4 @@ returns-clause-whole c =
 pub returns-clause-causes : goal.returns-clause-causes
 returns-clause-causes c =
     choices_have_causes c.drivers_keep_places_and_order.ensures c.only_handing_changes_pairs.ensures
-    c.drivers_keep_buffers_below_the_mark.ensures c.steps_have_causes.ensures
+    c.drivers_keep_buffers_below_the_mark.ensures c.steps_have_causes.ensures.causes

@@ -1,0 +1,34 @@
+-- What changes bytes in turns that don't ask for the clock (TRD 104, "Command"; that the alarm
+-- shows its clock is this board's own rule).
+use Rattle.std.specs.Prelude.{◌≡◌, ℕ, ◌==◌, ◌&&◌, Bool, false, slice_index, Option, option_map, unwrap_or, All}
+use Rattle.tk_base.specs.declared.process.Choice.TheVariants.{Run}
+use Rattle.driver_model.specs.Bytes.{shows_clock}
+use Rattle.process_record.specs.declared.emit.CallMade.{CallMade}
+use Rattle.kernel_model.specs.Record.{Record}
+use Rattle.kernel_model.specs.declared.settings.Settings.{Settings}
+use Rattle.kernel_model.specs.Turn.{turned}
+use Rattle.kernel_model.specs.World.{Label, TurnOf, World, labels}
+use Rattle.kernel_model.specs.Causes.{EachChangeHasACause, TurnHasCauses}
+
+-- whether a call was the command that shows the clock, whatever came of it
+abbrev pub asks_clock : Option CallMade → Bool
+asks_clock call =
+    unwrap_or (option_map (λ made. made.class == 2
+    && shows_clock (slice_index made.args 0) (slice_index made.args 1)) call) false
+
+-- each change that a turn makes which does not has its cause, whatever the process's record is
+abbrev pub TurnsWithoutClockHaveCauses : Type 0
+TurnsWithoutClockHaveCauses =
+    (settings : Settings) (time : ℕ) (r : Record) →
+    let t = turned settings time r in
+    asks_clock t.told.call ≡ false → TurnHasCauses r t.after t.told
+
+-- a label of such a turn, or of no turn
+abbrev pub AsksNoClock : Label → Type 0
+AsksNoClock (TurnOf slot time told) = asks_clock told.call ≡ false
+AsksNoClock label = Unit {0}
+
+-- so it is with a step that is such a turn, in any world
+abbrev pub StepsWithoutClockHaveCauses : Type 0
+StepsWithoutClockHaveCauses =
+    (w : World) (slot : ℕ) → All AsksNoClock (labels w (Run slot)) → EachChangeHasACause w (Run slot)
