@@ -577,6 +577,11 @@ def prints(text):
 # Prints a line, and exits with the count of its bytes.
 PRINTS = prints(b"hello, world\n")
 
+# The same, beside an application that goes on forever; the text is what is printed meanwhile.
+GOES_ON = boot("output-as-it-comes", "output comes while a run goes on", PRINTS + app("again", jal(ZERO, "again")), """
+    hello, world
+""", turns=1_000_000_000)
+
 # Prints back what comes in, up to 16 bytes at a time. It waits from time 35 on.
 ECHO = app(mv(S0, A0), mv(S1, A1), lends(READ_WRITE, CONSOLE, 1, 16), lends(READ_ONLY, CONSOLE, 1, 16),
            *hands(SUBSCRIBE, CONSOLE, 2, "came"), *hands(SUBSCRIBE, CONSOLE, 1, "sent"), command(CONSOLE, 2, 16),

@@ -27,7 +27,7 @@ SECTIONS = [
         "process_model/Instruction", "fault_policy", "process_layout/LayoutView", "process_layout/Interval"]),
     ("System calls", [
         "kernel_model/Calls", "syscall_abi", "syscall_filter", "tk_base/Call", "process_model", "upcall_queue",
-        "grant_model", "grant_region"]),
+        "grant_model"]),
     ("Drivers and devices", ["driver_model", "board_devices", "grant_values"]),
     ("Instructions and permission", ["rv32_model", "process_layout", "tk_base"]),
     ("Images and placement", ["tbf_headers", "flash_walk", "app_placement"]),

@@ -9,7 +9,8 @@ use Rattle.process_model.specs.Own.{Own}
 use Rattle.process_model.specs.Served.{kept, own_scheduled, with_kept}
 use Rattle.process_model.proofs.Scheduling.{keeping_commutes}
 use Rattle.driver_model.specs.Steps.{own_after}
-use Rattle.grant_enter.specs.declared.visit.Stale.{Stale}
+use Rattle.grant_enter.specs.declared.visit.Unvisited.{Unvisited}
+use Rattle.grant_enter.specs.declared.visit.Unvisited.TheVariants.{Gone, NotEntered}
 use Rattle.grant_enter.specs.Seen.{Seen}
 use Rattle.grant_enter.specs.Visits.{Visits, grants_of, is_stale}
 use Rattle.driver_model.specs.Alarm.{alarm_driver, answered, armed_in, due_alarm, expiration, fired, fired_if, if_due}
@@ -35,13 +36,13 @@ none_kept now own alarm none due =
     nothing_due own.lives alarm (subst (λ (o : Option KeptValue). cond own.lives (if_due now (armed_in o)) None
     ≡ Some alarm) none due)
 
-pub fires : {A : Type 0} (now expires driver life : ℕ) (counts : Counts) (flash : List ℕ) (alarm : Armed)
-    (old new : Own) (leaves : Alarm → Seen → A → Alarm → Own → Type 0) (r : Result (Option A) Stale)
+pub fires : {A V : Type 0} (now expires driver life : ℕ) (counts : Counts) (flash : List ℕ) (alarm : Armed)
+    (old new : Own) (visitor : V) (leaves : Alarm → Seen → A → Alarm → Own → Type 0) (r : Result A (Unvisited V))
     → Fires now expires leaves → driver ≡ 0 → expires ≡ expiration alarm → is_stale life old ≡ false
-    → due_alarm now old ≡ Some alarm → Visits (grants_of driver counts AlarmValue) leaves life flash old r new
+    → due_alarm now old ≡ Some alarm → Visits (grants_of driver counts AlarmValue) visitor leaves life flash old r new
     → new ≡ own_after (answered now old)
 unfolding answered
-fires now expires driver life counts flash alarm old new leaves (Ok (Some answer)) says zero expires_is present due
+fires now expires driver life counts flash alarm old new visitor leaves (Ok answer) says zero expires_is present due
     visits =
     let v = visits.1 in
     let left = says _ _ _ _ _ v.left in
@@ -53,7 +54,9 @@ fires now expires driver life counts flash alarm old new leaves (Ok (Some answer
     ∙ keeping_commutes alarm_driver (AlarmValue (record { armed = None })) (fired now alarm old).schedules
     (showing now old)
     ∙ ap (λ (o : Option Armed). own_after (fired_if now old o)) (sym due)
-fires now expires driver life counts flash alarm old new leaves (Ok None) says zero expires_is present due visits =
+fires now expires driver life counts flash alarm old new visitor leaves (Err (NotEntered back)) says zero expires_is
+    present due visits =
     absurd (none_kept now old alarm (subst (λ (d : ℕ). kept d old ≡ None) zero visits.1) due)
-fires now expires driver life counts flash alarm old new leaves (Err stale) says zero expires_is present due visits =
+fires now expires driver life counts flash alarm old new visitor leaves (Err (Gone back)) says zero expires_is present
+    due visits =
     absurd (not_stale (is_stale life old) visits.0 present)

@@ -1,6 +1,6 @@
 -- The clock that is shown to a process.
-use Rattle.std.proofs.Common.{◌≡◌, ℕ, zero, suc, ◌+◌, ◌-◌, ◌==◌, Bool, true, false, cond, List, [], ◌∷◌, take, Option, None}
-use Rattle.std.proofs.Common.{Some, Result, Ok, Err, refl, ap, sym, subst, ◌∙◌}
+use Rattle.std.proofs.Common.{◌≡◌, ℕ, zero, suc, ◌+◌, ◌-◌, false, List, [], ◌∷◌, take, Option, None, Some, Result, Ok}
+use Rattle.std.proofs.Common.{Err, refl, ap, sym, subst, ◌∙◌}
 use Rattle.std.specs.Option.{option_map}
 use Rattle.std.specs.Int.{w32, to_le_bytes}
 use Rattle.std.proofs.lemmas.List.{take-append-drop}
@@ -8,15 +8,16 @@ use Rattle.tk_base.specs.Bytes.{over}
 use Rattle.tk_base.specs.declared.kinds.PairKind.TheVariants.{Readable}
 use Rattle.tk_base.specs.declared.upcall.Counts.{Counts}
 use Rattle.grant_values.specs.declared.alarm.Alarm.{Alarm}
-use Rattle.grant_values.specs.Values.{KeptValue, AlarmValue}
-use Rattle.grant_model.specs.Grants.{Grant, grant_of, pair_of, with_grant, with_value}
+use Rattle.grant_values.specs.Values.{AlarmValue}
+use Rattle.grant_model.specs.Grants.{Grant, grant_of, pair_of}
 use Rattle.process_model.specs.Own.{Own}
-use Rattle.process_model.specs.Handed.{held}
 use Rattle.process_model.specs.Served.{kept, own_written, with_kept}
-use Rattle.grant_enter.specs.declared.visit.Stale.{Stale}
+use Rattle.grant_enter.specs.declared.visit.Unvisited.{Unvisited}
+use Rattle.grant_enter.specs.declared.visit.Unvisited.TheVariants.{Gone, NotEntered}
 use Rattle.grant_enter.specs.Seen.{Seen}
 use Rattle.grant_enter.specs.Visits.{Visits, grants_of, is_stale}
 use Rattle.driver_model.specs.Alarm.{alarm_driver, showing}
+use Rattle.driver_requests.proofs.Keeping.{kept_still}
 use Rattle.alarm_capsule.proofs.Firing.{not_stale}
 
 -- of the first so many bytes the first so many are the same ones
@@ -33,19 +34,6 @@ front_is_written own buffer bytes n same =
     ∙ ap (λ xs. record own { ram = over own.ram (buffer.0 - own.layout.start + 0) xs })
     (taken_twice (buffer.1 - 0) bytes)
 
--- a value that is kept again changes nothing
-kept_still : (driver : ℕ) (value : KeptValue) (gs : List Grant) → option_map (λ g. g.value) (grant_of driver gs) ≡ Some value
-    → with_grant driver (with_value value) gs ≡ gs
-kept_still driver value [] is = refl
-kept_still driver value (g ∷ gs) is = by_test (g.driver == driver) is (kept_still driver value gs)
-  where
-    by_test : (b : Bool) → option_map (λ g. g.value) (cond b (Some g) (grant_of driver gs)) ≡ Some value
-        → (option_map (λ g. g.value) (grant_of driver gs) ≡ Some value → with_grant driver (with_value value) gs ≡ gs)
-        → cond b (with_value value g ∷ gs) (g ∷ with_grant driver (with_value value) gs) ≡ g ∷ gs
-    by_test true e later = let same : g.value ≡ value = cc in
-        ap (λ v. record g { value = v } ∷ gs) (sym same)
-    by_test false e later = ap (λ xs. g ∷ xs) (later e)
-
 -- where no value is kept no buffer is, and nothing is shown
 none_shown : (now : ℕ) (own : Own) → kept alarm_driver own ≡ None → own ≡ showing now own
 none_shown now own none = by_grant (grant_of alarm_driver own.grants) none
@@ -60,18 +48,18 @@ abbrev Shows : {A : Type 0} → ℕ → (Alarm → Seen → A → Alarm → Own 
 Shows now leaves = (value : Alarm) (seen : Seen) (answer : _) (value' : Alarm) (own : Own)
     → leaves value seen answer value' own → (value' ≡ value) × (own ≡ showing now seen.own)
 
-pub shown : {A : Type 0} (now driver life : ℕ) (counts : Counts) (flash : List ℕ) (old new : Own)
-    (leaves : Alarm → Seen → A → Alarm → Own → Type 0) (r : Result (Option A) Stale) → Shows now leaves → driver ≡ 0
-    → is_stale life old ≡ false → Visits (grants_of driver counts AlarmValue) leaves life flash old r new
+pub shown : {A V : Type 0} (now driver life : ℕ) (counts : Counts) (flash : List ℕ) (old new : Own) (visitor : V)
+    (leaves : Alarm → Seen → A → Alarm → Own → Type 0) (r : Result A (Unvisited V)) → Shows now leaves → driver ≡ 0
+    → is_stale life old ≡ false → Visits (grants_of driver counts AlarmValue) visitor leaves life flash old r new
     → new ≡ showing now old
-shown now driver life counts flash old new leaves (Ok (Some answer)) says is present visits =
+shown now driver life counts flash old new visitor leaves (Ok answer) says is present visits =
     let v = visits.1 in
     let left = says _ _ _ _ _ v.left in
     v.after
     ∙ ap (λ (a : Alarm). with_kept driver (AlarmValue a) v.own) left.0
     ∙ ap (λ (o : Own). with_kept driver (AlarmValue v.was) o) left.1
     ∙ ap (λ gs. record (showing now old) { grants = gs }) (kept_still driver (AlarmValue v.was) old.grants v.kept)
-shown now driver life counts flash old new leaves (Ok None) says is present visits =
-    visits.2 ∙ none_shown now old (subst (λ (d : ℕ). kept d old ≡ None) is visits.1)
-shown now driver life counts flash old new leaves (Err stale) says is present visits =
+shown now driver life counts flash old new visitor leaves (Err (NotEntered back)) says is present visits =
+    visits.3 ∙ none_shown now old (subst (λ (d : ℕ). kept d old ≡ None) is visits.1)
+shown now driver life counts flash old new visitor leaves (Err (Gone back)) says is present visits =
     absurd (not_stale (is_stale life old) visits.0 present)

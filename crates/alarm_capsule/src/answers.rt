@@ -1,5 +1,6 @@
 //! An alarm that is due fires.
-ghost use Rattle.std.specs.Prelude.{◌≡◌, ◌+◌, ◌-◌, ◌<◌, ◌^◌, false, All, find, length, slice_get, is_some, option_and_then, IfSome};
+ghost use Rattle.std.specs.Prelude.{◌≡◌, ◌+◌, ◌-◌, ◌<◌, ◌^◌, false, All, find, length, slice_get};
+ghost use Rattle.std.specs.Prelude.{is_some, option_and_then, IfSome};
 ghost use Rattle.std.specs.List.{range_with_len};
 ghost use Rattle.std.specs.Option.{option_map};
 ghost use Rattle.grant_enter.specs.Homes.{own_of, ChangesOnly};
@@ -82,8 +83,8 @@ fn fire(home: &mut Home, due: &Due, now: u32)
     let _ = alarms().visit(home, due.id, fire);
 }
 
-/// The alarm of the lowest slot whose alarm is due at a tick of the clock fires. The answer is whose it was, and the
-/// tick.
+/// The alarm of the lowest slot whose alarm is due at a tick of the clock fires. The answer is
+/// whose it was, and the tick.
 #[inline(always)]
 pub(crate) fn fire_first(home: &mut Home, now: u32) -> Result<Answer, NotReady>
     requires dropped { All (λ own. own.inbox.dropped + 1 < 2 ^ 32) home.old.owns }

@@ -18,13 +18,15 @@ use tk_base::{CallRule, NotReady, ProcessId};
 pub struct AlarmCapsule;
 
 impl AlarmCapsule {
-    /// Serves a command of the process of an id to the alarm, at a tick of the clock (TRD 104, "Command"): the reply,
-    /// and the rule that refuses it, if one does. 0 asks whether the driver is there; 1 for its ticks a second, 2 for
-    /// the clock, which it also shows in the readable buffer 0 that the process has allowed, in four bytes, the lowest
-    /// first, as many as fit; 3 stops the alarm, which is refused with [`CallRule::Nothing`] where none is armed; 5 arms it `a2`
-    /// ticks from now on, and 6 `a3` ticks from the reference `a2` on, with the tick of the expiration in the reply,
-    /// or refused with [`CallRule::NoRoom`]. Any other number is refused with [`CallRule::NoCommand`]. Nothing of
-    /// another process changes, and nothing at all where it is refused.
+    /// Serves a command of the process of an id to the alarm, at a tick of the clock (TRD 104,
+    /// "Command"): the reply, and the rule that refuses it, if one does. 0 asks whether the driver
+    /// is there; 1 for its ticks a second, 2 for the clock, which it also shows in the readable
+    /// buffer 0 that the process has allowed, in four bytes, the lowest first, as many as fit; 3
+    /// stops the alarm, which is refused with [`CallRule::Nothing`] where none is armed; 5 arms it
+    /// `a2` ticks from now on, and 6 `a3` ticks from the reference `a2` on, with the tick of the
+    /// expiration in the reply, or refused with [`CallRule::NoRoom`]. Any other number is refused
+    /// with [`CallRule::NoCommand`]. Nothing of another process changes, and nothing at all where
+    /// it is refused.
     pub fn command(
         &mut self,
         home: &mut Home,
@@ -42,10 +44,11 @@ impl AlarmCapsule {
         reply_of(obey(home, now, id, number, a2, a3))
     }
 
-    /// The alarm of the lowest slot whose alarm is due at a tick of the clock fires: it is disarmed, the clock is shown
-    /// as by command 2, and upcall 0 is scheduled with that tick and its expiration. The answer is whose alarm it was, and the tick. [`NotReady`] comes
-    /// exactly where no alarm of a process that lives is due, and then nothing changes. Nothing of another slot
-    /// changes.
+    /// The alarm of the lowest slot whose alarm is due at a tick of the clock fires: it is
+    /// disarmed, the clock is shown as by command 2, and upcall 0 is scheduled with that tick and
+    /// its expiration. The answer is whose alarm it was, and the tick. [`NotReady`] comes exactly
+    /// where no alarm of a process that lives is due, and then nothing changes. Nothing of another
+    /// slot changes.
     // Inlined, an answer that its caller does not read is not made.
     #[inline(always)]
     pub fn answer(&mut self, home: &mut Home, now: u32) -> Result<Answer, NotReady>
@@ -55,6 +58,7 @@ impl AlarmCapsule {
         fire_first(home, now)
     }
 
-    /// The process of an id ended, or starts again. Its alarm went with its grant, and nothing waits here.
+    /// The process of an id ended, or starts again. Its alarm went with its grant, and nothing
+    /// waits here.
     pub fn gone(&mut self, _id: ProcessId) {}
 }

@@ -2,12 +2,13 @@
 ghost use Rattle.std.specs.Prelude.{◌≡◌, ◌+◌, ◌%◌, ◌<◌, ◌^◌, false, length, is_some};
 ghost use Rattle.grant_enter.specs.Homes.{own_of, ChangesOnly};
 ghost use Rattle.driver_requests.specs.Asking.{IsPresent};
-ghost use Rattle.driver_model.specs.Alarm.{alarm_in, arming, command, expiration, showing, stopping};
+ghost use Rattle.driver_model.specs.Alarm.{alarm_in, arming, command, expiration, showing};
+ghost use Rattle.driver_model.specs.Alarm.{stopping};
 ghost use Rattle.alarm_capsule.specs.Answers.{as_commanded};
 
 use crate::visits::{Arm, Show, Stop, alarms};
 use grant_enter::Home;
-use grant_values::{Alarm, Armed};
+use grant_values::Armed;
 use syscall_abi::Reply;
 use tk_base::{CallRule, ProcessId};
 
@@ -35,26 +36,18 @@ fn arm(home: &mut Home, id: ProcessId, alarm: Armed) -> Result<Reply, CallRule>
     }
 }
 
-/// Whether a process has an alarm armed.
-fn is_armed(home: &Home, id: &ProcessId) -> bool
-    requires { IsPresent home.now id.now }
-    ensures { result ≡ is_some (alarm_in (own_of home.now id.now.slot)) }
-{
-    matches!(alarms().peek(home, *id), Ok(Some(Alarm { armed: Some(_) })))
-}
-
 /// Stops the alarm of a process; it is refused where none is armed.
+#[tactic(auto, using(driver_requests::proofs::Keeping::kept_still))]
 fn stop(home: &mut Home, id: ProcessId) -> Result<Reply, CallRule>
     requires { IsPresent home.old id }
     ensures answer { let own = own_of home.old id.slot in
         as_commanded result (own_of home.new id.slot) ≡ stopping (alarm_in own) own }
     ensures rest { ChangesOnly id.slot home.old home.new }
 {
-    if !is_armed(home, &id) {
-        return Err(CallRule::Nothing);
+    match alarms().visit(home, id, Stop) {
+        Ok(true) => Ok(Reply::Success),
+        Ok(false) | Err(_) => Err(CallRule::Nothing),
     }
-    let _ = alarms().visit(home, id, Stop);
-    Ok(Reply::Success)
 }
 
 /// Shows the clock to a process, where it has a buffer for that.
@@ -66,7 +59,8 @@ fn show(home: &mut Home, id: ProcessId, now: u32)
     let _ = alarms().visit(home, id, Show { now });
 }
 
-/// A command of the process of an id to the alarm, at a tick of the clock: the reply, or the rule that refuses it.
+/// A command of the process of an id to the alarm, at a tick of the clock: the reply, or the rule
+/// that refuses it.
 #[tactic(auto, unfolding(driver_model::specs::Alarm::command, driver_model::specs::Alarm::commands))]
 pub(crate) fn obey(
     home: &mut Home,

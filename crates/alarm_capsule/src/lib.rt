@@ -1,5 +1,5 @@
-//! The alarm (Tock's driver 0x0): a process arms one alarm, and gets an upcall once it has expired. What the
-//! driver keeps of a process lies in the process's grant, and nothing of it in the kernel.
+//! The alarm (Tock's driver 0x0): a process arms one alarm, and gets an upcall once it has expired.
+//! What the driver keeps of a process lies in the process's grant, and nothing of it in the kernel.
 #![tactic(auto)]
 
 mod answers;

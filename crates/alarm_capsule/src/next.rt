@@ -2,7 +2,8 @@
 ghost use Rattle.std.specs.Prelude.{◌≡◌, ◌<◌, false, length};
 ghost use Rattle.grant_enter.specs.Homes.{own_of};
 ghost use Rattle.driver_requests.specs.Asking.{IsPresent};
-ghost use Rattle.driver_model.specs.Alarm.{ticks_left_in, ticks_left_of, nearer, next_left, ticks_left};
+ghost use Rattle.driver_model.specs.Alarm.{ticks_left_in, ticks_left_of, nearer, next_left};
+ghost use Rattle.driver_model.specs.Alarm.{ticks_left};
 
 use crate::visits::alarms;
 use grant_enter::Home;
@@ -29,8 +30,8 @@ fn left_of(home: &Home, id: &ProcessId, now: u32) -> Option<u32>
     }
 }
 
-/// The ticks that are left of the alarm of the process that lives in a slot. None exactly where none lives there,
-/// or it has none armed.
+/// The ticks that are left of the alarm of the process that lives in a slot. None exactly where
+/// none lives there, or it has none armed.
 fn left_in(home: &Home, slot: Slot, now: u32) -> Option<u32>
     ensures { result ≡ ticks_left_in now home.now.owns slot }
 {
@@ -38,7 +39,8 @@ fn left_in(home: &Home, slot: Slot, now: u32) -> Option<u32>
     left_of(home, &id, now)
 }
 
-/// The lesser of two numbers of ticks, where there are two; the one that there is, where there is one.
+/// The lesser of two numbers of ticks, where there are two; the one that there is, where there is
+/// one.
 fn nearer(ticks: Option<u32>, other: Option<u32>) -> Option<u32>
     ensures { result ≡ nearer ticks other }
 {
@@ -49,8 +51,8 @@ fn nearer(ticks: Option<u32>, other: Option<u32>) -> Option<u32>
     }
 }
 
-/// How many ticks from `now` on the next alarm of a process that lives becomes due: 0 where one is due at that
-/// tick of the clock. None exactly where no process that lives has an alarm armed.
+/// How many ticks from `now` on the next alarm of a process that lives becomes due: 0 where one is
+/// due at that tick of the clock. None exactly where no process that lives has an alarm armed.
 #[tactic(auto, unfolding(driver_model::specs::Alarm::next_left))]
 pub fn next_due(home: &Home, now: u32) -> Option<u32>
     ensures { result ≡ next_left now home.now.owns }

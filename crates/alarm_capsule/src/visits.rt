@@ -41,23 +41,25 @@ impl Visit<Alarm> for Arm {
     }
 }
 
-/// Stops the alarm.
+/// Stops the alarm. It answers whether one was armed.
 #[derive(Drop)]
 pub(crate) struct Stop;
 
 impl Visit<Alarm> for Stop {
-    ghost use Rattle.std.specs.Prelude.{◌≡◌, None};
+    ghost use Rattle.std.specs.Prelude.{◌≡◌, None, is_some};
 
-    type Answer = ();
+    type Answer = bool;
 
     ghost asks = { λ stop value seen. Unit {0} };
 
-    ghost leaves = { λ stop value seen answer value' own.
-        (value' ≡ record { armed = None }) × (own ≡ seen.own) };
+    ghost leaves = { λ stop value seen was_armed value' own.
+        (was_armed ≡ is_some value.armed) × (value' ≡ record { armed = None }) × (own ≡ seen.own) };
 
-    fn run(self, value: &mut Alarm, _entered: &mut Entered<'_>) {
+    fn run(self, value: &mut Alarm, _entered: &mut Entered<'_>) -> bool {
         frames_join();
+        let was_armed = value.armed.is_some();
         value.armed = None;
+        was_armed
     }
 }
 
@@ -98,7 +100,8 @@ impl Visit<Alarm> for Show {
     }
 }
 
-/// Fires the alarm: it is stopped, the clock is shown, and its upcall tells the clock and the expiration.
+/// Fires the alarm: it is stopped, the clock is shown, and its upcall tells the clock and the
+/// expiration.
 #[derive(Drop)]
 pub(crate) struct Fire {
     pub now: u32,

@@ -10,7 +10,7 @@ use Rattle.tbf_headers.specs.Addresses.{accessible_start, accessible_end_of}
 use Rattle.tbf_headers.specs.Objects.{object_at}
 use Rattle.flash_walk.specs.declared.found.Found.{Found}
 use Rattle.flash_walk.specs.declared.found.Verdict.{Verdict}
-use Rattle.flash_walk.specs.declared.found.Verdict.TheVariants.{Bad, Padding, Disabled, BadEntry, WrongFlash, App}
+use Rattle.flash_walk.specs.declared.found.Verdict.TheVariants.{App}
 use Rattle.flash_walk.specs.Image.{objects}
 use Rattle.app_placement.specs.declared.application.Application.{Application}
 

@@ -13,9 +13,9 @@ use Rattle.tk_base.specs.declared.limits.TheConstants.{STEP_LIMIT}
 use Rattle.tk_base.specs.declared.process.Choice.TheVariants.{Run, Device, Pass}
 use Rattle.tk_base.specs.declared.process.Choice.{Choice}
 use Rattle.turn_scheduler.specs.Situation.{Situation}
-use Rattle.turn_scheduler.specs.RoundRobin.{IsNextAhead, choice, next_slot, ready_device}
+use Rattle.turn_scheduler.specs.RoundRobin.{LiesAhead, choice, place_is_ready, ready_device, slot_in}
 use Rattle.process_model.specs.Handed.{HoldsInPlace}
-use Rattle.process_model.specs.Own.{Own}
+use Rattle.process_model.specs.Own.{Own, kernel_break_of}
 use Rattle.process_record.specs.Name.{name_of}
 use Rattle.process_model.specs.Flash.{object_in}
 use Rattle.process_record.specs.declared.process.Process.{Process}
@@ -57,12 +57,12 @@ shown_whole b board holds lies slot r is =
     let same : own_of b.machine.home slot ≡ r.own = get_or_from_slice_get b.machine.home.owns slot r.own nobody there in
     record {
       bytes =
-          subst (λ (o : Own). length o.ram ≡ o.layout.kernel_break - o.layout.start) same (lies slot within).ram;
+          subst (λ (o : Own). length o.ram ≡ kernel_break_of o - o.layout.start) same (lies slot within).ram;
       buffers = subst HoldsInPlace same (holds slot within);
     }
 
 -- which slots are ready
-ready_slots_shown : (b : Inside) → IsBoard b → ready_slots (world_of b) ≡ map resident_turns (residents b)
+pub ready_slots_shown : (b : Inside) → IsBoard b → ready_slots (world_of b) ≡ map resident_turns (residents b)
 ready_slots_shown b board =
     reads_shown may_turn resident_turns b.machine.home.flash (residents b) b.machine.drivers.stores.slots (has_storage b board)
     (λ p. refl)
@@ -225,18 +225,15 @@ ready_within b slot board e =
     resident (Some s) f h = slice_get_within (residents b) slot s f
 
 -- where no device step is ready, the slot that has the next turn is the next choice
-pub next_in_calm : (b : Inside) (ready : List Bool) (o : Option ℕ) → IsBoard b
-    → ready ≡ map resident_turns (residents b)
-    → ready_devices (world_of b) ≡ false ∷ false ∷ false ∷ false ∷ false ∷ false ∷ []
-    → o ≡ next_slot ready b.present b.used b.slice → IfSome o (λ slot. Some (Run slot) ≡ next (world_of b))
+pub next_in_calm : (w : World) (o : Option ℕ)
+    → ready_devices w ≡ false ∷ false ∷ false ∷ false ∷ false ∷ false ∷ []
+    → o ≡ slot_in (situation_of w) → IfSome o (λ slot. Some (Run slot) ≡ next w)
 unfolding next choice ready_device
-next_in_calm b ready None board r calm is = tt
-next_in_calm b ready (Some slot) board r calm is =
-    let passes : Option Choice = option_map (λ at. Pass (at - b.machine.moment.time)) (next_time (world_of b)) in
+next_in_calm w None calm is = tt
+next_in_calm w (Some slot) calm is =
+    let passes : Option Choice = option_map (λ at. Pass (at - w.clock.time)) (next_time w) in
     sym (ap (λ (ds : List Bool). option_or (option_map Device (ready_device ds))
-    (option_or (option_map Run (next_slot (ready_slots (world_of b)) b.present b.used b.slice)) passes)) calm
-    ∙ ap (λ (xs : List Bool). option_or (option_map Run (next_slot xs b.present b.used b.slice)) passes)
-    (ready_slots_shown b board ∙ sym r)
+    (option_or (option_map Run (slot_in (situation_of w))) passes)) calm
     ∙ ap (λ (q : Option ℕ). option_or (option_map Run q) passes) (sym is))
 
 -- and that choice may be made
@@ -245,18 +242,21 @@ pub next_may : (w : World) (o : Option Choice) → NextIsReady → o ≡ next w
 next_may w None law e = tt
 next_may w (Some choice) law e = law w choice (sym e)
 
--- the nearest time that a status tells lies ahead
-pub next_ahead : (s : Situation) (w : World) → s ≡ situation_of w → IfSome s.next (λ at. at - s.time < 2 ^ 32)
-    → NextLiesAhead → IsNextAhead s
-next_ahead s w e near law none at is =
-    let none_ready : ready_device (ready_devices w) ≡ None =
-    ap (λ (x : Situation). ready_device x.devices) (sym e) ∙ none in
-    let later : IfSome s.next (λ n. w.clock.time < n) =
-    subst (λ (o : Option ℕ). IfSome o (λ n. w.clock.time < n)) (ap (λ (x : Situation). x.next) (sym e))
-    (law w none_ready) in
-    let ahead : w.clock.time < at = subst (λ (o : Option ℕ). IfSome o (λ n. w.clock.time < n)) is later in
-    let same : s.time ≡ w.clock.time = ap (λ (x : Situation). x.time) e in
-    (omega (arith, ahead, same), subst (λ (o : Option ℕ). IfSome o (λ n. n - s.time < 2 ^ 32)) is near)
+-- the nearest time at which a device step becomes ready lies ahead, and a Pass leads to it
+pub next_ahead : (w : World) (o : Option ℕ) → o ≡ next_time w → IfSome o (λ at. at - w.clock.time < 2 ^ 32)
+    → NextLiesAhead → ready_device (ready_devices w) ≡ None → IfSome o (LiesAhead w.clock.time)
+next_ahead w None is near law none = tt
+next_ahead w (Some at) is near law none =
+    let later : w.clock.time < at =
+    subst (λ (o : Option ℕ). IfSome o (λ n. w.clock.time < n)) (sym is) (law w none) in
+    (later, near)
+
+-- whether a slot is ready, by the table of those that are
+pub resident_at : (residents : List Resident) (slot : ℕ)
+    → can_turn_in (slice_get residents slot) ≡ place_is_ready (map resident_turns residents) slot
+resident_at [] slot = refl
+resident_at (r ∷ rs) zero = refl
+resident_at (r ∷ rs) (suc slot) = resident_at rs slot
 
 -- turns of a slot of a board's tables may be made while steps are left
 pub may_turn_on : (turns : ℕ) (b : Inside) (slot : ℕ) → IsBoard b → slot < length b.processes.items

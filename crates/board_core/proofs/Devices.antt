@@ -1,12 +1,13 @@
 -- Device steps of a board.
-use Rattle.std.proofs.Common.{◌≡◌, ℕ, zero, suc, ◌+◌, ◌==◌, ◌<◌, ◌≤◌, Bool, true, false, cond, ◌&&◌, nat_lt}
+use Rattle.std.proofs.Common.{◌≡◌, ℕ, zero, suc, ◌+◌, ◌==◌, ◌<◌, ◌≤◌, Bool, true, false, cond, not, ◌&&◌, ◌||◌}
+use Rattle.std.proofs.Common.{nat_lt}
 use Rattle.std.proofs.Common.{if◌then◌else◌, List, [], ◌∷◌, ◌++◌, length, map, slice_get, slice_set, slice_index_or}
 use Rattle.std.proofs.Common.{All, None, Some, Ok, Err, IsTrue, refl, sym, ap, subst, ◌∙◌, arith, eq-eqb}
 use Rattle.std.specs.List.{zip}
 use Rattle.std.proofs.lemmas.Bool.{false≢true}
 use Rattle.std.proofs.lemmas.Bool.Decides.{nat_tests}
-use Rattle.std.proofs.lemmas.List.{length-set, set-get_or}
-use Rattle.std.proofs.lemmas.List.Elements.{All-set, All-weaker}
+use Rattle.std.proofs.lemmas.List.{append-nil, length-set, set-get_or}
+use Rattle.std.proofs.lemmas.List.Elements.{All-head, All-set, All-weaker}
 use Rattle.std.proofs.Math.Seq.{map-set_same}
 use Rattle.std.proofs.lemmas.Option.{slice_get-get_or, slice_get_within, get_or_from_slice_get}
 use Rattle.tk_base.specs.declared.limits.TheConstants.{STEP_LIMIT}
@@ -15,7 +16,7 @@ use Rattle.tk_base.specs.declared.process.Choice.TheVariants.{Device}
 use Rattle.tk_base.specs.declared.process.Dev.{Dev}
 use Rattle.tk_base.specs.declared.process.ProcessId.{ProcessId}
 use Rattle.board_memory.specs.Registers.{Protect}
-use Rattle.process_layout.specs.LayoutView.{LayoutView}
+use Rattle.process_layout.specs.Bounds.{Bounds}
 use Rattle.process_model.specs.Own.{Own}
 use Rattle.process_record.specs.Emit.{nothing}
 use Rattle.process_record.specs.declared.emit.Emit.{Emit}
@@ -27,8 +28,10 @@ use Rattle.driver_requests.specs.Waiting.{waiting_still, without}
 use Rattle.grant_enter.specs.Homes.{Homes, ChangesOnly, nobody, own_of}
 use Rattle.kernel_model.specs.Record.{Record}
 use Rattle.kernel_model.specs.Turn.{Event}
-use Rattle.kernel_model.specs.World.{Answered, Printed, Stepped, World, can_act, carried_out, done}
-use Rattle.kernel_model.specs.World.{device_step_of, is_ready, may_be_made, printing}
+use Rattle.kernel_model.specs.World.{Answer, Label, Stepped, World, answer_label, can_act, carried_out, done}
+use Rattle.kernel_model.specs.World.{device_step_of, is_ready, may_be_made}
+use Rattle.kernel_model.proofs.Labels.{device_labels, none_in}
+use Rattle.kernel_model.proofs.Steps.{IsAnswer}
 use Rattle.kernel_model.specs.Shown.{shown_by}
 use Rattle.kernel_model.specs.Laws.{DevicesAnswerOne, one_answered}
 use Rattle.board_core.specs.declared.board.Board.TheInside.{Inside}
@@ -72,7 +75,7 @@ still_guards guard home home_after slot only same guards = record {
         of_each (o ∷ owns) (suc k) = of_each owns k
 
     layout_of : (s : ℕ) → (own_of home_after s).layout ≡ (own_of home s).layout
-    layout_of s = in_place home_after s ∙ ap (λ (es : List LayoutView). slice_index_or es s nobody.layout) layouts
+    layout_of s = in_place home_after s ∙ ap (λ (es : List Bounds). slice_index_or es s nobody.layout) layouts
         ∙ sym (in_place home s)
 
 pub lost_where : (steps : ℕ) (owns : List Own) (slot : ℕ) (own : Own) → slice_get owns slot ≡ Some own
@@ -105,32 +108,21 @@ may_act w device below e = subst (λ (c : Bool). IsTrue (nat_lt w.clock.steps ST
     under = grind (arith, nat_tests)
 
 -- a step that printed bytes shows them
-printed_shown : (slot : ℕ) (event : Event) (bytes : List ℕ)
-    → shown_printed slot bytes ≡ shown_by (Answered slot event ∷ printing slot bytes)
+printed_shown : (slot : ℕ) (a : Answer) → IsAnswer a.event
+    → shown_printed slot a.printed ≡ shown_by (answer_label slot a ∷ [])
 unfolding shown_by
-printed_shown slot event [] = refl
-printed_shown slot event (byte ∷ bytes) = by_length (length (byte ∷ bytes) == 0) refl
+printed_shown slot a is =
+    by_length (length a.printed == 0) refl
+    ∙ sym (ap (λ (turn : Bool). if turn || not (length a.printed == 0) then shows (a.printed ++ []) else nothing) is)
   where
-    append_none : (xs : List ℕ) → xs ≡ xs ++ []
-    append_none [] = refl
-    append_none (x ∷ xs) = ap (λ (ys : List ℕ). x ∷ ys) (append_none xs)
+    shows : List ℕ → Emit
+    shows bytes = record nothing { slot = Some slot; printed = record { items = bytes } }
 
-    none_is : (length (byte ∷ bytes) == 0) ≡ false
-    none_is = grind (arith, nat_tests)
-
-    by_length : (b : Bool) → (length (byte ∷ bytes) == 0) ≡ b
-        → shown_printed slot (byte ∷ bytes) ≡ shown_by (Answered slot event ∷ printing slot (byte ∷ bytes))
-    by_length true e = absurd (false≢true (sym none_is ∙ e))
-    by_length false e =
-        ap (λ (c : Bool). record nothing {
-          slot = if c then None else Some slot;
-          printed =
-              record { items = byte ∷ bytes };
-        }) e
-        ∙ ap (λ (xs : List ℕ). record nothing { slot = Some slot; printed = record { items = xs } })
-        (append_none (byte ∷ bytes))
-        ∙ sym (ap (λ (c : Bool). shown_by (Answered slot event ∷ (if c then [] else Printed slot (byte ∷ bytes) ∷ [])))
-        e)
+    by_length : (none : Bool) → (length a.printed == 0) ≡ none
+        → record nothing { slot = if none then None else Some slot; printed = record { items = a.printed } }
+        ≡ (if false || not none then shows (a.printed ++ []) else nothing)
+    by_length true e = ap (λ (xs : List ℕ). record nothing { printed = record { items = xs } }) (none_in a.printed e)
+    by_length false e = ap shows (sym (append-nil a.printed))
 
 -- A list is that of those with a request, after an answer to one of them.
 left_line : (queue : QueueName) (left : Bool) (ids ids' : List ProcessId) (owns : List Own) (slot : ℕ) (own o : Own)
@@ -215,12 +207,20 @@ module _ (b : Inside) (device : Dev) (slot : ℕ) (printed : List ℕ) (home : H
       (changed ∙ ap (slice_set w.records slot) (sym t.serves.tells))
       ∙ sym (ap (λ (s : Stepped). s.after) (answered_so law))
 
+  -- it is no turn
+  no_turn : DevicesAnswerOne → IsAnswer t.serves.event
+  no_turn law =
+      let w = world_of b in
+      All-head (λ (label : Label). IsAnswer label.event) _ [] (subst (λ (s : Stepped).
+      All (λ (label : Label). IsAnswer label.event) s.labels) (answered_so law)
+      (device_labels (λ label. IsAnswer label.event) w (λ slot r a there is. is) device))
+
   -- what it shows
   pub told_shown : DevicesAnswerOne → shown_printed slot printed
       ≡ shown_by (carried_out (world_of b) (Device device)).labels
   unfolding carried_out
-  told_shown law = printed_shown slot t.serves.event printed ∙ sym (ap (λ (s : Stepped). shown_by s.labels)
-      (answered_so law))
+  told_shown law = printed_shown slot (record { event = t.serves.event; printed = printed }) (no_turn law)
+      ∙ sym (ap (λ (s : Stepped). shown_by s.labels) (answered_so law))
 
   -- it may be made below the limit of steps
   pub may_tell : b.machine.moment.steps < STEP_LIMIT → IsTrue (is_ready (world_of b) (Device device))

@@ -16,10 +16,11 @@ use Rattle.process_record.specs.declared.emit.Emit.{Emit}
 use Rattle.kernel_model.specs.Record.{Record}
 use Rattle.kernel_model.specs.Turn.{Event}
 use Rattle.kernel_model.specs.declared.settings.Settings.{Settings}
-use Rattle.kernel_model.specs.World.{World, Label, TurnOf, Answered, Printed, after, is_ready, labels}
+use Rattle.kernel_model.specs.World.{World, Label, after, is_ready, labels}
 use Rattle.kernel_model.specs.Accounts.{IsAccountedFor}
-use Rattle.kernel_model.specs.Run.{printed, printed_by}
+use Rattle.kernel_model.specs.Run.{printed}
 use Rattle.kernel_model.specs.Shown.{shown_by}
+use Rattle.kernel_model.proofs.Labels.{shown_by-printed}
 use Rattle.kernel_model.specs.Replay.{RecordIsReplay, after_all, history, replay}
 use Rattle.kernel_model.specs.Choices.{Throughout, are_ready, labels_of_all, printed_by_all}
 use Rattle.board_opening.specs.Alone.{IsFirstAlone, first_alone}
@@ -51,20 +52,12 @@ labels-more w (d ∷ cs) c =
 printed-more : (w : World) (cs : List Choice) (c : Choice)
     → printed_by_all w (cs ++ c ∷ []) ≡ printed_by_all w cs ++ printed (labels (after_all w cs) c)
 printed-more w cs c =
-    ap printed (labels-more w cs c) ∙ flat_map-append printed_by (labels_of_all w cs) (labels (after_all w cs) c)
+    ap printed (labels-more w cs c) ∙ flat_map-append _ (labels_of_all w cs) (labels (after_all w cs) c)
 
 throughout-more : (w : World) (cs : List Choice) (c : Choice) → Throughout IsAccountedFor w cs
     → IsAccountedFor (after_all w cs) c → Throughout IsAccountedFor w (cs ++ c ∷ [])
 throughout-more w [] c all one = (one, tt)
 throughout-more w (d ∷ cs) c all one = (all.0, throughout-more (after w d) cs c all.1 one)
-
--- what a step shows that it printed
-shown-printed : (ls : List Label) → (shown_by ls).printed.items ≡ printed ls
-unfolding shown_by
-shown-printed [] = refl
-shown-printed (TurnOf slot time told ∷ ls) = shown-printed ls
-shown-printed (Answered slot event ∷ ls) = shown-printed ls
-shown-printed (Printed slot bytes ∷ ls) = ap (λ (xs : List ℕ). bytes ++ xs) (shown-printed ls)
 
 -- what choices that were made lead to, of each process by itself
 made_of : (old new : World) (cs : List Choice) → RecordIsReplay → are_ready old cs ≡ true → new ≡ after_all old cs
@@ -128,7 +121,7 @@ module _ {K : Type 0} {tells : K → SinkFacts} {old new : World} {choices : Lis
         ap (printed_by_all old) one_longer ∙ printed-more old (take i choices) c
         ∙ ap (λ (w : World). printed_by_all old (take i choices) ++ printed (labels w c)) (sym p.world)
         ∙ ap (λ (xs : List ℕ). printed_by_all old (take i choices) ++ xs)
-        (sym (ap (λ (x : Emit). x.printed.items) s ∙ shown-printed (labels new c)))
+        (sym (ap (λ (x : Emit). x.printed.items) s ∙ shown_by-printed (labels new c)))
 
     -- one more was made
     steps : (then : World) → is_ready new c ≡ true → then ≡ after new c

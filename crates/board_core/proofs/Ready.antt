@@ -1,24 +1,21 @@
 -- Which device steps of a board are ready, and when the next one becomes so.
-use Rattle.std.proofs.Common.{◌≡◌, ℕ, ◌+◌, Bool, true, false, cond, List, [], ◌∷◌, Ok, IsTrue, refl, sym, ap}
+use Rattle.std.proofs.Common.{◌≡◌, ℕ, ◌+◌, Bool, true, false, cond, List, [], ◌∷◌, map, Ok, IsTrue, refl, sym, ap}
 use Rattle.std.proofs.Common.{◌∙◌}
-use Rattle.std.specs.Option.{option_map}
-use Rattle.board_devices.specs.Arriving.{first_arrival_time as arrival_time}
-use Rattle.board_devices.specs.Clock.{clock_at}
 use Rattle.process_model.specs.Own.{Own}
-use Rattle.driver_model.specs.Alarm.{nearer, next_left}
 use Rattle.tk_base.specs.declared.process.Choice.{Choice}
 use Rattle.tk_base.specs.declared.process.Choice.TheVariants.{Pass}
 use Rattle.process_record.specs.Emit.{nothing}
 use Rattle.process_record.specs.declared.emit.Emit.{Emit}
 use Rattle.kernel_model.specs.Shown.{shown_by}
 use Rattle.kernel_model.specs.World.{Stepped, World, carried_out, is_ready, owns_in, stepped, unmade}
-use Rattle.kernel_model.specs.Run.{next_time, ready_devices, sending_time}
+use Rattle.kernel_model.specs.Run.{next_time, ready_devices}
+use Rattle.tk_base.specs.declared.process.Dev.{Dev}
 use Rattle.tk_base.specs.declared.process.Dev.TheVariants as dev
+use Rattle.turn_scheduler.specs.RoundRobin.{device_order, device_place, place_is_ready}
 use Rattle.board_core.specs.declared.board.Board.TheInside.{Inside}
-use Rattle.board_drivers.specs.Calm.{IsCalmAt}
+use Rattle.board_drivers.specs.Calm.{IsCalmAt, work_in}
 use Rattle.board_drivers.specs.declared.drivers.Drivers.{Drivers}
 use Rattle.board_drivers.specs.declared.moment.Moment.{Moment}
-use Rattle.board_drivers.specs.Driven.{devices_of}
 use Rattle.board_core.specs.Makes.{MakesStep, ready_in}
 use Rattle.board_core.specs.Shows.{IsBoard, world_of}
 use Rattle.board_core.proofs.Boards.{has_storage}
@@ -34,6 +31,16 @@ pub calm_ready : (m : Moment) (owns : List Own) (d : Drivers) → IsCalmAt m.set
 calm_ready m owns d calm =
     six (calm dev.Event) (calm dev.Alarm) (calm dev.Uart) (calm dev.Receive) (calm dev.Random) (calm dev.Store)
 
+-- whether a device step is ready, by the table of those that are
+pub ready_at : (ready : Dev → Bool) (device : Dev)
+    → ready device ≡ place_is_ready (map ready device_order) (device_place device)
+ready_at ready dev.Event = refl
+ready_at ready dev.Alarm = refl
+ready_at ready dev.Uart = refl
+ready_at ready dev.Receive = refl
+ready_at ready dev.Random = refl
+ready_at ready dev.Store = refl
+
 module _ (b : Inside) (board : IsBoard b) where
   -- what the owns of the world that a board shows are
   pub owns_in_world : owns_in (world_of b) ≡ b.machine.home.owns
@@ -41,13 +48,8 @@ module _ (b : Inside) (board : IsBoard b) where
       owns_shown b.machine.home.flash b.processes.items b.machine.home.owns b.machine.drivers.stores.slots board.owns (has_storage b board)
 
   -- the nearest time at which a device step becomes ready by itself
-  pub next_shown : nearer (arrival_time b.machine.drivers.arrivals)
-      (nearer (option_map (λ n. b.machine.moment.time + n)
-      (next_left (clock_at b.machine.moment.settings.start b.machine.moment.time) b.machine.home.owns)) (sending_time (devices_of b.machine.drivers)))
-      ≡ next_time (world_of b)
-  next_shown = ap (λ (owns : List Own). nearer (arrival_time b.machine.drivers.arrivals)
-      (nearer (option_map (λ n. b.machine.moment.time + n) (next_left (clock_at b.machine.moment.settings.start b.machine.moment.time) owns))
-      (sending_time (devices_of b.machine.drivers)))) (sym owns_in_world)
+  pub next_shown : (work_in b.machine.moment b.machine.home.owns b.machine.drivers).next ≡ next_time (world_of b)
+  next_shown = ap (λ (owns : List Own). (work_in b.machine.moment owns b.machine.drivers).next) (sym owns_in_world)
 
   -- which device steps are ready
   pub devices_shown : ready_in b.machine.moment b.machine.home.owns b.machine.drivers ≡ ready_devices (world_of b)

@@ -27,7 +27,7 @@ use Rattle.kernel_model.specs.Stretch.{GoesOn, IsStretch, NoneActs, NoneIsStretc
 use Rattle.kernel_model.specs.Stretch.{PresentIsNextOnTheWay, PresentStaysOn, RoundIsStretch}
 use Rattle.kernel_model.specs.Stretch.{after_stretch, at_turn}
 use Rattle.kernel_model.specs.World.{World, owns_in}
-use Rattle.board_drivers.specs.Calm.{HasCome, IsCalm, ServesNobody, coming}
+use Rattle.board_drivers.specs.Calm.{HasCome, IsCalm, ServesNobody, work_in}
 use Rattle.board_core.specs.declared.board.Board.TheInside.{Inside}
 use Rattle.board_drivers.specs.declared.drivers.Drivers.{Drivers}
 use Rattle.board_drivers.specs.declared.moment.Moment.{Moment}
@@ -139,7 +139,8 @@ still_runs (suc j) r = still_runs j (instruction_made r)
 module _ (b : Inside) (board : IsBoard b) where
   -- a board of which nobody is served at once, and no device step is to come by now, does not have one that is ready
   pub nothing_comes : ready_device (ready_devices (world_of b)) ≡ None → NextLiesAhead
-      → (ServesNobody b.machine.drivers → HasCome b.machine.moment.time (coming b.machine.moment b.machine.home.owns b.machine.drivers)) → ⊥
+      → (ServesNobody b.machine.drivers
+      → HasCome b.machine.moment.time (work_in b.machine.moment b.machine.home.owns b.machine.drivers).next) → ⊥
   nothing_comes none law comes =
       let idle = served_by_none _ _ _ _ _ _ (ap ready_device (devices_shown b board) ∙ none) in
       not_both _ (sym (next_shown b board)) (law (world_of b) none)

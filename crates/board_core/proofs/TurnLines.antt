@@ -6,7 +6,7 @@ use Rattle.std.proofs.lemmas.Option.{slice_get_within, get_or_from_slice_get}
 use Rattle.tbf_headers.specs.declared.fault.HeaderFault.{HeaderFault}
 use Rattle.tbf_headers.specs.declared.program.Main.{Main}
 use Rattle.tbf_headers.specs.Meaning.{Meaning, header_reading}
-use Rattle.process_layout.specs.LayoutView.{LayoutView}
+use Rattle.process_layout.specs.Bounds.{Bounds}
 use Rattle.tk_base.specs.declared.process.ProcessId.{ProcessId}
 use Rattle.process_model.specs.Own.{Own}
 use Rattle.process_record.specs.declared.process.Process.{Process}
@@ -42,7 +42,7 @@ use Rattle.board_turns.proofs.Turns.{loses_one}
 use Rattle.board_turns.specs.declared.machine.Machine.{Machine}
 
 -- an application that started can start again
-can_start_again : (address : ℕ) (e : LayoutView) (read : Result Meaning HeaderFault) → IsApplication address e read
+can_start_again : (address : ℕ) (e : Bounds) (read : Result Meaning HeaderFault) → IsApplication address e read
     → is_some (main_by read) ≡ true
 can_start_again address e (Err fault) a = absurd a
 can_start_again address e (Ok h) a = by_main h.main a

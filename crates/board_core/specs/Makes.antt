@@ -4,15 +4,14 @@ use Rattle.std.specs.Prelude.{None, Some, Result, IsOk, IsTrue, OnOk, OnErr}
 use Rattle.tk_base.specs.declared.process.Choice.{Choice}
 use Rattle.process_record.specs.declared.emit.Emit.{Emit}
 use Rattle.process_record.specs.Emit.{nothing}
-use Rattle.board_devices.specs.Clock.{clock_at}
 use Rattle.process_model.specs.Own.{Own}
 use Rattle.turn_scheduler.specs.RoundRobin.{device_order}
-use Rattle.kernel_model.specs.World.{World, after, can_act_at, is_ready, labels}
+use Rattle.kernel_model.specs.World.{World, after, is_ready, labels}
 use Rattle.kernel_model.specs.Shown.{shown_by}
 use Rattle.tk_base.specs.declared.process.NotReady.{NotReady}
 use Rattle.board_drivers.specs.declared.drivers.Drivers.{Drivers}
 use Rattle.board_drivers.specs.declared.moment.Moment.{Moment}
-use Rattle.board_drivers.specs.Driven.{devices_of}
+use Rattle.board_drivers.specs.Calm.{work_in}
 
 -- A choice that may be made is made: the world is the next one, and what it tells is shown. Any other is refused, and
 -- nothing changes.
@@ -32,5 +31,4 @@ shown_printed slot bytes = record nothing {
 
 -- which device steps are ready at a moment
 abbrev pub ready_in : Moment → List Own → Drivers → List Bool
-ready_in m owns d =
-    map (can_act_at m.time (clock_at m.settings.start m.time) owns (devices_of d)) device_order
+ready_in m owns d = map (work_in m owns d).ready device_order

@@ -18,18 +18,15 @@ ghost use Rattle.board_opening.specs.Alone.{IsReplayed, OpensAlone};
 ghost use Rattle.board_opening.specs.Opening.{opening};
 ghost use Rattle.board_opening.specs.Settings.{visible_settings};
 ghost use Rattle.board_drivers.specs.Calm.{IsCalm};
-ghost use Rattle.driver_model.specs.Laws.{IsDueWhereNoneAreLeft};
 ghost use Rattle.board_core.specs.Makes.{MakesStep, ready_in, shown_printed};
 ghost use Rattle.board_drivers.specs.Tells.{tells_somebody};
 ghost use Rattle.board_drivers.specs.Residents.{InFlash, line_in, resident_turns, can_turn_in};
 ghost use Rattle.board_turns.specs.Turning.{nothing_shown, told_in_emit};
 
-use alarm_capsule::next_due;
 use arrayvec::ArrayVec;
 use board_drivers::{Drivers, Moment};
 use board_opening::{LoadedProcesses, first_crew, placed_in, unplaced};
 use board_turns::{ActivePmp, Machine, can_turn};
-use driver_model::an_alarm_is_due_where_no_ticks_are_left;
 use grant_enter::Home;
 use kernel_laws::{grants_change_at_calls, turns_keep_lines};
 use kernel_lives::steps_are_accounted_for;
@@ -48,7 +45,7 @@ use tk_base::{
     SLOT_COUNT, STEP_LIMIT, Slot,
 };
 use tk_outside::NoMemory;
-use turn_scheduler::{Status, next_choice, next_slot, used_after};
+use turn_scheduler::{Situated, Status, next_choice_in, next_slot, used_after};
 
 /// A board with its processes. Contracts see the world that it shows.
 #[derive(Drop)]
@@ -127,27 +124,16 @@ fn show(emit: &mut Emit, slot: Slot, printed: ArrayVec<u8, PRINT_LIMIT>)
 
 /// Which device steps are ready at a moment.
 fn devices_ready(home: &Home, drivers: &Drivers, moment: &Moment) -> ArrayVec<bool, 6>
-    ensures { (law : IsDueWhereNoneAreLeft)
-        → result.items ≡ ready_in moment.now home.now.owns drivers.now }
+    ensures { result.items ≡ ready_in moment.now home.now.owns drivers.now }
 {
-    let alarm = is_now(next_due(home, moment.tick()));
-    let sends = !drivers.console.writes.is_empty() && drivers.uart.free() <= moment.time;
-    let receives = !drivers.console.reads.is_empty() && drivers.uart.held() > 0;
     ArrayVec::from([
-        drivers.arrivals.is_time(moment.time),
-        alarm,
-        sends,
-        receives,
-        !drivers.random.waiting.is_empty(),
-        !drivers.storage.waiting.is_empty(),
+        moment.is_ready(home, drivers, Dev::Event),
+        moment.is_ready(home, drivers, Dev::Alarm),
+        moment.is_ready(home, drivers, Dev::Uart),
+        moment.is_ready(home, drivers, Dev::Receive),
+        moment.is_ready(home, drivers, Dev::Random),
+        moment.is_ready(home, drivers, Dev::Store),
     ])
-}
-
-/// Whether no ticks are left.
-fn is_now(left: Option<u32>) -> bool
-    ensures { IsTrue result ↔ (left ≡ Some 0) }
-{
-    matches!(left, Some(0))
 }
 
 /// What of a script's settings processes can see.
@@ -234,6 +220,48 @@ fn slot_lines(home: &Home, processes: &[Process]) -> ArrayVec<SlotLine, SLOT_COU
         });
     }
     lines
+}
+
+/// The board tells what the round robin reads of it, each part where it is asked for.
+impl Situated for Board {
+    ghost use Rattle.kernel_model.specs.Run.{situation_of};
+
+    ghost situation = { situation_of };
+
+    ghost asks = { λ w. Unit {0} };
+
+    fn device_is_ready(&self, device: Dev) -> bool {
+        self.machine
+            .moment
+            .is_ready(&self.machine.home, &self.machine.drivers, device)
+    }
+
+    fn slot_is_ready(&self, slot: Slot) -> bool {
+        can_run(&self.machine.home, &self.processes, slot)
+    }
+
+    fn next(&self) -> Option<u64> {
+        next_is_ready();
+        self.machine
+            .moment
+            .next_time(&self.machine.home, &self.machine.drivers)
+    }
+
+    fn time(&self) -> u64 {
+        self.machine.moment.time
+    }
+
+    fn present(&self) -> Option<Slot> {
+        self.present
+    }
+
+    fn used(&self) -> u32 {
+        self.used
+    }
+
+    fn slice(&self) -> u32 {
+        self.slice
+    }
 }
 
 impl Board {
@@ -455,7 +483,6 @@ impl Board {
         ensures status { status_situation result ≡ situation_of self.now }
         ensures near { IfSome result.next (λ at. at - result.time < 2 ^ 32) }
     {
-        an_alarm_is_due_where_no_ticks_are_left();
         let mut status = Status {
             ready: ArrayVec::new(),
             devices: devices_ready(
@@ -484,9 +511,7 @@ impl Board {
         if self.machine.moment.time >= self.calm {
             return None;
         }
-        let mut ready = ArrayVec::new();
-        add_ready(&self.machine.home, &self.processes, &mut ready);
-        next_slot(&ready, self.present, self.used, self.slice)
+        next_slot(self)
     }
 
     /// The next choice of the round robin; None exactly where no process can have a turn, no device has anything to do,
@@ -504,7 +529,7 @@ impl Board {
         if let Some(slot) = self.next_in_calm() {
             return Some(Choice::Run(slot));
         }
-        next_choice(&self.status())
+        next_choice_in(self)
     }
 
     /// What the report says of the board.

@@ -1,7 +1,7 @@
 //! What there is to see of one process on a board, and of those that wait.
 ghost use Rattle.std.specs.Prelude.{◌≡◌, All, map, slice_get};
 ghost use Rattle.std.specs.Option.{option_copied, option_map};
-ghost use Rattle.process_model.specs.Own.{block_of};
+ghost use Rattle.process_model.specs.Own.{block_of, layout_of};
 ghost use Rattle.grant_enter.specs.Homes.{living};
 ghost use Rattle.board_core.specs.Looks.{LivesThere, waiting_for};
 
@@ -25,7 +25,7 @@ impl Board {
 
     /// Where the memory of the process in a slot lies.
     pub fn layout(&self, slot: Slot) -> Option<Layout>
-        ensures { result ≡ option_map (λ r. r.own.layout) (slice_get self.now.records slot) }
+        ensures { result ≡ option_map (λ r. layout_of r.own) (slice_get self.now.records slot) }
     {
         if slot.index() >= self.processes.len() {
             return None;

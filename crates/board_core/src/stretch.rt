@@ -8,7 +8,7 @@ ghost use Rattle.kernel_model.specs.Choices.{Throughout};
 ghost use Rattle.kernel_model.specs.Replay.{chosen};
 ghost use Rattle.kernel_model.specs.Run.{next};
 ghost use Rattle.kernel_model.specs.Stretch.{GoesOn, IsStretch};
-ghost use Rattle.board_drivers.specs.Calm.{HasCome, IsCalm, ServesNobody, coming};
+ghost use Rattle.board_drivers.specs.Calm.{HasCome, IsCalm, ServesNobody, work_in};
 ghost use Rattle.board_core.specs.Stretches.{EndsStretch, slot_runs};
 
 use crate::board::Board;
@@ -69,7 +69,7 @@ fn calm_ahead(calm: u64, moment: &Moment, home: &Home, drivers: &Drivers) -> u64
     ensures calm { IsCalm moment.now.settings.start moment.now.time result home.now.owns
         drivers.now }
     ensures come { result ≤ moment.now.time → ServesNobody drivers.now
-        → HasCome moment.now.time (coming moment.now home.now.owns drivers.now) }
+        → HasCome moment.now.time (work_in moment.now home.now.owns drivers.now).next }
 {
     if moment.time < calm {
         return calm;

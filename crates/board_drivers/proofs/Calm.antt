@@ -20,8 +20,7 @@ use Rattle.driver_model.specs.Alarm.{armed_in, due_slot, has_due, if_due, nearer
 use Rattle.driver_model.specs.Commands.{Writes, Reads, Randoms, Stores}
 use Rattle.driver_model.specs.Laws.{QuietUntilNext}
 use Rattle.grant_enter.specs.Homes.{nobody}
-use Rattle.kernel_model.specs.Run.{sending_time}
-use Rattle.kernel_model.specs.World.{is_waited_for}
+use Rattle.kernel_model.specs.World.{is_waited_for, sending_time}
 use Rattle.board_drivers.specs.declared.drivers.Drivers.{Drivers}
 use Rattle.board_drivers.specs.Calm.{IsCalm, IsCalmAt, ServesNobody}
 use Rattle.board_drivers.specs.Driven.{Drives, devices_of, slots_of}

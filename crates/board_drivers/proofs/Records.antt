@@ -1,6 +1,6 @@
 -- The records of a board: each process, with what is its own, beside the storage of its slot.
 use Rattle.std.proofs.Common.{◌≡◌, ℕ, zero, suc, ◌≤◌, List, [], ◌∷◌, length, map, slice_get, slice_set, slice_index_or}
-use Rattle.std.proofs.Common.{refl, sym, ap, ◌∙◌, arith, Some, ◌<◌, Bool, true, false, nat_lt, All, subst, ◌-◌}
+use Rattle.std.proofs.Common.{refl, sym, ap, ◌∙◌, arith, Some, ◌<◌, Bool, true, false, nat_lt, All, subst}
 use Rattle.std.specs.List.{zip}
 use Rattle.std.specs.Option.{option_map}
 use Rattle.std.proofs.lemmas.List.{set-get_or}

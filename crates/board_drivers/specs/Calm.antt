@@ -4,15 +4,14 @@ use Rattle.tk_base.specs.declared.process.Dev.{Dev}
 use Rattle.tk_base.specs.declared.process.Dev.TheVariants.{Receive, Random, Store}
 use Rattle.board_devices.specs.Clock.{clock_at}
 use Rattle.process_model.specs.Own.{Own}
-use Rattle.kernel_model.specs.Run.{next_time_at}
-use Rattle.kernel_model.specs.World.{can_act_at}
+use Rattle.kernel_model.specs.World.{Work, work_at}
 use Rattle.board_drivers.specs.declared.drivers.Drivers.{Drivers}
 use Rattle.board_drivers.specs.declared.moment.Moment.{Moment}
 use Rattle.board_drivers.specs.Driven.{devices_of}
 
 -- whether a device is ready that looks neither at the time nor at what processes keep
 abbrev pub can_act_at_once : Drivers → Dev → Bool
-can_act_at_once d device = can_act_at 0 0 [] (devices_of d) device
+can_act_at_once d device = (work_at 0 0 [] (devices_of d)).ready device
 
 -- nobody waits for bytes that came in, for random bytes or for the storage
 pub record ServesNobody (d : Drivers) : Type 0 where
@@ -23,15 +22,15 @@ pub record ServesNobody (d : Drivers) : Type 0 where
 -- no device step is ready at a time
 abbrev pub IsCalmAt : ℕ → ℕ → List Own → Drivers → Type 0
 IsCalmAt start time owns d = (device : Dev)
-    → can_act_at time (clock_at start time) owns (devices_of d) device ≡ false
+    → (work_at time (clock_at start time) owns (devices_of d)).ready device ≡ false
 
 -- none is from a time on, and before another
 abbrev pub IsCalm : ℕ → ℕ → ℕ → List Own → Drivers → Type 0
 IsCalm start from until owns d = (time : ℕ) → from ≤ time → time < until → IsCalmAt start time owns d
 
--- the nearest time at which a device step becomes ready by itself
-abbrev pub coming : Moment → List Own → Drivers → Option ℕ
-coming m owns d = next_time_at m.time (clock_at m.settings.start m.time) owns (devices_of d)
+-- what there is to do for the devices at a moment
+abbrev pub work_in : Moment → List Own → Drivers → Work
+work_in m owns d = work_at m.time (clock_at m.settings.start m.time) owns (devices_of d)
 
 -- there is a time, and it has come by another
 abbrev pub HasCome : ℕ → Option ℕ → Type 0

@@ -4,8 +4,7 @@ ghost use Rattle.board_devices.specs.Arriving.{first_arrival_time};
 ghost use Rattle.driver_model.specs.Commands.{leaving_all};
 ghost use Rattle.grant_enter.specs.Homes.{own_of, ChangesOnly};
 ghost use Rattle.grant_enter.specs.Visits.{is_stale};
-ghost use Rattle.kernel_model.specs.Run.{sending_time};
-ghost use Rattle.board_drivers.specs.Calm.{ServesNobody};
+ghost use Rattle.kernel_model.specs.World.{sending_time};
 ghost use Rattle.board_drivers.specs.Residents.{HasLost};
 ghost use Rattle.board_drivers.specs.Tells.{Acts, tells_somebody};
 ghost use Rattle.tk_base.specs.declared.limits.TheConstants.{STEP_LIMIT};
@@ -80,15 +79,6 @@ impl Drivers {
         self.console.gone(*id);
         self.random.gone(*id);
         self.storage.gone(*id);
-    }
-
-    /// Whether a process waits for bytes that came in, for random bytes or for the storage: its device acts at
-    /// once.
-    pub fn is_busy(&self) -> bool
-        ensures { (result ≡ false) ↔ ServesNobody self.now }
-    {
-        let receives = !self.console.reads.is_empty() && self.uart.held() > 0;
-        receives || !self.random.waiting.is_empty() || !self.storage.waiting.is_empty()
     }
 
     /// The time at which the next bytes come in, if any are to.

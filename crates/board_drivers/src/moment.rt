@@ -1,20 +1,20 @@
 //! The moment of a step.
-ghost use Rattle.std.specs.Prelude.{◌≡◌, ◌+◌, ◌-◌, ◌<◌, ◌≤◌, ◌^◌, IfSome};
+ghost use Rattle.std.specs.Prelude.{◌≡◌, ◌+◌, ◌-◌, ◌<◌, ◌≤◌, ◌^◌, ◌↔◌, IfSome, IsTrue, Some, false, nat_le, unwrap_or};
 ghost use Rattle.std.specs.Option.{option_map};
 ghost use Rattle.tk_base.specs.declared.limits.TheConstants.{SENDING_LIMIT};
 ghost use Rattle.board_devices.specs.Arriving.{first_arrival_time};
 ghost use Rattle.board_devices.specs.Clock.{clock_at};
 ghost use Rattle.driver_model.specs.Alarm.{nearer, next_left};
-ghost use Rattle.kernel_model.specs.Run.{sending_time};
-ghost use Rattle.board_drivers.specs.Calm.{HasCome, IsCalm, ServesNobody, coming};
+ghost use Rattle.board_drivers.specs.Calm.{HasCome, IsCalm, ServesNobody, work_in};
 ghost use Rattle.board_drivers.specs.Driven.{devices_of};
 
 use crate::drivers::Drivers;
 use alarm_capsule::next_due;
 use board_devices::Clock;
-use driver_model::no_alarm_is_due_before_the_next;
+use driver_model::{an_alarm_is_due_where_no_ticks_are_left, no_alarm_is_due_before_the_next};
 use grant_enter::Home;
 use kernel_model::Settings;
+use tk_base::Dev;
 
 /// What a step rests on beside the processes: the settings that they can see, the time, and the steps so far.
 #[derive(Clone, Copy, Debug)]
@@ -23,6 +23,23 @@ pub struct Moment {
     /// In ticks.
     pub time: u64,
     pub steps: u64,
+}
+
+/// Whether no ticks are left.
+fn is_now(left: Option<u32>) -> bool
+    ensures { IsTrue result ↔ (left ≡ Some 0) }
+{
+    matches!(left, Some(0))
+}
+
+/// Whether there is a time that has come.
+fn has_come(at: Option<u64>, time: u64) -> bool
+    ensures { result ≡ unwrap_or (option_map (λ at. nat_le at time) at) false }
+{
+    match at {
+        Some(at) => at <= time,
+        None => false,
+    }
 }
 
 /// The nearer of two times, where there are two.
@@ -44,6 +61,31 @@ impl Moment {
         Clock::new(self.settings.start).now(self.time)
     }
 
+    /// Whether a device step is ready: bytes are to come in; an alarm is due; a write waits and the UART is free; a
+    /// read waits and bytes came in; a request for random bytes waits; one for storage waits.
+    pub fn is_ready(&self, home: &Home, drivers: &Drivers, device: Dev) -> bool
+        ensures { result ≡ (work_in self.now home.now.owns drivers.now).ready device }
+    {
+        an_alarm_is_due_where_no_ticks_are_left();
+        match device {
+            Dev::Event => drivers.arrivals.is_time(self.time),
+            Dev::Alarm => is_now(next_due(home, self.tick())),
+            Dev::Uart => has_come(drivers.sending_time(), self.time),
+            Dev::Receive => !drivers.console.reads.is_empty() && drivers.uart.held() > 0,
+            Dev::Random => !drivers.random.waiting.is_empty(),
+            Dev::Store => !drivers.storage.waiting.is_empty(),
+        }
+    }
+
+    /// Whether a device is ready that looks neither at the time nor at what processes keep: it acts at once.
+    fn is_busy(&self, home: &Home, drivers: &Drivers) -> bool
+        ensures { (result ≡ false) ↔ ServesNobody drivers.now }
+    {
+        self.is_ready(home, drivers, Dev::Receive)
+            || self.is_ready(home, drivers, Dev::Random)
+            || self.is_ready(home, drivers, Dev::Store)
+    }
+
     /// The time after so many ticks, if that is a number of ticks.
     fn after(&self, ticks: Option<u32>) -> Option<u64>
         requires { self.now.time + 2 ^ 32 ≤ 2 ^ 64 }
@@ -59,7 +101,7 @@ impl Moment {
     pub fn next_time(&self, home: &Home, drivers: &Drivers) -> Option<u64>
         requires time { self.now.time + 2 ^ 32 ≤ 2 ^ 64 }
         requires free { drivers.now.uart.free ≤ self.now.time + SENDING_LIMIT }
-        ensures at { result ≡ coming self.now home.now.owns drivers.now }
+        ensures at { result ≡ (work_in self.now home.now.owns drivers.now).next }
         ensures near { IfSome result (λ at. at - self.now.time < 2 ^ 32) }
     {
         let alarm = self.after(next_due(home, self.tick()));
@@ -78,10 +120,10 @@ impl Moment {
         ensures calm { IsCalm self.now.settings.start self.now.time result home.now.owns
             drivers.now }
         ensures come { result ≤ self.now.time → ServesNobody drivers.now
-            → HasCome self.now.time (coming self.now home.now.owns drivers.now) }
+            → HasCome self.now.time ((work_in self.now home.now.owns drivers.now).next) }
     {
         no_alarm_is_due_before_the_next();
-        if drivers.is_busy() {
+        if self.is_busy(home, drivers) {
             return self.time;
         }
         match self.next_time(home, drivers) {

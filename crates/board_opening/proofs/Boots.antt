@@ -241,9 +241,7 @@ order_first storage flash low r o = subst HasOrder (sym o.is) (record {
   places = record {
     mark = omega arith;
     brk = up_to o.start o.main.minimum_ram;
-    kernel_break =
-        break_fits o.start o.main.minimum_ram;
-    end = omega arith;
+    grants = omega (arith, break_fits o.start o.main.minimum_ram);
   };
   least = subst (λ (m : Option Main). IfSome m
       (λ m. first_break o.start m.minimum_ram ≤ o.start + block_length o.main.minimum_ram))
@@ -272,7 +270,7 @@ whole_first law storage flash low r o =
         let e = extents (application o.offset o.header o.main) o.start in
         record {
           order = places;
-          bytes = length-replicate (e.kernel_break - e.start) 0;
+          bytes = omega (arith, length-replicate {A = ℕ} (e.end - e.start) 0);
           buffers = record { each = λ kind driver number. keeps_none kind _ };
           shape = (law.none _ refl).shape;
         })

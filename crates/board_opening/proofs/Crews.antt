@@ -23,6 +23,7 @@ use Rattle.tbf_headers.specs.Addresses.{entry_of, after_protected, accessible_st
 use Rattle.tbf_headers.specs.Meaning.{Meaning, header_reading, meaning_of, unless_bad}
 use Rattle.tbf_headers.specs.Objects.{object_at}
 use Rattle.process_layout.specs.LayoutView.{LayoutView, first_break}
+use Rattle.process_layout.specs.Bounds.{bounds_of}
 use Rattle.process_layout.specs.Ordered.{IsOrdered}
 use Rattle.process_model.specs.declared.place.Footprint.{Footprint}
 use Rattle.process_model.specs.Own.{Own, opened as own_opened}
@@ -244,16 +245,16 @@ module _ (flash : List ℕ) (offset : ℕ) (e : LayoutView) (a : KnownApplicatio
       let object : object_in flash p.object ≡ object_bytes flash offset =
       ap (λ (q : Process). object_in flash q.object) s
       ∙ whole_object flash offset (size_at flash offset) a.h.total_size a.total in
-      let start : CanStart (FLASH_START + offset) e a.h a.m =
+      let start : CanStart (FLASH_START + offset) (bounds_of e) a.h a.m =
       record {
         entry = omega (arith, a.entry, below);
         protected =
             omega (arith, a.protected, access.not_empty, below);
         fits = omega (arith, a.least, end);
       } in
-      let application : IsApplication (FLASH_START + offset) e (header_reading (object_bytes flash offset)) =
-      subst (IsApplication (FLASH_START + offset) e) (sym a.read)
-      (subst (HasStart (FLASH_START + offset) e a.h) (sym a.main) start) in
+      let application : IsApplication (FLASH_START + offset) (bounds_of e) (header_reading (object_bytes flash offset)) =
+      subst (IsApplication (FLASH_START + offset) (bounds_of e)) (sym a.read)
+      (subst (HasStart (FLASH_START + offset) (bounds_of e) a.h) (sym a.main) start) in
       record {
         own = record {
           object = record {
@@ -263,8 +264,8 @@ module _ (flash : List ℕ) (offset : ℕ) (e : LayoutView) (a : KnownApplicatio
               accessible_from = omega (arith, at, access.from_object);
               accessible_to = omega (arith, at, size, access.within_object);
             };
-            application = subst (λ (n : ℕ). IsApplication n e (header_reading (object_in flash p.object))) (sym at)
-                (subst (λ (o : List ℕ). IsApplication (FLASH_START + offset) e (header_reading o)) (sym object)
+            application = subst (λ (n : ℕ). IsApplication n (bounds_of e) (header_reading (object_in flash p.object))) (sym at)
+                (subst (λ (o : List ℕ). IsApplication (FLASH_START + offset) (bounds_of e) (header_reading o)) (sym object)
                 application);
           };
           object_is = refl;

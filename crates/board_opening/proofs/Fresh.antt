@@ -15,7 +15,6 @@ use Rattle.driver_model.specs.Commands.{QueueName}
 use Rattle.driver_model.specs.Lines.{IsWithin, has_waiting}
 use Rattle.grant_enter.specs.Homes.{nobody}
 use Rattle.kernel_model.specs.Record.{Record}
-use Rattle.kernel_model.specs.World.{slots_in}
 use Rattle.board_drivers.specs.declared.drivers.Drivers.{Drivers}
 use Rattle.board_opening.specs.Boot.{fresh_record}
 use Rattle.board_drivers.specs.Driven.{AreDriven, AreFresh, IsQueueOf, devices_of, ids_waiting_in, slots_of, waiting_by}

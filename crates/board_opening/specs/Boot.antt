@@ -5,6 +5,7 @@ use Rattle.std.specs.List.{zip}
 use Rattle.tk_base.specs.declared.access.TheConstants.{RAM_START}
 use Rattle.tk_base.specs.declared.process.PlaceFault.{PlaceFault}
 use Rattle.process_layout.specs.LayoutView.{LayoutView}
+use Rattle.process_layout.specs.Bounds.{bounds_of}
 use Rattle.process_layout.specs.Ordered.{IsOrdered}
 use Rattle.process_model.specs.declared.place.Footprint.{Footprint}
 use Rattle.process_model.specs.Own.{opened}
@@ -44,7 +45,7 @@ fresh_record storage flash r = record_of flash (r, erased storage)
 -- a footprint lies where a process may begin its first life, in so many bytes of flash, but for its block in RAM
 pub record IsFirst (flash : ℕ) (f : Footprint) : Type 0 where
   pub ordered : IsOrdered f.layout
-  pub object : HasObject flash f.object f.layout
+  pub object : HasObject flash f.object (bounds_of f.layout)
   pub no_grants : f.layout.kernel_break ≡ f.layout.end
 
 -- a process for each application that is placed, at its start, with what it takes up, whatever the size of its storage

@@ -4,10 +4,6 @@ use Rattle.std.proofs.Common.{slice_index_or, Option, None, Some, is_some, Resul
 use Rattle.std.proofs.Common.{arith}
 use Rattle.tk_base.specs.declared.call.CallRule.{CallRule}
 use Rattle.tk_base.specs.declared.call.CallRule.TheVariants.{Permission}
-use Rattle.tbf_headers.specs.declared.fault.HeaderFault.{HeaderFault}
-use Rattle.tbf_headers.specs.declared.program.Main.{Main}
-use Rattle.tbf_headers.specs.Meaning.{Meaning, header_reading}
-use Rattle.process_layout.specs.LayoutView.{LayoutView}
 use Rattle.syscall_abi.specs.declared.call.Call.{Call as SystemCall}
 use Rattle.syscall_abi.specs.declared.call.Call.TheVariants.{Command}
 use Rattle.syscall_abi.specs.Call.{form_of}
@@ -30,7 +26,7 @@ use Rattle.kernel_model.specs.Record.{Record, record_with_own, with_process}
 use Rattle.kernel_model.specs.Calls.{Served, driver_answered, by_form, failure_of, object_permits}
 use Rattle.kernel_model.specs.Calls.{refused_with, served, taken_by}
 use Rattle.process_model.specs.Flash.{object_in}
-use Rattle.kernel_calls.specs.Own.{IsApplication, IsOwnObject, HasStart, record_in}
+use Rattle.kernel_calls.specs.Own.{IsOwnObject, record_in}
 use Rattle.kernel_model.specs.Lives.{is_alive}
 use Rattle.kernel_calls.specs.Given.{given}
 use Rattle.kernel_calls.specs.Outcomes.{ServingComesTo, IsLeft, IsServed, ServesAt, acts_for, is_for_driver}
@@ -194,16 +190,6 @@ pub served_itself : (m : Moment) (slot : ℕ) (home home' : Homes) (p p' : Proce
 served_itself m slot home home' p p' call o d d' is drives =
     record { acts = acts_for o; serves = is.comes (surroundings m.settings m.time); drives = drives }
 
--- room for grants moves no process's start
-still_starts : (address : ℕ) (e : LayoutView) (k : ℕ) (read : Result Meaning HeaderFault) → IsApplication address e read
-    → IsApplication address (record e { kernel_break = k }) read
-still_starts address e k (Err fault) a = a
-still_starts address e k (Ok h) a = by_main h.main a
-  where
-    by_main : (main : Option Main) → HasStart address e h main → HasStart address (record e { kernel_break = k }) h main
-    by_main None s = s
-    by_main (Some m) s = record { entry = s.entry; protected = s.protected; fits = s.fits }
-
 -- a process that stays in its place stays seated
 pub stays_seated : (flash : List ℕ) (steps : ℕ) (p p' : Process) (own own' : Own) → StaysInPlace own own'
     → p' ≡ record p { regs = p'.regs; refusal = p'.refusal } → IsResident flash steps (p, own)
@@ -211,17 +197,7 @@ pub stays_seated : (flash : List ℕ) (steps : ℕ) (p p' : Process) (own own' :
 stays_seated flash steps p p' own own' place stays s = record {
   own = record {
     object = subst (λ (x : Object). IsOwnObject flash x own'.layout) (sym (ap (λ (q : Process). q.object) stays))
-        (subst (IsOwnObject flash p.object) (sym (ap (λ (o : Own). o.layout) place)) (record {
-          lies = record {
-            from = s.own.object.lies.from;
-            to = s.own.object.lies.to;
-            accessible_from =
-                s.own.object.lies.accessible_from;
-            accessible_to = s.own.object.lies.accessible_to;
-          };
-          application = still_starts p.object.address own.layout own'.layout.kernel_break
-              (header_reading (object_in flash p.object)) s.own.object.application;
-        }));
+        (subst (IsOwnObject flash p.object) (sym (ap (λ (o : Own). o.layout) place)) s.own.object);
     object_is = ap (λ (o : Own). o.object) place ∙ s.own.object_is ∙ sym (ap (λ (q : Process). q.object) stays);
     lives = ap (λ (o : Own). o.lives) place ∙ s.own.lives ∙ sym (ap (λ (q : Process). is_alive q.state) stays);
   };

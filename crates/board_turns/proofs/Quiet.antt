@@ -1,5 +1,5 @@
 -- Quiet turns of a process.
-use Rattle.std.proofs.Common.{◌≡◌, ℕ, zero, suc, ◌+◌, ◌-◌, ◌<◌, List, [], refl, sym, ap, ap₂, subst, ◌∙◌, arith}
+use Rattle.std.proofs.Common.{◌≡◌, ℕ, zero, suc, ◌+◌, ◌<◌, List, [], refl, sym, ap, ap₂, subst, ◌∙◌, arith}
 use Rattle.tk_base.specs.Regs.{Registers}
 use Rattle.rv32_model.specs.declared.turn_end.TurnEnd.TheVariants.{Went}
 use Rattle.process_model.specs.Own.{Own}

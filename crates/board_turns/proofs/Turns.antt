@@ -8,7 +8,7 @@ use Rattle.tk_base.specs.declared.upcall.Upcall.{Upcall}
 use Rattle.tbf_headers.specs.declared.fault.HeaderFault.{HeaderFault}
 use Rattle.tbf_headers.specs.declared.program.Main.{Main}
 use Rattle.tbf_headers.specs.Meaning.{Meaning, header_reading}
-use Rattle.process_layout.specs.LayoutView.{LayoutView}
+use Rattle.process_layout.specs.Bounds.{Bounds}
 use Rattle.process_record.specs.declared.process.Process.{Process}
 use Rattle.process_record.specs.declared.process.State.{State}
 use Rattle.process_record.specs.declared.process.State.TheVariants.{Running, Yielded, Faulted, Terminated}
@@ -191,7 +191,7 @@ module _ (m : Moment) (slot : ℕ) (home made : Homes) (p q : Process) (is : IsM
       (served (next_instruction home.flash before).accesses storage)
 
 -- the start again of a process that faulted is that of one whose denial was recorded
-restarted_same : (r : Record) (denial : Denial) (e : LayoutView) (address : ℕ) (read : Result Meaning HeaderFault)
+restarted_same : (r : Record) (denial : Denial) (e : Bounds) (address : ℕ) (read : Result Meaning HeaderFault)
     → header_reading r.object ≡ read → IsApplication address e read
     → restarted_by (with_process r (record r.process { denial = Some denial })) read
     ≡ restarted_by (with_process r (after_fault r.process denial)) read

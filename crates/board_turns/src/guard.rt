@@ -1,5 +1,6 @@
 //! The one protection register file.
 ghost use Rattle.std.specs.Prelude.{◌≡◌, ◌<◌, None, length};
+ghost use Rattle.process_layout.specs.Bounds.{bounds_of};
 ghost use Rattle.board_memory.specs.Registers.{Protect};
 ghost use Rattle.grant_enter.specs.Homes.{own_of};
 ghost use Rattle.board_turns.specs.Guards.{GuardsOnly, IsSetFor};
@@ -45,7 +46,7 @@ impl ActivePmp {
     /// were set for.
     pub fn refresh(&mut self, home: &Home, slot: Slot, before: &Layout)
         requires slot { slot < length home.now.owns }
-        requires set { Protect self.old.pmp before.now }
+        requires set { Protect self.old.pmp (bounds_of before.now) }
         ensures slot { self.new.slot ≡ self.old.slot }
         ensures protect { Protect self.new.pmp (own_of home.now slot).layout }
     {

@@ -1,2 +1,1 @@
-mod ReadEnds
 mod Receiving

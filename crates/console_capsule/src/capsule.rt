@@ -6,7 +6,8 @@ ghost use Rattle.driver_model.specs.Console.{command, console_reads, console_wri
 ghost use Rattle.driver_requests.specs.Answers.{AnswersFirst};
 ghost use Rattle.driver_requests.specs.Waiting.{without};
 ghost use Rattle.driver_requests.specs.Asking.{MayAskAt, MayBeTold, Obeys, Replies};
-ghost use Rattle.console_capsule.specs.Answers.{cannot_give, cannot_send, received_by, sending_at, written_by};
+ghost use Rattle.console_capsule.specs.Answers.{cannot_give, cannot_send, received_by, sending_at};
+ghost use Rattle.console_capsule.specs.Answers.{written_by};
 
 use crate::commands::{cancel, read};
 use crate::grants::consoles;
@@ -62,16 +63,18 @@ impl ConsoleCapsule {
         }
     }
 
-    /// Serves a command of the process of an id to the console (TRD 104, "Command"): the reply, and the rule that
-    /// refuses it, if one does. 0 asks whether the driver is there. 1 asks to write `count` bytes, 2 to read as many;
-    /// the process then waits, after all others that do. 2 is refused with [`CallRule::Empty`] where `count` is 0; both
-    /// with [`CallRule::Busy`] where a request of that kind of the process waits already, else with
-    /// [`CallRule::NoRoom`] where there is no room for its grant. 3 drops the read that waits, of which upcall 2 tells
-    /// that it was cancelled; it is refused with [`CallRule::Nothing`] where none waits. Any other number is refused
-    /// with [`CallRule::NoCommand`]. Nothing of another process changes, and nothing at all where it is refused.
+    /// Serves a command of the process of an id to the console (TRD 104, "Command"): the reply, and
+    /// the rule that refuses it, if one does. 0 asks whether the driver is there. 1 asks to write
+    /// `count` bytes, 2 to read as many; the process then waits, after all others that do. 2 is
+    /// refused with [`CallRule::Empty`] where `count` is 0; both with [`CallRule::Busy`] where a
+    /// request of that kind of the process waits already, else with [`CallRule::NoRoom`] where
+    /// there is no room for its grant. 3 drops the read that waits, of which upcall 2 tells that it
+    /// was cancelled; it is refused with [`CallRule::Nothing`] where none waits. Any other number
+    /// is refused with [`CallRule::NoCommand`]. Nothing of another process changes, and nothing at
+    /// all where it is refused.
     ///
-    /// It asks that the process is there, that it waits only where it has a request, and that its count of
-    /// dropped upcalls has room for one more.
+    /// It asks that the process is there, that it waits only where it has a request, and that its
+    /// count of dropped upcalls has room for one more.
     pub fn command(
         &mut self,
         home: &mut Home,
@@ -90,17 +93,19 @@ impl ConsoleCapsule {
         reply_of(self.obey(home, id, number, count))
     }
 
-    /// Has the UART take a step of the write that waits longest, at a time: it takes the next bytes out of the
-    /// buffer that the process has allowed now, at most [`PRINT_LIMIT`], and `printed` is then those; it is free again once
-    /// they are sent. Where none is left the write completes: upcall 1 has the count of bytes that were taken, 0
-    /// and 0, and the process waits no more. As many bytes are taken as were asked for, and no more than the
-    /// buffer has. Nothing changes where the process is not there in that life, or has no write; and nothing of
-    /// another slot. The answer is whom it served, and what it told it: that the UART took the next bytes, or has
-    /// taken all. [`NotReady`] comes exactly where no write waits or the UART is not free yet, and then nothing
-    /// changes.
+    /// Has the UART take a step of the write that waits longest, at a time: it takes the next bytes
+    /// out of the buffer that the process has allowed now, at most [`PRINT_LIMIT`], and `printed`
+    /// is then those; it is free again once they are sent. Where none is left the write completes:
+    /// upcall 1 has the count of bytes that were taken, 0 and 0, and the process waits no more. As
+    /// many bytes are taken as were asked for, and no more than the buffer has. Nothing changes
+    /// where the process is not there in that life, or has no write; and nothing of another slot.
+    /// The answer is whom it served, and what it told it: that the UART took the next bytes, or has
+    /// taken all. [`NotReady`] comes exactly where no write waits or the UART is not free yet, and
+    /// then nothing changes.
     ///
-    /// It asks that the slot of the first is one of the home's, that its count of dropped upcalls has room for
-    /// one more, that `printed` is empty, and that the time at which so many bytes are sent is below 2^64.
+    /// It asks that the slot of the first is one of the home's, that its count of dropped upcalls
+    /// has room for one more, that `printed` is empty, and that the time at which so many bytes are
+    /// sent is below 2^64.
     pub fn transmit(
         &mut self,
         home: &mut Home,
@@ -125,16 +130,17 @@ impl ConsoleCapsule {
         Ok(answer)
     }
 
-    /// Moves the oldest bytes that came in to the read that waits longest, to the start of the buffer that the
-    /// process has allowed now, as many as it asks for, and no more than came in or than the buffer has. The read
-    /// completes: upcall 2 has a status, the count of bytes and 0, and the process waits no more. The status is 0,
-    /// or that of TRD 104, "Error codes", for a size where the buffer has no bytes; then no byte is moved. Nothing
-    /// changes where the process is not there in that life, or has no read; and nothing of another slot. The
-    /// answer is whom it served, and the bytes. [`NotReady`] comes exactly where no read waits or nothing came in, and
-    /// then nothing changes.
+    /// Moves the oldest bytes that came in to the read that waits longest, to the start of the
+    /// buffer that the process has allowed now, as many as it asks for, and no more than came in or
+    /// than the buffer has. The read completes: upcall 2 has a status, the count of bytes and 0,
+    /// and the process waits no more. The status is 0, or that of TRD 104, "Error codes", for a
+    /// size where the buffer has no bytes; then no byte is moved. Nothing changes where the process
+    /// is not there in that life, or has no read; and nothing of another slot. The answer is whom
+    /// it served, and the bytes. [`NotReady`] comes exactly where no read waits or nothing came in,
+    /// and then nothing changes.
     ///
-    /// It asks that the slot of the first is one of the home's, and that its count of dropped upcalls has room
-    /// for one more.
+    /// It asks that the slot of the first is one of the home's, and that its count of dropped
+    /// upcalls has room for one more.
     pub fn receive(&mut self, home: &mut Home, uart: &mut Uart) -> Result<Answer, NotReady>
         requires told { IfSome (slice_get self.old.reads 0) (MayBeTold home.old) }
         ensures ready { is_ok result ≡ not (cannot_give self.old.reads uart.old) }
@@ -148,8 +154,8 @@ impl ConsoleCapsule {
         self.reads.answer::<ConsoleCapsule>(home, uart)
     }
 
-    /// The process of an id ended, or starts again: no write and no read of it waits any more. The others keep their
-    /// order.
+    /// The process of an id ended, or starts again: no write and no read of it waits any more. The
+    /// others keep their order.
     pub fn gone(&mut self, id: ProcessId)
         ensures writes { self.new.writes ≡ without id.slot self.old.writes }
         ensures reads { self.new.reads ≡ without id.slot self.old.reads }

@@ -5,7 +5,8 @@ ghost use Rattle.driver_model.specs.Console.{console};
 use grant_enter::Grant;
 use grant_values::{Console, Driver};
 
-/// The grants that processes keep for the console: three upcalls, two read-only and two read-write buffers.
+/// The grants that processes keep for the console: three upcalls, two read-only and two read-write
+/// buffers.
 pub(crate) type Consoles = Grant<Console, 3, 2, 2, 0>;
 
 /// Those that there are.

@@ -1,21 +1,23 @@
 //! Reads: bytes that came in are moved into the buffer of the one that waits longest.
-ghost use Rattle.std.specs.Prelude.{◌≡◌, ◌==◌, ◌+◌, ◌-◌, ◌<◌, ◌≤◌, ◌^◌, if◌then◌else◌, min, drop, length, take, IfSome, is_some, true};
+ghost use Rattle.std.specs.Prelude.{◌≡◌, ◌==◌, ◌+◌, ◌-◌, ◌<◌, ◌≤◌, ◌^◌, if◌then◌else◌, min, drop};
+ghost use Rattle.std.specs.Prelude.{length, take};
 ghost use Rattle.tk_base.specs.Call.{code_of};
 ghost use Rattle.grant_enter.specs.Homes.{own_of, ChangesOnly};
 ghost use Rattle.grant_enter.specs.Seen.{Framed, IsLent, own_entered, seen};
 ghost use Rattle.tk_base.specs.Bytes.{over};
-ghost use Rattle.driver_model.specs.Console.{console, console_reads, bytes_moving, read_status, receiving};
+ghost use Rattle.driver_model.specs.Console.{console, bytes_moving, read_status, received};
+ghost use Rattle.driver_model.specs.Console.{unreceived};
 ghost use Rattle.driver_model.specs.Steps.{own_after};
-ghost use Rattle.driver_requests.specs.Asking.{MayBeTold, waiting_of};
-ghost use Rattle.console_capsule.specs.Receiving.{told_input, written_input};
+ghost use Rattle.driver_requests.specs.Asking.{MayBeTold, in_life};
+ghost use Rattle.console_capsule.specs.Receiving.{taking_in, written_input};
 
 use crate::capsule::ConsoleCapsule;
 use crate::grants::consoles;
 use arrayvec::ArrayVec;
 use board_devices::{Kind, Uart};
-use driver_requests::{Serve, Service, has_request};
-use grant_enter::{Entered, Home, Visit, a_buffer_is_written, buffers_are_whole, frames_join};
-use grant_values::{Console, WaitingRead};
+use driver_requests::{Serve, Service, VisitRequest, visit_request};
+use grant_enter::{Entered, Home, a_buffer_is_written, buffers_are_whole, frames_join};
+use grant_values::WaitingRead;
 use tk_base::{ErrorCode, ProcessId, RING_SIZE};
 
 /// Moves bytes that came in to the read that waits, which completes. It hands the UART back.
@@ -24,26 +26,35 @@ struct Receive<'a> {
     uart: &'a mut Uart,
 }
 
-impl<'a> Visit<Console> for Receive<'a> {
-    ghost use Rattle.std.specs.Prelude.{◌≡◌, ◌+◌, ◌<◌, ◌^◌};
-    ghost use Rattle.console_capsule.specs.Receiving.{Receives};
+impl<'a> VisitRequest<WaitingRead> for Receive<'a> {
+    ghost use Rattle.std.specs.Prelude.{◌≡◌, ◌+◌, ◌<◌, ◌^◌, drop, length, None};
+    ghost use Rattle.driver_model.specs.Console.{bytes_moving};
+    ghost use Rattle.console_capsule.specs.Receiving.{taking_in};
 
     type Answer = &'a mut Uart;
 
-    ghost asks = { λ receive value seen. (seen.driver ≡ console) × (2 < seen.counts.upcalls)
+    ghost asks = { λ receive read seen. (seen.driver ≡ console) × (2 < seen.counts.upcalls)
         × (1 < seen.counts.rw) × (seen.own.inbox.dropped + 1 < 2 ^ 32) };
 
-    ghost leaves = { λ receive value seen uart value' own. (uart.ghost_name ≡ receive.uart.ghost_name)
-        × Receives receive.uart.now value value.read seen.own uart.now value' own };
+    ghost step = { λ receive read seen.
+        taking_in (bytes_moving receive.uart.now.ring read seen.own) seen.own };
 
-    fn run(self, value: &mut Console, entered: &mut Entered<'_>) -> &'a mut Uart {
-        frames_join();
+    ghost rest = { λ receive read seen. None };
+
+    ghost answers = { λ receive read seen uart.
+        let line = receive.uart.now in
+        let bytes = bytes_moving line.ring read seen.own in
+        (uart.ghost_name ≡ receive.uart.ghost_name)
+        × (uart.now ≡ record line { ring = drop (length bytes) line.ring }) };
+
+    fn run(
+        self,
+        read: &WaitingRead,
+        entered: &mut Entered<'_>,
+    ) -> (&'a mut Uart, Option<WaitingRead>) {
         let Receive { uart } = self;
-        if let Some(read) = value.read {
-            value.read = None;
-            take_in(entered, uart, &read);
-        }
-        uart
+        take_in(entered, uart, read);
+        (uart, None)
     }
 }
 
@@ -56,8 +67,8 @@ struct Filled {
     status: u32,
 }
 
-/// Moves the oldest bytes that came in to the start of a buffer, as many as a read asks for, and no more than the
-/// buffer has.
+/// Moves the oldest bytes that came in to the start of a buffer, as many as a read asks for, and no
+/// more than the buffer has.
 fn fill(buffer: &mut [u8], uart: &mut Uart, read: &WaitingRead) -> Filled
     ensures count { result.count
         ≡ length (take (min read.now.length (length buffer.old)) uart.old.ring) }
@@ -111,7 +122,7 @@ fn take_in(entered: &mut Entered<'_>, uart: &mut Uart, read: &WaitingRead)
     requires dropped { (own_entered entered.old).inbox.dropped + 1 < 2 ^ 32 }
     ensures told { let own = own_entered entered.old in
         let bytes = bytes_moving uart.old.ring read.now own in
-        (own_entered entered.new ≡ told_input bytes own)
+        (own_entered entered.new ≡ own_after (taking_in bytes own))
         × (uart.new ≡ record uart.old { ring = drop (length bytes) uart.old.ring }) }
     // what a visitor owes
     ensures lent { IsLent entered.new }
@@ -122,22 +133,20 @@ fn take_in(entered: &mut Entered<'_>, uart: &mut Uart, read: &WaitingRead)
     entered.schedule(2, [filled.status, filled.count, 0]);
 }
 
-/// Bytes that came in for the read of a process.
-fn step_of(home: &mut Home, id: ProcessId, uart: &mut Uart)
+/// Moves bytes that came in to the read of a process, if it is there and has one. The answer is
+/// whether it has.
+#[tactic(auto, unfolding(driver_model::specs::Console::received))]
+fn step_of(home: &mut Home, id: ProcessId, uart: &mut Uart) -> bool
     requires told { MayBeTold home.old id }
-    requires request { is_some (waiting_of console_reads id.life (own_of home.old id.slot)) ≡ true }
-    ensures own { let own = own_of home.old id.slot in
-        IfSome (waiting_of console_reads id.life own)
-        (λ read. own_of home.new id.slot ≡ own_after (receiving uart.old.ring own read).step) }
-    ensures uart { let own = own_of home.old id.slot in
-        IfSome (waiting_of console_reads id.life own)
-        (λ read. let r = receiving uart.old.ring own read in
-        uart.new ≡ record uart.old { ring = drop (length r.moved) uart.old.ring }) }
+    ensures received { let own = own_of home.old id.slot in
+        let r = in_life id.life own (received uart.old.ring own) (unreceived own) in
+        (result ≡ r.completed) × (own_of home.new id.slot ≡ own_after r.step)
+        × (uart.new ≡ record uart.old { ring = drop (length r.moved) uart.old.ring }) }
     ensures rest { ChangesOnly id.slot home.old home.new }
 {
-    match consoles().visit(home, id, Receive { uart }) {
-        Ok(Some(_uart)) => {}
-        _ => unreachable!(),
+    match visit_request(&consoles(), home, id, Receive { uart }) {
+        Ok(_uart) => true,
+        Err(Receive { uart: _uart }) => false,
     }
 }
 
@@ -159,21 +168,15 @@ impl Serve<WaitingRead> for ConsoleCapsule {
 
     ghost answer_to = { received_by };
 
-    /// Moves bytes that came in to the read of a process, if it is there and has one: the bytes, and whether it has
-    /// one.
-    #[tactic(auto, unfolding(driver_model::specs::Console::received))]
+    /// Moves bytes that came in to the read of a process, if it is there and has one: the bytes,
+    /// and whether it has one.
+    #[tactic(auto, using(crate::proofs::Receiving::moved))]
     fn serve(home: &mut Home, id: &ProcessId, uart: &mut Uart) -> Service {
-        if !has_request::<WaitingRead, _, _, _, _>(&consoles(), home, id) {
-            return Service {
-                kind: Kind::Input(ArrayVec::new()),
-                completed: false,
-            };
-        }
         let bytes = uart.peek();
-        step_of(home, *id, uart);
+        let completed = step_of(home, *id, uart);
         Service {
             kind: Kind::Input(gone_from(bytes, uart)),
-            completed: true,
+            completed,
         }
     }
 }

@@ -1,58 +1,59 @@
 //! Writes: the UART takes bytes of the one that waits longest.
-ghost use Rattle.std.specs.Prelude.{◌≡◌, ◌==◌, ◌+◌, ◌-◌, ◌*◌, ◌<◌, ◌^◌, min, [], drop, length, take, IfSome, is_some, true};
+ghost use Rattle.std.specs.Prelude.{◌≡◌, ◌==◌, ◌+◌, ◌-◌, ◌*◌, ◌<◌, ◌^◌, min, [], drop, length};
+ghost use Rattle.std.specs.Prelude.{take};
 ghost use Rattle.tk_base.specs.declared.limits.TheConstants.{PRINT_LIMIT};
 ghost use Rattle.process_model.specs.Flash.{flash_byte};
-ghost use Rattle.grant_enter.specs.Homes.{own_of, ChangesOnly};
 ghost use Rattle.grant_enter.specs.Seen.{Framed, IsLent, own_entered, seen};
-ghost use Rattle.driver_model.specs.Console.{console, console_writes, next_bytes, portion, sending};
+ghost use Rattle.driver_model.specs.Console.{console, next_bytes, portion};
 ghost use Rattle.driver_model.specs.Steps.{own_after};
-ghost use Rattle.driver_requests.specs.Asking.{MayBeTold, waiting_of};
 ghost use Rattle.console_capsule.specs.Answers.{sending_at};
-ghost use Rattle.console_capsule.specs.Sending.{still_waiting, told_of};
+ghost use Rattle.console_capsule.specs.Sending.{still_waiting, telling_done};
 
 use crate::capsule::ConsoleCapsule;
 use crate::grants::consoles;
 use arrayvec::ArrayVec;
 use board_devices::{Kind, Uart};
-use driver_requests::{Serve, Service, has_request};
-use grant_enter::{Entered, Home, Visit, buffers_are_whole, frames_join};
-use grant_values::{Console, WaitingWrite};
-use process_model::keeping_commutes;
+use driver_requests::{Serve, Service, VisitRequest, visit_request};
+use grant_enter::{Entered, Home, buffers_are_whole, frames_join};
+use grant_values::WaitingWrite;
 use tk_base::{PRINT_LIMIT, ProcessId};
 
-/// Has the UART take the next bytes of the write that waits, which are put into an empty list; where none is left
-/// the write completes. It hands the list back.
+/// Has the UART take the next bytes of the write that waits, which are put into an empty list;
+/// where none is left the write completes. It hands the list back.
 #[derive(Drop)]
 struct Transmit<'a> {
     printed: &'a mut ArrayVec<u8, PRINT_LIMIT>,
 }
 
-impl<'a> Visit<Console> for Transmit<'a> {
-    ghost use Rattle.std.specs.Prelude.{◌≡◌, ◌+◌, ◌<◌, ◌^◌, []};
+impl<'a> VisitRequest<WaitingWrite> for Transmit<'a> {
+    ghost use Rattle.std.specs.Prelude.{◌≡◌, ◌+◌, ◌<◌, ◌^◌, [], length};
     ghost use Rattle.process_model.specs.Flash.{flash_byte};
-    ghost use Rattle.console_capsule.specs.Sending.{Sends};
+    ghost use Rattle.driver_model.specs.Console.{next_bytes, portion};
+    ghost use Rattle.console_capsule.specs.Sending.{still_waiting, telling_done};
 
     type Answer = &'a mut ArrayVec<u8, PRINT_LIMIT>;
 
-    ghost asks = { λ transmit value seen. (seen.driver ≡ console) × (1 < seen.counts.upcalls)
+    ghost asks = { λ transmit write seen. (seen.driver ≡ console) × (1 < seen.counts.upcalls)
         × (1 < seen.counts.ro) × (seen.own.inbox.dropped + 1 < 2 ^ 32)
         × (transmit.printed.now.items ≡ []) };
 
-    ghost leaves = { λ transmit value seen printed value' own.
+    ghost step = { λ transmit write seen. telling_done write seen.own };
+
+    ghost rest = { λ transmit write seen. still_waiting write seen.own };
+
+    ghost answers = { λ transmit write seen printed.
         (printed.ghost_name ≡ transmit.printed.ghost_name)
-        × Sends (flash_byte seen.flash) value value.write seen.own printed.now.items value' own };
+        × (printed.now.items ≡ next_bytes (flash_byte seen.flash) write seen.own)
+        × (length printed.now.items ≡ portion write seen.own) };
 
     fn run(
         self,
-        value: &mut Console,
+        write: &WaitingWrite,
         entered: &mut Entered<'_>,
-    ) -> &'a mut ArrayVec<u8, PRINT_LIMIT> {
-        frames_join();
+    ) -> (&'a mut ArrayVec<u8, PRINT_LIMIT>, Option<WaitingWrite>) {
         let Transmit { printed } = self;
-        if let Some(write) = value.write {
-            value.write = take_step(entered, printed, &write);
-        }
-        printed
+        let rest = take_step(entered, printed, write);
+        (printed, rest)
     }
 }
 
@@ -90,7 +91,8 @@ fn take_step(
         ≡ next_bytes (flash_byte (seen entered.old).flash) write.now (own_entered entered.old) }
     ensures count { length printed.new.items ≡ portion write.now (own_entered entered.old) }
     ensures rest { result ≡ still_waiting write.now (own_entered entered.old) }
-    ensures own { own_entered entered.new ≡ told_of write.now (own_entered entered.old) }
+    ensures own { own_entered entered.new
+        ≡ own_after (telling_done write.now (own_entered entered.old)) }
     // what a visitor owes
     ensures lent { IsLent entered.new }
     ensures framed { Framed entered.old entered.new }
@@ -108,26 +110,6 @@ fn take_step(
     })
 }
 
-/// One step of the write of a process.
-fn step_of(home: &mut Home, id: ProcessId, printed: &mut ArrayVec<u8, PRINT_LIMIT>)
-    requires told { MayBeTold home.old id }
-    requires request { is_some (waiting_of console_writes id.life (own_of home.old id.slot))
-        ≡ true }
-    requires empty { printed.old.items ≡ [] }
-    ensures step { let own = own_of home.old id.slot in
-        IfSome (waiting_of console_writes id.life own)
-        (λ write. let s = sending (flash_byte home.old.flash) own write in
-        (own_of home.new id.slot ≡ own_after s.step) × (printed.new.items ≡ s.printed)
-        × ((length printed.new.items == 0) ≡ s.completed)) }
-    ensures rest { ChangesOnly id.slot home.old home.new }
-{
-    keeping_commutes();
-    match consoles().visit(home, id, Transmit { printed }) {
-        Ok(Some(_printed)) => {}
-        _ => unreachable!(),
-    }
-}
-
 impl Serve<WaitingWrite> for ConsoleCapsule {
     ghost use Rattle.std.specs.Prelude.{◌≡◌, []};
     ghost use Rattle.console_capsule.specs.Answers.{written_by};
@@ -139,24 +121,24 @@ impl Serve<WaitingWrite> for ConsoleCapsule {
 
     ghost answer_to = { λ printed. written_by };
 
-    /// One step of the write of a process, if it is there and has one: whether all bytes are taken, so that the write
-    /// completed.
+    /// One step of the write of a process, if it is there and has one: whether all bytes are taken,
+    /// so that the write completed.
     #[tactic(auto, unfolding(driver_model::specs::Console::sent))]
     fn serve(home: &mut Home, id: &ProcessId, printed: &mut ArrayVec<u8, PRINT_LIMIT>) -> Service {
-        if !has_request::<WaitingWrite, _, _, _, _>(&consoles(), home, id) {
-            return Service {
+        match visit_request(&consoles(), home, *id, Transmit { printed }) {
+            Ok(printed) if printed.is_empty() => Service {
+                kind: Kind::WriteDone,
+                completed: true,
+            },
+            Ok(_printed) => Service {
                 kind: Kind::Taken,
                 completed: false,
-            };
+            },
+            Err(Transmit { printed: _printed }) => Service {
+                kind: Kind::Taken,
+                completed: false,
+            },
         }
-        step_of(home, *id, printed);
-        let completed = printed.is_empty();
-        let kind = if completed {
-            Kind::WriteDone
-        } else {
-            Kind::Taken
-        };
-        Service { kind, completed }
     }
 }
 

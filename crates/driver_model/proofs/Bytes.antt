@@ -1,6 +1,6 @@
 -- The bytes of a process's own after commands and answers.
-use Rattle.std.proofs.Common.{◌≡◌, ◌⊎◌, inl, inr, ℕ, ◌+◌, ◌-◌, Bool, true, false, cond, nat_le, List, [], ◌∷◌}
-use Rattle.std.proofs.Common.{length, Option, None, Some, refl, sym, subst}
+use Rattle.std.proofs.Common.{◌≡◌, ◌⊎◌, inl, inr, ℕ, ◌+◌, ◌-◌, ◌<◌, Bool, true, false, cond, nat_le, List, [], ◌∷◌}
+use Rattle.std.proofs.Common.{length, Option, None, Some, refl, ap, sym, subst}
 use Rattle.std.specs.Prelude.{min, slice_range}
 use Rattle.tk_base.specs.Call.{code_of}
 use Rattle.tk_base.specs.declared.call.ErrorCode.TheVariants.{CANCEL}
@@ -10,9 +10,12 @@ use Rattle.grant_values.specs.declared.random.RandomRequest.{RandomRequest}
 use Rattle.grant_values.specs.declared.storage.StorageKind.{StorageKind}
 use Rattle.grant_values.specs.declared.storage.StorageKind.TheVariants.{Read, Write}
 use Rattle.grant_values.specs.declared.storage.StorageRequest.{StorageRequest}
-use Rattle.process_model.specs.Own.{Own}
-use Rattle.process_model.specs.Handed.{held}
-use Rattle.process_model.specs.Served.{own_scheduled, with_written}
+use Rattle.grant_values.specs.Values.{KeptValue}
+use Rattle.grant_model.specs.Grants.{with_value}
+use Rattle.grant_model.proofs.Costs.{same_costs}
+use Rattle.process_model.specs.Own.{Own, kernel_break_of}
+use Rattle.process_model.specs.Handed.{held, own_entering}
+use Rattle.process_model.specs.Served.{own_scheduled, with_kept, with_written}
 use Rattle.process_model.specs.Changes.{ChangesAt, IsInside, IsOwnAddress, IsWhole, KeepsBytes, OnlyWritesChangeBytes}
 use Rattle.process_model.specs.Changes.{own_byte}
 use Rattle.driver_model.specs.Alarm as alarm
@@ -52,17 +55,43 @@ stays_scheduled : (Cause : ℕ → Type 0) (driver number : ℕ) (args : List �
 stays_scheduled Cause driver number args own at before after =
     inl (keeps_scheduled driver number args own at before after)
 
+-- a value that is kept leaves the kernel break
+kept_ends : (driver : ℕ) (value : KeptValue) (own : Own)
+    → kernel_break_of (with_kept driver value own) ≡ kernel_break_of own
+kept_ends driver value own =
+    ap (λ (n : ℕ). own.layout.end - n) (same_costs driver (with_value value) own.grants (λ g. refl))
+
+-- so it changes no byte
+changes_kept : (Cause : ℕ → Type 0) (driver : ℕ) (value : KeptValue) (own o : Own) → ChangesAt Cause own o
+    → ChangesAt Cause own (with_kept driver value o)
+changes_kept Cause driver value own o changes at before after =
+    changes at before (after.0, subst (λ (n : ℕ). at < n) (kept_ends driver value o) after.1)
+
+keeps_value : (driver : ℕ) (value : KeptValue) (own o : Own) → KeepsBytes own o
+    → KeepsBytes own (with_kept driver value o)
+keeps_value driver value own o keeps at before after =
+    keeps at before (after.0, subst (λ (n : ℕ). at < n) (kept_ends driver value o) after.1)
+
+-- nor is one changed by an upcall that is scheduled once another value is kept
+told_kept : (driver number : ℕ) (args : List ℕ) (d : ℕ) (value : KeptValue) (own : Own)
+    → KeepsBytes own (own_scheduled driver number args (with_kept d value own))
+told_kept driver number args d value own at before after =
+    keeps_scheduled driver number args (with_kept d value own) at
+    (before.0, subst (λ (n : ℕ). at < n) (sym (kept_ends d value own)) before.1) after
+
 -- nor does a request that is kept before, or after
 then_kept : {R : Type 0} (Cause : ℕ → Type 0) (request_kind : RequestKind R) (request : Option R) (step : DriverStep)
     (own : Own) → ChangesAt Cause own (own_after step)
     → ChangesAt Cause own (own_after (keeping_request request_kind request step))
-then_kept Cause request_kind request step own =
+then_kept Cause request_kind request step own changes =
     subst (ChangesAt Cause own) (requesting_commutes request_kind request step.schedules step.own)
+    (changes_kept Cause request_kind.driver _ own (own_after step) changes)
 
 keeps_kept : {R : Type 0} (request_kind : RequestKind R) (request : Option R) (step : DriverStep) (own : Own)
     → KeepsBytes own (own_after step) → KeepsBytes own (own_after (keeping_request request_kind request step))
-keeps_kept request_kind request step own =
+keeps_kept request_kind request step own keeps =
     subst (KeepsBytes own) (requesting_commutes request_kind request step.schedules step.own)
+    (keeps_value request_kind.driver _ own (own_after step) keeps)
 
 -- what is shown is written into its buffer
 shows : OnlyWritesChangeBytes → (now : ℕ) (own : Own) → IsWhole own
@@ -76,16 +105,19 @@ commands_write_in_buffers law driver taker is around number a2 a3 own whole =
       replies = λ reply at before after. inl refl;
       lights = λ led switch at before after. inl refl;
       shows = λ clock at before after. inside clock at (shows law around.now own (whole clock) at before after);
-      arms = λ armed room at before after. inl (law.entering alarm.alarm_driver own at before after);
+      arms = λ armed room at before after. inl (enters alarm.alarm_driver _ at before after);
       stops = λ at before after. inl refl;
-      cancels = λ at before after. inl (keeps_scheduled console.console 2 (code_of CANCEL ∷ 0 ∷ 0 ∷ [])
-          (with_request console_reads None own) at before after);
-      writes = λ request room none at before after. inl (law.entering console.console own at before after);
-      reads = λ request room none at before after. inl (law.entering console.console own at before after);
-      draws = λ request room none at before after. inl (law.entering random.random own at before after);
-      stores = λ request fits room none at before after. inl (law.entering storage.storage own at before after);
+      cancels = λ at before after.
+          inl (told_kept console.console 2 (code_of CANCEL ∷ 0 ∷ 0 ∷ []) console.console _ own at before after);
+      writes = λ request room none at before after. inl (enters console.console _ at before after);
+      reads = λ request room none at before after. inl (enters console.console _ at before after);
+      draws = λ request room none at before after. inl (enters random.random _ at before after);
+      stores = λ request fits room none at before after. inl (enters storage.storage _ at before after);
     })
   where
+    enters : (d : ℕ) (value : KeptValue) → KeepsBytes own (with_kept d value (own_entering d own))
+    enters d value = keeps_value d value own (own_entering d own) (law.entering d own)
+
     Writes : CommandContext → Own → Commanded → Type 0
     Writes around own c = ChangesAt (ShowsClock driver number own c) own (own_after c.step)
 
@@ -102,7 +134,9 @@ module _ (law : OnlyWritesChangeBytes) where
   fires now own None whole = λ at before after. inl refl
   fires now own (Some armed) whole =
       then_scheduled (IsInside (clock_buffer own)) alarm.alarm_driver 0 (now ∷ alarm.expiration armed ∷ 0 ∷ []) own
-      (alarm.with_alarm None (alarm.showing now own)) (shows law now own whole)
+      (alarm.with_alarm None (alarm.showing now own))
+      (changes_kept (IsInside (clock_buffer own)) alarm.alarm_driver _ own (alarm.showing now own)
+      (shows law now own whole))
 
   drawing : (left : ℕ) (request : RandomRequest) (own : Own) (word : Option ℕ) → IsWhole own
       → ChangesAt (IsInside (word_buffer own)) own (own_after (random.drawing left request own word).step)
@@ -178,8 +212,7 @@ module _ (law : OnlyWritesChangeBytes) where
         (λ at before after. refl) (λ write at before after. refl);
     write_done = λ own. if_waits (λ (s : DriverStep). KeepsBytes own (own_after s)) (console.write_completing own)
         (silently own) (waiting_in console_writes own)
-        (λ at before after. refl) (λ write. keeps_scheduled console.console 1 (write.taken ∷ 0 ∷ 0 ∷ [])
-        (with_request console_writes None own));
+        (λ at before after. refl) (λ write. told_kept console.console 1 (write.taken ∷ 0 ∷ 0 ∷ []) console.console _ own);
     input = λ bytes own whole.
         if_waits (λ (s : DriverStep). ChangesAt (IsInside (input_buffer own)) own (own_after s))
         (console.reading_in bytes own)
@@ -188,7 +221,9 @@ module _ (law : OnlyWritesChangeBytes) where
         (λ read.
         then_scheduled (IsInside (input_buffer own)) console.console 2 (console.read_status own ∷ length bytes ∷ 0 ∷ [])
         own (with_request console_reads None (with_written ReadWrite console.console 1 0 bytes own))
-        (law.written ReadWrite console.console 1 0 bytes own refl whole));
+        (changes_kept (IsInside (input_buffer own)) console.console _ own
+        (with_written ReadWrite console.console 1 0 bytes own)
+        (law.written ReadWrite console.console 1 0 bytes own refl whole)));
     word = λ word own whole.
         if_waits (λ (a : random.RandomAnswered). ChangesAt (IsInside (word_buffer own)) own (own_after a.step)) _ _
         (waiting_in randoms own) (λ at before after. inl refl)

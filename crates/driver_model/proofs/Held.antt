@@ -1,60 +1,42 @@
 -- What drivers keep of a process, by the one walk over all that they do.
-use Rattle.std.proofs.Common.{◌≡◌, ◌≤◌, ℕ, ◌+◌, ◌==◌, Bool, true, false, cond, ◌&&◌, nat_le, max, List, [], ◌∷◌, Option}
-use Rattle.std.proofs.Common.{None, Some, refl, sym, ap, subst, ◌∙◌, arith}
+use Rattle.std.proofs.Common.{◌≡◌, ◌≤◌, ℕ, ◌+◌, ◌==◌, Bool, true, false, cond, ◌&&◌, ◌||◌, is_some, nat_le, max, Option}
+use Rattle.std.proofs.Common.{None, Some, refl, sym, ap, subst, arith}
 use Rattle.std.proofs.lemmas.Bool.{false≢true, leb-true}
 use Rattle.grant_values.specs.Drivers.{cost_of}
 use Rattle.grant_values.specs.Values.{KeptValue}
-use Rattle.grant_model.specs.Grants.{Grant, entering as entering_grants, grant_of, shape_of, with_grant, with_pair}
+use Rattle.grant_model.specs.Grants.{Grant, costs, entering as entering_grants, grant_of, shape_of, with_pair}
 use Rattle.tk_base.specs.declared.kinds.PairKind.{PairKind}
 use Rattle.tk_base.specs.Kinds.{is_buffer}
-use Rattle.process_layout.specs.LayoutView.{LayoutView}
-use Rattle.grant_region.specs.Region.{fits, roomed}
-use Rattle.process_model.specs.Own.{Own}
+use Rattle.process_layout.specs.Bounds.{Bounds}
+use Rattle.process_model.specs.Own.{Own, kernel_break_of}
 use Rattle.process_model.specs.Handed.{own_entering, handing, has_place, lies_in_ram, marked, raised}
 use Rattle.process_model.specs.Served.{with_kept}
-use Rattle.driver_model.specs.Keeping.{DriversKeep, HandsInPlace, IsInOrder, KeepsLimit, KeepsOrder, costs}
+use Rattle.driver_model.specs.Keeping.{DriversKeep, HandsInPlace, IsInOrder, KeepsLimit, KeepsOrder}
 use Rattle.driver_model.specs.Laws.{StaysInPlace}
-use Rattle.driver_model.proofs.Grants.{StaysWith}
-use Rattle.driver_model.proofs.Places.{entering_stays}
+use Rattle.grant_model.proofs.Costs.{same_costs}
 use Rattle.driver_model.proofs.Scheduled.{same_limit}
 use Rattle.driver_model.proofs.Services.{of_services}
-
--- a grant that is changed costs as much, as long as it is its driver's
-pub same_costs : (driver : ℕ) (change : Grant → Grant) (gs : List Grant) → StaysWith change
-    → costs (with_grant driver change gs) ≡ costs gs
-same_costs driver change [] stays = refl
-same_costs driver change (g ∷ gs) stays = by_test (g.driver == driver) (same_costs driver change gs stays)
-  where
-    by_test : (b : Bool) → costs (with_grant driver change gs) ≡ costs gs
-        → costs (cond b (change g ∷ gs) (g ∷ with_grant driver change gs)) ≡ costs (g ∷ gs)
-    by_test true later = ap (λ (d : ℕ). cost_of (shape_of d) + costs gs) (stays g)
-    by_test false later = ap (λ (n : ℕ). cost_of (shape_of g.driver) + n) later
 
 -- the order speaks of the layout and of the costs alone
 pub same_order : (own o : Own) → o.layout ≡ own.layout → costs o.grants ≡ costs own.grants → IsInOrder own → IsInOrder o
 same_order own o layout grants h = record {
   mark = subst (λ (e : _). e.start ≤ e.mark) (sym layout) h.mark;
   brk = subst (λ (e : _). e.mark ≤ e.brk) (sym layout) h.brk;
-  kernel_break = subst (λ (e : _). e.brk ≤ e.kernel_break) (sym layout) h.kernel_break;
-  end = ap (λ (e : _). e.kernel_break + costs o.grants) layout ∙ ap (λ (n : ℕ). own.layout.kernel_break + n) grants
-      ∙ h.end ∙ ap (λ (e : _). e.end) (sym layout);
+  grants = subst (λ (e : Bounds). e.brk + costs o.grants ≤ e.end) (sym layout)
+      (subst (λ (n : ℕ). own.layout.brk + n ≤ own.layout.end) (sym grants) h.grants);
 }
 
 -- a driver that is entered, where it has a place
 pub entering_order : (driver : ℕ) (own : Own) → has_place driver own ≡ true → KeepsOrder own (own_entering driver own)
 entering_order driver own room h = by_grant (grant_of driver own.grants) room
   where
-    by_grant : (g : Option Grant) → fits own.layout driver g ≡ true
-        → IsInOrder (record own {
-          layout = roomed driver own.layout g;
-          ram = (own_entering driver own).ram;
-          grants =
-              entering_grants driver own.grants g;
-        })
+    by_grant : (g : Option Grant)
+        → (is_some g || nat_le (own.layout.brk + cost_of (shape_of driver)) (kernel_break_of own)) ≡ true
+        → IsInOrder (record own { ram = (own_entering driver own).ram; grants = entering_grants driver own.grants g })
     by_grant None room =
-        let least = leb-true (own.layout.brk + cost_of (shape_of driver)) own.layout.kernel_break room in
-        record { mark = h.mark; brk = h.brk; kernel_break = omega (arith, least); end = omega (arith, least, h.end) }
-    by_grant (Some g) room = record { mark = h.mark; brk = h.brk; kernel_break = h.kernel_break; end = h.end }
+        let least = leb-true (own.layout.brk + cost_of (shape_of driver)) (kernel_break_of own) room in
+        record { mark = h.mark; brk = h.brk; grants = omega (arith, least, h.grants) }
+    by_grant (Some g) room = record { mark = h.mark; brk = h.brk; grants = h.grants }
 
 pub keeping_order : (driver : ℕ) (value : KeptValue) (own : Own) → KeepsOrder own (with_kept driver value own)
 keeping_order driver value own h =
@@ -65,7 +47,7 @@ and_right : (a b : Bool) → (a && b) ≡ true → b ≡ true
 and_right true b e = e
 and_right false b e = absurd (false≢true e)
 
-raised_order : (pair : ℕ × ℕ) (e : LayoutView) → e.start ≤ e.mark → e.mark ≤ e.brk
+raised_order : (pair : ℕ × ℕ) (e : Bounds) → e.start ≤ e.mark → e.mark ≤ e.brk
     → (e.start ≤ (raised pair e).mark) × ((raised pair e).mark ≤ e.brk)
 raised_order pair e low high = by_test (pair.1 == 0) (lies_in_ram e pair.0 pair.1) refl
   where
@@ -79,7 +61,7 @@ raised_order pair e low high = by_test (pair.1 == 0) (lies_in_ram e pair.0 pair.
         (omega (arith, low), omega (arith, high, ends))
     by_test false false is = (low, high)
 
-raised_rest : (pair : ℕ × ℕ) (e : LayoutView) → raised pair e ≡ record e { mark = (raised pair e).mark }
+raised_rest : (pair : ℕ × ℕ) (e : Bounds) → raised pair e ≡ record e { mark = (raised pair e).mark }
 raised_rest pair e = by_test (pair.1 == 0) (lies_in_ram e pair.0 pair.1)
   where
     by_test : (none lies : Bool)
@@ -93,8 +75,8 @@ raised_in_order : (pair : ℕ × ℕ) (own : Own) → KeepsOrder own (record own
 raised_in_order pair own h =
     let e = own.layout in
     let o = raised_order pair e h.mark h.brk in
-    subst (λ (f : LayoutView). IsInOrder (record own { layout = f })) (sym (raised_rest pair e))
-    (record { mark = o.0; brk = o.1; kernel_break = h.kernel_break; end = h.end })
+    subst (λ (f : Bounds). IsInOrder (record own { layout = f })) (sym (raised_rest pair e))
+    (record { mark = o.0; brk = o.1; grants = h.grants })
 
 marked_in_order : (kind : PairKind) (pair : ℕ × ℕ) (own : Own)
     → KeepsOrder own (record own { layout = marked kind pair own.layout })
@@ -113,7 +95,7 @@ handed_order kind driver number pair own room h =
     (same_costs driver (with_pair kind number pair) o.grants (λ g. refl))
     (marked_in_order kind pair o (entering_order driver own room h))
 
-pub marked_rest : (kind : PairKind) (pair : ℕ × ℕ) (e : LayoutView)
+pub marked_rest : (kind : PairKind) (pair : ℕ × ℕ) (e : Bounds)
     → marked kind pair e ≡ record e { mark = (marked kind pair e).mark }
 marked_rest kind pair e = by_test (is_buffer kind)
   where
@@ -121,30 +103,19 @@ marked_rest kind pair e = by_test (is_buffer kind)
     by_test true = raised_rest pair e
     by_test false = refl
 
-pub roomed_rest : (driver : ℕ) (e : LayoutView) (g : Option Grant)
-    → roomed driver e g ≡ record e { kernel_break = (roomed driver e g).kernel_break }
-roomed_rest driver e None = refl
-roomed_rest driver e (Some g) = refl
-
 pub handed_places : (kind : PairKind) (driver number : ℕ) (pair : ℕ × ℕ) (own : Own)
     → HandsInPlace own (handing kind driver number pair own)
 handed_places kind driver number pair own =
     let o = handing kind driver number pair own in
-    let e = roomed driver own.layout (grant_of driver own.grants) in
-    let layout : o.layout ≡ record own.layout { kernel_break = o.layout.kernel_break; mark = o.layout.mark } =
-    marked_rest kind pair e
-    ∙ ap (λ (f : LayoutView). record f { kernel_break = e.kernel_break; mark = o.layout.mark })
-    (roomed_rest driver own.layout (grant_of driver own.grants))
-    ∙ ap (λ (f : LayoutView). record own.layout { kernel_break = f.kernel_break; mark = o.layout.mark })
-    (sym (marked_rest kind pair e)) in
-    ap (λ (f : LayoutView). record own { layout = f; ram = o.ram; grants = o.grants; inbox = o.inbox }) layout
+    ap (λ (e : Bounds). record own { layout = e; ram = o.ram; grants = o.grants; inbox = o.inbox })
+    (marked_rest kind pair own.layout)
 
 pub drivers_keep : DriversKeep
 drivers_keep = record {
   places = of_services StaysInPlace (record {
     same = λ own. refl;
     keeps = λ driver value own. refl;
-    enters = λ driver value own room. ap (with_kept driver value) (entering_stays driver own);
+    enters = λ driver value own room. refl;
     serves = λ driver value own o s. subst (λ (x : Own). StaysInPlace own (with_kept driver value x)) (sym s.rest) refl;
     shows = λ own ram size. refl;
   });

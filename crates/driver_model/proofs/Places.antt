@@ -1,12 +1,8 @@
 -- Where a process lies after a command, and how many of its upcalls were dropped.
-use Rattle.std.proofs.Common.{◌≡◌, ℕ, [], ◌∷◌, Option, None, Some, refl, sym, ap, subst}
+use Rattle.std.proofs.Common.{[], ◌∷◌, None, refl, sym, subst}
 use Rattle.tk_base.specs.Call.{code_of}
 use Rattle.tk_base.specs.declared.call.ErrorCode.TheVariants.{CANCEL}
-use Rattle.grant_model.specs.Grants.{Grant, grant_of}
-use Rattle.grant_region.specs.Region.{roomed}
 use Rattle.process_model.specs.Own.{Own}
-use Rattle.process_model.specs.Handed.{own_entering}
-use Rattle.driver_model.specs.Alarm.{with_alarm}
 use Rattle.driver_model.specs.Console.{console, console_reads, console_writes, dropping_read}
 use Rattle.driver_model.specs.Random.{randoms}
 use Rattle.driver_model.specs.Requests.{RequestKind, with_request}
@@ -16,26 +12,10 @@ use Rattle.driver_model.proofs.Outcomes.{begun, of_command}
 use Rattle.driver_model.specs.Steps.{own_after}
 use Rattle.driver_model.proofs.Scheduled.{Queues, none_more, schedules}
 
--- entering takes room alone
-pub entering_stays : (driver : ℕ) (own : Own) → StaysInPlace own (own_entering driver own)
-entering_stays driver own =
-    ap (λ (e : _). record own {
-      layout = e;
-      ram = (own_entering driver own).ram;
-      grants =
-          (own_entering driver own).grants;
-    }) (takes_room (grant_of driver own.grants))
-  where
-    takes_room : (g : Option Grant)
-        → roomed driver own.layout g ≡ record own.layout { kernel_break = (roomed driver own.layout g).kernel_break }
-    takes_room None = refl
-    takes_room (Some g) = refl
-
 begun_stays : {R : Type 0} (request_kind : RequestKind R) (request : R) (own : Own)
     → StaysInPlace own (own_after (begun request_kind request own).step)
 begun_stays request_kind request own =
-    ap (λ (o : Own). record o { grants = (begun request_kind request own).step.own.grants })
-    (entering_stays request_kind.driver own)
+    refl
 
 -- a read that is dropped has its process told of it
 cancels : (own : Own) → Queues (with_request console_reads None own) (own_after (dropping_read own))
@@ -48,7 +28,7 @@ commands_stay_in_place driver taker is around number a2 a3 own =
       replies = λ reply. refl;
       lights = λ led switch. refl;
       shows = λ is. refl;
-      arms = λ alarm room. ap (with_alarm (Some alarm)) (entering_stays 0 own);
+      arms = λ alarm room. refl;
       stops = refl;
       cancels = subst (StaysInPlace own) (sym (cancels own).rest) refl;
       writes = λ request room none. begun_stays console_writes request own;

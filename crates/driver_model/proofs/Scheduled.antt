@@ -8,7 +8,7 @@ use Rattle.std.proofs.lemmas.List.Elements.{All-nil, All-cons}
 use Rattle.tk_base.specs.declared.limits.TheConstants.{PENDING_LIMIT}
 use Rattle.tk_base.specs.declared.upcall.Upcall.{Upcall}
 use Rattle.upcall_queue.specs.Pending.{has_room}
-use Rattle.process_model.specs.Own.{Own}
+use Rattle.process_model.specs.Own.{Own, kernel_break_of}
 use Rattle.process_model.specs.Handed.{held}
 use Rattle.process_model.specs.Served.{queueing, own_scheduled, upcall_of}
 use Rattle.process_model.specs.Changes.{IsWhole}
@@ -95,7 +95,7 @@ schedules driver number args own = queues (upcall_of driver number args own) own
 
 -- there are as many bytes as before, where what is a process's own is whole, and its break not above its kernel break
 abbrev pub AsMany : Own → List ℕ → Type 0
-AsMany own ram = IsWhole own → own.layout.brk ≤ own.layout.kernel_break → length ram ≡ length own.ram
+AsMany own ram = IsWhole own → own.layout.brk ≤ kernel_break_of own → length ram ≡ length own.ram
 
 pub as_before : (own : Own) → AsMany own own.ram
 as_before own whole low = refl

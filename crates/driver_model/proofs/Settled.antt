@@ -7,14 +7,16 @@ use Rattle.std.proofs.lemmas.Bool.Decides.{nat_tests}
 use Rattle.std.proofs.lemmas.List.{length-take}
 use Rattle.tk_base.specs.declared.kinds.PairKind.{PairKind}
 use Rattle.tk_base.specs.declared.kinds.PairKind.TheVariants.{Upcall, ReadOnly, ReadWrite, Readable}
-use Rattle.grant_model.specs.Grants.{Grant, grant_of, shape_of}
+use Rattle.grant_values.specs.Values.{KeptValue}
+use Rattle.grant_model.specs.Grants.{Grant, entering as entering_grants, grant_of, shape_of, with_pair, with_value}
+use Rattle.grant_model.proofs.Costs.{same_costs}
 use Rattle.tk_base.specs.Kinds.{count_of, is_buffer}
 use Rattle.tk_base.proofs.Ranks.{same_kind}
-use Rattle.grant_region.specs.Region.{roomed}
-use Rattle.process_layout.specs.LayoutView.{LayoutView}
+use Rattle.process_layout.specs.Bounds.{Bounds}
 use Rattle.process_layout.specs.Interval.{lies_within}
-use Rattle.process_model.specs.Own.{Own}
+use Rattle.process_model.specs.Own.{Own, kernel_break_of}
 use Rattle.process_model.specs.Handed.{own_entering, handing, has_place, held, lies_in_ram, marked, may_keep, may_share, raised}
+use Rattle.process_model.specs.Served.{with_kept}
 use Rattle.process_model.specs.Changes.{IsWhole}
 use Rattle.process_model.specs.Pairs.{HandsOne, HandsTheSame, OnlyHandingChangesPairs}
 use Rattle.driver_model.specs.Keeping.{DriversKeepSettled, HoldsBelowMark, IsInOrder, IsSettled, KeepsOrder}
@@ -27,7 +29,7 @@ use Rattle.driver_model.proofs.Services.{of_services}
 use Rattle.driver_model.proofs.Sizes.{lies}
 
 -- a layout in which accessible RAM ends at the mark
-abbrev at_mark : LayoutView → LayoutView
+abbrev at_mark : Bounds → Bounds
 at_mark e = record e { brk = e.mark }
 
 -- a buffer may be handed where accessible RAM ends elsewhere, if it lies in it there too
@@ -50,7 +52,7 @@ abbrev LiesToo : ℕ → ℕ → ℕ → ℕ × ℕ → Type 0
 LiesToo start brk to pair = (pair.1 == 0) ≡ false → lies_within start brk pair.0 pair.1 ≡ true
     → lies_within start to pair.0 pair.1 ≡ true
 
-wider : (kind : PairKind) (e : LayoutView) (to : ℕ) (pair : ℕ × ℕ) → LiesToo e.start e.brk to pair
+wider : (kind : PairKind) (e : Bounds) (to : ℕ) (pair : ℕ × ℕ) → LiesToo e.start e.brk to pair
     → may_keep kind e pair ≡ true → may_keep kind (record e { brk = to }) pair ≡ true
 wider Upcall e to pair lies_too may = refl
 wider ReadOnly e to pair lies_too may =
@@ -69,7 +71,7 @@ lies_further start brk to pair up some is =
     let inside = lies start brk pair.0 pair.1 is in within start to pair.0 pair.1 inside.0 (omega (arith, up, inside.1))
 
 -- the mark is raised to the end of a buffer, and never lowered
-raised_covers : (pair : ℕ × ℕ) (e : LayoutView) → LiesToo e.start e.brk (raised pair e).mark pair
+raised_covers : (pair : ℕ × ℕ) (e : Bounds) → LiesToo e.start e.brk (raised pair e).mark pair
 raised_covers pair e = by_test (pair.1 == 0) (lies_in_ram e pair.0 pair.1) refl
   where
     by_test : (none ram : Bool) → lies_in_ram e pair.0 pair.1 ≡ ram → none ≡ false → ram ≡ true
@@ -81,7 +83,7 @@ raised_covers pair e = by_test (pair.1 == 0) (lies_in_ram e pair.0 pair.1) refl
         let inside = lies e.start e.brk pair.0 pair.1 is in
         within e.start (max e.mark (pair.0 + pair.1)) pair.0 pair.1 inside.0 (omega arith)
 
-raised_grows : (pair : ℕ × ℕ) (e : LayoutView) → e.mark ≤ (raised pair e).mark
+raised_grows : (pair : ℕ × ℕ) (e : Bounds) → e.mark ≤ (raised pair e).mark
 raised_grows pair e = by_test (pair.1 == 0) (lies_in_ram e pair.0 pair.1)
   where
     by_test : (none ram : Bool)
@@ -90,7 +92,7 @@ raised_grows pair e = by_test (pair.1 == 0) (lies_in_ram e pair.0 pair.1)
     by_test false true = omega arith
     by_test false false = omega arith
 
-marked_grows : (kind : PairKind) (pair : ℕ × ℕ) (e : LayoutView) → e.mark ≤ (marked kind pair e).mark
+marked_grows : (kind : PairKind) (pair : ℕ × ℕ) (e : Bounds) → e.mark ≤ (marked kind pair e).mark
 marked_grows kind pair e = by_test (is_buffer kind)
   where
     by_test : (b : Bool) → e.mark ≤ (cond b (raised pair e) e).mark
@@ -109,29 +111,44 @@ whole_of own h = record {
 }
 
 -- its bytes end at the kernel break, where they did
-abbrev KeepsSize : Own → Own → Type 0
-KeepsSize own o = IsInOrder own → IsWhole own → length o.ram ≡ o.layout.kernel_break - o.layout.start
+abbrev HasSize : Own → Type 0
+HasSize own = length own.ram ≡ kernel_break_of own - own.layout.start
 
-entering_size : (driver : ℕ) (own : Own) → length own.ram ≡ own.layout.kernel_break - own.layout.start
-    → let o = own_entering driver own in length o.ram ≡ o.layout.kernel_break - o.layout.start
+abbrev KeepsSize : Own → Own → Type 0
+KeepsSize own o = IsInOrder own → IsWhole own → HasSize o
+
+entering_size : (driver : ℕ) (own : Own) → HasSize own → HasSize (own_entering driver own)
 entering_size driver own size = by_grant (grant_of driver own.grants)
   where
-    by_grant : (g : Option Grant) → let e = roomed driver own.layout g in
-        length (take (e.kernel_break - e.start) own.ram) ≡ e.kernel_break - e.start
-    by_grant None = let e = roomed driver own.layout None in
-        let taken = length-take (e.kernel_break - e.start) own.ram in omega (arith, taken, size)
-    by_grant (Some g) = let e = own.layout in let taken = length-take (e.kernel_break - e.start) own.ram in
-        omega (arith, taken, size)
+    by_grant : (g : Option Grant) → let o = record own { grants = entering_grants driver own.grants g } in
+        length (take (kernel_break_of o - o.layout.start) own.ram) ≡ kernel_break_of o - o.layout.start
+    by_grant None =
+        let o = record own { grants = entering_grants driver own.grants None } in
+        let taken = length-take (kernel_break_of o - own.layout.start) own.ram in omega (arith, taken, size)
+    by_grant (Some g) =
+        let taken = length-take (kernel_break_of own - own.layout.start) own.ram in omega (arith, taken, size)
+
+-- another value costs as much
+keeping_size : (driver : ℕ) (value : KeptValue) (own : Own) → HasSize own → HasSize (with_kept driver value own)
+keeping_size driver value own size =
+    size ∙ ap (λ (n : ℕ). own.layout.end - n - own.layout.start)
+    (sym (same_costs driver (with_value value) own.grants (λ g. refl)))
+
+-- the break is not above the kernel break
+below_grants : (own : Own) → IsInOrder own → own.layout.brk ≤ kernel_break_of own
+below_grants own h = omega (arith, h.grants)
 
 keep_size : OfEachService KeepsSize
 keep_size =
     of_services KeepsSize (record {
       same = λ own h whole. whole.bytes;
-      keeps = λ driver value own h whole. whole.bytes;
-      enters = λ driver value own room h whole. entering_size driver own whole.bytes;
-      serves = λ driver value own o s h whole. s.size whole h.kernel_break ∙ whole.bytes
-          ∙ ap (λ (x : Own). x.layout.kernel_break - x.layout.start) (sym s.rest);
-      shows = λ own ram size h whole. size whole h.kernel_break ∙ whole.bytes;
+      keeps = λ driver value own h whole. keeping_size driver value own whole.bytes;
+      enters = λ driver value own room h whole.
+          keeping_size driver value (own_entering driver own) (entering_size driver own whole.bytes);
+      serves = λ driver value own o s h whole. keeping_size driver value o
+          (s.size whole (below_grants own h) ∙ whole.bytes
+          ∙ ap (λ (x : Own). kernel_break_of x - x.layout.start) (sym s.rest));
+      shows = λ own ram size h whole. size whole (below_grants own h) ∙ whole.bytes;
     })
 
 -- what holds of the pair that was handed, and of all that were before, holds of all
@@ -152,7 +169,7 @@ of_handed kind driver number pair own o hands P k d n this before =
         subst P (sym ((λ i. held (same i) (d_is i) (n_is i) o) ∙ hands.this)) (this same)
 
 -- the pair that was handed lies below the mark afterwards
-keeps_shared : (kind : PairKind) (e : LayoutView) (pair : ℕ × ℕ) → may_share kind e pair ≡ true
+keeps_shared : (kind : PairKind) (e : Bounds) (pair : ℕ × ℕ) → may_share kind e pair ≡ true
     → may_keep kind e pair ≡ true
 keeps_shared kind e pair may = by_test (is_buffer kind)
   where
@@ -160,10 +177,10 @@ keeps_shared kind e pair may = by_test (is_buffer kind)
     by_test true = may
     by_test false = refl
 
-this_kind : (kind : PairKind) (pair : ℕ × ℕ) (e : LayoutView) → may_share kind e pair ≡ true
+this_kind : (kind : PairKind) (pair : ℕ × ℕ) (e : Bounds) → may_share kind e pair ≡ true
     → may_keep kind (at_mark (marked kind pair e)) pair ≡ true
 this_kind kind pair e may =
-    subst (λ (f : LayoutView). may_keep kind (at_mark f) pair ≡ true) (sym (marked_rest kind pair e))
+    subst (λ (f : Bounds). may_keep kind (at_mark f) pair ≡ true) (sym (marked_rest kind pair e))
     (by_kind kind (keeps_shared kind e pair may))
   where
     by_kind : (k : PairKind) → may_keep k e pair ≡ true
@@ -174,44 +191,28 @@ this_kind kind pair e may =
     by_kind Readable may = wider Readable e (raised pair e).mark pair (raised_covers pair e) may
 
 -- what a pair may be kept by is accessible RAM and flash alone
-alike : (k : PairKind) (e : LayoutView) (kernel mark : ℕ) (pair : ℕ × ℕ)
-    → may_keep k (record e { kernel_break = kernel; mark = mark }) pair ≡ may_keep k e pair
-alike Upcall e kernel mark pair = refl
-alike ReadOnly e kernel mark pair = refl
-alike ReadWrite e kernel mark pair = refl
-alike Readable e kernel mark pair = refl
+alike : (k : PairKind) (e : Bounds) (mark : ℕ) (pair : ℕ × ℕ)
+    → may_keep k (record e { mark = mark }) pair ≡ may_keep k e pair
+alike Upcall e mark pair = refl
+alike ReadOnly e mark pair = refl
+alike ReadWrite e mark pair = refl
+alike Readable e mark pair = refl
 
 -- and so do the others
-other_kind : (kind k : PairKind) (pair other : ℕ × ℕ) (e : LayoutView) → may_keep k (at_mark e) other ≡ true
+other_kind : (kind k : PairKind) (pair other : ℕ × ℕ) (e : Bounds) → may_keep k (at_mark e) other ≡ true
     → may_keep k (at_mark (marked kind pair e)) other ≡ true
 other_kind kind k pair other e may =
-    subst (λ (f : LayoutView). may_keep k (at_mark f) other ≡ true) (sym (marked_rest kind pair e))
-    (alike k (record e { brk = (marked kind pair e).mark }) e.kernel_break (marked kind pair e).mark other
+    subst (λ (f : Bounds). may_keep k (at_mark f) other ≡ true) (sym (marked_rest kind pair e))
+    (alike k (record e { brk = (marked kind pair e).mark }) (marked kind pair e).mark other
     ∙ wider k (at_mark e) (marked kind pair e).mark other
     (lies_further e.start e.mark (marked kind pair e).mark other (marked_grows kind pair e)) may)
 
--- room for a grant moves the kernel break alone
-roomed_keeps : (k : PairKind) (driver : ℕ) (e : LayoutView) (g : Option Grant) (pair : ℕ × ℕ)
-    → may_keep k (at_mark e) pair ≡ true → may_keep k (at_mark (roomed driver e g)) pair ≡ true
-roomed_keeps k driver e None pair may = alike k (at_mark e) (roomed driver e None).kernel_break e.mark pair ∙ may
-roomed_keeps k driver e (Some g) pair may = may
-
-roomed_may : (kind : PairKind) (driver : ℕ) (e : LayoutView) (g : Option Grant) (pair : ℕ × ℕ)
-    → may_share kind e pair ≡ true → may_share kind (roomed driver e g) pair ≡ true
-roomed_may Upcall driver e None pair may = may
-roomed_may ReadOnly driver e None pair may = may
-roomed_may ReadWrite driver e None pair may = may
-roomed_may Readable driver e None pair may = may
-roomed_may kind driver e (Some g) pair may = may
-
 module _ (law : OnlyHandingChangesPairs) where
   -- where a process lies stays, and the pairs that it has handed
-  same_buffers : (own o : Own) (k b : ℕ) → o.layout ≡ record own.layout { kernel_break = k; brk = b }
-      → HandsTheSame own o → HoldsBelowMark own → HoldsBelowMark o
-  same_buffers own o k b layout pairs h = record {
-    each = λ kind driver number. ap₂ (λ (e : LayoutView) (pair : ℕ × ℕ). may_keep kind (at_mark e) pair) layout
-        (law.held own o pairs kind driver number)
-        ∙ alike kind (at_mark own.layout) k own.layout.mark (held kind driver number own) ∙ h.each kind driver number;
+  same_buffers : (own o : Own) → o.layout ≡ own.layout → HandsTheSame own o → HoldsBelowMark own → HoldsBelowMark o
+  same_buffers own o layout pairs h = record {
+    each = λ kind driver number. ap₂ (λ (e : Bounds) (pair : ℕ × ℕ). may_keep kind (at_mark e) pair) layout
+        (law.held own o pairs kind driver number) ∙ h.each kind driver number;
   }
 
   settles : (own o : Own) → StaysInPlace own o → HandsTheSame own o → KeepsOrder own o → KeepsSize own o
@@ -219,8 +220,7 @@ module _ (law : OnlyHandingChangesPairs) where
   settles own o stays pairs order size h = record {
     order = order h.order;
     bytes = size h.order (whole_of own h);
-    buffers = same_buffers own o o.layout.kernel_break own.layout.brk (ap (λ (x : Own). x.layout) stays) pairs
-        h.buffers;
+    buffers = same_buffers own o (ap (λ (x : Own). x.layout) stays) pairs h.buffers;
     shape = law.shape own o pairs h.shape;
   }
 
@@ -229,21 +229,20 @@ module _ (law : OnlyHandingChangesPairs) where
       → KeepsSettled own (handing kind driver number pair own)
   handed_settled kind driver number pair own room may is_number h =
       let o = handing kind driver number pair own in
-      let g = grant_of driver own.grants in
-      let e = roomed driver own.layout g in
+      let entered = own_entering driver own in
+      let e = own.layout in
       let hands = law.handing kind driver number pair own h.shape is_number in
-      let may_now = roomed_may kind driver own.layout g pair may in
       record {
         order = handed_order kind driver number pair own room h.order;
         bytes = entering_size driver own h.bytes
-            ∙ ap (λ (f : LayoutView). f.kernel_break - f.start) (sym (marked_rest kind pair e));
+            ∙ ap₂ (λ (f : Bounds) (n : ℕ). f.end - n - f.start) (sym (marked_rest kind pair e))
+            (sym (same_costs driver (with_pair kind number pair) entered.grants (λ g. refl)));
         buffers = record {
           each = λ k d n. of_handed kind driver number pair own o hands
               (λ p. may_keep k (at_mark (marked kind pair e)) p ≡ true) k d n
               (λ same. subst (λ (x : PairKind). may_keep x (at_mark (marked kind pair e)) pair ≡ true) (sym same)
-              (this_kind kind pair e may_now))
-              (other_kind kind k pair (held k d n own) e
-              (roomed_keeps k driver own.layout g (held k d n own) (h.buffers.each k d n)));
+              (this_kind kind pair e may))
+              (other_kind kind k pair (held k d n own) e (h.buffers.each k d n));
         };
         shape = hands.shape;
       }

@@ -10,7 +10,7 @@ use Rattle.tk_base.specs.declared.kinds.PairKind.TheVariants.{Readable}
 use Rattle.tk_base.specs.Kinds.{is_writable}
 use Rattle.process_model.proofs.Changes.{keeps_in_ram}
 use Rattle.driver_model.specs.Alarm.{alarm_driver, showing}
-use Rattle.process_layout.specs.LayoutView.{LayoutView}
+use Rattle.process_layout.specs.Bounds.{Bounds}
 use Rattle.process_layout.specs.Interval.{lies_within}
 use Rattle.process_model.specs.Own.{Own}
 use Rattle.process_model.specs.Handed.{held, lies_in_ram}
@@ -46,7 +46,7 @@ pub lies : (from to at size : ℕ) → lies_within from to at size ≡ true → 
 lies from to at size e = (grind (arith, nat_tests), grind (arith, nat_tests))
 
 -- a buffer that may be allowed lies in accessible RAM, or has no bytes
-lies_in : (e : LayoutView) (buffer : ℕ × ℕ) → (buffer.1 == 0 || lies_in_ram e buffer.0 buffer.1) ≡ true
+lies_in : (e : Bounds) (buffer : ℕ × ℕ) → (buffer.1 == 0 || lies_in_ram e buffer.0 buffer.1) ≡ true
     → ((e.start ≤ buffer.0) × (buffer.0 + buffer.1 ≤ e.brk)) ⊎ (buffer.1 ≡ 0)
 lies_in e buffer may = by_size (buffer.1 == 0) (lies_in_ram e buffer.0 buffer.1) refl refl may
   where

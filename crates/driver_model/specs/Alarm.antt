@@ -86,8 +86,7 @@ due_alarm now own = if own.lives then if_due now (alarm_in own) else None
 
 -- An alarm fires: it is stopped, the clock is shown, and upcall 0 is scheduled with the clock and the expiration.
 abbrev pub fired : ℕ → Armed → Own → DriverStep
-fired now alarm own =
-    scheduling alarm_driver 0 (now ∷ expiration alarm ∷ 0 ∷ []) (with_alarm None (showing now own))
+fired now alarm own = scheduling alarm_driver 0 (now ∷ expiration alarm ∷ 0 ∷ []) (with_alarm None (showing now own))
 
 -- a process whose alarm fired, if one did
 abbrev pub fired_if : ℕ → Own → Option Armed → DriverStep

@@ -87,8 +87,7 @@ taking own write =
 
 -- a process whose write completes: upcall 1 tells how many bytes were taken
 abbrev pub write_completing : Own → WaitingWrite → DriverStep
-write_completing own write =
-    scheduling console 1 (write.taken ∷ 0 ∷ 0 ∷ []) (with_request console_writes None own)
+write_completing own write = scheduling console 1 (write.taken ∷ 0 ∷ 0 ∷ []) (with_request console_writes None own)
 
 -- What the UART tells a process: that it took the next bytes of its write; that it had taken all. Nothing changes where
 -- no write waits.

@@ -1,11 +1,10 @@
 -- What drivers keep of a process, whatever they do to it: where it lies, the order of its memory, and how many upcalls
 -- wait at most. The order is that of Levy et al., SOSP 2017, section 4; the limit is this board's own rule.
-use Rattle.std.specs.Prelude.{◌≡◌, ◌≤◌, ◌<◌, ℕ, ◌+◌, ◌-◌, IsTrue, List, [], ◌∷◌, length, true}
+use Rattle.std.specs.Prelude.{◌≡◌, ◌≤◌, ◌<◌, ℕ, ◌+◌, ◌-◌, IsTrue, length, true}
 use Rattle.tk_base.specs.declared.limits.TheConstants.{PENDING_LIMIT}
-use Rattle.grant_values.specs.Drivers.{cost_of}
-use Rattle.grant_model.specs.Grants.{Grant, shape_of}
+use Rattle.grant_model.specs.Grants.{costs, shape_of}
 use Rattle.tk_base.specs.declared.kinds.PairKind.{PairKind}
-use Rattle.process_model.specs.Own.{Own}
+use Rattle.process_model.specs.Own.{Own, kernel_break_of}
 use Rattle.tk_base.specs.Kinds.{count_of}
 use Rattle.process_model.specs.Handed.{HoldsInPlace, handing, has_place, may_share}
 use Rattle.process_model.specs.Changes.{IsWhole}
@@ -13,19 +12,12 @@ use Rattle.process_model.specs.Pairs.{HasShape}
 use Rattle.driver_model.specs.Laws.{StaysInPlace}
 use Rattle.driver_model.specs.Services.{OfEachService}
 
--- how many bytes grants take: what the driver of each costs
-abbrev pub costs : List Grant → ℕ
-costs [] = 0
-costs (g ∷ gs) = cost_of (shape_of g.driver) + costs gs
-
 -- The places of a process's memory stand in their order: the start of the block, the mark below which the break may not
--- move, the break, and the kernel break, from which on the grants of the drivers that were entered fill the block to
--- its end (Levy et al., SOSP 2017).
+-- move, and the break; and above it the grants of the drivers that were entered have room (Levy et al., SOSP 2017).
 pub record IsInOrder (own : Own) : Type 0 where
   pub mark : own.layout.start ≤ own.layout.mark
   pub brk : own.layout.mark ≤ own.layout.brk
-  pub kernel_break : own.layout.brk ≤ own.layout.kernel_break
-  pub end : own.layout.kernel_break + costs own.grants ≡ own.layout.end
+  pub grants : own.layout.brk + costs own.grants ≤ own.layout.end
 
 abbrev pub KeepsOrder : Own → Own → Type 0
 KeepsOrder own o = IsInOrder own → IsInOrder o
@@ -38,7 +30,7 @@ pub record KeepsLimit (own o : Own) : Type 0 where
 -- a pair that is handed leaves where a process lies, its life, that it lives, its break and its dropped upcalls
 abbrev pub HandsInPlace : Own → Own → Type 0
 HandsInPlace own o = o ≡ record own {
-  layout = record own.layout { kernel_break = o.layout.kernel_break; mark = o.layout.mark };
+  layout = record own.layout { mark = o.layout.mark };
   ram = o.ram;
   grants = o.grants;
   inbox = record own.inbox { pending = o.inbox.pending };
@@ -63,7 +55,7 @@ HoldsBelowMark own = HoldsInPlace (record own { layout = record own.layout { brk
 -- has allowed lies in accessible flash, or in its RAM below the mark; it has as many pairs as its drivers have numbers.
 pub record IsSettled (own : Own) : Type 0 where
   pub order : IsInOrder own
-  pub bytes : length own.ram ≡ own.layout.kernel_break - own.layout.start
+  pub bytes : length own.ram ≡ kernel_break_of own - own.layout.start
   pub buffers : HoldsBelowMark own
   pub shape : HasShape own
 

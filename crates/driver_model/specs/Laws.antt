@@ -41,15 +41,10 @@ TimeBringsNearer =
     passed ≤ ticks_left now alarm →
     ticks_left ((now + passed) % 2 ^ 32) alarm ≡ ticks_left now alarm - passed
 
--- of what is a process's own a command may change the room for grants, the grants, what waits to be delivered and the
--- count of dropped upcalls; where it lies, its life, and that it lives, stay
+-- of what is a process's own a command may change its bytes, the grants, what waits to be delivered and the count of
+-- dropped upcalls; where it lies, its life, and that it lives, stay
 abbrev pub StaysInPlace : Own → Own → Type 0
-StaysInPlace own o = o ≡ record own {
-  layout = record own.layout { kernel_break = o.layout.kernel_break };
-  ram = o.ram;
-  grants = o.grants;
-  inbox = o.inbox;
-}
+StaysInPlace own o = o ≡ record own { ram = o.ram; grants = o.grants; inbox = o.inbox }
 
 -- so does each command to a driver
 abbrev pub CommandsStayInPlace : Type 0

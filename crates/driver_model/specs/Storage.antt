@@ -39,8 +39,7 @@ storages = record {
 -- a request for bytes of a slot's storage, which has so many; those that are asked for must lie in it
 abbrev pub requesting : ℕ → StorageRequest → Own → Commanded
 requesting size request own =
-    if nat_le (request.offset + request.length) size then asking storages request own
-    else refusing Range own
+    if nat_le (request.offset + request.length) size then asking storages request own else refusing Range own
 
 -- its commands: the driver is there; the bytes of a slot's storage; read, and write, at an offset so many bytes
 unfoldable pub commands : ℕ → ℕ → ℕ → Own → List (ℕ × Commanded)

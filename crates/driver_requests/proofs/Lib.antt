@@ -1,1 +1,4 @@
+pub mod Keeping
+mod Busy
 mod Room
+mod Visiting

@@ -1,6 +1,5 @@
 -- A process gives a command to a driver, and what comes of it.
-use Rattle.std.specs.Prelude.{◌≡◌, ◌<◌, ℕ, ◌+◌, ◌^◌, ◌==◌, false, if◌then◌else◌, List, length, Option, None}
-use Rattle.std.specs.Prelude.{Result}
+use Rattle.std.specs.Prelude.{◌≡◌, ◌<◌, ℕ, ◌+◌, ◌^◌, ◌==◌, false, if◌then◌else◌, List, length, Option, None, Result}
 use Rattle.tk_base.specs.declared.call.CallRule.{CallRule}
 use Rattle.tk_base.specs.declared.process.ProcessId.{ProcessId}
 use Rattle.syscall_abi.specs.declared.reply.Reply.{Reply}
@@ -11,8 +10,7 @@ use Rattle.driver_model.specs.Replies.{reply_of}
 use Rattle.driver_model.specs.Requests.{RequestKind, request_in, waiting_in}
 use Rattle.grant_enter.specs.Homes.{Homes, own_of, ChangesOnly}
 use Rattle.grant_enter.specs.Visits.{is_stale}
-use Rattle.driver_requests.specs.Waiting.{queue_after}
-use Rattle.driver_requests.specs.Waiting.{waits as waits_in}
+use Rattle.driver_requests.specs.Waiting.{queue_after, waits as waits_in}
 
 -- what comes of a process in one of its lives; something else where it is not in that life
 abbrev pub in_life : {X : Type 0} → ℕ → Own → X → X → X

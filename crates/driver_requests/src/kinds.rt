@@ -6,6 +6,7 @@ use grant_values::{
 
 impl Request for WaitingWrite {
     ghost use Rattle.driver_model.specs.Console.{console_writes};
+    ghost use Rattle.std.specs.Prelude.{refl};
 
     type Value = Console;
 
@@ -18,10 +19,17 @@ impl Request for WaitingWrite {
     fn wait_in(self, value: &mut Console) {
         value.write = Some(self);
     }
+
+    fn take_out(value: &mut Console) {
+        value.write = None;
+    }
+
+    ghost none_at_first = { refl };
 }
 
 impl Request for WaitingRead {
     ghost use Rattle.driver_model.specs.Console.{console_reads};
+    ghost use Rattle.std.specs.Prelude.{refl};
 
     type Value = Console;
 
@@ -34,10 +42,17 @@ impl Request for WaitingRead {
     fn wait_in(self, value: &mut Console) {
         value.read = Some(self);
     }
+
+    fn take_out(value: &mut Console) {
+        value.read = None;
+    }
+
+    ghost none_at_first = { refl };
 }
 
 impl Request for RandomRequest {
     ghost use Rattle.driver_model.specs.Random.{randoms};
+    ghost use Rattle.std.specs.Prelude.{refl};
 
     type Value = Random;
 
@@ -50,10 +65,17 @@ impl Request for RandomRequest {
     fn wait_in(self, value: &mut Random) {
         value.request = Some(self);
     }
+
+    fn take_out(value: &mut Random) {
+        value.request = None;
+    }
+
+    ghost none_at_first = { refl };
 }
 
 impl Request for StorageRequest {
     ghost use Rattle.driver_model.specs.Storage.{storages};
+    ghost use Rattle.std.specs.Prelude.{refl};
 
     type Value = Storage;
 
@@ -66,4 +88,10 @@ impl Request for StorageRequest {
     fn wait_in(self, value: &mut Storage) {
         value.request = Some(self);
     }
+
+    fn take_out(value: &mut Storage) {
+        value.request = None;
+    }
+
+    ghost none_at_first = { refl };
 }

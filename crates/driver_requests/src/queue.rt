@@ -7,7 +7,7 @@ ghost use Rattle.driver_model.specs.Requests.{asking};
 ghost use Rattle.driver_requests.specs.Waiting.{without};
 
 use crate::begin::Begin;
-use crate::request::{Request, has_request};
+use crate::request::Request;
 use crate::serve::{Serve, Service};
 use crate::waiting::{Waiting, WaitingList};
 use board_devices::Answer;
@@ -16,8 +16,8 @@ use std::marker::{Model, PhantomData};
 use syscall_abi::Reply;
 use tk_base::{CallRule, NotReady, ProcessId, Slot};
 
-/// The processes whose request of one kind waits for its device, the one that waits longest first. Contracts see the
-/// list of their ids.
+/// The processes whose request of one kind waits for its device, the one that waits longest first.
+/// Contracts see the list of their ids.
 #[derive(Drop)]
 pub struct RequestQueue<R> {
     waiting: WaitingList,
@@ -67,10 +67,10 @@ impl<R> RequestQueue<R> {
 }
 
 impl<R: Request + Drop> RequestQueue<R> {
-    /// A process makes a request of a driver, which begins to wait in its grant; the process is then the last in the
-    /// line. It is refused with [`CallRule::Busy`] where one of its requests waits there already, else with
-    /// [`CallRule::NoRoom`] where there is no room for the driver's grant; then nothing changes. Nothing of another
-    /// process changes.
+    /// A process makes a request of a driver, which begins to wait in its grant; the process is
+    /// then the last in the line. It is refused with [`CallRule::Busy`] where one of its requests
+    /// waits there already, else with [`CallRule::NoRoom`] where there is no room for the driver's
+    /// grant; then nothing changes. Nothing of another process changes.
     ///
     /// It asks that the process is there, and that it is in the line only where it has a request.
     pub fn ask<const UP: usize, const RO: usize, const RW: usize, const UR: usize>(
@@ -85,21 +85,21 @@ impl<R: Request + Drop> RequestQueue<R> {
         ensures { Obeys R.request_kind.line id (asking R.request_kind request) self.old home.old
             result self.new home.new }
     {
-        if has_request::<R, UP, RO, RW, UR>(grants, home, &id) {
+        home.owns_lie_in_place();
+        let last = id;
+        let Ok(begins) = grants.enter(home, id, Begin { request }) else {
+            return Err(CallRule::NoRoom);
+        };
+        if !begins {
             return Err(CallRule::Busy);
         }
-        match grants.enter(home, id, Begin { request }) {
-            Ok(()) => {
-                self.waiting.push(id);
-                Ok(Reply::Success)
-            }
-            Err(_) => Err(CallRule::NoRoom),
-        }
+        self.waiting.push(last);
+        Ok(Reply::Success)
     }
 
-    /// Has a capsule's device answer the process that waits longest, which waits no more exactly where its request
-    /// completed. Nothing of another slot changes. It tells whom it served, and what it told it; [`NotReady`] comes
-    /// exactly where none waits, and then nothing changes.
+    /// Has a capsule's device answer the process that waits longest, which waits no more exactly
+    /// where its request completed. Nothing of another slot changes. It tells whom it served, and
+    /// what it told it; [`NotReady`] comes exactly where none waits, and then nothing changes.
     ///
     /// It asks that the process may be told something, and what the device asks.
     pub fn answer<C: Serve<R>>(

@@ -34,8 +34,8 @@ pub trait Serve<R: Request> {
     /// What its answer to the process of an id comes to.
     ghost answer_to: { Self.Device → Homes → ProcessId → Answered Self.Device };
 
-    /// Serves the request of a process, if it is there and has one: what the process is told, and whether the
-    /// request completed.
+    /// Serves the request of a process, if it is there and has one: what the process is told, and
+    /// whether the request completed.
     fn serve(home: &mut Home, id: &ProcessId, device: &mut Self::Device) -> Service
         requires told { MayBeTold home.old id.now }
         requires asks { asks device.old (own_of home.old id.now.slot) }

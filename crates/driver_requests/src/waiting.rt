@@ -36,8 +36,8 @@ impl Default for Waiting {
     }
 }
 
-/// The processes that wait for one device, the first one first: of each slot at most one, so that there is
-/// room for each that does not wait yet. Contracts see the list of their ids.
+/// The processes that wait for one device, the first one first: of each slot at most one, so that
+/// there is room for each that does not wait yet. Contracts see the list of their ids.
 #[derive(Drop)]
 pub(crate) struct WaitingList {
     ids: ArrayVec<Waiting, SLOT_COUNT>,

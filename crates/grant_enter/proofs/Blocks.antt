@@ -6,10 +6,12 @@ use Rattle.std.proofs.lemmas.List.{places, take_all, take-append-le, length-drop
 use Rattle.std.proofs.lemmas.Grind.{same_number_lists}
 use Rattle.tk_base.specs.declared.access.TheConstants.{RAM_START}
 use Rattle.process_layout.specs.LayoutView.{LayoutView}
+use Rattle.process_layout.specs.Bounds.{bounds_of}
 use Rattle.board_memory.specs.Memory.{MemoryBytes, ram_between, with_run}
 use Rattle.tk_base.specs.Bytes.{over}
 use Rattle.swap_tables.specs.declared.handover.Handover.{Handover}
-use Rattle.grant_model.specs.Grants.{Grant, grant_of}
+use Rattle.grant_model.specs.Grants.{Grant, costs, grant_of}
+use Rattle.grant_model.proofs.Costs.{kernel_costs}
 use Rattle.grant_model.specs.Encoding.{EncodesGrants, Tells, decode_grants}
 use Rattle.process_layout.specs.Ordered.{IsOrdered}
 use Rattle.grant_region.specs.Region.{AreParts, Leaves, Parts, below, above, roomed}
@@ -73,11 +75,18 @@ module _ (m : MemoryBytes) (e : LayoutView) (s : FitsMemory (length m.flash) (le
       length_window m.ram (e.kernel_break - RAM_START) (e.end - RAM_START) (omega (arith, s.to, s.from))
       ∙ omega (arith, s.from, s.ordered.block, s.ordered.grants)
 
+  -- the kernel break is the block's end less what the grants cost
+  pub break_is : EncodesGrants (kernel_in m.ram e) → e.kernel_break ≡ e.end - costs (decode_grants (kernel_in m.ram e))
+  break_is laid =
+      let long = length_kernel in
+      let cost = kernel_costs (kernel_in m.ram e) laid in
+      omega (arith, long, cost, s.ordered.end)
+
   pub length_block : length (ram_between m.ram e.start e.end) ≡ e.end - e.start
   length_block = length_window m.ram (e.start - RAM_START) (e.end - RAM_START) (omega (arith, s.to, s.from))
       ∙ omega (arith, s.from, s.ordered.block, s.ordered.grants)
 
-  pub lent_parts : (parts : Parts) → AreLent m e parts → IsKept e (kernel_in m.ram e) → AreParts parts
+  pub lent_parts : (parts : Parts) → AreLent m e parts → IsKept (bounds_of e) (kernel_in m.ram e) → AreParts parts
   lent_parts parts lent kept =
       let n : length parts.kernel ≡ e.end - e.kernel_break = ap length (lent.kernel ∙ lent_kernel) ∙ length_kernel in
       record {
@@ -150,7 +159,8 @@ module _ (m : MemoryBytes) (e : LayoutView) (s : FitsMemory (length m.flash) (le
       let kernel_long : length before.kernel ≡ e.end - e.kernel_break =
       ap length (lent.kernel ∙ lent_kernel) ∙ length_kernel in
       let size : length bytes ≡ e.end - e.start =
-      length-append after.app after.kernel ∙ omega (arith, left.size, s.ordered.block, s.ordered.grants, s.ordered.end) in
+      length-append after.app after.kernel ∙ omega
+      (arith, left.size, s.ordered.block, s.ordered.grants, s.ordered.end) in
       let low : e.start ≤ f.kernel_break = omega (arith, ends.start, o.block, o.grants) in
       let high : f.kernel_break ≤ e.end = omega (arith, ends.lower, s.ordered.end) in
       record {

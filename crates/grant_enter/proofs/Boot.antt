@@ -6,6 +6,7 @@ use Rattle.std.specs.Prelude.{slice_index_or, slice_range}
 use Rattle.std.proofs.Math.Seq.{take-suc}
 use Rattle.std.proofs.lemmas.List.{map-append, take_all, get_or-map, length-map}
 use Rattle.process_layout.specs.LayoutView.{LayoutView}
+use Rattle.process_layout.specs.Bounds.{bounds_of}
 use Rattle.board_memory.specs.Memory.{MemoryBytes}
 use Rattle.grant_model.specs.Grants.{Grant}
 use Rattle.grant_model.specs.Encoding.{decode_grants}
@@ -55,9 +56,9 @@ module _ (law : IsReadBack) (flash : List ℕ) (ram : ℕ) (fs : List Footprint)
   seat_kept : (f : Footprint) → CanMoveIn (length flash) ram f → IsSeated (length flash) (zeros ram) (first_seat f)
   seat_kept f s = record {
     object = s.object;
-    kept = subst (IsKept f.layout) (sym (ap (λ (n : ℕ). slice_range (zeros ram) (n - 2147483648)
+    kept = subst (IsKept (bounds_of f.layout)) (sym (ap (λ (n : ℕ). slice_range (zeros ram) (n - 2147483648)
         (f.layout.end - 2147483648)) s.no_grants ∙ no_bytes (zeros ram) (f.layout.end - 2147483648)))
-        (none_kept law f.layout);
+        (none_kept law (bounds_of f.layout));
   }
 
   each_seated : (xs : List Footprint) → All (CanMoveIn (length flash) ram) xs
@@ -101,7 +102,7 @@ module _ (law : IsReadBack) (flash : List ℕ) (ram : ℕ) (fs : List Footprint)
       let t = s.settled in
       ap₂ (λ (a : List ℕ) (gs : List Grant). record {
         object = f.object;
-        layout = e;
+        layout = bounds_of e;
         ram = a;
         grants = gs;
         inbox = record { pending = []; dropped = 0 };
@@ -109,7 +110,7 @@ module _ (law : IsReadBack) (flash : List ℕ) (ram : ℕ) (fs : List Footprint)
         lives = true;
       })
       (zero_window ram (e.start - 2147483648) (e.kernel_break - 2147483648) (omega (arith, t.to, t.ordered.end))
-      ∙ ap zeros (omega (arith, t.from, t.ordered.block, t.ordered.grants)))
+      ∙ ap zeros (omega (arith, t.from, t.ordered.block, t.ordered.grants, s.no_grants)))
       (ap (λ (n : ℕ). decode_grants (slice_range (zeros ram) (n - 2147483648) (e.end - 2147483648))) s.no_grants
       ∙ ap decode_grants (no_bytes (zeros ram) (e.end - 2147483648)) ∙ none_back law)
 

@@ -1,7 +1,7 @@
 -- The buffers that a driver was allowed, in the memory that is lent.
 use Rattle.std.proofs.Common.{◌≡◌, ℕ, zero, suc, ◌+◌, ◌-◌, ◌<◌, ◌≤◌, ◌^◌, ◌==◌, ◌||◌, IsTrue, Bool, true, false, cond}
-use Rattle.std.proofs.Common.{List, [], ◌∷◌, length, map, take, drop, Option, None, Some, refl, sym, ap, subst, ◌∙◌, rules}
-use Rattle.std.proofs.Common.{arith}
+use Rattle.std.proofs.Common.{List, [], ◌∷◌, length, map, take, drop, Option, None, Some, refl, sym, ap, subst, ◌∙◌}
+use Rattle.std.proofs.Common.{rules, arith}
 use Rattle.std.specs.Prelude.{slice_range, slice_index, slice_index_or}
 use Rattle.std.specs.List.{AllByRecursion, range_with_len}
 use Rattle.std.proofs.lemmas.Bool.{eqb-true}
@@ -11,6 +11,7 @@ use Rattle.std.proofs.lemmas.List.{length-take, length-drop, places}
 use Rattle.std.proofs.lemmas.List.FromFn.{length-map-range_with_len, get_or-map-range_with_len}
 use Rattle.tk_base.specs.declared.access.TheConstants.{FLASH_START, RAM_START}
 use Rattle.process_layout.specs.LayoutView.{LayoutView}
+use Rattle.process_layout.specs.Bounds.{Bounds, bounds_of}
 use Rattle.process_layout.specs.Interval.{lies_within}
 use Rattle.tk_base.specs.declared.kinds.PairKind.{PairKind}
 use Rattle.tk_base.specs.declared.kinds.PairKind.TheVariants.{Upcall, ReadOnly, ReadWrite, Readable}
@@ -43,13 +44,13 @@ pair_at P [] n none all = none
 pair_at P (p ∷ ps) zero none all = all.0
 pair_at P (p ∷ ps) (suc n) none all = pair_at P ps n none all.1
 
-lies_by : (kind : PairKind) (e : LayoutView) (n : ℕ) (o : Option Grant) → ((g : Grant) → o ≡ Some g → Holds e g)
+lies_by : (kind : PairKind) (e : Bounds) (n : ℕ) (o : Option Grant) → ((g : Grant) → o ≡ Some g → Holds e g)
     → LiesInPlace kind e (pair_of kind n o)
 lies_by kind e n None holds = lies_zero kind e
 lies_by kind e n (Some g) holds = (holds g refl).each kind n
 
 -- what may be written lies below the mark
-pub below_mark : (kind : PairKind) (e : LayoutView) (pair : ℕ × ℕ) → IsTrue (is_writable kind) → LiesInPlace kind e pair
+pub below_mark : (kind : PairKind) (e : Bounds) (pair : ℕ × ℕ) → IsTrue (is_writable kind) → LiesInPlace kind e pair
     → LiesBelowMark e pair
 below_mark Upcall e pair can lies = absurd (cc)
 below_mark ReadOnly e pair can lies = absurd (cc)
@@ -57,16 +58,16 @@ below_mark ReadWrite e pair can lies = lies
 below_mark Readable e pair can lies = lies
 
 module _ (m : MemoryBytes) (seat : Seat) (t : SitsIn m seat) (kind : PairKind) (driver n : ℕ) where
-  pub lies_held : LiesInPlace kind seat.layout (held kind driver n (own_in m.ram seat))
+  pub lies_held : LiesInPlace kind (bounds_of seat.layout) (held kind driver n (own_in m.ram seat))
   lies_held = let gs = (own_in m.ram seat).grants in
-      lies_by kind seat.layout n (grant_of driver gs)
-      (λ g is. all_of (Holds seat.layout) driver g gs t.seated.kept.held is)
+      lies_by kind (bounds_of seat.layout) n (grant_of driver gs)
+      (λ g is. all_of (Holds (bounds_of seat.layout)) driver g gs t.seated.kept.held is)
 
-  pub below_held : IsTrue (is_writable kind) → LiesBelowMark seat.layout (held kind driver n (own_in m.ram seat))
-  below_held can = below_mark kind seat.layout (held kind driver n (own_in m.ram seat)) can lies_held
+  pub below_held : IsTrue (is_writable kind) → LiesBelowMark (bounds_of seat.layout) (held kind driver n (own_in m.ram seat))
+  below_held can = below_mark kind (bounds_of seat.layout) (held kind driver n (own_in m.ram seat)) can lies_held
 
 -- where a buffer lies, it may be allowed
-rw_allowed : (e : LayoutView) (pair : ℕ × ℕ) → e.mark ≤ e.brk → LiesBelowMark e pair
+rw_allowed : (e : Bounds) (pair : ℕ × ℕ) → e.mark ≤ e.brk → LiesBelowMark e pair
     → IsTrue (pair.1 == 0 || lies_in_ram e pair.0 pair.1)
 rw_allowed e pair below lies = by_size (pair.1 == 0) refl
   where
@@ -75,7 +76,7 @@ rw_allowed e pair below lies = by_size (pair.1 == 0) refl
     by_size false none = let some : 0 < pair.1 = grind (arith, nat_tests) in let l = lies some in
         grind (arith, nat_tests)
 
-ro_allowed : (e : LayoutView) (pair : ℕ × ℕ) → e.mark ≤ e.brk → MayBeRead e pair → IsTrue (may_keep ReadOnly e pair)
+ro_allowed : (e : Bounds) (pair : ℕ × ℕ) → e.mark ≤ e.brk → MayBeRead e pair → IsTrue (may_keep ReadOnly e pair)
 ro_allowed e pair below may = by_size (pair.1 == 0) refl
   where
     by_size : (a : Bool) → pair.1 == 0 ≡ a → IsTrue (a || lies_in_ram e pair.0 pair.1 || lies_in_flash e pair.0 pair.1)
@@ -83,7 +84,7 @@ ro_allowed e pair below may = by_size (pair.1 == 0) refl
     by_size false none = let some : 0 < pair.1 = grind (arith, nat_tests) in
         wider e.start e.mark e.brk pair.0 pair.1 (lies_in_flash e pair.0 pair.1) below (may some)
 
-allowed : (kind : PairKind) (e : LayoutView) (pair : ℕ × ℕ) → e.mark ≤ e.brk → LiesInPlace kind e pair
+allowed : (kind : PairKind) (e : Bounds) (pair : ℕ × ℕ) → e.mark ≤ e.brk → LiesInPlace kind e pair
     → IsTrue (may_keep kind e pair)
 allowed Upcall e pair below lies = refl
 allowed ReadOnly e pair below lies = ro_allowed e pair below lies
@@ -92,7 +93,7 @@ allowed Readable e pair below lies = rw_allowed e pair below lies
 
 pub in_place : (m : MemoryBytes) (seat : Seat) → SitsIn m seat → HoldsInPlace (own_in m.ram seat)
 in_place m seat t = record {
-  each = λ kind driver number. allowed kind seat.layout (held kind driver number (own_in m.ram seat))
+  each = λ kind driver number. allowed kind (bounds_of seat.layout) (held kind driver number (own_in m.ram seat))
       t.settled.ordered.buffers (lies_held m seat t kind driver number);
 }
 
@@ -134,13 +135,13 @@ module _ (m : MemoryBytes) (seat : Seat) (s : FitsMemory (length m.flash) (lengt
       (omega (arith, s.to, s.ordered.end))
 
   -- a buffer that may be read and does not lie in RAM has its bytes in flash
-  in_flash : (buffer : ℕ × ℕ) → lies_in_ram seat.layout buffer.0 buffer.1 ≡ false
+  in_flash : (buffer : ℕ × ℕ) → lies_in_ram (bounds_of seat.layout) buffer.0 buffer.1 ≡ false
       → IsTrue (lies_within seat.layout.start seat.layout.mark buffer.0 buffer.1
-      || lies_in_flash seat.layout buffer.0 buffer.1)
+      || lies_in_flash (bounds_of seat.layout) buffer.0 buffer.1)
       → (FLASH_START ≤ buffer.0) × (buffer.0 + buffer.1 ≤ FLASH_START + length m.flash)
   in_flash buffer is h =
       which (lies_within seat.layout.start seat.layout.mark buffer.0 buffer.1)
-      (lies_in_flash seat.layout buffer.0 buffer.1) not_below by_flash h
+      (lies_in_flash (bounds_of seat.layout) buffer.0 buffer.1) not_below by_flash h
     where
       not_below : lies_within seat.layout.start seat.layout.mark buffer.0 buffer.1 ≡ true → ⊥
       not_below at =
@@ -149,7 +150,7 @@ module _ (m : MemoryBytes) (seat : Seat) (s : FitsMemory (length m.flash) (lengt
           let to : buffer.0 + buffer.1 ≤ seat.layout.brk = omega (arith, s.ordered.buffers) in
           grind (arith, nat_tests)
 
-      by_flash : lies_in_flash seat.layout buffer.0 buffer.1 ≡ true
+      by_flash : lies_in_flash (bounds_of seat.layout) buffer.0 buffer.1 ≡ true
           → (FLASH_START ≤ buffer.0) × (buffer.0 + buffer.1 ≤ FLASH_START + length m.flash)
       by_flash at =
           let low : seat.layout.flash_start ≤ buffer.0 = grind (arith, nat_tests) in
@@ -161,8 +162,8 @@ module _ (m : MemoryBytes) (seat : Seat) (s : FitsMemory (length m.flash) (lengt
       which false true f g h = g refl
       which false false f g h = absurd (cc)
 
-  read_by : (buffer : ℕ × ℕ) (a b : Bool) → buffer.1 == 0 ≡ a → lies_in_ram seat.layout buffer.0 buffer.1 ≡ b
-      → MayBeRead seat.layout buffer
+  read_by : (buffer : ℕ × ℕ) (a b : Bool) → buffer.1 == 0 ≡ a → lies_in_ram (bounds_of seat.layout) buffer.0 buffer.1 ≡ b
+      → MayBeRead (bounds_of seat.layout) buffer
       → cond a [] (cond b (ram_between m.ram buffer.0 (buffer.0 + buffer.1))
       (slice_range m.flash (buffer.0 - FLASH_START) (buffer.0 + buffer.1 - FLASH_START)))
       ≡ cond b (ram_at (own_in m.ram seat) buffer) (map (flash_byte m.flash) (range_with_len buffer.0 buffer.1))
@@ -178,9 +179,9 @@ module _ (m : MemoryBytes) (seat : Seat) (s : FitsMemory (length m.flash) (lengt
       flash_window m.flash buffer.0 buffer.1 f.0 f.1
 
   -- what is lent to be read
-  pub read_is : (buffer : ℕ × ℕ) → MayBeRead seat.layout buffer
+  pub read_is : (buffer : ℕ × ℕ) → MayBeRead (bounds_of seat.layout) buffer
       → buffer_bytes m seat.layout buffer ≡ bytes_at (flash_byte m.flash) (own_in m.ram seat) buffer
-  read_is buffer may = read_by buffer (buffer.1 == 0) (lies_in_ram seat.layout buffer.0 buffer.1) refl refl may
+  read_is buffer may = read_by buffer (buffer.1 == 0) (lies_in_ram (bounds_of seat.layout) buffer.0 buffer.1) refl refl may
 
   -- where a buffer that may be written lies in memory, which has no bytes where its size is 0
   pub record EndsAt (buffer : ℕ × ℕ) (from to : ℕ) : Type 0 where
@@ -189,7 +190,7 @@ module _ (m : MemoryBytes) (seat : Seat) (s : FitsMemory (length m.flash) (lengt
     pub to_high : to ≤ RAM_START + length m.ram
     pub bytes : ram_between m.ram from to ≡ ram_at (own_in m.ram seat) buffer
 
-  ends_by : (buffer : ℕ × ℕ) (a : Bool) → buffer.1 == 0 ≡ a → LiesBelowMark seat.layout buffer
+  ends_by : (buffer : ℕ × ℕ) (a : Bool) → buffer.1 == 0 ≡ a → LiesBelowMark (bounds_of seat.layout) buffer
       → EndsAt buffer (cond a seat.layout.start buffer.0) (cond a seat.layout.start (buffer.0 + buffer.1))
   ends_by buffer true none lies =
       let z : buffer.1 ≡ 0 = eqb-true buffer.1 0 none in
@@ -211,11 +212,11 @@ module _ (m : MemoryBytes) (seat : Seat) (s : FitsMemory (length m.flash) (lengt
         bytes = own_bytes buffer l.0 (omega (arith, s.ordered.buffers, l.1));
       }
 
-  pub ends_at : (buffer : ℕ × ℕ) → LiesBelowMark seat.layout buffer
+  pub ends_at : (buffer : ℕ × ℕ) → LiesBelowMark (bounds_of seat.layout) buffer
       → EndsAt buffer (buffer_start seat.layout buffer) (last_of seat.layout buffer)
   ends_at buffer lies = ends_by buffer (buffer.1 == 0) refl lies
 
-  pub small : (buffer : ℕ × ℕ) → LiesBelowMark seat.layout buffer → buffer.0 < 2 ^ 32 → buffer.0 + buffer.1 < 2 ^ 32
+  pub small : (buffer : ℕ × ℕ) → LiesBelowMark (bounds_of seat.layout) buffer → buffer.0 < 2 ^ 32 → buffer.0 + buffer.1 < 2 ^ 32
   small buffer lies fits = by_size (buffer.1 == 0) refl
     where
       by_size : (a : Bool) → buffer.1 == 0 ≡ a → buffer.0 + buffer.1 < 2 ^ 32

@@ -1,22 +1,25 @@
 -- Room for a driver's grant in a block, and the process that has entered the driver.
-use Rattle.std.proofs.Common.{◌≡◌, ℕ, Bool, cond, List, ◌++◌, length, Option, None, Some, Result, Ok}
-use Rattle.std.proofs.Common.{Err, refl, sym, ap, ap₂, subst, ◌∙◌, eq-eqb}
+use Rattle.std.proofs.Common.{◌≡◌, ℕ, ◌+◌, ◌-◌, ◌||◌, nat_le, is_some, take, Bool, cond, List, ◌++◌, length}
+use Rattle.std.proofs.Common.{Option, None, Some, Result, Ok}
+use Rattle.std.proofs.Common.{Err, refl, sym, ap, ap₂, subst, ◌∙◌, eq-eqb, arith}
 use Rattle.std.specs.Prelude.{OnOk, option_map}
 use Rattle.std.specs.List.{AllByRecursion}
 use Rattle.process_layout.specs.LayoutView.{LayoutView}
+use Rattle.process_layout.specs.Bounds.{Bounds, bounds_of}
 use Rattle.process_layout.specs.Ordered.{IsOrdered}
-use Rattle.grant_model.specs.Grants.{Grant, grant_of, entering, entered, fresh}
+use Rattle.grant_values.specs.Drivers.{cost_of}
+use Rattle.grant_model.specs.Grants.{Grant, costs, grant_of, entering, entered, fresh, shape_of}
 use Rattle.grant_model.specs.Encoding.{decode_grants}
 use Rattle.grant_model.specs.Laws.{PairsStandByKind}
-use Rattle.grant_region.specs.Region.{Leaves, Parts, below, roomed}
+use Rattle.grant_region.specs.Region.{Leaves, Parts, below, fits, roomed}
 use Rattle.board_memory.specs.Memory.{MemoryBytes, with_run}
-use Rattle.process_model.specs.Own.{Own}
-use Rattle.process_model.specs.Handed.{own_entering as own_entering}
+use Rattle.process_model.specs.Own.{Own, kernel_break_of}
+use Rattle.process_model.specs.Handed.{has_place, own_entering}
 use Rattle.process_model.specs.Served.{kept}
 use Rattle.grant_enter.specs.declared.seat.Seat.{Seat}
 use Rattle.grant_enter.specs.Homes.{FitsMemory}
-use Rattle.grant_enter.specs.Seats.{Holds, MakesRoom, Reseats, SitsIn, kernel_in, own_in}
-use Rattle.grant_enter.proofs.Blocks.{AreLent, regrants_in, room_in}
+use Rattle.grant_enter.specs.Seats.{Holds, MakesRoom, Reseats, SitsIn, app_in, fits_in, kernel_in, own_in}
+use Rattle.grant_enter.proofs.Blocks.{AreLent, break_is, regrants_in, room_in}
 use Rattle.grant_enter.proofs.Holding.{entering_holds}
 use Rattle.grant_enter.proofs.Regranted.{regranted}
 
@@ -49,23 +52,59 @@ keeps_one driver own none =
     let some : kept driver (own_entering driver own) ≡ Some g.0.value = ap (option_map (λ (g : Grant). g.value)) g.1 in
     cc
 
+-- room for a driver's grant moves the kernel break alone, to where the grants then begin
+pub roomed_bounds : (driver : ℕ) (e : LayoutView) (g : Option Grant) → bounds_of (roomed driver e g) ≡ bounds_of e
+roomed_bounds driver e None = refl
+roomed_bounds driver e (Some g) = refl
+
+pub roomed_break : (driver : ℕ) (e : LayoutView) (gs : List Grant) (g : Option Grant)
+    → e.kernel_break ≡ e.end - costs gs → (roomed driver e g).kernel_break ≡ e.end - costs (entering driver gs g)
+roomed_break driver e gs None is = omega (arith, is)
+roomed_break driver e gs (Some g) is = is
+
+-- a grant fits by the layout of the seat where it does by that of the process's own
+pub same_room : (driver : ℕ) (m : MemoryBytes) (seat : Seat) → SitsIn m seat
+    → fits_in driver m.ram seat.layout ≡ has_place driver (own_in m.ram seat)
+same_room driver m seat t = by_grant (grant_of driver (own_in m.ram seat).grants)
+  where
+    by_grant : (g : Option Grant)
+        → fits seat.layout driver g
+        ≡ (is_some g || nat_le (seat.layout.brk + cost_of (shape_of driver)) (kernel_break_of (own_in m.ram seat)))
+    by_grant None =
+        ap (nat_le (seat.layout.brk + cost_of (shape_of driver)))
+        (break_is m seat.layout t.settled t.seated.kept.laid)
+    by_grant (Some g) = refl
+
+-- the process's own bytes, as far as they are still its own
+module _ (driver : ℕ) (m : MemoryBytes) (seat : Seat) (t : SitsIn m seat) (f : LayoutView)
+    (layout : f ≡ roomed driver seat.layout (grant_of driver (own_in m.ram seat).grants)) where
+  pub same_bounds : bounds_of f ≡ bounds_of seat.layout
+  same_bounds = ap bounds_of layout ∙ roomed_bounds driver seat.layout (grant_of driver (own_in m.ram seat).grants)
+
+  pub still_own : below f (app_in m.ram seat.layout) ≡ (own_entering driver (own_in m.ram seat)).ram
+  still_own =
+      let gs = (own_in m.ram seat).grants in
+      ap₂ (λ (kernel_break start : ℕ). take (kernel_break - start) (app_in m.ram seat.layout))
+      (ap (λ (x : LayoutView). x.kernel_break) layout ∙ roomed_break driver seat.layout gs (grant_of driver gs)
+      (break_is m seat.layout t.settled t.seated.kept.laid)) (ap (λ (b : Bounds). b.start) same_bounds)
+
 module _ (driver : ℕ) (m : MemoryBytes) (seat : Seat) (m' : MemoryBytes) (f : LayoutView)
     (r : MakesRoom driver m seat.layout m' f) where
   -- what is the process's own
-  pub entered_own : own_in m'.ram (record seat { layout = f }) ≡ own_entering driver (own_in m.ram seat)
-  entered_own =
+  pub entered_own : SitsIn m seat → own_in m'.ram (record seat { layout = f }) ≡ own_entering driver (own_in m.ram seat)
+  entered_own t =
       let own = own_in m.ram seat in
-      ap₂ (λ (a : List ℕ) (gs : List Grant). record own { layout = f; ram = a; grants = gs }) r.grants.app
-      r.grants.tells.grants
-      ∙ ap (λ (x : LayoutView). record own { layout = x; ram = below x own.ram; grants = entered driver own.grants })
-      r.layout
+      ap₂ (λ (a : List ℕ) (gs : List Grant). record own { layout = bounds_of f; ram = a; grants = gs })
+      (r.grants.app ∙ still_own driver m seat t f r.layout) r.grants.tells.grants
+      ∙ ap (λ (b : Bounds). record (own_entering driver own) { layout = b }) (same_bounds driver m seat t f r.layout)
 
   -- it is a seat as before
   pub entered_reseats : PairsStandByKind → SitsIn m seat → Reseats m seat m' (record seat { layout = f })
   entered_reseats law t =
       let gs = decode_grants (kernel_in m.ram seat.layout) in
-      let held : AllByRecursion (Holds f) (entered driver gs) =
-      subst (λ (x : LayoutView). AllByRecursion (Holds x) (entered driver gs)) (sym r.layout)
-      (entering_holds law seat.layout driver gs (grant_of driver gs) t.seated.kept.held) in
+      let held : AllByRecursion (Holds (bounds_of f)) (entered driver gs) =
+      subst (λ (b : Bounds). AllByRecursion (Holds b) (entered driver gs))
+      (sym (same_bounds driver m seat t f r.layout))
+      (entering_holds law (bounds_of seat.layout) driver gs (grant_of driver gs) t.seated.kept.held) in
       regranted m seat t driver m' f (entered driver gs) r.layout r.grants f.mark seat.inbox r.grants.ordered.buffers
       held

@@ -4,6 +4,7 @@ use Rattle.std.proofs.Common.{ap₂, subst, ◌∙◌, arith}
 use Rattle.std.specs.Prelude.{slice_set, if◌then◌else◌}
 use Rattle.std.proofs.lemmas.Bool.Decides.{nat_tests}
 use Rattle.std.proofs.lemmas.List.{drop-set-lt, length-set}
+use Rattle.process_layout.specs.Bounds.{bounds_of}
 use Rattle.board_memory.specs.Memory.{MemoryBytes, ram_between, with_run}
 use Rattle.process_model.specs.Handed.{lies_in_ram}
 use Rattle.process_model.specs.Flag.{with_flag}
@@ -52,11 +53,11 @@ module _ (m : MemoryBytes) (seat : Seat) (t : SitsIn m seat) (at byte : ℕ) (lo
   flag_reseats =
       ram_reseats m seat seat (with_run m seat.layout.start written).ram
       (run_elsewhere m seat.layout t.settled written size) refl refl t.settled
-      (record { object = t.seated.object; kept = subst (IsKept seat.layout) (sym kernel) t.seated.kept })
+      (record { object = t.seated.object; kept = subst (IsKept (bounds_of seat.layout)) (sym kernel) t.seated.kept })
 
   pub flag_own : own_in (with_run m seat.layout.start written).ram seat ≡ with_flag at byte (own_in m.ram seat)
   flag_own =
-      let flagged : lies_in_ram seat.layout at 1 ≡ true = grind (arith, nat_tests) in
+      let flagged : lies_in_ram (bounds_of seat.layout) at 1 ≡ true = grind (arith, nat_tests) in
       ap₂ (owned seat) app kernel
       ∙ sym (ap (λ (b : _). if b
       then record (own_in m.ram seat) { ram = slice_set (app_in m.ram seat.layout) (at - seat.layout.start) byte }

@@ -3,65 +3,71 @@ use Rattle.std.proofs.Common.{◌≡◌, ℕ, ◌<◌, IsTrue, List, sym, ap, ap
 use Rattle.std.specs.List.{AllByRecursion}
 use Rattle.tk_base.specs.declared.upcall.Upcall.{Upcall}
 use Rattle.process_layout.specs.LayoutView.{LayoutView}
+use Rattle.process_layout.specs.Bounds.{Bounds, bounds_of}
 use Rattle.board_memory.specs.Memory.{MemoryBytes}
 use Rattle.tk_base.specs.declared.upcall.Counts.{Counts}
 use Rattle.tk_base.specs.Kinds.{count_of}
-use Rattle.grant_model.specs.Grants.{Grant, grant_of, shape_of}
+use Rattle.grant_model.specs.Grants.{Grant, shape_of}
 use Rattle.grant_model.specs.Encoding.{decode_grants}
 use Rattle.grant_model.specs.Laws.{PairsStandByKind}
-use Rattle.grant_region.specs.Region.{below}
 use Rattle.swap_tables.specs.declared.handover.Handover.{Handover}
 use Rattle.swap_tables.specs.Swaps.{CanHand, swapped}
 use Rattle.process_model.specs.Own.{Own}
-use Rattle.process_model.specs.Handed.{handing, may_share, marked, still_pending}
+use Rattle.process_model.specs.Handed.{handing, may_share, marked, own_entering, still_pending}
 use Rattle.upcall_queue.specs.declared.inbox.Inbox.{Inbox}
 use Rattle.grant_enter.specs.declared.seat.Seat.{Seat}
-use Rattle.grant_enter.specs.Seats.{Holds, Reseats, SitsIn, SwapsIn, app_in, kernel_in, own_in}
-use Rattle.grant_enter.proofs.Holding.{only_mark, mark_below, handed_holds, may_still}
-use Rattle.grant_enter.proofs.Regranted.{regranted}
+use Rattle.grant_enter.specs.Seats.{Holds, Reseats, SitsIn, SwapsIn, kernel_in, own_in}
+use Rattle.grant_enter.proofs.Entering.{same_bounds, still_own}
+use Rattle.grant_enter.proofs.Holding.{only_mark, mark_below, handed_holds, noted}
+use Rattle.grant_enter.proofs.Regranted.{regranted, remarked}
 use Rattle.grant_enter.proofs.Values.{shape_is}
 
 -- what the code leaves, in a seat that was settled
-module _ (m : MemoryBytes) (seat : Seat) (h : Handover) (m' : MemoryBytes) (f : LayoutView) (former : ℕ × ℕ)
-    (sw : SwapsIn h m seat.layout m' f former) (inbox : Inbox) where
+module _ (m : MemoryBytes) (seat : Seat) (t : SitsIn m seat) (h : Handover) (m' : MemoryBytes) (f : LayoutView)
+    (former : ℕ × ℕ) (sw : SwapsIn h m seat.layout m' f former) (inbox : Inbox) where
+  -- with the mark raised
+  abbrev now : LayoutView
+  now = remarked (marked h.kind h.pair (bounds_of f)).mark f
+
+  bounds_now : bounds_of now ≡ marked h.kind h.pair (bounds_of seat.layout)
+  bounds_now =
+      sym (only_mark h.kind h.pair (bounds_of f))
+      ∙ ap (marked h.kind h.pair) (same_bounds h.driver m seat t f sw.layout)
+
   pub own_handed : inbox.pending ≡ still_pending h.kind h.driver h.number seat.inbox.pending
       → inbox.dropped ≡ seat.inbox.dropped
-      → own_in m'.ram (record seat { layout = marked h.kind h.pair f; inbox = inbox })
+      → own_in m'.ram (record seat { layout = now; inbox = inbox })
       ≡ handing h.kind h.driver h.number h.pair (own_in m.ram seat)
   own_handed queue dropped =
       let gs = swapped h (decode_grants (kernel_in m.ram seat.layout)) in
-      let made : LayoutView → List ℕ → List Grant → List Upcall → ℕ
+      let made : Bounds → List ℕ → List Grant → List Upcall → ℕ
       → Own = λ e a gs q d.
       record {
         object = seat.object;
-        layout = marked h.kind h.pair e;
+        layout = e;
         ram = a;
         grants = gs;
         inbox = record { pending = q; dropped = d };
-        life =
-            seat.life;
+        life = seat.life;
         lives = seat.lives;
       } in
-      ap₂ (λ (a : List ℕ) (gs : List Grant). made f a gs inbox.pending inbox.dropped)
-      (ap (app_in m'.ram) (only_mark h.kind h.pair f) ∙ sw.grants.app)
-      (ap (λ (e : LayoutView). decode_grants (kernel_in m'.ram e)) (only_mark h.kind h.pair f) ∙ sw.grants.tells.grants)
-      ∙ ap₂ (made f (below f (app_in m.ram seat.layout)) gs) queue dropped
-      ∙ ap (λ (e : LayoutView). made e (below e (app_in m.ram seat.layout)) gs
-      (still_pending h.kind h.driver h.number seat.inbox.pending) seat.inbox.dropped) sw.layout
+      ap₂ (λ (a : List ℕ) (gs : List Grant). made (bounds_of now) a gs inbox.pending inbox.dropped)
+      (sw.grants.app ∙ still_own h.driver m seat t f sw.layout) sw.grants.tells.grants
+      ∙ ap₂ (made (bounds_of now) (own_entering h.driver (own_in m.ram seat)).ram gs) queue dropped
+      ∙ ap (λ (e : Bounds). made e (own_entering h.driver (own_in m.ram seat)).ram gs
+      (still_pending h.kind h.driver h.number seat.inbox.pending) seat.inbox.dropped) bounds_now
 
   -- it is a seat as before
-  pub hand_reseats : PairsStandByKind → SitsIn m seat → CanHand h → IsTrue (may_share h.kind seat.layout h.pair)
-      → Reseats m seat m' (record seat { layout = marked h.kind h.pair f; inbox = inbox })
-  hand_reseats law t can may =
+  pub hand_reseats : PairsStandByKind → CanHand h → IsTrue (may_share h.kind (bounds_of seat.layout) h.pair)
+      → Reseats m seat m' (record seat { layout = now; inbox = inbox })
+  hand_reseats law can may =
       let before = decode_grants (kernel_in m.ram seat.layout) in
-      let mark = (marked h.kind h.pair f).mark in
-      let still = may_still h.kind h.driver h.pair seat.layout f (grant_of h.driver before) sw.layout may in
       let small : h.number < count_of h.kind (shape_of h.driver) =
       subst (λ (c : Counts). h.number < count_of h.kind c) (sym (shape_is h.driver h.counts can.counts_are)) can.below in
-      let held = handed_holds law h seat.layout f before t.seated.kept.laid.sound small sw.layout still
-      t.seated.kept.held in
-      subst (λ (e : LayoutView). Reseats m seat m' (record seat { layout = e; inbox = inbox }))
-      (sym (only_mark h.kind h.pair f))
-      (regranted m seat t h.driver m' f (swapped h before) sw.layout sw.grants mark inbox
-      (mark_below h.kind h.pair f sw.grants.ordered.buffers)
-      (subst (λ (e : LayoutView). AllByRecursion (Holds e) (swapped h before)) (only_mark h.kind h.pair f) held))
+      let held : AllByRecursion (Holds (noted h.kind h.pair (bounds_of f))) (swapped h before) =
+      subst (λ (b : Bounds). AllByRecursion (Holds (noted h.kind h.pair b)) (swapped h before))
+      (sym (same_bounds h.driver m seat t f sw.layout))
+      (handed_holds law h (bounds_of seat.layout) before t.seated.kept.laid.sound small may t.seated.kept.held) in
+      regranted m seat t h.driver m' f (swapped h before) sw.layout sw.grants
+      (marked h.kind h.pair (bounds_of f)).mark inbox
+      (mark_below h.kind h.pair (bounds_of f) sw.grants.ordered.buffers) held

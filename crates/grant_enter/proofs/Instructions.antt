@@ -3,7 +3,9 @@ use Rattle.std.proofs.Common.{◌≡◌, ℕ, ◌+◌, ◌-◌, ◌≤◌, inr, 
 use Rattle.std.proofs.Common.{ap, ap₂, subst, ◌∙◌, arith}
 use Rattle.std.specs.Prelude.{slice_range}
 use Rattle.std.proofs.lemmas.Bool.Decides.{nat_tests}
+use Rattle.process_layout.specs.Bounds.{bounds_of}
 use Rattle.process_layout.specs.Interval.{lies_within}
+use Rattle.process_layout.specs.Ordered.{IsOrdered}
 use Rattle.tk_base.specs.declared.access.Access.TheVariants.{Store}
 use Rattle.tk_base.specs.declared.access.TheConstants.{RAM_START}
 use Rattle.tk_base.specs.Regs.{Registers}
@@ -26,7 +28,8 @@ use Rattle.grant_enter.specs.Reach.{turn_under}
 use Rattle.grant_enter.specs.Seats.{IsKept, Reseats, SitsIn, owned, kernel_in, own_in, homes_of}
 use Rattle.grant_enter.proofs.Windows.{length_window, windows_same, put_outside, put_window, widened}
 use Rattle.grant_enter.proofs.Sight.{same_turn, store_lies, stores_in_ram}
-use Rattle.grant_enter.proofs.Moves.{Reads, layout_before, own_before, ram_reseats, same_memory, sits_before}
+use Rattle.grant_enter.proofs.Blocks.{break_is}
+use Rattle.grant_enter.proofs.Moves.{Reads, layout_before, own_layout, own_before, ram_reseats, same_memory, sits_before}
 use Rattle.grant_enter.proofs.Moves.{still_shows}
 
 -- as much RAM as before
@@ -52,7 +55,7 @@ pub record Writes (m : MemoryBytes) (s : Seat) (w : Option Write) : Type 0 where
   pub own : own_in (ram_after RAM_START w m.ram) s
       ≡ record (own_in m.ram s) { ram = ram_after s.layout.start w (own_in m.ram s).ram }
 
-pub writes_own : AStoreIsPut → (m : MemoryBytes) (pmp : List Entry) (s : Seat) → SitsIn m s → Protect pmp s.layout
+pub writes_own : AStoreIsPut → (m : MemoryBytes) (pmp : List Entry) (s : Seat) → SitsIn m s → Protect pmp (bounds_of s.layout)
     → (w : Option Write) → IfSome w (λ x. denied_by_registers pmp Store x.address x.width ≡ None) → Writes m s w
 unfolding ram_after
 writes_own law m pmp s sits p None d = record { reseats = same_memory m s s refl refl sits; own = refl }
@@ -78,7 +81,7 @@ writes_own law m pmp s sits p (Some w) d =
           ram_reseats m s s ram (widened m.ram ram at (at + width_bytes w.width) (s.layout.start - RAM_START)
           (s.layout.end - RAM_START) outside (omega (arith, l.0))
           (omega (arith, l.0, l.1, t.from, t.ordered.grants, t.ordered.end))) refl refl t
-          (record { object = sits.seated.object; kept = subst (IsKept s.layout) (sym kernel) sits.seated.kept });
+          (record { object = sits.seated.object; kept = subst (IsKept (bounds_of s.layout)) (sym kernel) sits.seated.kept });
       own = ap₂ (owned s) app kernel;
     }
   where
@@ -92,14 +95,16 @@ own_in_place m s sits =
     let e = s.layout in
     let t = sits.settled in
     record {
-      ordered = t.ordered;
+      ordered = subst IsOrdered (sym (own_layout m s sits)) t.ordered;
       apart = omega (arith, t.below, t.from);
       ram = length_window m.ram (e.start - RAM_START) (e.kernel_break - RAM_START)
           (omega (arith, t.to, t.from, t.ordered.end))
-          ∙ differ e.start e.kernel_break t.from (omega (arith, t.ordered.block, t.ordered.grants));
+          ∙ differ e.start e.kernel_break t.from (omega (arith, t.ordered.block, t.ordered.grants))
+          ∙ ap (λ (n : ℕ). n - e.start) (break_is m e t sits.seated.kept.laid);
       kernel = ap length (sym sits.seated.kept.laid.bytes)
           ∙ length_window m.ram (e.kernel_break - RAM_START) (e.end - RAM_START) (omega (arith, t.to, t.from))
-          ∙ differ e.kernel_break e.end (omega (arith, t.from, t.ordered.block, t.ordered.grants)) t.ordered.end;
+          ∙ differ e.kernel_break e.end (omega (arith, t.from, t.ordered.block, t.ordered.grants)) t.ordered.end
+          ∙ ap (λ (n : ℕ). e.end - n) (break_is m e t sits.seated.kept.laid);
       sound = sits.seated.kept.laid.sound;
     }
   where
@@ -114,7 +119,7 @@ in_place {h} {old} {slot} {index} {seat} r =
 
 -- the registers protect the process in a slot
 pub protects : {h : Inside} {old : Homes} {slot index : ℕ} {seat : Seat} (r : Reads h old slot index seat)
-    (pmp : List Entry) → Protect pmp (own_of old slot).layout → Protect pmp seat.layout
+    (pmp : List Entry) → Protect pmp (own_of old slot).layout → Protect pmp (bounds_of seat.layout)
 protects r pmp p = subst (Protect pmp) (layout_before r) p
 
 pub stores : {h : Inside} {old : Homes} {slot index : ℕ} {seat : Seat} (r : Reads h old slot index seat)

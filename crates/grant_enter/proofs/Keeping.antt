@@ -12,6 +12,7 @@ use Rattle.grant_values.specs.Values.{KeptValue, value_by, value_or_none, value_
 use Rattle.grant_model.specs.Grants.{Grant, grant_of, shape_of, with_grant, with_value}
 use Rattle.grant_model.specs.Encoding.{CanBeKept, Tells, decode_grants}
 use Rattle.grant_model.specs.Laws.{IsValue, value_bytes}
+use Rattle.process_layout.specs.Bounds.{bounds_of}
 use Rattle.board_memory.specs.Memory.{MemoryBytes}
 use Rattle.tk_base.specs.Bytes.{over}
 use Rattle.process_model.specs.Own.{Own}
@@ -121,14 +122,14 @@ module _ (driver : ℕ) (counts : Counts) (m : MemoryBytes) (seat : Seat) (l : I
       widened m.ram ys (seat.layout.kernel_break - RAM_START) (seat.layout.end - RAM_START)
       (seat.layout.start - RAM_START) (seat.layout.end - RAM_START) same
       (omega (arith, s.ordered.block, s.ordered.grants)) (omega arith) in
-      let held = all_with (Holds seat.layout) (Holds seat.layout) driver (with_value value)
+      let held = all_with (Holds (bounds_of seat.layout)) (Holds (bounds_of seat.layout)) driver (with_value value)
       (decode_grants (kernel_in m.ram seat.layout)) (λ g h. h) (λ g is h. record { each = h.each })
       l.sits.seated.kept.held in
       subst (λ (x : MemoryBytes). Reseats m seat x seat) (sym left)
       (ram_reseats m seat seat ys elsewhere refl refl s (record {
         object = l.sits.seated.object;
-        kept = subst (IsKept seat.layout) (sym kernel_is)
-            (record { laid = tells.laid; held = subst (AllByRecursion (Holds seat.layout)) (sym tells.grants) held });
+        kept = subst (IsKept (bounds_of seat.layout)) (sym kernel_is)
+            (record { laid = tells.laid; held = subst (AllByRecursion (Holds (bounds_of seat.layout))) (sym tells.grants) held });
       }))
 
 -- a value stands where it stood once its driver has served the process

@@ -11,13 +11,14 @@ use Rattle.tk_base.specs.Numbers.{rounded_up}
 use Rattle.tk_base.specs.declared.upcall.Upcall.{Upcall}
 use Rattle.grant_model.specs.Grants.{Grant}
 use Rattle.tk_base.specs.declared.access.TheConstants.{RAM_START}
-use Rattle.process_layout.specs.LayoutView.{LayoutView, permits_break, with_break}
+use Rattle.process_layout.specs.LayoutView.{LayoutView, with_break}
+use Rattle.process_layout.specs.Bounds.{Bounds, bounds_of, layout_within, permits_break}
 use Rattle.process_layout.specs.Ordered.{IsOrdered}
 use Rattle.board_memory.specs.Memory.{MemoryBytes, IsPlaced, block_cleared}
 use Rattle.tk_base.specs.Bytes.{over}
 use Rattle.grant_model.specs.Encoding.{decode_grants}
 use Rattle.grant_model.specs.Laws.{IsReadBack}
-use Rattle.process_model.specs.Own.{Own, own_restarted, own_ended}
+use Rattle.process_model.specs.Own.{Own, layout_of, own_restarted, own_ended}
 use Rattle.grant_enter.specs.declared.seat.Seat.{Seat}
 use Rattle.grant_enter.specs.declared.home.Home.TheInside.{Inside}
 use Rattle.grant_enter.specs.Homes.{Homes, FitsMemory, ChangesOnly, nobody, own_of, with_own}
@@ -28,6 +29,7 @@ use Rattle.std.proofs.lemmas.Grind.{same_number_lists}
 use Rattle.grant_enter.proofs.Windows.{windows_same, over_outside, over_window, short, zeros, length_zeros}
 use Rattle.grant_enter.proofs.Tables.{any_default, one_changed, read_at, own_at, settled_at, apart_at, layouts_set}
 use Rattle.grant_enter.proofs.Tables.{all_changed}
+use Rattle.grant_enter.proofs.Blocks.{break_is}
 use Rattle.grant_enter.proofs.Holding.{holds_on}
 
 -- a seat's layout lies in memory
@@ -45,6 +47,11 @@ settled_in m m' e flash long s =
 pub nowhere : (xs : List ℕ) (from to : ℕ) → SameOutside from to xs xs
 nowhere xs from to = record { long = refl; each = λ k side. refl }
 
+-- the layout of a process's own is that of its seat
+pub own_layout : (m : MemoryBytes) (seat : Seat) → SitsIn m seat → layout_of (own_in m.ram seat) ≡ seat.layout
+own_layout m seat t =
+    ap (layout_within (bounds_of seat.layout)) (sym (break_is m seat.layout t.settled t.seated.kept.laid))
+
 -- a slot in which a process was placed is among those of a home
 pub placed : (old : Homes) (slot : ℕ) → nat_lt slot (length old.owns) ≡ true → slot < length old.owns
 placed old slot e = grind (arith, nat_tests)
@@ -60,7 +67,7 @@ pub record Reads (h : Inside) (old : Homes) (slot index : ℕ) (seat : Seat) : T
 -- the seat of a slot, and that it is read
 abbrev pub seat_of : Inside → ℕ → Seat
 seat_of h slot =
-    slice_index_or h.seats.items slot (first_seat (record { object = nobody.object; layout = nobody.layout }))
+    slice_index_or h.seats.items slot (first_seat (record { object = nobody.object; layout = layout_within nobody.layout 0 }))
 
 pub reads_seat : (h : Inside) (old : Homes) (slot : ℕ) → IsHome h → homes_of h ≡ old → slot < length old.owns
     → Reads h old slot slot (seat_of h slot)
@@ -89,7 +96,7 @@ module _ {h : Inside} {old : Homes} {slot index : ℕ} {seat : Seat} (r : Reads 
   own_before = sym (ap (λ (x : Homes). own_of x slot) r.shown)
       ∙ own_at h.memory.ram h.seats.items slot index seat r.is r.read low
 
-  pub layout_before : (own_of old slot).layout ≡ seat.layout
+  pub layout_before : (own_of old slot).layout ≡ bounds_of seat.layout
   layout_before = ap (λ (o : Own). o.layout) own_before
 
   pub sits_before : SitsIn h.memory seat
@@ -101,6 +108,10 @@ module _ {h : Inside} {old : Homes} {slot index : ℕ} {seat : Seat} (r : Reads 
             (settled_at (length h.memory.flash) (length h.memory.ram) h.seats.items slot seat r.home.settled within);
         seated = subst (IsSeated (length h.memory.flash) h.memory.ram) here (r.home.seated slot seat within);
       }
+
+  -- the layout of the seat is that of the process's own
+  pub whole_layout : layout_of (own_of old slot) ≡ seat.layout
+  whole_layout = ap layout_of own_before ∙ own_layout h.memory seat sits_before
 
   -- the object of the process lies in flash, so its end is an address
   pub object_ends : (own_of old slot).object.address + (own_of old slot).object.size < 2 ^ 32
@@ -161,7 +172,7 @@ module _ {h : Inside} {old : Homes} {slot index : ℕ} {seat : Seat} (r : Reads 
         → IsSeated (length h.memory.flash) m.ram (get_or h.seats.items k d)
     others_seated k d there ne s = record {
       object = s.object;
-      kept = subst (IsKept (get_or h.seats.items k d).layout) (sym (kernel_same k d there ne)) s.kept;
+      kept = subst (IsKept (bounds_of (get_or h.seats.items k d).layout)) (sym (kernel_same k d there ne)) s.kept;
     }
 
     still_settled : AreSettled (length m.flash) (length m.ram) (layouts_of h.seats.items)
@@ -299,7 +310,8 @@ others_settled flash ram e brk kernel_break mark s ordered = record {
 }
 
 -- a break that may be moved leaves a layout in order
-pub break_settled : (flash ram : ℕ) (e f : LayoutView) (new : ℕ) → FitsMemory flash ram e → permits_break e new ≡ true
+pub break_settled : (flash ram : ℕ) (e f : LayoutView) (new : ℕ) → FitsMemory flash ram e
+    → permits_break (bounds_of e) e.kernel_break new ≡ true
     → f ≡ record e { brk = rounded_up new } → FitsMemory flash ram f
 break_settled flash ram e f new s permits is =
     subst (FitsMemory flash ram) (sym is)
@@ -364,7 +376,7 @@ by_answer true f g p q = f p
 by_answer false f g p q = g q
 
 -- what is kept of a process does not see its break
-kept_with_break : (e : LayoutView) (brk : ℕ) (kernel : List ℕ) → IsKept e kernel
+kept_with_break : (e : Bounds) (brk : ℕ) (kernel : List ℕ) → IsKept e kernel
     → IsKept (record e { brk = brk }) kernel
 kept_with_break e brk kernel k = record { laid = k.laid; held = all_held (decode_grants kernel) k.held }
   where
@@ -378,7 +390,8 @@ kept_with_break e brk kernel k = record { laid = k.laid; held = all_held (decode
 
 -- a break that was moved, or refused, leaves a seat
 pub break_reseats : (m : MemoryBytes) (seat : Seat) (new : ℕ) (e : LayoutView) (moved : Bool) → SitsIn m seat
-    → moved ≡ permits_break seat.layout new → OnTrue moved (e ≡ record seat.layout { brk = rounded_up new })
+    → moved ≡ permits_break (bounds_of seat.layout) seat.layout.kernel_break new
+    → OnTrue moved (e ≡ record seat.layout { brk = rounded_up new })
     → OnFalse moved (e ≡ seat.layout) → Reseats m seat m (record seat { layout = e })
 break_reseats m seat new e true t permits was kept =
     let f : LayoutView = record seat.layout { brk = rounded_up new } in
@@ -393,7 +406,7 @@ break_reseats m seat new e true t permits was kept =
               t.seated.object.accessible_from;
           accessible_to = t.seated.object.accessible_to;
         };
-        kept = kept_with_break seat.layout (rounded_up new) (kernel_in m.ram seat.layout) t.seated.kept;
+        kept = kept_with_break (bounds_of seat.layout) (rounded_up new) (kernel_in m.ram seat.layout) t.seated.kept;
       };
     }))
 break_reseats m seat new e false t permits was kept =
@@ -423,7 +436,7 @@ no_bytes xs a =
 pub none_back : IsReadBack → decode_grants [] ≡ []
 none_back law = (law.back [] tt).grants
 
-pub none_kept : IsReadBack → (e : LayoutView) → IsKept e []
+pub none_kept : IsReadBack → (e : Bounds) → IsKept e []
 none_kept law e =
     record { laid = (law.back [] tt).laid; held = subst (AllByRecursion (Holds e)) (sym (none_back law)) tt }
 
@@ -441,8 +454,8 @@ module _ {h : Inside} {old : Homes} {slot index : ℕ} {seat : Seat} (r : Reads 
 
   layout_again : FitsMemory (length h.memory.flash) (length h.memory.ram) (with_break brk seat.layout)
   layout_again =
-      let low : seat.layout.start ≤ brk = subst (λ (e : LayoutView). e.start ≤ brk) (layout_before r) from in
-      let high : brk ≤ seat.layout.end = subst (λ (e : LayoutView). brk ≤ e.end) (layout_before r) to in
+      let low : seat.layout.start ≤ brk = subst (λ (e : Bounds). e.start ≤ brk) (layout_before r) from in
+      let high : brk ≤ seat.layout.end = subst (λ (e : Bounds). brk ≤ e.end) (layout_before r) to in
       start_settled (length h.memory.flash) (length h.memory.ram) seat.layout (with_break brk seat.layout) brk settled
       low high aligned refl
 
@@ -503,8 +516,8 @@ module _ {h : Inside} {old : Homes} {slot index : ℕ} {seat : Seat} (r : Reads 
           accessible_to =
               object.accessible_to;
         };
-        kept = subst (IsKept (with_break brk seat.layout)) (sym (no_bytes cleared_ram (seat.layout.end - RAM_START)))
-            (none_kept law (with_break brk seat.layout));
+        kept = subst (IsKept (bounds_of (with_break brk seat.layout))) (sym (no_bytes cleared_ram (seat.layout.end - RAM_START)))
+            (none_kept law (bounds_of (with_break brk seat.layout)));
       })
 
   again_own : IsReadBack → own_in cleared_ram seat_again ≡ own_restarted brk (own_in h.memory.ram seat)
@@ -517,9 +530,8 @@ module _ {h : Inside} {old : Homes} {slot index : ℕ} {seat : Seat} (r : Reads 
       ≡ [] = ap decode_grants (no_bytes cleared_ram (seat.layout.end - RAM_START)) ∙ none_back law in
       ap₂ (λ (a : List ℕ) (gs : List Grant). record {
         object = seat.object;
-        layout = with_break brk seat.layout;
-        ram =
-            a;
+        layout = bounds_of (with_break brk seat.layout);
+        ram = a;
         grants = gs;
         inbox = record { pending = []; dropped = seat.inbox.dropped };
         life = seat.life + 1;

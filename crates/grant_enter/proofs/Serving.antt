@@ -1,5 +1,6 @@
 -- What a driver has changed of a process in its seat, and what it has left.
-use Rattle.std.proofs.Common.{get_or, ◌≡◌, ℕ, zero, suc, ◌+◌, ◌-◌, ◌<◌, ◌≤◌, ◌⊎◌, inl, inr, ◌==◌, Bool, true, false, List, []}
+use Rattle.std.proofs.Common.{get_or, ◌≡◌, ℕ, zero, suc, ◌+◌, ◌-◌, ◌<◌, ◌≤◌, ◌⊎◌, inl, inr, ◌==◌, Bool, true, false}
+use Rattle.std.proofs.Common.{List, []}
 use Rattle.std.proofs.Common.{◌∷◌, ◌++◌, length, slice_index, Option, None, Some, refl, sym, ap, subst, ◌∙◌, arith}
 use Rattle.std.specs.Prelude.{slice_range}
 use Rattle.std.specs.List.{AllByRecursion}
@@ -9,6 +10,7 @@ use Rattle.std.proofs.lemmas.List.{places}
 use Rattle.tk_base.specs.declared.access.TheConstants.{RAM_START}
 use Rattle.tk_base.specs.declared.upcall.Counts.{Counts}
 use Rattle.process_layout.specs.LayoutView.{LayoutView}
+use Rattle.process_layout.specs.Bounds.{Bounds, bounds_of}
 use Rattle.tk_base.specs.declared.kinds.PairKind.TheVariants.{ReadWrite, Readable}
 use Rattle.grant_model.specs.Grants.{Grant, grant_of, pairs_of}
 use Rattle.board_memory.specs.Memory.{MemoryBytes}
@@ -19,7 +21,8 @@ use Rattle.grant_enter.specs.declared.seat.Seat.{Seat}
 use Rattle.grant_enter.specs.Homes.{FitsMemory}
 use Rattle.grant_enter.specs.Windows.{SameOutside}
 use Rattle.grant_enter.specs.Seats.{Holds, IsKept, IsSeated, LiesBelowMark, Reseats, app_in, kernel_in, own_in, owned}
-use Rattle.grant_enter.specs.Seen.{IsLentTo, LiesOutside, SameButIn, VisitorChanges, ServesIn, writable_buffers, writable_of}
+use Rattle.grant_enter.specs.Seen.{IsLentTo, LiesOutside, SameButIn, VisitorChanges, ServesIn, writable_buffers}
+use Rattle.grant_enter.specs.Seen.{writable_of}
 use Rattle.grant_enter.proofs.Buffers.{all_of}
 use Rattle.grant_enter.proofs.Moves.{settled_in}
 use Rattle.grant_enter.proofs.Windows.{length_window, short, window_at, windows_same, widened}
@@ -44,7 +47,7 @@ all_joined P [] qs p q = q
 all_joined P (pair ∷ ps) qs p q = (p.0, all_joined P ps qs p.1 q)
 
 -- all buffers that the driver may write lie below the mark
-all_below : (e : LayoutView) (o : Option Grant) → ((g : Grant) → o ≡ Some g → Holds e g)
+all_below : (e : Bounds) (o : Option Grant) → ((g : Grant) → o ≡ Some g → Holds e g)
     → AllByRecursion (LiesBelowMark e) (writable_of o)
 all_below e None holds = tt
 all_below e (Some g) holds =
@@ -55,7 +58,7 @@ all_below e (Some g) holds =
 
 -- an address outside of a layout's own part lies in none of them
 outside : (e : LayoutView) (a : ℕ) (buffers : List (ℕ × ℕ)) → e.mark ≤ e.kernel_break
-    → (a < e.start) ⊎ (e.kernel_break ≤ a) → AllByRecursion (LiesBelowMark e) buffers → LiesOutside a buffers
+    → (a < e.start) ⊎ (e.kernel_break ≤ a) → AllByRecursion (LiesBelowMark (bounds_of e)) buffers → LiesOutside a buffers
 outside e a [] mark side all = tt
 outside e a (b ∷ bs) mark side all = (one (b.1 == 0) refl side, outside e a bs mark side all.1)
   where
@@ -100,9 +103,9 @@ module _ (driver : ℕ) (counts : Counts) (m : MemoryBytes) (seat : Seat) (l : I
   own_part =
       let s = l.sits.settled in
       let gs = (own_in m.ram seat).grants in
-      let all : AllByRecursion (LiesBelowMark seat.layout) (writable_buffers driver (own_in m.ram seat)) =
-      all_below seat.layout (grant_of driver gs)
-      (λ g is. all_of (Holds seat.layout) driver g gs l.sits.seated.kept.held is) in
+      let all : AllByRecursion (LiesBelowMark (bounds_of seat.layout)) (writable_buffers driver (own_in m.ram seat)) =
+      all_below (bounds_of seat.layout) (grant_of driver gs)
+      (λ g is. all_of (Holds (bounds_of seat.layout)) driver g gs l.sits.seated.kept.held is) in
       record {
         long = v.bytes.long;
         each = λ k side.
@@ -124,8 +127,8 @@ module _ (driver : ℕ) (counts : Counts) (m : MemoryBytes) (seat : Seat) (l : I
 
   seated_with : (inbox : Inbox) → IsSeated (length m'.flash) m'.ram (record seat { inbox = inbox })
   seated_with inbox = record {
-    object = subst (λ (n : ℕ). HasObject n seat.object seat.layout) (sym (ap length v.flash)) l.sits.seated.object;
-    kept = subst (IsKept seat.layout) (sym kernel_same) l.sits.seated.kept;
+    object = subst (λ (n : ℕ). HasObject n seat.object (bounds_of seat.layout)) (sym (ap length v.flash)) l.sits.seated.object;
+    kept = subst (IsKept (bounds_of seat.layout)) (sym kernel_same) l.sits.seated.kept;
   }
 
   settled_same : FitsMemory (length m'.flash) (length m'.ram) seat.layout

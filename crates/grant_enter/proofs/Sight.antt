@@ -14,6 +14,7 @@ use Rattle.tk_base.specs.Access.{width_bytes, is_misaligned}
 use Rattle.tk_base.specs.Bus.{number_at}
 use Rattle.rv32_model.specs.Laws.{LookAlike, SeesOnlyPermitted}
 use Rattle.process_layout.specs.LayoutView.{LayoutView}
+use Rattle.process_layout.specs.Bounds.{bounds_of}
 use Rattle.process_layout.specs.Interval.{lies_within}
 use Rattle.process_layout.specs.Permission.{denied_by_intervals}
 use Rattle.process_model.specs.Permission.{denied}
@@ -67,7 +68,7 @@ stored_in false true e = refl
 stored_in false false e = cc
 
 -- what may be stored lies in accessible RAM
-pub store_lies : (pmp : List Entry) (e : LayoutView) (at : ℕ) (width : Width) → Protect pmp e
+pub store_lies : (pmp : List Entry) (e : LayoutView) (at : ℕ) (width : Width) → Protect pmp (bounds_of e)
     → denied_by_registers pmp Store at width ≡ None → (e.start ≤ at) × (at + width_bytes width ≤ e.brk)
 store_lies pmp e at width p none =
     lies e.start e.brk at (width_bytes width)
@@ -75,7 +76,7 @@ store_lies pmp e at width p none =
     (lies_within e.start e.brk at (width_bytes width)) (sym (p.deny Store at width) ∙ none))
 
 -- so it lies in RAM
-pub stores_in_ram : (flash ram : ℕ) (pmp : List Entry) (e : LayoutView) → FitsMemory flash ram e → Protect pmp e
+pub stores_in_ram : (flash ram : ℕ) (pmp : List Entry) (e : LayoutView) → FitsMemory flash ram e → Protect pmp (bounds_of e)
     → StoresLieIn ram pmp
 stores_in_ram flash ram pmp e s p = record {
   stores = λ at width none.
@@ -96,7 +97,7 @@ not_misaligned true o e = cc
 not_misaligned false o e = e
 
 module _ (flash ram : List ℕ) (pmp : List Entry) (seat : Seat) (seen : ℕ → ℕ)
-    (s : FitsMemory (length flash) (length ram) seat.layout) (p : Protect pmp seat.layout)
+    (s : FitsMemory (length flash) (length ram) seat.layout) (p : Protect pmp (bounds_of seat.layout))
     (sees : Sees flash (own_in ram seat) seen) where
   flash_byte : (a : ℕ) → seat.layout.flash_start ≤ a → a < seat.layout.flash_end → memory_byte_at flash ram a ≡ seen a
   flash_byte a low high =
@@ -145,7 +146,7 @@ module _ (flash ram : List ℕ) (pmp : List Entry) (seat : Seat) (seen : ℕ →
   number_alike at width (inr i) = ram_number at width i.0 i.1
 
   -- flash and RAM under the registers look to the process as its own bytes do
-  look_alike : LookAlike (denied_by_registers pmp) (denied seat.layout) (memory_byte_at flash ram) seen
+  look_alike : LookAlike (denied_by_registers pmp) (denied (bounds_of seat.layout)) (memory_byte_at flash ram) seen
   unfolding denied
   look_alike = record {
     fetches = λ at. p.deny Fetch at Half;
@@ -163,4 +164,4 @@ module _ (flash ram : List ℕ) (pmp : List Entry) (seat : Seat) (seen : ℕ →
   pub same_turn : SeesOnlyPermitted → (regs : Registers)
       → turn_under pmp flash ram regs ≡ instruction_of (own_in ram seat) seen regs
   same_turn law regs =
-      law (denied_by_registers pmp) (denied seat.layout) (memory_byte_at flash ram) seen regs look_alike
+      law (denied_by_registers pmp) (denied (bounds_of seat.layout)) (memory_byte_at flash ram) seen regs look_alike

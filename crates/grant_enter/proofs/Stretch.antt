@@ -2,6 +2,7 @@
 use Rattle.std.proofs.Common.{◌≡◌, ◌≢◌, ℕ, zero, suc, ◌<◌, List, length, refl, sym, ap, subst, ◌∙◌}
 use Rattle.tk_base.specs.declared.access.TheConstants.{RAM_START}
 use Rattle.tk_base.specs.Regs.{Registers}
+use Rattle.process_layout.specs.Bounds.{bounds_of}
 use Rattle.rv32_model.specs.declared.turn_end.TurnEnd.{TurnEnd}
 use Rattle.rv32_model.specs.declared.turn_end.TurnEnd.TheVariants.{Went}
 use Rattle.rv32_model.specs.UserTurn.{UserTurn, bytes_after}
@@ -28,7 +29,7 @@ pub record Leads (k : ℕ) (m : MemoryBytes) (s : Seat) (regs later : Registers)
   pub reseats : Reseats m s (record m { ram = left }) s
   pub made : MakesAll k m.flash (own_in m.ram s) regs (own_in left s) later
 
-module _ (laws : InstructionLaws) (pmp : List Entry) (s : Seat) (p : Protect pmp s.layout) where
+module _ (laws : InstructionLaws) (pmp : List Entry) (s : Seat) (p : Protect pmp (bounds_of s.layout)) where
   module _ (m : MemoryBytes) (t : SitsIn m s) where
     -- an instruction that the process's own bytes give
     its_own : (seen : ℕ → ℕ) (regs : Registers) → Sees m.flash (own_in m.ram s) seen

@@ -8,6 +8,7 @@ use Rattle.std.proofs.lemmas.Bool.Decides.{nat_tests}
 use Rattle.std.proofs.lemmas.List.{length-take, length-drop, take-append-drop}
 use Rattle.std.proofs.lemmas.List.FromFn.{length-map-range_with_len}
 use Rattle.tk_base.specs.declared.access.TheConstants.{RAM_START}
+use Rattle.process_layout.specs.Bounds.{bounds_of}
 use Rattle.board_memory.specs.Memory.{MemoryBytes}
 use Rattle.process_model.specs.Own.{Own}
 use Rattle.process_model.specs.Handed.{lies_in_ram}
@@ -36,7 +37,7 @@ module _ (m : MemoryBytes) (seat : Seat) (s : FitsMemory (length m.flash) (lengt
       length_range (app_in m.ram seat.layout) (buffer.0 - seat.layout.start) buffer.1
       (omega (arith, own, s.from, s.ordered.grants))
 
-  pub rw_whole : (buffer : ℕ × ℕ) → LiesBelowMark seat.layout buffer
+  pub rw_whole : (buffer : ℕ × ℕ) → LiesBelowMark (bounds_of seat.layout) buffer
       → length (ram_at (own_in m.ram seat) buffer) ≡ buffer.1
   rw_whole buffer lies = by_size (buffer.1 == 0) refl
     where
@@ -49,9 +50,9 @@ module _ (m : MemoryBytes) (seat : Seat) (s : FitsMemory (length m.flash) (lengt
           in_ram buffer l.0 (omega (arith, s.ordered.buffers, l.1))
 
   pub ro_whole : (buffer : ℕ × ℕ) → length (bytes_at (flash_byte m.flash) (own_in m.ram seat) buffer) ≡ buffer.1
-  ro_whole buffer = by_place (buffer.1 == 0) (lies_in_ram seat.layout buffer.0 buffer.1) refl refl
+  ro_whole buffer = by_place (buffer.1 == 0) (lies_in_ram (bounds_of seat.layout) buffer.0 buffer.1) refl refl
     where
-      by_place : (a b : Bool) → buffer.1 == 0 ≡ a → lies_in_ram seat.layout buffer.0 buffer.1 ≡ b
+      by_place : (a b : Bool) → buffer.1 == 0 ≡ a → lies_in_ram (bounds_of seat.layout) buffer.0 buffer.1 ≡ b
           → length (cond b (ram_at (own_in m.ram seat) buffer)
           (map (flash_byte m.flash) (range_with_len buffer.0 buffer.1))) ≡ buffer.1
       by_place a false none is = length-map-range_with_len (flash_byte m.flash) buffer.0 buffer.1

@@ -1,6 +1,7 @@
 -- Bytes that a driver wrote into a buffer of a process.
-use Rattle.std.proofs.Common.{◌≡◌, ℕ, ◌+◌, ◌-◌, ◌<◌, ◌≤◌, ◌⊎◌, inl, inr, ◌==◌, Bool, IsTrue, true, false, cond, List, []}
-use Rattle.std.proofs.Common.{◌∷◌, ◌++◌, length, take, drop, Option, None, Some, refl, sym, ap, subst, ◌∙◌, rules, arith}
+use Rattle.std.proofs.Common.{◌≡◌, ℕ, ◌+◌, ◌-◌, ◌<◌, ◌≤◌, ◌⊎◌, inl, inr, ◌==◌, Bool, IsTrue, true, false, cond, List}
+use Rattle.std.proofs.Common.{[], ◌∷◌, ◌++◌, length, take, drop, Option, None, Some, refl, sym, ap, subst, ◌∙◌}
+use Rattle.std.proofs.Common.{rules, arith}
 use Rattle.std.specs.Prelude.{slice_range}
 use Rattle.std.specs.List.{AllByRecursion}
 use Rattle.std.proofs.lemmas.Bool.{eqb-true}
@@ -13,6 +14,7 @@ use Rattle.tk_base.specs.declared.kinds.PairKind.{PairKind}
 use Rattle.tk_base.specs.declared.kinds.PairKind.TheVariants.{Upcall, ReadOnly, ReadWrite, Readable}
 use Rattle.tk_base.specs.Kinds.{is_writable}
 use Rattle.grant_model.specs.Grants.{Grant, grant_of, pair_of, pairs_of}
+use Rattle.process_layout.specs.Bounds.{bounds_of}
 use Rattle.board_memory.specs.Memory.{MemoryBytes, with_run}
 use Rattle.tk_base.specs.Bytes.{over}
 use Rattle.process_model.specs.Handed.{held}
@@ -77,7 +79,8 @@ outside_at kind (Some g) n a can out = pair_at Beside (pairs_of kind g) n (inr (
     of_kind Readable can = all_second Beside (pairs_of ReadWrite g) (pairs_of Readable g) out
 
 -- bytes were written into a buffer of a process, from an offset in it on, as many as fit
-pub record Wrote (kind : PairKind) (driver n offset : ℕ) (bs : List ℕ) (m : MemoryBytes) (seat : Seat) (m' : MemoryBytes) : Type 0 where
+pub record Wrote (kind : PairKind) (driver n offset : ℕ) (bs : List ℕ) (m : MemoryBytes) (seat : Seat)
+    (m' : MemoryBytes) : Type 0 where
   pub serves : ServesIn driver m seat m' seat
   pub own : own_in m'.ram seat ≡ with_written kind driver n offset bs (own_in m.ram seat)
 
@@ -146,7 +149,7 @@ module _ (kind : PairKind) (can : IsTrue (is_writable kind)) (driver n : ℕ) (c
   -- as the code leaves memory
   wrote_by : (buffer : ℕ × ℕ) (a : Bool) → buffer.1 == 0 ≡ a → buffer ≡ held kind driver n (own_in m.ram seat)
       → (lent left : List ℕ) → lent ≡ ram_at (own_in m.ram seat) buffer
-      → left ≡ over lent offset (take (length lent - offset) bs) → LiesBelowMark seat.layout buffer
+      → left ≡ over lent offset (take (length lent - offset) bs) → LiesBelowMark (bounds_of seat.layout) buffer
       → Wrote kind driver n offset bs m seat (with_run m (cond a seat.layout.start buffer.0) left)
   wrote_by buffer true none is lent left was made lies =
       let s = l.sits.settled in
@@ -228,7 +231,7 @@ module _ (kind : PairKind) (can : IsTrue (is_writable kind)) (driver n : ℕ) (c
   size_is lent was = let buffer = held kind driver n (own_in m.ram seat) in
       by_size buffer (buffer.1 == 0) refl (below_held m seat l.sits kind driver n can) was
     where
-      by_size : (buffer : ℕ × ℕ) (a : Bool) → buffer.1 == 0 ≡ a → LiesBelowMark seat.layout buffer
+      by_size : (buffer : ℕ × ℕ) (a : Bool) → buffer.1 == 0 ≡ a → LiesBelowMark (bounds_of seat.layout) buffer
           → lent ≡ ram_at (own_in m.ram seat) buffer → length lent ≡ buffer.1
       by_size buffer true none lies was =
           let z : buffer.1 ≡ 0 = eqb-true buffer.1 0 none in
@@ -248,7 +251,8 @@ over_all : (xs bytes : List ℕ) → length bytes ≡ length xs → bytes ≡ ov
 over_all xs bytes long = same_number_lists _ _ (search (rules, places)) (λ k h. grind (arith, places))
 
 -- other bytes stand in a buffer that was lent
-pub buffer_written : (kind : PairKind) → IsTrue (is_writable kind) → (driver n : ℕ) (counts : Counts) (m : MemoryBytes) (seat : Seat) → IsLentTo driver counts m seat
+pub buffer_written : (kind : PairKind) → IsTrue (is_writable kind) → (driver n : ℕ) (counts : Counts) (m : MemoryBytes)
+    (seat : Seat) → IsLentTo driver counts m seat
     → (bytes : List ℕ)
     → length bytes ≡ length (ram_at (own_in m.ram seat) (held kind driver n (own_in m.ram seat)))
     → Wrote kind driver n 0 bytes m seat (with_run m (buffer_start seat.layout (held kind driver n (own_in m.ram seat)))

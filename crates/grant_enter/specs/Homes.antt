@@ -9,10 +9,11 @@ use Rattle.tk_base.specs.Regs.{Registers}
 use Rattle.rv32_model.specs.declared.turn_end.TurnEnd.{TurnEnd}
 use Rattle.rv32_model.specs.declared.turn_end.TurnEnd.TheVariants.{Went}
 use Rattle.process_layout.specs.LayoutView.{LayoutView}
+use Rattle.process_layout.specs.Bounds.{bounds_of}
 use Rattle.process_layout.specs.Ordered.{IsOrdered}
 use Rattle.grant_model.specs.Encoding.{encode_grants, IsSound}
 use Rattle.process_model.specs.declared.place.Footprint.{Footprint}
-use Rattle.process_model.specs.Own.{Own}
+use Rattle.process_model.specs.Own.{Own, kernel_break_of, layout_of}
 use Rattle.process_model.specs.Flash.{HasObject}
 use Rattle.process_model.specs.Instruction.{Sees, instruction_of, with_write}
 
@@ -25,7 +26,7 @@ pub record Homes : Type 0 where
 abbrev pub nobody : Own
 nobody = record {
   object = record { address = 0; size = 0 };
-  layout = record { flash_start = 0; flash_end = 0; start = 0; end = 0; brk = 0; kernel_break = 0; mark = 0 };
+  layout = record { flash_start = 0; flash_end = 0; start = 0; end = 0; brk = 0; mark = 0 };
   ram = [];
   grants = [];
   inbox = record { pending = []; dropped = 0 };
@@ -66,16 +67,16 @@ pub record FitsMemory (flash ram : ℕ) (e : LayoutView) : Type 0 where
 -- where a process may begin its first life: it lies in flash and RAM, and has no grants yet
 pub record CanMoveIn (flash ram : ℕ) (f : Footprint) : Type 0 where
   pub settled : FitsMemory flash ram f.layout
-  pub object : HasObject flash f.object f.layout
+  pub object : HasObject flash f.object (bounds_of f.layout)
   pub no_grants : f.layout.kernel_break ≡ f.layout.end
 
 -- A process's own memory as it always lies: its parts in their order, the bytes below the kernel break and those of its
 -- grants as many as the layout says, its accessible flash below its block.
 pub record IsInPlace (own : Own) : Type 0 where
-  pub ordered : IsOrdered own.layout
+  pub ordered : IsOrdered (layout_of own)
   pub apart : own.layout.flash_end ≤ own.layout.start
-  pub ram : length own.ram ≡ own.layout.kernel_break - own.layout.start
-  pub kernel : length (encode_grants own.grants) ≡ own.layout.end - own.layout.kernel_break
+  pub ram : length own.ram ≡ kernel_break_of own - own.layout.start
+  pub kernel : length (encode_grants own.grants) ≡ own.layout.end - kernel_break_of own
   pub sound : AllByRecursion IsSound own.grants
 
 -- one block ends before another begins

@@ -6,6 +6,7 @@ use Rattle.std.specs.List.{AllByRecursion}
 use Rattle.tk_base.specs.declared.access.TheConstants.{FLASH_START, RAM_START}
 use Rattle.tk_base.specs.declared.limits.TheConstants.{FLASH_LIMIT}
 use Rattle.process_layout.specs.LayoutView.{LayoutView}
+use Rattle.process_layout.specs.Bounds.{Bounds, bounds_of}
 use Rattle.process_layout.specs.Interval.{lies_within}
 use Rattle.process_layout.specs.Ordered.{IsOrdered}
 use Rattle.tk_base.specs.declared.kinds.PairKind.{PairKind}
@@ -40,7 +41,7 @@ first_seat f = record {
 abbrev pub owned : Seat → List ℕ → List ℕ → Own
 owned seat app kernel = record {
   object = seat.object;
-  layout = seat.layout;
+  layout = bounds_of seat.layout;
   ram = app;
   grants = decode_grants kernel;
   inbox = seat.inbox;
@@ -77,39 +78,39 @@ abbrev pub layouts_of : List Seat → List LayoutView
 layouts_of seats = map (λ s. s.layout) seats
 
 -- a buffer that has bytes and may be written lies below the mark
-abbrev pub LiesBelowMark : LayoutView → ℕ × ℕ → Type 0
+abbrev pub LiesBelowMark : Bounds → ℕ × ℕ → Type 0
 LiesBelowMark e pair = 0 < pair.1 → (e.start ≤ pair.0) × (pair.0 + pair.1 ≤ e.mark)
 
 -- a read-only buffer that has bytes lies there, or in accessible flash
-abbrev pub MayBeRead : LayoutView → ℕ × ℕ → Type 0
+abbrev pub MayBeRead : Bounds → ℕ × ℕ → Type 0
 MayBeRead e pair =
     0 < pair.1 → IsTrue (lies_within e.start e.mark pair.0 pair.1
     || lies_within e.flash_start e.flash_end pair.0 pair.1)
 
 -- a pair of a kind lies where it may; of an upcall nothing is asked
-abbrev pub LiesInPlace : PairKind → LayoutView → ℕ × ℕ → Type 0
+abbrev pub LiesInPlace : PairKind → Bounds → ℕ × ℕ → Type 0
 LiesInPlace Subscribed e pair = Unit
 LiesInPlace ReadOnly e pair = MayBeRead e pair
 LiesInPlace writable e pair = LiesBelowMark e pair
 
 -- the pairs of a grant lie where they may
-pub record Holds (e : LayoutView) (g : Grant) : Type 0 where
+pub record Holds (e : Bounds) (g : Grant) : Type 0 where
   pub each : (kind : PairKind) (n : ℕ) → LiesInPlace kind e (pair_of kind n (Some g))
 
 -- the bytes from the kernel break on are the areas of grants, whose buffers lie where they may
-pub record IsKept (e : LayoutView) (kernel : List ℕ) : Type 0 where
+pub record IsKept (e : Bounds) (kernel : List ℕ) : Type 0 where
   pub laid : EncodesGrants kernel
   pub held : AllByRecursion (Holds e) (decode_grants kernel)
 
 -- a process in its seat, over so many bytes of flash and over RAM
 pub record IsSeated (flash : ℕ) (ram : List ℕ) (seat : Seat) : Type 0 where
-  pub object : HasObject flash seat.object seat.layout
-  pub kept : IsKept seat.layout (kernel_in ram seat.layout)
+  pub object : HasObject flash seat.object (bounds_of seat.layout)
+  pub kept : IsKept (bounds_of seat.layout) (kernel_in ram seat.layout)
 
 -- memory has a process's block where a layout says: the layout is settled, and from its kernel break on grants are kept
 pub record HasBlock (m : MemoryBytes) (e : LayoutView) : Type 0 where
   pub settled : FitsMemory (length m.flash) (length m.ram) e
-  pub kept : IsKept e (kernel_in m.ram e)
+  pub kept : IsKept (bounds_of e) (kernel_in m.ram e)
 
 -- a process sits in memory: the layout of its seat is settled, and it is seated
 pub record SitsIn (m : MemoryBytes) (seat : Seat) : Type 0 where
@@ -161,7 +162,7 @@ pub record MakesRoom (driver : ℕ) (m : MemoryBytes) (e : LayoutView) (m' : Mem
 abbrev pub buffer_bytes : MemoryBytes → LayoutView → ℕ × ℕ → List ℕ
 buffer_bytes m e buffer =
     if buffer.1 == 0 then []
-    else (if lies_in_ram e buffer.0 buffer.1 then ram_between m.ram buffer.0 (buffer.0 + buffer.1)
+    else (if lies_in_ram (bounds_of e) buffer.0 buffer.1 then ram_between m.ram buffer.0 (buffer.0 + buffer.1)
     else slice_range m.flash (buffer.0 - FLASH_START) (buffer.0 + buffer.1 - FLASH_START))
 
 -- the kernel's bytes of a block in which a value of so many bytes is another one, at a place from the kernel break on

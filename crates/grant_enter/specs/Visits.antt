@@ -10,6 +10,8 @@ use Rattle.process_model.specs.Served.{kept, with_kept}
 use Rattle.grant_enter.specs.declared.visit.EnterError.{EnterError}
 use Rattle.grant_enter.specs.declared.visit.EnterError.TheVariants.{NoRoom, Stale}
 use Rattle.grant_enter.specs.declared.visit.Stale.{Stale as IsStale}
+use Rattle.grant_enter.specs.declared.visit.Unvisited.{Unvisited}
+use Rattle.grant_enter.specs.declared.visit.Unvisited.TheVariants.{Gone, NotEntered}
 use Rattle.grant_enter.specs.Seen.{Seen, VisitorChanges, seen_of}
 
 -- the grants that processes keep for one driver: its number, its counts, and what a value of theirs is
@@ -64,14 +66,15 @@ Enters grants leaves life flash old (Err NoRoom) new =
     (is_stale life old ≡ false) × (has_place grants.driver old ≡ false) × (new ≡ old)
 
 -- A driver visits a process of a life, and makes nothing: it visits the value that is kept; or none is; or the process
--- is not there.
-abbrev pub Visits : {T A : Type 0} → GrantsOf T → (T → Seen → A → T → Own → Type 0) → ℕ → List ℕ → Own
-    → Result (Option A) IsStale → Own → Type 0
-Visits grants leaves life flash old (Ok (Some answer)) new =
+-- is not there. A visitor that was not run is handed back.
+abbrev pub Visits : {T A V : Type 0} → GrantsOf T → V → (T → Seen → A → T → Own → Type 0) → ℕ → List ℕ → Own
+    → Result A (Unvisited V) → Own → Type 0
+Visits grants visitor leaves life flash old (Ok answer) new =
     (is_stale life old ≡ false) × Visited grants leaves flash old answer new
-Visits grants leaves life flash old (Ok None) new =
-    (is_stale life old ≡ false) × (kept grants.driver old ≡ None) × (new ≡ old)
-Visits grants leaves life flash old (Err stale) new = (is_stale life old ≡ true) × (new ≡ old)
+Visits grants visitor leaves life flash old (Err (NotEntered back)) new =
+    (is_stale life old ≡ false) × (kept grants.driver old ≡ None) × (back ≡ visitor) × (new ≡ old)
+Visits grants visitor leaves life flash old (Err (Gone back)) new =
+    (is_stale life old ≡ true) × (back ≡ visitor) × (new ≡ old)
 
 -- A driver looks at the value that a process of a life keeps, or sees that it keeps none; or the process is not there.
 abbrev pub Peeks : {T : Type 0} → GrantsOf T → ℕ → Own → Result (Option T) IsStale → Type 0

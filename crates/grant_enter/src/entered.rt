@@ -1,14 +1,17 @@
 //! A process while a driver visits its grant.
-ghost use Rattle.std.specs.Prelude.{◌≡◌, ◌+◌, ◌-◌, ◌<◌, ◌≤◌, ◌^◌, IsTrue, min, length, take, slice_range};
+ghost use Rattle.std.specs.Prelude.{◌≡◌, ◌+◌, ◌-◌, ◌<◌, ◌≤◌, ◌^◌, IsTrue, min, length, take};
+ghost use Rattle.std.specs.Prelude.{slice_range};
 ghost use Rattle.std.specs.Borrow.{sem};
 ghost use Rattle.tk_base.specs.declared.access.TheConstants.{FLASH_START, RAM_START};
+ghost use Rattle.process_layout.specs.Bounds.{bounds_of};
 ghost use Rattle.board_memory.specs.Memory.{ram_between};
 ghost use Rattle.tk_base.specs.declared.kinds.PairKind.TheVariants.{ReadOnly, ReadWrite, Readable};
 ghost use Rattle.tk_base.specs.Kinds.{count_of, is_writable};
 ghost use Rattle.process_model.specs.Handed.{held};
 ghost use Rattle.upcall_queue.specs.Pending.{is_queued};
 ghost use Rattle.process_model.specs.Flash.{flash_byte};
-ghost use Rattle.process_model.specs.Served.{bytes_at, ram_at, own_scheduled, upcall_of, with_written};
+ghost use Rattle.process_model.specs.Served.{bytes_at, ram_at, own_scheduled, upcall_of};
+ghost use Rattle.process_model.specs.Served.{with_written};
 ghost use Rattle.tk_base.specs.Bytes.{over};
 ghost use Rattle.grant_enter.specs.Buffers.{LendsBuffer, buffer_held, buffer_start, last_of};
 ghost use Rattle.grant_enter.specs.Homes.{FitsMemory};
@@ -22,8 +25,9 @@ use process_layout::Layout;
 use swap_tables::{buffer_ro, buffer_rw, buffer_ur, upcall};
 use tk_base::{Addr, Counts, FLASH_START, PairKind, Upcall};
 
-/// A process while a driver visits its grant: the buffers that it has allowed the driver, which are lent and
-/// never copied, and the upcalls that it has subscribed (Levy et al., SOSP 2017, section 4).
+/// A process while a driver visits its grant: the buffers that it has allowed the driver, which are
+/// lent and never copied, and the upcalls that it has subscribed (Levy et al., SOSP 2017, section
+/// 4).
 #[derive(Drop)]
 pub struct Entered<'a> {
     pub(crate) memory: &'a mut Memory,
@@ -45,7 +49,7 @@ fn flash_part(flash: &[u8], from: Addr, to: Addr) -> &[u8]
 /// The bytes of a buffer that may be read.
 fn buffer_at<'a>(memory: &'a Memory, layout: &Layout, at: Addr, size: u32) -> &'a [u8]
     requires settled { FitsMemory (length memory.now.flash) (length memory.now.ram) layout.now }
-    requires may { MayBeRead layout.now (at, size) }
+    requires may { MayBeRead (bounds_of layout.now) (at, size) }
     ensures { result.now ≡ buffer_bytes memory.now layout.now (at, size) }
 {
     if size == 0 {
@@ -118,9 +122,9 @@ impl Entered<'_> {
         memory.part_mut(from, to)
     }
 
-    /// The read-only buffer of a number that the process has allowed the driver (TRD 104, "Read-Only Allow").
-    /// It is lent from the process's RAM, or from flash where it lies there; it has no bytes where the
-    /// process has allowed none.
+    /// The read-only buffer of a number that the process has allowed the driver (TRD 104,
+    /// "Read-Only Allow"). It is lent from the process's RAM, or from flash where it lies there; it
+    /// has no bytes where the process has allowed none.
     pub fn read_only(&self, n: u32) -> &[u8]
         requires lent { IsLent self.now }
         requires number { n < (seen self.now).counts.ro }
@@ -131,8 +135,8 @@ impl Entered<'_> {
         buffer_at(self.memory, &self.seat.layout, at, size)
     }
 
-    /// The read-write buffer of a number that the process has allowed the driver (TRD 104, "Read-Write
-    /// Allow"), lent to be written; it has no bytes where the process has allowed none.
+    /// The read-write buffer of a number that the process has allowed the driver (TRD 104,
+    /// "Read-Write Allow"), lent to be written; it has no bytes where the process has allowed none.
     pub fn read_write(&mut self, n: u32) -> &mut [u8]
         requires lent { IsLent self.old }
         requires number { n < (seen self.old).counts.rw }
@@ -143,8 +147,8 @@ impl Entered<'_> {
         self.lend(PairKind::ReadWrite, n)
     }
 
-    /// The buffer of a number that the process has allowed the driver and may read while the kernel writes
-    /// it (the userspace-readable allow of Tock's kernel), lent as [`Entered::read_write`].
+    /// The buffer of a number that the process has allowed the driver and may read while the kernel
+    /// writes it (the userspace-readable allow of Tock's kernel), lent as [`Entered::read_write`].
     pub fn readable(&mut self, n: u32) -> &mut [u8]
         requires lent { IsLent self.old }
         requires number { n < (seen self.old).counts.ur }
@@ -155,8 +159,8 @@ impl Entered<'_> {
         self.lend(PairKind::Readable, n)
     }
 
-    /// Writes bytes into the read-write buffer of a number, from an offset in it on, as many as fit, and
-    /// says how many.
+    /// Writes bytes into the read-write buffer of a number, from an offset in it on, as many as
+    /// fit, and says how many.
     pub fn write(&mut self, n: u32, offset: u32, bytes: &[u8]) -> usize
         requires lent { IsLent self.old }
         requires number { n < (seen self.old).counts.rw }
@@ -172,9 +176,9 @@ impl Entered<'_> {
         put_from(self.read_write(n), offset as usize, bytes)
     }
 
-    /// Schedules the upcall of a number with three arguments (TRD 104, "Subscribe", "Yield"), and says whether
-    /// it waits now. The null upcall is not scheduled, and not counted; one that finds no room is
-    /// dropped and counted.
+    /// Schedules the upcall of a number with three arguments (TRD 104, "Subscribe", "Yield"), and
+    /// says whether it waits now. The null upcall is not scheduled, and not counted; one that finds
+    /// no room is dropped and counted.
     pub fn schedule(&mut self, n: u32, args: [u32; 3]) -> bool
         requires lent { IsLent self.old }
         requires number { n < (seen self.old).counts.upcalls }

@@ -6,13 +6,13 @@ ghost use Rattle.grant_enter.specs.Homes.{ChangesOnly, own_of};
 ghost use Rattle.grant_enter.specs.Visits.{Asks, Enters, IsCounted, Peeks, Visits, grants_of};
 
 use crate::home::Home;
-use crate::visit::{EnterError, Stale, Visit, enter_seat, peek_seat, visit_seat};
+use crate::visit::{EnterError, Stale, Unvisited, Visit, enter_seat, peek_seat, visit_seat};
 use grant_values::{GrantValue, counts};
 use std::marker::PhantomData;
 use tk_base::{Counts, ProcessId};
 
-/// The grants that processes keep for one driver (Levy et al., SOSP 2017, section 4): the type of their
-/// value, and how many upcalls and read-only, read-write and readable buffers they have.
+/// The grants that processes keep for one driver (Levy et al., SOSP 2017, section 4): the type of
+/// their value, and how many upcalls and read-only, read-write and readable buffers they have.
 #[derive(Drop)]
 pub struct Grant<
     T: GrantValue,
@@ -52,14 +52,14 @@ impl<T: GrantValue, const UP: usize, const RO: usize, const RW: usize, const UR:
         }
     }
 
-    /// Enters the grant that a process keeps for the driver, which is made, fresh, at first use: the visitor
-    /// is given the value that is kept, which is what its last visit left, and the value that it leaves
-    /// is kept. What it leaves by its own contract is then the process's; all else of the process, and all of
-    /// another slot, stays.
+    /// Enters the grant that a process keeps for the driver, which is made, fresh, at first use:
+    /// the visitor is given the value that is kept, which is what its last visit left, and the
+    /// value that it leaves is kept. What it leaves by its own contract is then the process's; all
+    /// else of the process, and all of another slot, stays.
     ///
-    /// It is stale exactly where the process has ended or is in another life, or none was placed in the slot;
-    /// otherwise there is no room exactly where the driver is not entered and the kernel break less the cost of its grant is below
-    /// the break. Then nothing changes.
+    /// It is stale exactly where the process has ended or is in another life, or none was placed in
+    /// the slot; otherwise there is no room exactly where the driver is not entered and the kernel
+    /// break less the cost of its grant is below the break. Then nothing changes.
     pub fn enter<V: Visit<T> + Drop>(
         &self,
         home: &mut Home,
@@ -88,26 +88,25 @@ impl<T: GrantValue, const UP: usize, const RO: usize, const RW: usize, const UR:
         )
     }
 
-    /// Visits the grant that a process keeps for the driver, as [`Grant::enter`], and makes nothing. The
-    /// answer is None exactly where the process has not entered the driver in this life.
-    ///
-    /// It is stale exactly where the process has ended or is in another life, or none was placed in the slot.
-    /// Where no visitor was run nothing changes.
+    /// Visits the grant that a process keeps for the driver, as [`Grant::enter`], and makes
+    /// nothing. The visitor is handed back, as it was given, exactly where there is nothing to
+    /// visit: the process has not entered the driver in this life, or it is gone, that is, it has
+    /// ended or is in another life, or none was placed in the slot. Then nothing changes.
     pub fn visit<V: Visit<T> + Drop>(
         &self,
         home: &mut Home,
         id: ProcessId,
         visitor: V,
-    ) -> Result<Option<V::Answer>, Stale>
+    ) -> Result<V::Answer, Unvisited<V>>
         requires asks { Asks (grants_of self.now.driver (counting UP RO RW UR T.SIZE) T.kept)
             (V.asks visitor) home.old.flash (own_of home.old id.slot) }
         ensures visits { Visits (grants_of self.now.driver (counting UP RO RW UR T.SIZE) T.kept)
-            (V.leaves visitor) id.life home.old.flash
+            visitor (V.leaves visitor) id.life home.old.flash
             (own_of home.old id.slot) result (own_of home.new id.slot) }
         ensures rest { ChangesOnly id.slot home.old home.new }
     {
         if !home.is_placed(id.slot) {
-            return Err(Stale);
+            return Err(Unvisited::Gone(visitor));
         }
         let visited = &mut home.seats[id.slot.index()];
         visit_seat::<T, V>(
@@ -120,9 +119,9 @@ impl<T: GrantValue, const UP: usize, const RO: usize, const RW: usize, const UR:
         )
     }
 
-    /// The value that a process keeps for the driver; None exactly where it has not entered the driver in
-    /// this life. It is stale exactly where the process has ended or is in another life, or none was placed in
-    /// the slot.
+    /// The value that a process keeps for the driver; None exactly where it has not entered the
+    /// driver in this life. It is stale exactly where the process has ended or is in another life,
+    /// or none was placed in the slot.
     pub fn peek(&self, home: &Home, id: ProcessId) -> Result<Option<T>, Stale>
         ensures { Peeks (grants_of self.now.driver (counting UP RO RW UR T.SIZE) T.kept) id.life
             (own_of home.now id.slot) result }

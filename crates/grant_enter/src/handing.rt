@@ -3,6 +3,7 @@ ghost use Rattle.std.specs.Prelude.{◌≡◌, IsTrue, is_ok, IfOk, OnOk, OnErr}
 ghost use Rattle.grant_region.specs.Region.{parts_of};
 ghost use Rattle.swap_tables.specs.Swaps.{CanHand, CanSwap, SwapOutcome};
 ghost use Rattle.process_model.specs.Handed.{handing, has_place as has_place_in, held, marked, may_share, raised, still_pending};
+ghost use Rattle.process_layout.specs.Bounds.{bounds_of};
 ghost use Rattle.process_layout.specs.Ordered.{IsOrdered};
 ghost use Rattle.grant_enter.specs.Seats.{HasBlock, Reseats, SitsIn, SwapsIn, fits_in, own_in};
 
@@ -69,7 +70,7 @@ fn swap_in(
 
 /// The break may not move below the end of a buffer in RAM that has bytes.
 fn raise_mark(layout: &mut Layout, buffer: (u32, u32))
-    ensures { layout.new ≡ raised buffer layout.old }
+    ensures { layout.new ≡ record layout.old { mark = (raised buffer (bounds_of layout.old)).mark } }
 {
     let (at, size) = buffer;
     if size == 0 || !layout.in_ram(at, size) {
@@ -78,10 +79,12 @@ fn raise_mark(layout: &mut Layout, buffer: (u32, u32))
     layout.mark = layout.mark.max(at + size);
 }
 
-/// What else changes where a process has handed a pair to a driver: a buffer raises the mark, and another
-/// upcall takes away the pending ones of its driver and number.
+/// What else changes where a process has handed a pair to a driver: a buffer raises the mark, and
+/// another upcall takes away the pending ones of its driver and number.
 fn note_handed(layout: &mut Layout, inbox: &mut Inbox, handover: Handover)
-    ensures layout { layout.new ≡ marked handover.kind handover.pair layout.old }
+    ensures layout { layout.new ≡ record layout.old {
+      mark = (marked handover.kind handover.pair (bounds_of layout.old)).mark;
+    } }
     ensures pending { inbox.new.pending
         ≡ still_pending handover.kind handover.driver handover.number inbox.old.pending }
     ensures dropped { inbox.new.dropped ≡ inbox.old.dropped }
@@ -103,7 +106,7 @@ pub(crate) fn hand_at(
 ) -> Result<(u32, u32), NoRoom>
     requires sits { SitsIn memory.old seat.old }
     requires pair { CanHand handover }
-    requires may { IsTrue (may_share handover.kind seat.old.layout handover.pair) }
+    requires may { IsTrue (may_share handover.kind (bounds_of seat.old.layout) handover.pair) }
     ensures room { is_ok result ≡ has_place_in handover.driver (own_in memory.old.ram seat.old) }
     ensures former { IfOk result (λ former. former
         ≡ held handover.kind handover.driver handover.number (own_in memory.old.ram seat.old)) }

@@ -1,15 +1,19 @@
 //! The memory of all processes.
-ghost use Rattle.std.specs.Prelude.{◌≡◌, ◌==◌, ◌≤◌, ◌<◌, ◌+◌, ◌%◌, ◌^◌, ℕ, nat_lt, not, slice_get, All, AllPairs, IsTrue, length, map, option_map, is_ok, IfOk, OnOk, OnErr, vec_len};
+ghost use Rattle.std.specs.Prelude.{◌≡◌, ◌==◌, ◌≤◌, ◌<◌, ◌+◌, ◌%◌, ◌^◌, ℕ, nat_lt, not, slice_get};
+ghost use Rattle.std.specs.Prelude.{All, AllPairs, IsTrue, length, map, option_map, is_ok, IfOk};
+ghost use Rattle.std.specs.Prelude.{OnOk, OnErr, vec_len};
 ghost use Rattle.std.specs.Bool.{OnTrue, OnFalse};
 ghost use Rattle.tk_base.specs.declared.limits.TheConstants.{FLASH_LIMIT};
-ghost use Rattle.process_layout.specs.LayoutView.{permits_break};
+ghost use Rattle.process_layout.specs.Bounds.{permits_break};
 ghost use Rattle.board_memory.specs.Registers.{process_registers, Protect};
-ghost use Rattle.process_model.specs.Own.{block_of, opened, with_moved_break, own_restarted, own_ended, without_first};
+ghost use Rattle.process_model.specs.Own.{block_of, kernel_break_of, layout_of, opened, with_moved_break, own_restarted, own_ended, without_first};
 ghost use Rattle.process_model.specs.Flag.{with_flag};
-ghost use Rattle.process_model.specs.Handed.{HoldsInPlace, own_entering, handing, has_place, held, may_share};
+ghost use Rattle.process_model.specs.Handed.{HoldsInPlace, own_entering, handing, has_place, held};
+ghost use Rattle.process_model.specs.Handed.{may_share};
 ghost use Rattle.process_model.specs.Served.{kept};
 ghost use Rattle.swap_tables.specs.Swaps.{IsPair};
-ghost use Rattle.grant_enter.specs.Homes.{own_of, living, ChangesOnly, IsInPlace, IsStopped, CanMoveIn, FootprintBefore, MakesInstruction, MakesAll};
+ghost use Rattle.grant_enter.specs.Homes.{own_of, living, ChangesOnly, IsInPlace, IsStopped};
+ghost use Rattle.grant_enter.specs.Homes.{CanMoveIn, FootprintBefore, MakesInstruction, MakesAll};
 
 use crate::flag::put_flag_at;
 use crate::handing::hand_at;
@@ -28,11 +32,12 @@ use std::marker::Model;
 use swap_tables::Handover;
 use tk_base::{Addr, Counts, NoMemory, PairKind, ProcessId, Regs, Slot, Upcall, a_store_is_put};
 
-/// The memory of the processes, and what the kernel keeps of each beside its registers: where its memory
-/// lies, which life it is in, whether it lives, how many upcalls it missed (Levy et al., SOSP 2017).
+/// The memory of the processes, and what the kernel keeps of each beside its registers: where its
+/// memory lies, which life it is in, whether it lives, how many upcalls it missed (Levy et al.,
+/// SOSP 2017).
 ///
-/// Contracts see flash and, for each slot, what is its own: no call on one slot changes what another's
-/// is. The blocks lie in one RAM, one after another, and none reaches into another.
+/// Contracts see flash and, for each slot, what is its own: no call on one slot changes what
+/// another's is. The blocks lie in one RAM, one after another, and none reaches into another.
 #[derive(Drop)]
 pub struct Home {
     pub(crate) memory: Memory,
@@ -53,9 +58,9 @@ impl Model for Home {
 }
 
 impl Home {
-    /// Memory with these bytes in flash, and so many bytes of RAM, in which each process has its block, slot
-    /// 0 first. All blocks are zero, and each process lives its first life and has no grants. The one error
-    /// is want of memory; flash is dropped then.
+    /// Memory with these bytes in flash, and so many bytes of RAM, in which each process has its
+    /// block, slot 0 first. All blocks are zero, and each process lives its first life and has no
+    /// grants. The one error is want of memory; flash is dropped then.
     pub fn new(
         alloc: Global,
         flash: Vec<u8>,
@@ -89,12 +94,13 @@ impl Home {
     /// Where the memory of the process in a slot lies.
     pub fn layout(&self, slot: Slot) -> Layout
         requires { slot < length self.now.owns }
-        ensures { result ≡ (own_of self.now slot).layout }
+        ensures { result ≡ layout_of (own_of self.now slot) }
     {
         self.seats[slot.index()].layout
     }
 
-    /// The upcalls that wait to be delivered to the process in a slot, the first one first (TRD 104, "Yield").
+    /// The upcalls that wait to be delivered to the process in a slot, the first one first (TRD
+    /// 104, "Yield").
     pub fn pending(&self, slot: Slot) -> &[Upcall]
         requires { slot < length self.now.owns }
         ensures { result.now ≡ (own_of self.now slot).inbox.pending }
@@ -110,10 +116,10 @@ impl Home {
         self.seats[slot.index()].inbox.dropped
     }
 
-    /// Sets the protection registers for the process in a slot (the privileged RISC-V manual, "Physical
-    /// Memory Protection"): the first two entries for its accessible flash, two for its accessible RAM,
-    /// the others off. So they deny what its layout denies, and permit it to store in its accessible
-    /// RAM alone.
+    /// Sets the protection registers for the process in a slot (the privileged RISC-V manual,
+    /// "Physical Memory Protection"): the first two entries for its accessible flash, two for its
+    /// accessible RAM, the others off. So they deny what its layout denies, and permit it to store
+    /// in its accessible RAM alone.
     pub fn protect(&self, slot: Slot, pmp: &mut Pmp)
         requires { slot < length self.now.owns }
         ensures registers { pmp.new ≡ process_registers (own_of self.now slot).layout }
@@ -122,12 +128,13 @@ impl Home {
         set_process(pmp, &self.seats[slot.index()].layout);
     }
 
-    /// Moves the break of the process in a slot to an address, rounded up to a multiple of 4 (TRD 104,
-    /// "Memop"), and says whether it did. It is refused where the rounded address is below the block's
-    /// start, above the kernel break, or below the mark; then nothing changes.
+    /// Moves the break of the process in a slot to an address, rounded up to a multiple of 4 (TRD
+    /// 104, "Memop"), and says whether it did. It is refused where the rounded address is below the
+    /// block's start, above the kernel break, or below the mark; then nothing changes.
     pub fn set_break(&mut self, slot: Slot, new: u32) -> bool
         requires { slot < length self.old.owns }
-        ensures answer { result ≡ permits_break (own_of self.old slot).layout new }
+        ensures answer { result ≡ permits_break (own_of self.old slot).layout
+            (kernel_break_of (own_of self.old slot)) new }
         ensures moved { OnTrue result
             (own_of self.new slot ≡ with_moved_break new (own_of self.old slot)) }
         ensures refused { OnFalse result (self.new ≡ self.old) }
@@ -136,10 +143,9 @@ impl Home {
         self.seats[slot.index()].layout.set_break(new)
     }
 
-    /// Starts the process in a slot again, with its first break (TRD 104, "Exit"): every byte of its block is
-    /// 0, it has no grants and no pending upcalls, its next life begins, and it lives. How many upcalls were
-    /// dropped stays.
-    /// Nothing of another slot changes.
+    /// Starts the process in a slot again, with its first break (TRD 104, "Exit"): every byte of
+    /// its block is 0, it has no grants and no pending upcalls, its next life begins, and it lives.
+    /// How many upcalls were dropped stays. Nothing of another slot changes.
     pub fn restart(&mut self, slot: Slot, brk: Addr)
         requires slot { slot < length self.old.owns }
         requires from { (own_of self.old slot).layout.start ≤ brk }
@@ -158,8 +164,9 @@ impl Home {
         self.memory.clear_block(&seat.layout);
     }
 
-    /// Ends the process in a slot: it lives no more, and its pending upcalls are gone. Its memory stays as it
-    /// is, and nothing of another slot changes. Where no process was placed in the slot nothing changes.
+    /// Ends the process in a slot: it lives no more, and its pending upcalls are gone. Its memory
+    /// stays as it is, and nothing of another slot changes. Where no process was placed in the slot
+    /// nothing changes.
     pub fn end(&mut self, slot: Slot)
         ensures own { own_of self.new slot ≡ own_ended (own_of self.old slot) }
         ensures rest { ChangesOnly slot self.old self.new }
@@ -172,14 +179,15 @@ impl Home {
         seat.lives = false;
     }
 
-    /// Hands a pair of the process in a slot to a driver (TRD 104, "Subscribe", "Read-Only Allow", "Read-Write
-    /// Allow"): the function and the application data of an upcall, or the address and the size of a
-    /// buffer. The answer is the former pair, at first (0, 0). The driver is entered; a buffer in RAM that
-    /// has bytes raises the mark; an upcall takes away the pending ones of its driver and number. `counts` are
-    /// the driver's. All else of the process, and all of another slot, stays.
+    /// Hands a pair of the process in a slot to a driver (TRD 104, "Subscribe", "Read-Only Allow",
+    /// "Read-Write Allow"): the function and the application data of an upcall, or the address and
+    /// the size of a buffer. The answer is the former pair, at first (0, 0). The driver is entered;
+    /// a buffer in RAM that has bytes raises the mark; an upcall takes away the pending ones of its
+    /// driver and number. `counts` are the driver's. All else of the process, and all of another
+    /// slot, stays.
     ///
-    /// There is [`NoRoom`], and nothing changes, exactly where the driver is not entered and the kernel break
-    /// less the cost of its grant is below the break.
+    /// There is [`NoRoom`], and nothing changes, exactly where the driver is not entered and the
+    /// kernel break less the cost of its grant is below the break.
     pub fn hand(
         &mut self,
         slot: Slot,
@@ -237,8 +245,9 @@ impl Home {
         !self.seats[slot.index()].inbox.pending.is_empty()
     }
 
-    /// Takes out the first upcall that waits for the process in a slot, for its delivery (TRD 104, "Yield").
-    /// None exactly where none waits. Nothing else of the process changes, and nothing of another slot.
+    /// Takes out the first upcall that waits for the process in a slot, for its delivery (TRD 104,
+    /// "Yield"). None exactly where none waits. Nothing else of the process changes, and nothing of
+    /// another slot.
     pub fn take_pending(&mut self, slot: Slot) -> Option<Upcall>
         requires { slot < length self.old.owns }
         ensures first { result ≡ slice_get (own_of self.old slot).inbox.pending 0 }
@@ -248,8 +257,8 @@ impl Home {
         self.seats[slot.index()].inbox.pending.pop()
     }
 
-    /// Writes the byte by which a yield of the process in a slot tells whether an upcall was delivered (TRD
-    /// 104, "Yield"), where it lies in accessible RAM; elsewhere nothing changes.
+    /// Writes the byte by which a yield of the process in a slot tells whether an upcall was
+    /// delivered (TRD 104, "Yield"), where it lies in accessible RAM; elsewhere nothing changes.
     pub fn put_flag(&mut self, slot: Slot, at: Addr, flag: u8)
         requires { slot < length self.old.owns }
         ensures own { own_of self.new slot ≡ with_flag at flag (own_of self.old slot) }
@@ -267,9 +276,9 @@ impl Home {
         block_at(&self.memory, seat)
     }
 
-    /// As always, every buffer that a process has allowed a driver lies where it may (TRD 104, "Read-Only Allow",
-    /// "Read-Write Allow"): it has no bytes, or it lies in accessible RAM, or a read-only one in accessible
-    /// flash. The function does nothing.
+    /// As always, every buffer that a process has allowed a driver lies where it may (TRD 104,
+    /// "Read-Only Allow", "Read-Write Allow"): it has no bytes, or it lies in accessible RAM, or a
+    /// read-only one in accessible flash. The function does nothing.
     pub fn held_buffers_lie_in_place(&self)
         ensures { (slot : ℕ) → slot < length self.now.owns → HoldsInPlace (own_of self.now slot) }
     {
@@ -291,9 +300,9 @@ impl Home {
         let _seats = &self.seats;
     }
 
-    /// One instruction of the process in a slot, while the registers protect it. It sees its own accessible
-    /// bytes and no other, whatever stands elsewhere in flash and RAM, and it writes to its own accessible
-    /// RAM alone: nothing of another slot changes.
+    /// One instruction of the process in a slot, while the registers protect it. It sees its own
+    /// accessible bytes and no other, whatever stands elsewhere in flash and RAM, and it writes to
+    /// its own accessible RAM alone: nothing of another slot changes.
     pub fn instruct(&mut self, slot: Slot, pmp: &Pmp, regs: &mut Regs) -> TurnEnd
         requires slot { slot < length self.old.owns }
         requires protect { Protect pmp.now (own_of self.old slot).layout }
@@ -309,10 +318,10 @@ impl Home {
         turn_in(regs, &mut self.memory, pmp)
     }
 
-    /// As many instructions of the process in a slot as go, one after another, at most `most`, while the registers
-    /// protect it, and how many they were. It stops before one that makes a system call or is denied. Each sees the
-    /// process's own accessible bytes and no other, and writes to its own accessible RAM alone: nothing of another
-    /// slot changes.
+    /// As many instructions of the process in a slot as go, one after another, at most `most`,
+    /// while the registers protect it, and how many they were. It stops before one that makes a
+    /// system call or is denied. Each sees the process's own accessible bytes and no other, and
+    /// writes to its own accessible RAM alone: nothing of another slot changes.
     pub fn instruct_quietly(&mut self, slot: Slot, pmp: &Pmp, regs: &mut Regs, most: u32) -> u32
         requires slot { slot < length self.old.owns }
         requires protect { Protect pmp.now (own_of self.old slot).layout }

@@ -22,7 +22,8 @@ pub(crate) fn instruction_laws()
     sees_only_permitted();
 }
 
-/// As many instructions over the bytes of flash and of RAM as go, at most `most`, and how the next one ends.
+/// As many instructions over the bytes of flash and of RAM as go, at most `most`, and how the next
+/// one ends.
 fn turns_over(regs: &mut Regs, flash: &[u8], ram: &mut [u8], pmp: &Pmp, most: u32) -> Stretch
     requires { StoresLieIn (length ram.old) pmp.now }
     ensures most { result.went ≤ most }
@@ -34,8 +35,8 @@ fn turns_over(regs: &mut Regs, flash: &[u8], ram: &mut [u8], pmp: &Pmp, most: u3
     turns(regs, &mut view, most)
 }
 
-/// As many instructions over flash and RAM as go, at most `most`, and how the next one ends. Memory lends what is
-/// reached once for all of them.
+/// As many instructions over flash and RAM as go, at most `most`, and how the next one ends. Memory
+/// lends what is reached once for all of them.
 pub(crate) fn turns_in(regs: &mut Regs, memory: &mut Memory, pmp: &Pmp, most: u32) -> Stretch
     requires { StoresLieIn (length memory.old.ram) pmp.now }
     ensures most { result.went ≤ most }

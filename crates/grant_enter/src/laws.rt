@@ -7,14 +7,14 @@ pub fn frames_join()
     ensures { FramesJoin }
 {}
 
-/// A visitor may write over a buffer that it was lent to be written; the bytes then stand in the process's own
-/// bytes, and nothing else has changed.
+/// A visitor may write over a buffer that it was lent to be written; the bytes then stand in the
+/// process's own bytes, and nothing else has changed.
 pub fn a_buffer_is_written()
     ensures { ABufferIsWritten }
 {}
 
-/// A buffer that a process has allowed its driver has as many bytes as the process said; and bytes that are put
-/// at the start of one that was lent to be written are written there, and no others.
+/// A buffer that a process has allowed its driver has as many bytes as the process said; and bytes
+/// that are put at the start of one that was lent to be written are written there, and no others.
 pub fn buffers_are_whole()
     ensures { BuffersAreWhole }
 {}

@@ -1,5 +1,5 @@
-//! The memory of all processes: flash, one RAM with a block for each slot, and what the kernel keeps of each
-//! process beside its registers. Nothing above it names a place in RAM.
+//! The memory of all processes: flash, one RAM with a block for each slot, and what the kernel
+//! keeps of each process beside its registers. Nothing above it names a place in RAM.
 #![tactic(auto)]
 
 mod entered;
@@ -17,4 +17,4 @@ pub use entered::{Entered, put_from};
 pub use grant::Grant;
 pub use home::Home;
 pub use laws::{a_buffer_is_written, buffers_are_whole, frames_join};
-pub use visit::{EnterError, Stale, Visit};
+pub use visit::{EnterError, Stale, Unvisited, Visit};

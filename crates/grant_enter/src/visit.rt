@@ -1,5 +1,6 @@
 //! Visits of a driver to the grants that processes keep for it.
-ghost use Rattle.std.specs.Prelude.{◌≡◌, ◌==◌, ◌&&◌, not, ◌<◌, ◌^◌, length, option_map, is_ok, IfOk, OnOk, OnErr, IfSome, IfNone, Some, None};
+ghost use Rattle.std.specs.Prelude.{◌≡◌, ◌==◌, ◌&&◌, not, ◌<◌, ◌^◌, length, option_map, is_ok};
+ghost use Rattle.std.specs.Prelude.{IfOk, IfErr, OnOk, OnErr, Some, None};
 ghost use Rattle.process_layout.specs.Ordered.{IsOrdered};
 ghost use Rattle.grant_values.specs.Drivers.{counts_of};
 ghost use Rattle.grant_model.specs.Grants.{grant_of};
@@ -9,8 +10,10 @@ ghost use Rattle.process_model.specs.Own.{Own, block_of};
 ghost use Rattle.process_model.specs.Handed.{own_entering};
 ghost use Rattle.process_model.specs.Served.{kept};
 ghost use Rattle.grant_enter.specs.Seats.{HasBlock, MakesRoom, Reseats, SitsIn, fits_in, own_in};
-ghost use Rattle.grant_enter.specs.Seen.{Seen, Framed, IsLent, IsLentTo, ServesIn, seen, own_entered, seen_of};
-ghost use Rattle.grant_enter.specs.Visits.{Asks, Enters, IsCounted, Peeks, Visited, Visits, grants_of};
+ghost use Rattle.grant_enter.specs.Seen.{Seen, Framed, IsLent, IsLentTo, ServesIn, seen};
+ghost use Rattle.grant_enter.specs.Seen.{own_entered, seen_of};
+ghost use Rattle.grant_enter.specs.Visits.{Asks, Enters, IsCounted, Peeks, Visited, Visits};
+ghost use Rattle.grant_enter.specs.Visits.{grants_of};
 
 use crate::entered::Entered;
 use crate::handing::in_order;
@@ -23,8 +26,8 @@ use grant_values::{GrantValue, cost_of, counts};
 use process_layout::Layout;
 use tk_base::{Addr, Counts};
 
-/// What a driver does with the value that a process keeps for it, and with what the process has handed to
-/// it. A visitor says itself what it asks, and what it leaves.
+/// What a driver does with the value that a process keeps for it, and with what the process has
+/// handed to it. A visitor says itself what it asks, and what it leaves.
 pub trait Visit<T> {
     /// What it answers.
     type Answer;
@@ -32,7 +35,8 @@ pub trait Visit<T> {
     /// What it asks of the value and of what it sees.
     ghost asks: { Self → T → Seen → Type 0 };
 
-    /// What it leaves of a value and of what it sees: an answer, a value, and what is the process's own.
+    /// What it leaves of a value and of what it sees: an answer, a value, and what is the process's
+    /// own.
     ghost leaves: { Self → T → Seen → Self.Answer → T → Own → Type 0 };
 
     /// Visits a process.
@@ -47,15 +51,26 @@ pub trait Visit<T> {
 /// Why a driver did not enter a process.
 #[derive(Clone, Copy, Debug, PartialEq, Eq)]
 pub enum EnterError {
-    /// The driver is not entered, and the kernel break less the cost of its grant is below the break.
+    /// The driver is not entered, and the kernel break less the cost of its grant is below the
+    /// break.
     NoRoom,
     /// The process has ended, or is in another life, or none was placed in the slot.
     Stale,
 }
 
-/// The process of an id is not there: it has ended, or is in another life, or none was placed in the slot.
+/// The process of an id is not there: it has ended, or is in another life, or none was placed in
+/// the slot.
 #[derive(Clone, Copy, Debug, PartialEq, Eq)]
 pub struct Stale;
+
+/// A visitor that was not run, as it was given, by why it was not.
+#[derive(Drop)]
+pub enum Unvisited<V> {
+    /// The process has not entered the driver in this life.
+    NotEntered(V),
+    /// The process has ended, or is in another life, or none was placed in the slot.
+    Gone(V),
+}
 
 /// Has a visitor run over a process in its seat.
 fn run_visit<T, V: Visit<T>>(
@@ -83,30 +98,34 @@ fn run_visit<T, V: Visit<T>>(
     visitor.run(value, &mut entered)
 }
 
-/// Visits the value that the process in a seat keeps for a driver; None where it keeps none.
+/// Visits the value that the process in a seat keeps for a driver; where it keeps none the visitor
+/// is handed back.
 pub(crate) fn visit_at<T: GrantValue, V: Visit<T> + Drop>(
     memory: &mut Memory,
     seat: &mut Seat,
     driver: u32,
     counts: Counts,
     visitor: V,
-) -> Option<V::Answer>
+) -> Result<V::Answer, V>
     requires sits { SitsIn memory.old seat.old }
     requires counted { IsCounted T.driver driver counts T.SIZE }
     requires asks { Asks (grants_of driver counts T.kept) (V.asks visitor) memory.old.flash
         (own_in memory.old.ram seat.old) }
-    ensures visited { IfSome result
+    ensures visited { IfOk result
         (λ answer. Visited (grants_of driver counts T.kept) (V.leaves visitor) memory.old.flash
         (own_in memory.old.ram seat.old) answer (own_in memory.new.ram seat.new)) }
-    ensures none { IfNone result (kept driver (own_in memory.old.ram seat.old) ≡ None) }
-    ensures same { IfNone result ((memory.new ≡ memory.old) × (seat.new ≡ seat.old)) }
+    ensures none { OnErr result (kept driver (own_in memory.old.ram seat.old) ≡ None) }
+    ensures back { IfErr result (λ back. back ≡ visitor) }
+    ensures same { OnErr result ((memory.new ≡ memory.old) × (seat.new ≡ seat.old)) }
     ensures reseats { Reseats memory.old seat.old memory.new seat.new }
 {
-    let at = value_place(kernel_of(memory, &seat.layout), driver, &counts)?;
+    let Some(at) = value_place(kernel_of(memory, &seat.layout), driver, &counts) else {
+        return Err(visitor);
+    };
     let mut value = value_at::<T>(kernel_of(memory, &seat.layout), at);
     let answer = run_visit::<T, V>(memory, seat, driver, counts, &mut value, visitor);
     keep_value::<T>(memory, &seat.layout, at, &value);
-    Some(answer)
+    Ok(answer)
 }
 
 /// What the grant of a driver with these counts costs.
@@ -172,8 +191,8 @@ pub(crate) fn enter_seat<T: GrantValue, V: Visit<T> + Drop>(
         return Err(EnterError::NoRoom);
     };
     match visit_at::<T, V>(memory, seat, driver, counts, visitor) {
-        Some(answer) => Ok(answer),
-        None => unreachable!(),
+        Ok(answer) => Ok(answer),
+        Err(_visitor) => unreachable!(),
     }
 }
 
@@ -185,19 +204,22 @@ pub(crate) fn visit_seat<T: GrantValue, V: Visit<T> + Drop>(
     driver: u32,
     counts: Counts,
     visitor: V,
-) -> Result<Option<V::Answer>, Stale>
+) -> Result<V::Answer, Unvisited<V>>
     requires sits { SitsIn memory.old seat.old }
     requires counted { IsCounted T.driver driver counts T.SIZE }
     requires asks { Asks (grants_of driver counts T.kept) (V.asks visitor) memory.old.flash
         (own_in memory.old.ram seat.old) }
-    ensures visits { Visits (grants_of driver counts T.kept) (V.leaves visitor) life
+    ensures visits { Visits (grants_of driver counts T.kept) visitor (V.leaves visitor) life
         memory.old.flash (own_in memory.old.ram seat.old) result (own_in memory.new.ram seat.new) }
     ensures reseats { Reseats memory.old seat.old memory.new seat.new }
 {
     if is_gone(seat, life) {
-        return Err(Stale);
+        return Err(Unvisited::Gone(visitor));
     }
-    Ok(visit_at::<T, V>(memory, seat, driver, counts, visitor))
+    match visit_at::<T, V>(memory, seat, driver, counts, visitor) {
+        Ok(answer) => Ok(answer),
+        Err(visitor) => Err(Unvisited::NotEntered(visitor)),
+    }
 }
 
 /// The value that the process of a life in a seat keeps for a driver.

@@ -4,3 +4,4 @@ pub mod Windows
 pub mod Pairs
 pub mod Exchange
 pub mod Values
+pub mod Costs

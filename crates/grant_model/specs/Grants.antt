@@ -1,11 +1,11 @@
 -- What a process keeps for each driver that it has entered (Levy et al., SOSP 2017, section 4), and the pairs that it
 -- swaps (TRD 104, "Subscribe", "Read-Only Allow", "Read-Write Allow").
-use Rattle.std.specs.Prelude.{ℕ, ◌≡◌, ◌==◌, if◌then◌else◌, List, [], ◌∷◌, length, take, drop, replicate}
+use Rattle.std.specs.Prelude.{ℕ, ◌≡◌, ◌+◌, ◌==◌, if◌then◌else◌, List, [], ◌∷◌, length, take, drop, replicate}
 use Rattle.std.specs.Prelude.{slice_index_or, slice_set, Option, None, Some}
 use Rattle.tk_base.specs.declared.upcall.Counts.{Counts}
 use Rattle.tk_base.specs.declared.kinds.PairKind.{PairKind}
 use Rattle.tk_base.specs.Kinds.{count_of, pair_count, pair_place, pairs_before}
-use Rattle.grant_values.specs.Drivers.{counting, counts_of}
+use Rattle.grant_values.specs.Drivers.{counting, counts_of, cost_of}
 use Rattle.grant_values.specs.Values.{KeptValue, fresh_value}
 
 -- A grant: its driver, the pairs of function and data of its upcalls and those of address and size of its buffers, kind
@@ -23,6 +23,11 @@ counts_or_none (Some counts) = counts
 -- how many pairs and bytes the grant of a driver has; none of any where there is no such driver
 unfoldable pub shape_of : ℕ → Counts
 shape_of driver = counts_or_none (counts_of driver)
+
+-- how many bytes grants take: what the driver of each costs
+abbrev pub costs : List Grant → ℕ
+costs [] = 0
+costs (g ∷ gs) = cost_of (shape_of g.driver) + costs gs
 
 -- a grant has as many pairs as its driver
 abbrev pub HasPairs : Grant → Type 0

@@ -34,7 +34,8 @@ now_none r at (u ∷ us) none = absurd (some (length (u ∷ us) == 0) refl none)
     some false zero_is e = absurd (cc)
 
 pub now_some : (r s : Record) (at : ℕ) (pending : List Upcall) → not (length pending == 0) ≡ true
-    → s ≡ flag_written r at 1 → s.own.inbox.pending ≡ pending → ServingComesTo (yield_now r at pending) (deliver s) Delivered
+    → s ≡ flag_written r at 1 → s.own.inbox.pending ≡ pending → ServingComesTo (yield_now r at pending)
+    (deliver s) Delivered
 now_some r s at [] some is same = absurd (cc)
 now_some r s at (u ∷ us) some is same =
     ap (λ (x : Record). record { after = x; outcome = Delivered; acts = [] }) (sym (ap₂ deliver_by is same))

@@ -2,6 +2,7 @@
 use Rattle.std.proofs.Common.{◌≡◌, ℕ, ◌<◌, ◌^◌, Option, None, Some, refl, ap, ◌∙◌, subst, sym, arith}
 use Rattle.std.proofs.lemmas.Bool.Decides.{nat_tests}
 use Rattle.process_layout.specs.LayoutView.{LayoutView}
+use Rattle.process_model.specs.Own.{kernel_break_of, layout_of}
 use Rattle.syscall_abi.specs.declared.reply.Reply.{Reply}
 use Rattle.syscall_abi.specs.declared.reply.Reply.TheVariants.{Success, SuccessU32}
 use Rattle.kernel_model.specs.Record.{Record}
@@ -9,7 +10,7 @@ use Rattle.kernel_model.specs.Calls.{break_moved, moved_by, memop, memops}
 use Rattle.kernel_calls.specs.Outcomes.{as_address}
 
 -- a break may not be at a number that is no address
-no_address : (r : Record) (place : Option ℕ) (reply : Reply) → r.own.layout.kernel_break < 2 ^ 32
+no_address : (r : Record) (place : Option ℕ) (reply : Reply) → kernel_break_of r.own < 2 ^ 32
     → break_moved r (as_address place) reply ≡ break_moved r place reply
 no_address r None reply low = refl
 no_address r (Some n) reply low = grind (arith, nat_tests)
@@ -20,7 +21,7 @@ unfolding memop memops
 brk_row r operation argument is =
     subst (λ (n : ℕ). break_moved r (Some argument) Success ≡ memop r n argument) (sym is) refl
 
-sbrk_from : (r : Record) (operation argument : ℕ) → operation ≡ 1 → r.own.layout.kernel_break < 2 ^ 32
+sbrk_from : (r : Record) (operation argument : ℕ) → operation ≡ 1 → kernel_break_of r.own < 2 ^ 32
     → break_moved r (as_address (moved_by r.own.layout.brk argument)) (SuccessU32 r.own.layout.brk)
     ≡ memop r operation argument
 unfolding memop memops
@@ -29,7 +30,7 @@ sbrk_from r operation argument is low =
     ∙ subst (λ (n : ℕ). break_moved r (moved_by r.own.layout.brk argument) (SuccessU32 r.own.layout.brk)
     ≡ memop r n argument) (sym is) refl
 
-pub sbrk_row : (r : Record) (e : LayoutView) (operation argument : ℕ) (place : Option ℕ) → e ≡ r.own.layout
+pub sbrk_row : (r : Record) (e : LayoutView) (operation argument : ℕ) (place : Option ℕ) → e ≡ layout_of r.own
     → operation ≡ 1 → e.kernel_break < 2 ^ 32 → place ≡ as_address (moved_by e.brk argument)
     → break_moved r place (SuccessU32 e.brk) ≡ memop r operation argument
 sbrk_row r e operation argument place same is low moved =

@@ -7,7 +7,7 @@ use Rattle.syscall_abi.specs.declared.reply.Reply.TheVariants.{SuccessU32U32}
 use Rattle.tbf_headers.specs.declared.fault.HeaderFault.{HeaderFault}
 use Rattle.tbf_headers.specs.declared.program.Main.{Main}
 use Rattle.tbf_headers.specs.Meaning.{Meaning, header_reading}
-use Rattle.process_layout.specs.LayoutView.{LayoutView}
+use Rattle.process_layout.specs.Bounds.{Bounds}
 use Rattle.process_model.specs.declared.place.Object.{Object}
 use Rattle.process_model.specs.Own.{Own}
 use Rattle.driver_model.specs.Keeping.{HandsInPlace}
@@ -49,14 +49,14 @@ swap_refused flash p q own storage swap rule failure o some fails object gives =
     ∙ gives r
     ∙ ap (λ (s : Record). record { after = s; outcome = o; acts = acts_for o }) (of_object flash p q own storage object)
 
--- another kernel break and another mark move no process's start
-still_starts : (address : ℕ) (e : LayoutView) (k m : ℕ) (read : Result Meaning HeaderFault)
-    → IsApplication address e read → IsApplication address (record e { kernel_break = k; mark = m }) read
-still_starts address e k m (Err fault) a = a
-still_starts address e k m (Ok h) a = by_main h.main a
+-- another mark moves no process's start
+still_starts : (address : ℕ) (e : Bounds) (m : ℕ) (read : Result Meaning HeaderFault)
+    → IsApplication address e read → IsApplication address (record e { mark = m }) read
+still_starts address e m (Err fault) a = a
+still_starts address e m (Ok h) a = by_main h.main a
   where
     by_main : (main : Option Main) → HasStart address e h main
-        → HasStart address (record e { kernel_break = k; mark = m }) h main
+        → HasStart address (record e { mark = m }) h main
     by_main None s = s
     by_main (Some program) s = record { entry = s.entry; protected = s.protected; fits = s.fits }
 
@@ -72,7 +72,7 @@ still_own flash p q own own' place stays is = record {
           accessible_from = is.object.lies.accessible_from;
           accessible_to = is.object.lies.accessible_to;
         };
-        application = still_starts p.object.address own.layout own'.layout.kernel_break own'.layout.mark
+        application = still_starts p.object.address own.layout own'.layout.mark
             (header_reading (object_in flash p.object)) is.object.application;
       }));
   object_is = ap (λ (o : Own). o.object) place ∙ is.object_is ∙ sym (ap (λ (x : Process). x.object) stays);

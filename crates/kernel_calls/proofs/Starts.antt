@@ -6,7 +6,7 @@ use Rattle.tk_base.specs.declared.call.CallRule.TheVariants.{NoOperation}
 use Rattle.tbf_headers.specs.declared.program.Main.{Main}
 use Rattle.tbf_headers.specs.Meaning.{Meaning, header_reading}
 use Rattle.process_layout.specs.LayoutView.{LayoutView, first_break}
-use Rattle.process_model.specs.Own.{Own, own_restarted as own_restarted}
+use Rattle.process_model.specs.Own.{Own, layout_of, own_restarted}
 use Rattle.syscall_abi.specs.declared.reply.Reply.{Reply}
 use Rattle.process_model.specs.declared.place.Object.{Object}
 use Rattle.process_record.specs.declared.outcome.Outcome.{Outcome}
@@ -42,7 +42,7 @@ no_exit r kind code zeroth first = grind (arith, nat_tests)
 pub starts_again : (flash read_from : List ℕ) (p q : Process) (own own_after : Own) (storage : List ℕ) (h g : Meaning)
     (m : Main) (main : Option Main) (e : LayoutView) (brk : ℕ)
     → read_from ≡ flash → header_reading (object_in read_from p.object) ≡ Ok h → h.main ≡ Some m → g ≡ h
-    → e ≡ own.layout → brk ≡ first_break e.start m.minimum_ram
+    → e ≡ layout_of own → brk ≡ first_break e.start m.minimum_ram
     → q ≡ restarted p g m e.start (e.end - e.start) brk → own_after ≡ own_restarted brk own → q.object ≡ p.object
     → record_in flash q own_after storage ≡ restart (record_in flash p own storage)
 unfolding restart

@@ -6,7 +6,8 @@ use Rattle.tbf_headers.specs.declared.fault.HeaderFault.{HeaderFault}
 use Rattle.tbf_headers.specs.declared.program.Main.{Main}
 use Rattle.tbf_headers.specs.Meaning.{Meaning, header_reading}
 use Rattle.tbf_headers.specs.Addresses.{after_protected, entry_of}
-use Rattle.process_layout.specs.LayoutView.{LayoutView, first_break}
+use Rattle.process_layout.specs.LayoutView.{first_break}
+use Rattle.process_layout.specs.Bounds.{Bounds}
 use Rattle.process_model.specs.Own.{Own}
 use Rattle.process_model.specs.Flash.{HasObject, object_in}
 use Rattle.process_model.specs.declared.place.Object.{Object}
@@ -24,18 +25,18 @@ record_in flash process own storage = record {
 }
 
 -- an application's start has addresses below 2^32, and its block holds the RAM that it needs at least
-pub record CanStart (address : ℕ) (e : LayoutView) (h : Meaning) (m : Main) : Type 0 where
+pub record CanStart (address : ℕ) (e : Bounds) (h : Meaning) (m : Main) : Type 0 where
   pub entry : entry_of address h m < 2 ^ 32
   pub protected : after_protected address h m < 2 ^ 32
   pub fits : first_break e.start m.minimum_ram ≤ e.end
 
 -- a header with a Program or a Main TLV
-abbrev pub HasStart : ℕ → LayoutView → Meaning → Option Main → Type 0
+abbrev pub HasStart : ℕ → Bounds → Meaning → Option Main → Type 0
 HasStart address e h None = ⊥
 HasStart address e h (Some m) = CanStart address e h m
 
 -- the bytes of an object at an address are those of an application that can start
-abbrev pub IsApplication : ℕ → LayoutView → Result Meaning HeaderFault → Type 0
+abbrev pub IsApplication : ℕ → Bounds → Result Meaning HeaderFault → Type 0
 IsApplication address e (Err fault) = ⊥
 IsApplication address e (Ok h) = HasStart address e h h.main
 
@@ -46,7 +47,7 @@ pub record HasHeader (flash : List ℕ) (object : Object) : Type 0 where
   pub read : IsOk (header_reading (object_in flash object))
 
 -- the object lies in flash, holds the accessible flash, and is an application that can start
-pub record IsOwnObject (flash : List ℕ) (object : Object) (e : LayoutView) : Type 0 where
+pub record IsOwnObject (flash : List ℕ) (object : Object) (e : Bounds) : Type 0 where
   pub lies : HasObject (length flash) object e
   pub application : IsApplication object.address e (header_reading (object_in flash object))
 

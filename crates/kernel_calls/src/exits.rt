@@ -3,7 +3,8 @@ ghost use Rattle.std.specs.Prelude.{◌≡◌, ◌+◌, ◌<◌, ◌^◌, ℕ, L
 ghost use Rattle.grant_enter.specs.Homes.{own_of, ChangesOnly};
 ghost use Rattle.kernel_model.specs.Calls.{exit, restart};
 ghost use Rattle.kernel_calls.specs.Own.{IsOwn};
-ghost use Rattle.kernel_calls.specs.Outcomes.{record_of_slot, ComesAt, IsOfSlot, KeepsSlot, LivesOn, KeepsObject};
+ghost use Rattle.kernel_calls.specs.Outcomes.{record_of_slot, ComesAt, IsOfSlot, KeepsSlot};
+ghost use Rattle.kernel_calls.specs.Outcomes.{LivesOn, KeepsObject};
 
 use crate::headers::header_of;
 use crate::replies::give;
@@ -34,7 +35,8 @@ pub fn restart_process(home: &mut Home, process: &mut Process, slot: Slot)
     home.restart(slot, brk);
 }
 
-/// Ends the process in a slot with a completion code, starts it again, or refuses another kind of exit.
+/// Ends the process in a slot with a completion code, starts it again, or refuses another kind of
+/// exit.
 #[tactic(auto, unfolding(kernel_model::specs::Calls::exit))]
 pub fn exit_call(
     home: &mut Home,

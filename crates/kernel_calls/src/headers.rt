@@ -9,13 +9,20 @@ use process_model::Object;
 use tbf_headers::{Header, object_at, read_header};
 use tk_base::FLASH_START;
 
+/// The bytes of an object in flash.
+pub fn object_of<'a>(flash: &'a [u8], object: &Object) -> &'a [u8]
+    requires { HasHeader flash.now object.now }
+    ensures { result.now ≡ object_in flash.now object.now }
+{
+    object_at(flash, object.address - FLASH_START, object.size)
+}
+
 /// The header of an object in flash.
 pub fn header_of<'a>(flash: &'a [u8], object: &Object) -> Header<'a>
     requires { HasHeader flash.now object.now }
     ensures { header_reading (object_in flash.now object.now) ≡ Ok (shown result) }
 {
-    let bytes = object_at(flash, object.address - FLASH_START, object.size);
-    let Ok(header) = read_header(bytes) else {
+    let Ok(header) = read_header(object_of(flash, object)) else {
         unreachable!()
     };
     header

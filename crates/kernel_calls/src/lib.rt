@@ -1,5 +1,5 @@
-//! The system calls that the kernel serves itself: yield, subscribe, the allows, memop and exit (TRD 104, "System
-//! Call API"); what a driver answers to a command; and the delivery of upcalls.
+//! The system calls that the kernel serves itself: yield, subscribe, the allows, memop and exit
+//! (TRD 104, "System Call API"); what a driver answers to a command; and the delivery of upcalls.
 #![tactic(auto)]
 
 mod exits;

@@ -3,7 +3,8 @@ ghost use Rattle.std.specs.Prelude.{◌≡◌, ◌+◌, ◌<◌, ℕ, List, leng
 ghost use Rattle.process_model.specs.Own.{Own};
 ghost use Rattle.grant_enter.specs.Homes.{own_of, ChangesOnly};
 ghost use Rattle.kernel_model.specs.Record.{Record, record_with_own};
-ghost use Rattle.kernel_model.specs.Calls.{driver_answered, break_moved, moved_by, region, region_end, memop};
+ghost use Rattle.kernel_model.specs.Calls.{driver_answered, break_moved, moved_by, region};
+ghost use Rattle.kernel_model.specs.Calls.{region_end, memop};
 ghost use Rattle.kernel_calls.specs.Own.{record_in, HasHeader, IsOwn};
 ghost use Rattle.kernel_calls.specs.Outcomes.{as_address, record_of_slot, MovesBreak};
 

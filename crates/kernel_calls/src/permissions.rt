@@ -4,19 +4,21 @@ ghost use Rattle.kernel_model.specs.Calls.{object_permits};
 ghost use Rattle.process_model.specs.Flash.{object_in};
 ghost use Rattle.kernel_calls.specs.Own.{HasHeader};
 
-use crate::headers::header_of;
+use crate::headers::object_of;
 use process_model::Object;
 use syscall_abi::Call;
 use syscall_filter::filter;
+use tbf_headers::permissions_in;
 
-/// Whether an object in flash permits a call to its process, under a strict filter or an open one. Its header is read
-/// only for the calls that it can forbid: yield, memop and exit are always permitted.
+/// Whether an object in flash permits a call to its process, under a strict filter or an open one.
+/// Of its header, which has no fault, the permissions are read, and only for the calls that it can
+/// forbid: yield, memop and exit are always permitted.
 pub fn is_permitted(flash: &[u8], object: &Object, strict: bool, call: &Call) -> bool
     requires { HasHeader flash.now object.now }
     ensures { result ≡ object_permits strict (object_in flash.now object.now) call.now }
 {
     match call.driver() {
         None => true,
-        Some(_) => filter(&header_of(flash, object), strict, call).is_ok(),
+        Some(_) => filter(permissions_in(object_of(flash, object)), strict, call).is_ok(),
     }
 }

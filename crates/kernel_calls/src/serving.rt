@@ -4,7 +4,8 @@ ghost use Rattle.driver_model.specs.Drivers.{CommandContext};
 ghost use Rattle.grant_enter.specs.Homes.{own_of, ChangesOnly};
 ghost use Rattle.kernel_model.specs.Calls.{by_form, memop};
 ghost use Rattle.kernel_calls.specs.Own.{IsOwn};
-ghost use Rattle.kernel_calls.specs.Outcomes.{is_taken, ComesAt, IsOfSlot, KeepsSlot, LivesOn, ServesAt, KeepsObject};
+ghost use Rattle.kernel_calls.specs.Outcomes.{is_taken, ComesAt, IsOfSlot, KeepsSlot, LivesOn};
+ghost use Rattle.kernel_calls.specs.Outcomes.{ServesAt, KeepsObject};
 
 use crate::exits::exit_call;
 use crate::memops::memop_call;
@@ -46,7 +47,8 @@ fn serve_memop(
     give(process, answer)
 }
 
-/// Serves a call that is permitted and that no driver is to answer; a command that no driver takes is refused.
+/// Serves a call that is permitted and that no driver is to answer; a command that no driver takes
+/// is refused.
 #[tactic(auto, unfolding(kernel_model::specs::Calls::by_form))]
 fn serve(home: &mut Home, process: &mut Process, slot: Slot, form: &CallForm) -> Outcome
     requires at { IsOfSlot slot home.old process.old }
@@ -70,27 +72,30 @@ fn serve(home: &mut Home, process: &mut Process, slot: Slot, form: &CallForm) ->
     }
 }
 
-/// Serves a system call of the process in a slot (TRD 104, "System Call API"). It asks that the process lives:
-/// one that has ended makes no call.
+/// Serves a system call of the process in a slot (TRD 104, "System Call API"). It asks that the
+/// process lives: one that has ended makes no call.
 ///
-/// A call that the header of the process's object does not permit (Tock Binary Format, "Permissions") is
-/// refused with [`Permission`](tk_base::CallRule::Permission), before all else. A strict filter permits a process
-/// whose object has no Permissions TLV no command, no subscribe and no allow; an open one permits it every call.
+/// A call that the header of the process's object does not permit (Tock Binary Format,
+/// "Permissions") is refused with [`Permission`](tk_base::CallRule::Permission), before all else. A
+/// strict filter permits a process whose object has no Permissions TLV no command, no subscribe and
+/// no allow; an open one permits it every call.
 ///
-/// A command (TRD 104, "Command") to a driver that takes commands is left to that driver: the answer is
-/// [`ToDriver`](Outcome::ToDriver), exactly then, and nothing has changed. The board has the driver's capsule
-/// answer it, and hands what it answered to [`give_reply`](crate::give_reply). A command to any other driver is
-/// refused with [`NoDriver`](tk_base::CallRule::NoDriver). What every other call comes to rests on no driver, clock or
-/// device, and asks nothing of the board.
+/// A command (TRD 104, "Command") to a driver that takes commands is left to that driver: the
+/// answer is [`ToDriver`](Outcome::ToDriver), exactly then, and nothing has changed. The board has
+/// the driver's capsule answer it, and hands what it answered to [`give_reply`](crate::give_reply).
+/// A command to any other driver is refused with [`NoDriver`](tk_base::CallRule::NoDriver). What
+/// every other call comes to rests on no driver, clock or device, and asks nothing of the board.
 ///
-/// Yield 0 (TRD 104, "Yield") delivers the first pending upcall, or goes on where there is none, and tells by
-/// the byte at a1 which of the two it did; yield 1 waits for an upcall; another number goes on.
+/// Yield 0 (TRD 104, "Yield") delivers the first pending upcall, or goes on where there is none,
+/// and tells by the byte at a1 which of the two it did; yield 1 waits for an upcall; another number
+/// goes on.
 ///
-/// Subscribe and the allows (TRD 104, "Subscribe", "Read-Only Allow", "Read-Write Allow") give the former
-/// pair back. They are refused, the first cause first, with `NoDriver` where there is no such driver, with
-/// [`NoNumber`](tk_base::CallRule::NoNumber) where it has no upcall or buffer of that number, with
-/// [`Outside`](tk_base::CallRule::Outside) where the bytes do not lie where the process may have them, and with
-/// [`NoRoom`](tk_base::CallRule::NoRoom) where the driver's grant has no room.
+/// Subscribe and the allows (TRD 104, "Subscribe", "Read-Only Allow", "Read-Write Allow") give the
+/// former pair back. They are refused, the first cause first, with `NoDriver` where there is no
+/// such driver, with [`NoNumber`](tk_base::CallRule::NoNumber) where it has no upcall or buffer of
+/// that number, with [`Outside`](tk_base::CallRule::Outside) where the bytes do not lie where the
+/// process may have them, and with [`NoRoom`](tk_base::CallRule::NoRoom) where the driver's grant
+/// has no room.
 ///
 /// Memop (TRD 104, "Memop") moves the process's break, or answers an address or a number of its
 /// memory. It is refused with [`Break`](tk_base::CallRule::Break) where the break, rounded up to a
@@ -98,12 +103,12 @@ fn serve(home: &mut Home, process: &mut Process, slot: Slot, form: &CallForm) ->
 /// names no flash region of that number; and with
 /// [`NoOperation`](tk_base::CallRule::NoOperation) where there is no such operation.
 ///
-/// Exit (TRD 104, "Exit") of kind 0 ends the process with a completion code; of kind 1 it starts the
-/// process again, with the registers and the break of its start and every byte of its block 0. Another
-/// kind is refused with `NoOperation`.
+/// Exit (TRD 104, "Exit") of kind 0 ends the process with a completion code; of kind 1 it starts
+/// the process again, with the registers and the break of its start and every byte of its block 0.
+/// Another kind is refused with `NoOperation`.
 ///
-/// A process that is replied to goes on after the call, and a refusal is recorded. The header of its
-/// object is read from flash where it is needed.
+/// A process that is replied to goes on after the call, and a refusal is recorded. The header of
+/// its object is read from flash where it is needed.
 pub fn kernel_call(
     home: &mut Home,
     process: &mut Process,

@@ -1,6 +1,7 @@
-//! Subscribe and the allows: a process hands upcalls and buffers to drivers (TRD 104, "Subscribe", "Read-Only
-//! Allow", "Read-Write Allow"; the userspace-readable allow of Tock's kernel).
+//! Subscribe and the allows: a process hands upcalls and buffers to drivers (TRD 104, "Subscribe",
+//! "Read-Only Allow", "Read-Write Allow"; the userspace-readable allow of Tock's kernel).
 ghost use Rattle.std.specs.Prelude.{◌≡◌, ◌<◌, length, IfOk, OnOk, OnErr};
+ghost use Rattle.process_layout.specs.Bounds.{bounds_of};
 ghost use Rattle.process_model.specs.Handed.{may_share};
 ghost use Rattle.grant_enter.specs.Homes.{own_of, ChangesOnly};
 ghost use Rattle.kernel_model.specs.Calls.{former_pair, own_swapped, swap_refusal, swapped};
@@ -15,10 +16,11 @@ use process_record::{Outcome, Process};
 use syscall_abi::{Reply, Swap};
 use tk_base::{CallRule, PairKind, Slot};
 
-/// Whether a process may hand a pair: a null upcall, or a function of which 4 bytes lie in accessible RAM or
-/// flash; a buffer without bytes, or one that lies in accessible RAM, or, read-only, in accessible flash.
+/// Whether a process may hand a pair: a null upcall, or a function of which 4 bytes lie in
+/// accessible RAM or flash; a buffer without bytes, or one that lies in accessible RAM, or,
+/// read-only, in accessible flash.
 fn may_share(kind: PairKind, layout: &Layout, pair: (u32, u32)) -> bool
-    ensures { result ≡ may_share kind layout.now pair }
+    ensures { result ≡ may_share kind (bounds_of layout.now) pair }
 {
     let (at, size) = pair;
     match kind {
@@ -31,7 +33,8 @@ fn may_share(kind: PairKind, layout: &Layout, pair: (u32, u32)) -> bool
     }
 }
 
-/// Hands a pair of the process in a slot to a driver and gives the former one, or says which rule refuses it.
+/// Hands a pair of the process in a slot to a driver and gives the former one, or says which rule
+/// refuses it.
 #[tactic(auto, unfolding(kernel_model::specs::Calls::swap_refusal, grant_model::specs::Grants::shape_of))]
 fn hand(home: &mut Home, slot: Slot, swap: Swap) -> Result<(u32, u32), CallRule>
     requires { slot < length home.old.owns }
@@ -64,8 +67,8 @@ fn hand(home: &mut Home, slot: Slot, swap: Swap) -> Result<(u32, u32), CallRule>
     }
 }
 
-/// Serves a subscribe or an allow of the process in a slot: the reply has the former pair, and a refusal the
-/// passed one.
+/// Serves a subscribe or an allow of the process in a slot: the reply has the former pair, and a
+/// refusal the passed one.
 pub fn serve_swap(home: &mut Home, process: &mut Process, slot: Slot, swap: Swap) -> Outcome
     requires { IsOfSlot slot home.old process.old }
     ensures serves { ComesAt slot home.old process.old (λ r. swapped r swap) home.new process.new

@@ -4,14 +4,15 @@ ghost use Rattle.process_record.specs.Process.{after_call};
 ghost use Rattle.grant_enter.specs.Homes.{own_of, ChangesOnly};
 ghost use Rattle.kernel_model.specs.Calls.{flag_written, yield_now, yielding};
 ghost use Rattle.kernel_calls.specs.Own.{IsOwn};
-ghost use Rattle.kernel_calls.specs.Outcomes.{record_of_slot, ComesAt, DeliversAt, IsOfSlot, KeepsSlot, LivesOn, KeepsObject};
+ghost use Rattle.kernel_calls.specs.Outcomes.{record_of_slot, ComesAt, DeliversAt, IsOfSlot};
+ghost use Rattle.kernel_calls.specs.Outcomes.{KeepsSlot, LivesOn, KeepsObject};
 
 use grant_enter::Home;
 use process_record::{Outcome, Process};
 use tk_base::{Addr, Slot};
 
-/// Delivers the first upcall that waits for the process in a slot (TRD 104, "Yield"): the process runs, with
-/// the registers of the upcall. Where none waits nothing changes.
+/// Delivers the first upcall that waits for the process in a slot (TRD 104, "Yield"): the process
+/// runs, with the registers of the upcall. Where none waits nothing changes.
 pub fn deliver(home: &mut Home, process: &mut Process, slot: Slot)
     requires slot { slot < length home.old.owns }
     requires own { IsOwn home.old.flash process.old (own_of home.old slot) }
@@ -61,8 +62,8 @@ fn yield_at_once(home: &mut Home, process: &mut Process, slot: Slot, at: Addr) -
     Outcome::Delivered
 }
 
-/// Serves a yield of the process in a slot: 0 does not wait, and 1 waits for an upcall; with any other number
-/// the process goes on.
+/// Serves a yield of the process in a slot: 0 does not wait, and 1 waits for an upcall; with any
+/// other number the process goes on.
 #[tactic(auto, unfolding(kernel_model::specs::Calls::yielding))]
 pub fn yield_call(
     home: &mut Home,

@@ -12,7 +12,7 @@ use Rattle.process_record.specs.declared.emit.CallMade.{CallMade}
 use Rattle.kernel_model.specs.Record.{Record}
 use Rattle.kernel_model.specs.declared.settings.Settings.{Settings}
 use Rattle.kernel_model.specs.Turn.{Event, TurnTrace, apply, turned}
-use Rattle.kernel_model.specs.World.{Label, Stepped, TurnOf, World, after, carried_out, labels, ran}
+use Rattle.kernel_model.specs.World.{Label, Stepped, World, after, carried_out, labels, ran, turn_label}
 use Rattle.kernel_model.specs.Replay.{after_all}
 use Rattle.kernel_model.specs.Histories.{HandedNothing, PairKey, SwapsGiveBackTheLast, handed_by, last_pair, swap_reply}
 use Rattle.kernel_model.specs.Histories.{turns_in, turns_of}
@@ -83,26 +83,31 @@ module _ (law : OnlyHandingChangesPairs) (drivers : DriversLeavePairs) where
     pairs = λ key. (law.none r.own nothing.grants).none key.kind key.driver key.number;
   }
 
-  no_label : (slot time : ℕ) (told : TurnTrace) → ◌≡◌ {A = List Label} [] (TurnOf slot time told ∷ []) → ⊥
+  no_label : (slot time : ℕ) (told : TurnTrace) → ◌≡◌ {A = List Label} [] (turn_label slot time told ∷ []) → ⊥
   no_label slot time told e = cc
 
+  only_label : (x y : Label) → x ∷ [] ≡ y ∷ [] → x ≡ y
+  only_label x y e = cc
+
   -- a step that tells a turn was made
-  turn_made : (w : World) (slot time : ℕ) (told : TurnTrace) → labels w (Run slot) ≡ TurnOf slot time told ∷ []
-      → (ran w slot (slice_get w.records slot)).labels ≡ TurnOf slot time told ∷ []
+  turn_made : (w : World) (slot time : ℕ) (told : TurnTrace) → labels w (Run slot) ≡ turn_label slot time told ∷ []
+      → (ran w slot (slice_get w.records slot)).labels ≡ turn_label slot time told ∷ []
   unfolding carried_out
   turn_made w slot time told =
-      let tells = TurnOf slot time told ∷ [] in
+      let tells = turn_label slot time told ∷ [] in
       of_stepped (λ (s : Stepped). s.labels ≡ tells → (ran w slot (slice_get w.records slot)).labels ≡ tells) w
       (Run slot) (λ e. absurd (no_label slot time told e)) (λ ready e. e)
 
   -- a turn that a step tells is the one that the process has
   gives_back : (w : World) (slot time : ℕ) (past : List TurnTrace) (told : TurnTrace) (o : Option Record) → Known past o
-      → (ran w slot o).labels ≡ TurnOf slot time told ∷ []
+      → (ran w slot o).labels ≡ turn_label slot time told ∷ []
       → (made : CallMade) (key : PairKey) (pair : ℕ × ℕ) → told.call ≡ Some made → handed_by key made ≡ Some pair
       → made.reply ≡ Some (swap_reply (last_pair key past) pair)
   gives_back w slot time past told None known is made key pair call handed = absurd (no_label slot time told is)
   gives_back w slot time past told (Some r) known is made key pair call handed =
-      let same : (turned w.settings w.clock.time r).told ≡ told = cc in
+      let t = turned w.settings w.clock.time r in
+      let same = ap (λ (label : Label). label.trace)
+      (only_label (turn_label slot w.clock.time t.told) (turn_label slot time told) is) in
       (follows_turn law drivers past w.settings w.clock.time r known).reply made key pair
       (ap (λ (t : TurnTrace). t.call) same ∙ call) handed
 

@@ -38,8 +38,8 @@ overwrites bytes (Some written) k within = by_start (cases_lt k written.0)
 
 pub answer_has_causes : AnswersWriteInBuffers → (settings : Settings) (event : Event) (r : Record) → IsAnswer event
     → IsWhole r.own → AnswerHasCauses event r (apply settings event r)
-unfolding IsAnswer apply
-answer_has_causes law settings (Turn time) r is whole = absurd is
+unfolding apply
+answer_has_causes law settings (Turn time) r is whole = absurd (cc)
 answer_has_causes law settings (Alarmed now) r is whole =
     record { own = law.alarmed now r.own whole; storage = λ k within. inl refl }
 answer_has_causes law settings Taken r is whole =
@@ -68,15 +68,14 @@ answer_has_causes law settings (Stored false) r is whole = record {
 
 -- an event that is no turn is an answer
 is_answer : (event : Event) → ((time : ℕ) → event ≢ Turn time) → IsAnswer event
-unfolding IsAnswer
 is_answer (Turn time) none = absurd (none time refl)
-is_answer (Alarmed now) none = tt
-is_answer Taken none = tt
-is_answer WriteDone none = tt
-is_answer (Input bytes) none = tt
-is_answer (Word word) none = tt
-is_answer NoWord none = tt
-is_answer (Stored moved) none = tt
+is_answer (Alarmed now) none = refl
+is_answer Taken none = refl
+is_answer WriteDone none = refl
+is_answer (Input bytes) none = refl
+is_answer (Word word) none = refl
+is_answer NoWord none = refl
+is_answer (Stored moved) none = refl
 
 pub answers_have_causes : AnswersWriteInBuffers → AnswersHaveCauses
 answers_have_causes law settings event r none whole =

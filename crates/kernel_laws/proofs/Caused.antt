@@ -16,9 +16,8 @@ use Rattle.driver_model.specs.Bytes.{AnswersWriteInBuffers}
 use Rattle.process_record.specs.declared.emit.CallMade.{CallMade}
 use Rattle.kernel_model.specs.Record.{Record}
 use Rattle.kernel_model.specs.Turn.{Event, Turned, apply, turned}
-use Rattle.kernel_model.specs.World.{Answered, DeviceAnswer, Label, Stepped, TurnOf, World, after, carried_out}
-use Rattle.kernel_model.specs.World.{labels, printing, ran, stepped}
-use Rattle.kernel_model.specs.World.{unmade}
+use Rattle.kernel_model.specs.World.{Answer, DeviceAnswer, Label, Stepped, World, after, answer_label, carried_out}
+use Rattle.kernel_model.specs.World.{labels, ran, stepped, turn_label, unmade}
 use Rattle.kernel_model.specs.Run.{next, on_choice, round, stays as stays_at, runs_on}
 use Rattle.kernel_model.specs.Stretch.{IsQuietTurn}
 use Rattle.kernel_model.specs.Replay.{chosen, events, replay}
@@ -41,12 +40,11 @@ module _ (w : World) (slot : ℕ) (r : Record) (is : slice_get w.records slot �
     (stays : (labels : List Label) → P labels r) where
   -- after its turn
   abbrev ByTurn : Type 0
-  ByTurn = let t = turned w.settings w.clock.time r in P (TurnOf slot w.clock.time t.told ∷ []) t.after
+  ByTurn = let t = turned w.settings w.clock.time r in P (turn_label slot w.clock.time t.told ∷ []) t.after
 
   -- after an answer to it
   abbrev ByAnswer : Type 0
-  ByAnswer = (event : Event) (rest : List Label) → IsAnswer event
-      → P (Answered slot event ∷ rest) (apply w.settings event r)
+  ByAnswer = (a : Answer) → IsAnswer a.event → P (answer_label slot a ∷ []) (apply w.settings a.event r)
 
   abbrev Leads : Stepped → Type 0
   Leads x = (s : Record) → slice_get x.after.records slot ≡ Some s → P x.labels s
@@ -67,15 +65,15 @@ module _ (w : World) (slot : ℕ) (r : Record) (is : slice_get w.records slot �
       t : Record → Turned
       t x = turned w.settings w.clock.time x
 
-      by_slot : (b : Bool) → (other == slot) ≡ b → P (TurnOf other w.clock.time (t q).told ∷ []) s
+      by_slot : (b : Bool) → (other == slot) ≡ b → P (turn_label other w.clock.time (t q).told ∷ []) s
       by_slot true same_is =
           let same : other ≡ slot = eqb-true other slot same_is in
           let at_slot : slice_get w.records slot ≡ Some q = ap (slice_get w.records) (sym same) ∙ e in
           let left : slice_get (ran w other (Some q)).after.records slot ≡ Some (t q).after =
           ap (slice_get (ran w other (Some q)).after.records) (sym same) ∙ ran-own w other (Some q) e in
-          subst (λ (n : ℕ). P (TurnOf n w.clock.time (t q).told ∷ []) s) (sym same)
-          (at_record (TurnOf slot w.clock.time (t q).told ∷ []) (t q).after s _ left f
-          (subst (λ (x : Record). P (TurnOf slot w.clock.time (t x).told ∷ []) (t x).after)
+          subst (λ (n : ℕ). P (turn_label n w.clock.time (t q).told ∷ []) s) (sym same)
+          (at_record (turn_label slot w.clock.time (t q).told ∷ []) (t q).after s _ left f
+          (subst (λ (x : Record). P (turn_label slot w.clock.time (t x).told ∷ []) (t x).after)
           (same_record _ r q is at_slot) (turn same_is)))
       by_slot false e_is = at_record _ r s _ (ran-other w other slot (Some q) (apart other slot e_is) ∙ is) f (stays _)
 
@@ -86,21 +84,18 @@ module _ (w : World) (slot : ℕ) (r : Record) (is : slice_get w.records slot �
       event : Event
       event = a.answer.event
 
-      rest : List Label
-      rest = printing at a.answer.printed
-
       records : List Record
       records = slice_set w.records at (apply w.settings event q)
 
-      by_slot : (b : Bool) → (at == slot) ≡ b → P (Answered at event ∷ rest) s
+      by_slot : (b : Bool) → (at == slot) ≡ b → P (answer_label at a.answer ∷ []) s
       by_slot true same_is =
           let same : at ≡ slot = eqb-true at slot same_is in
           let at_slot : slice_get w.records slot ≡ Some q = ap (slice_get w.records) (sym same) ∙ there in
           let left : slice_get records slot ≡ Some (apply w.settings event r) =
           ap (slice_get records) (sym same) ∙ set_own w.records at (apply w.settings event q) q there
           ∙ ap (λ (x : Record). Some (apply w.settings event x)) (sym (same_record _ r q is at_slot)) in
-          subst (λ (n : ℕ). P (Answered n event ∷ rest) s) (sym same)
-          (at_record (Answered slot event ∷ rest) (apply w.settings event r) s _ left f (answer event rest tells))
+          subst (λ (n : ℕ). P (answer_label n a.answer ∷ []) s) (sym same)
+          (at_record (answer_label slot a.answer ∷ []) (apply w.settings event r) s _ left f (answer a.answer tells))
       by_slot false e =
           at_record _ r s _
           (slice_get-set_other w.records at slot (apply w.settings event q) (apart at slot e) ∙ is) f (stays _)
@@ -134,25 +129,25 @@ caused_same : (slot : ℕ) (r : Record) (labels : List Label) → Caused slot r 
 caused_same slot r labels = record { own = λ at before after. inl refl; storage = λ k within. inl refl }
 
 caused_turn : (slot time : ℕ) (r : Record) (t : Turned) → TurnHasCauses r t.after t.told
-    → Caused slot r (TurnOf slot time t.told ∷ []) t.after
+    → Caused slot r (turn_label slot time t.told ∷ []) t.after
 caused_turn slot time r t causes = record {
   own = λ at before after. by_cause at (causes.own at before after);
   storage = λ k within. inl (ap (λ (xs : List ℕ). slice_index xs k) causes.storage);
 }
   where
     by_cause : (at : ℕ) {A : Type 0} → A ⊎ IsDoneByTurn r t.after t.told at
-        → A ⊎ Any (IsCause slot r t.after at) (TurnOf slot time t.told ∷ [])
+        → A ⊎ Any (IsCause slot r t.after at) (turn_label slot time t.told ∷ [])
     by_cause at (inl same) = inl same
-    by_cause at (inr cause) = inr (first (IsCause slot r t.after at) (TurnOf slot time t.told) [] (refl, cause))
+    by_cause at (inr cause) = inr (first (IsCause slot r t.after at) (turn_label slot time t.told) [] (refl, inl cause))
 
-caused_answer : (slot : ℕ) (event : Event) (rest : List Label) (r s : Record) → AnswerHasCauses event r s
-    → Caused slot r (Answered slot event ∷ rest) s
-caused_answer slot event rest r s causes = record {
+caused_answer : (slot : ℕ) (a : Answer) (r s : Record) → AnswerHasCauses a.event r s
+    → Caused slot r (answer_label slot a ∷ []) s
+caused_answer slot a r s causes = record {
   own = λ at before after.
-      ⊎_map (λ same. same) (λ inside. first (IsCause slot r s at) (Answered slot event) rest (refl, inside))
+      ⊎_map (λ same. same) (λ inside. first (IsCause slot r s at) (answer_label slot a) [] (refl, inr inside))
       (causes.own at before after);
   storage = λ k within. ⊎_map (λ same. same)
-      (λ covers. first (IsStorageCause slot r k) (Answered slot event) rest (refl, covers)) (causes.storage k within);
+      (λ covers. first (IsStorageCause slot r k) (answer_label slot a) [] (refl, covers)) (causes.storage k within);
 }
 
 -- where the step is none of its events, its record stays
@@ -175,8 +170,9 @@ quiet_step turns w choice quiet slot r s is left =
     (λ ls each. caused_same slot r ls)
     (λ each. let t = turned w.settings w.clock.time r in
     caused_turn slot w.clock.time r t (turns w.settings w.clock.time r
-    (λ calls. absurd (no_call t.told.call (each 0 (TurnOf slot w.clock.time t.told) (omega arith)).0 calls))))
-    (λ event rest tells each. absurd (each 0 (Answered slot event) (omega arith))) choice s left quiet in
+    (λ calls. absurd (no_call t.told.call (each 0 (turn_label slot w.clock.time t.told) (omega arith)).2 calls))))
+    (λ a tells each. absurd (false≢true (sym tells ∙ (each 0 (answer_label slot a) (omega arith)).0)))
+    choice s left quiet in
     record { own = caused.own; storage = caused.storage; others = stays_else w choice slot r s is left }
 
 split : (P : Label → Type 0) (xs ys : List Label) → All P (xs ++ ys) → All P xs × All P ys
@@ -206,7 +202,7 @@ steps_without_clock turns w other none slot r s is left =
     let caused = of_run w slot r is (λ ls s. All AsksNoClock ls → Caused slot r ls s)
     (λ ls each. caused_same slot r ls) other
     (λ same each. caused_turn slot w.clock.time r t (turns w.settings w.clock.time r
-    (each 0 (TurnOf slot w.clock.time t.told) (omega arith)))) s left none in
+    (each 0 (turn_label slot w.clock.time t.told) (omega arith)))) s left none in
     record { own = caused.own; storage = caused.storage; others = stays_else w (Run other) slot r s is left }
 
 pub steps_have_causes : TurnsHaveCauses → AnswersWriteInBuffers → StepsHaveCauses
@@ -223,7 +219,7 @@ steps_have_causes turns answers = record {
 }
   where
     by_turn : (w : World) (slot : ℕ) (r : Record) → IsWhole r.own → let t = turned w.settings w.clock.time r in
-        Caused slot r (TurnOf slot w.clock.time t.told ∷ []) t.after
+        Caused slot r (turn_label slot w.clock.time t.told ∷ []) t.after
     by_turn w slot r whole =
         caused_turn slot w.clock.time r (turned w.settings w.clock.time r)
         (turns w.settings w.clock.time r (λ calls. whole))
@@ -235,7 +231,7 @@ steps_have_causes turns answers = record {
         subst (λ (o : Option Record). IfSome o (λ x. IsWhole x.own))
         (ap (slice_get w.records) (eqb-true other slot same) ∙ is) whole
 
-    by_answer : (w : World) (slot : ℕ) (r : Record) → IsWhole r.own → (event : Event) (rest : List Label)
-        → IsAnswer event → Caused slot r (Answered slot event ∷ rest) (apply w.settings event r)
-    by_answer w slot r whole event rest tells =
-        caused_answer slot event rest r _ (answer_has_causes answers w.settings event r tells whole)
+    by_answer : (w : World) (slot : ℕ) (r : Record) → IsWhole r.own → (a : Answer) → IsAnswer a.event
+        → Caused slot r (answer_label slot a ∷ []) (apply w.settings a.event r)
+    by_answer w slot r whole a tells =
+        caused_answer slot a r _ (answer_has_causes answers w.settings a.event r tells whole)

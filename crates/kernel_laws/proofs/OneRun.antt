@@ -24,8 +24,10 @@ use Rattle.kernel_model.specs.Record.{Record}
 use Rattle.kernel_model.specs.Turn.{may_turn}
 use Rattle.kernel_model.specs.World.{World, after, can_act, can_run, is_ready, is_waited_for, now_in, owns_in}
 use Rattle.kernel_model.specs.World.{slots_in, stepped}
-use Rattle.kernel_model.specs.Run.{alarm_time, runs_on, next, next_time, on_choice, ready_devices, ready_slots, round}
-use Rattle.kernel_model.specs.Run.{sending_time, stays}
+use Rattle.kernel_model.specs.Run.{runs_on, next, next_time, on_choice, ready_devices, ready_slots, round}
+use Rattle.kernel_model.specs.Run.{stays}
+use Rattle.kernel_model.specs.World.{sending_time}
+use Rattle.kernel_model.proofs.Runs.{alarm_time}
 use Rattle.kernel_model.specs.Choices.{are_ready, labels_of_all}
 use Rattle.kernel_model.specs.Replay.{after_all, chosen}
 use Rattle.kernel_laws.specs.OneRun.{ChosenAreReady, HasNoAlarm, IsDoneWhereNothingIsLeft, NothingIsLeft, OneRun}
@@ -289,7 +291,7 @@ nothing_left w few e =
     device.1 in
     let times = nearer_none (arrival_time w.devices.arrivals) _
     (mapped_none (λ (at : ℕ). Pass (at - w.clock.time)) (next_time w) turn.1) in
-    let later = nearer_none (alarm_time w) (sending_time w.devices) times.1 in
+    let later = nearer_none (alarm_time w.clock.time (now_in w) (owns_in w)) (sending_time w.devices) times.1 in
     let alarms = (folded_none (now_in w) (owns_in w) 0 SLOT_COUNT None
     (mapped_none (λ (left : ℕ). w.clock.time + left) (next_left (now_in w) (owns_in w)) later.0)).1 in
     record {
@@ -311,12 +313,13 @@ is_done w none =
     (λ d. ready_at w d ∙ none.devices d) in
     let turn = none_has_turn (ready_slots w) w.present.slot w.present.used w.pace.slice
     (λ slot. told_ready w.records slot ∙ none.slots slot) in
-    let alarm : alarm_time w ≡ None =
+    let alarm : alarm_time w.clock.time (now_in w) (owns_in w) ≡ None =
     ap (option_map (λ (left : ℕ). w.clock.time + left))
     (none_folded (now_in w) (owns_in w) (range_with_len 0 SLOT_COUNT)
     (λ slot. no_alarm_left w slot (none.alarms slot))) in
     let time : next_time w ≡ None =
-    ap (λ (a : List Arrival). nearer (arrival_time a) (nearer (alarm_time w) (sending_time w.devices))) none.arrivals
+    ap (λ (a : List Arrival). nearer (arrival_time a) (nearer (alarm_time w.clock.time (now_in w) (owns_in w))
+    (sending_time w.devices))) none.arrivals
     ∙ ap (λ (o : Option ℕ). nearer o (sending_time w.devices)) alarm
     ∙ ap (λ (writes : List ℕ). cond (is_waited_for writes) (Some w.devices.line.free) None) none.writes in
     ap (λ (o : Option Dev). option_or (option_map Device o)

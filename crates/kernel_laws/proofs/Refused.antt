@@ -22,10 +22,10 @@ use Rattle.kernel_model.specs.Record.{Record, byte_at, instruction, with_effect}
 use Rattle.kernel_model.specs.declared.settings.Settings.{Settings}
 use Rattle.kernel_model.specs.Calls.{Served, failure_of, refused_with, served}
 use Rattle.kernel_model.specs.Turn.{Turned, calls, turn_counted, delivery, at_turn_end, surroundings, turn_in, turned}
-use Rattle.kernel_model.specs.World.{Stepped, World, after_turn_of, carried_out, device_step_of, ran, routed}
+use Rattle.kernel_model.specs.World.{Stepped, World, after_turn_of, carried_out, ran, routed}
 use Rattle.kernel_model.specs.Laws.{RefusedChangesNothingElse}
 use Rattle.kernel_model.specs.Refused.{IfRefused, CallIsRefused, LeavesRefused, RefusalsChangeLittle, refusal_in}
-use Rattle.kernel_model.proofs.Labels.{done_labels}
+use Rattle.kernel_model.proofs.Labels.{device_labels}
 use Rattle.kernel_model.proofs.Places.{of_stepped}
 
 no_rule : (rule : CallRule) → ◌≡◌ {A = Option CallRule} None (Some rule) → ⊥
@@ -109,7 +109,7 @@ module _ (law : RefusedChangesNothingElse) (of_ecall : CallsAreOfEcall) (w : Wor
   unfolding carried_out
   of_choice (Run slot) = of_ran slot (slice_get w.records slot) refl
   of_choice (Device device) =
-      done_labels (IfRefused w _) (λ slot event. tt) (λ slot bytes. tt) w (device_step_of w device)
+      device_labels (IfRefused w _) w (λ slot r a there is rule broken. absurd (cc)) device
   of_choice (Pass ticks) = All-nil (IfRefused w _)
 
 pub refusals_change_little : RefusedChangesNothingElse → CallsAreOfEcall → RefusalsChangeLittle

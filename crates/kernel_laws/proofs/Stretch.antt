@@ -20,8 +20,8 @@ use Rattle.turn_scheduler.specs.RoundRobin.{used_after}
 use Rattle.kernel_model.specs.declared.settings.Settings.{Settings}
 use Rattle.kernel_model.specs.Record.{Record, instruction}
 use Rattle.kernel_model.specs.Turn.{TurnTrace, Turned, at_turn_end, has_turn, is_pending, may_turn, turn_in, turned}
-use Rattle.kernel_model.specs.World.{World, Label, Stepped, TurnOf, after_turn_of, can_run, carried_out, is_ready, ran}
-use Rattle.kernel_model.specs.World.{stepped}
+use Rattle.kernel_model.specs.World.{World, Label, Stepped, after_turn_of, can_run, carried_out, is_ready, ran}
+use Rattle.kernel_model.specs.World.{stepped, turn_label}
 use Rattle.kernel_model.specs.Run.{Ran, next, next_time, on_choice, printed, ready_devices, ready_slots, round, stays}
 use Rattle.kernel_model.specs.Run.{runs_on, told_first}
 use Rattle.kernel_model.specs.Stretch.{AllGo, IsQuietTurn, IsNextOnTheWay, IsStretch, NoneIsStretch}
@@ -117,7 +117,7 @@ module _ (w : World) (slot : ℕ) (r : Record) (p : w.present.slot ≡ Some slot
       ≡ record {
         after = after_stretch 1 w slot (instruction_made r);
         labels =
-            TurnOf slot w.clock.time (quiet_told r) ∷ [];
+            turn_label slot w.clock.time (quiet_told r) ∷ [];
       }
   unfolding carried_out
   one_step below u e =
@@ -133,12 +133,12 @@ module _ (w : World) (slot : ℕ) (r : Record) (p : w.present.slot ≡ Some slot
               present =
                   record { slot = Some slot; used = n };
             };
-        labels = TurnOf slot w.clock.time (quiet_told r) ∷ [];
+        labels = turn_label slot w.clock.time (quiet_told r) ∷ [];
       })
       (used_more u)
     where
       made_by : Turned → Stepped
-      made_by t = record { after = after_turn_of w slot t; labels = TurnOf slot w.clock.time t.told ∷ [] }
+      made_by t = record { after = after_turn_of w slot t; labels = turn_label slot w.clock.time t.told ∷ [] }
 
   -- the stretch goes on with the rest from there
   together : (k : ℕ) (later : Record)
@@ -176,7 +176,7 @@ module _ (w : World) (slot : ℕ) (r : Record) (p : w.present.slot ≡ Some slot
   unfolding round
   one_first k later below chosen u e rest =
       let there = after_stretch 1 w slot (instruction_made r) in
-      let label = TurnOf slot w.clock.time (quiet_told r) in
+      let label = turn_label slot w.clock.time (quiet_told r) in
       let first : round (suc k) w ≡ told_first (label ∷ []) (round k there)
       = ap (on_choice (stays w) (λ c. runs_on (round k) (stepped w c))) chosen
       ∙ ap (runs_on (round k)) (one_step below u e) in
@@ -184,7 +184,7 @@ module _ (w : World) (slot : ℕ) (r : Record) (p : w.present.slot ≡ Some slot
         reached = sym (together k later) ∙ rest.reached ∙ sym (ap (λ (q : Ran). q.world) first);
         turns = ap (λ (q : Ran). length q.labels) first ∙ ap suc rest.turns;
         quiet = subst (λ (q : Ran). All IsQuietTurn q.labels) (sym first)
-            (All-cons IsQuietTurn label (round k there).labels (refl, refl, refl) rest.quiet);
+            (All-cons IsQuietTurn label (round k there).labels (refl, refl, refl, refl, refl) rest.quiet);
         prints = ap (λ (q : Ran). printed q.labels) first ∙ rest.prints;
         time = refl;
         steps = refl;
@@ -269,7 +269,7 @@ same_round n slot w r below f g at u =
           after =
               record (after_turn_of w slot t) { present = record { slot = Some slot; used = used } };
           labels =
-              TurnOf slot w.clock.time t.told ∷ [];
+              turn_label slot w.clock.time t.told ∷ [];
         }
 
     same_step : stepped (at_turn w slot) (Run slot) ≡ stepped w (Run slot)

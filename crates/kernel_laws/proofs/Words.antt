@@ -1,5 +1,5 @@
 -- Which random words the steps tell, and which are left.
-use Rattle.std.proofs.Common.{◌≡◌, ℕ, ◌==◌, Bool, true, false, cond, List, [], ◌∷◌, ◌++◌, length, slice_get}
+use Rattle.std.proofs.Common.{◌≡◌, ℕ, Bool, true, false, cond, List, [], ◌∷◌, ◌++◌, slice_get}
 use Rattle.std.proofs.Common.{IfSome, Option, None, Some, refl, sym, ap, ◌∙◌}
 use Rattle.std.proofs.lemmas.List.{append_assoc, append-nil}
 use Rattle.tk_base.specs.declared.process.Choice.{Choice}
@@ -12,8 +12,8 @@ use Rattle.driver_model.specs.Console as console
 use Rattle.driver_model.specs.Random as random
 use Rattle.kernel_model.specs.Record.{Record}
 use Rattle.kernel_model.specs.Turn.{WriteDone, Taken, flash_of, turned}
-use Rattle.kernel_model.specs.World.{Devices, Label, Printed, Stepped, World, acted, after, as_events, carried_out}
-use Rattle.kernel_model.specs.World.{device_step_of, done, labels, printing, ran, random_step, routed, stepped}
+use Rattle.kernel_model.specs.World.{Devices, Label, Stepped, World, acted, after, as_events, carried_out}
+use Rattle.kernel_model.specs.World.{device_step_of, done, labels, ran, random_step, routed, stepped}
 use Rattle.kernel_model.specs.World.{queue_without, transmitting, with_queue}
 use Rattle.kernel_model.specs.Laws.{one_answered}
 use Rattle.kernel_model.proofs.Told.{of_device}
@@ -45,13 +45,6 @@ joined (label ∷ labels) then =
     ap (λ (words : List ℕ). word_told label ++ words) (joined labels then)
     ∙ sym (append_assoc (word_told label) (words_told labels) (words_told then))
 
-printing_none : (slot : ℕ) (bytes : List ℕ) → words_told (printing slot bytes) ≡ []
-printing_none slot bytes = by_length (length bytes == 0)
-  where
-    by_length : (b : Bool) → words_told (cond b [] (Printed slot bytes ∷ [])) ≡ []
-    by_length true = refl
-    by_length false = refl
-
 sent_none : (b : Bool) → word_in (cond b WriteDone Taken) ≡ []
 sent_none true = refl
 sent_none false = refl
@@ -75,9 +68,7 @@ module _ (tell : EventsTellSteps) (w : World) where
   sends : (slot : ℕ) (r : Record) → DrawsInOrder (one_answered w slot r (transmitting w.clock.time w.devices slot r))
   sends slot r =
       let s = console.sent (flash_of r) r.own in
-      sym (ap (λ (words : List ℕ). (words ++ words_told (printing slot s.printed)) ++ w.devices.words)
-      (sent_none s.completed)
-      ∙ ap (λ (words : List ℕ). words ++ w.devices.words) (printing_none slot s.printed))
+      sym (ap (λ (words : List ℕ). (words ++ []) ++ w.devices.words) (sent_none s.completed))
 
   draws : (slot : ℕ) (r : Record) → DrawsInOrder (one_answered w slot r (random_step w.devices slot r))
   draws slot r =

@@ -7,7 +7,7 @@ use Rattle.process_record.specs.declared.emit.CallMade.{CallMade}
 use Rattle.kernel_model.specs.Record.{Record}
 use Rattle.kernel_model.specs.declared.settings.Settings.{Settings}
 use Rattle.kernel_model.specs.Turn.{turned}
-use Rattle.kernel_model.specs.World.{Label, TurnOf, World, labels}
+use Rattle.kernel_model.specs.World.{Label, World, labels}
 use Rattle.kernel_model.specs.Causes.{EachChangeHasACause, TurnHasCauses}
 
 -- whether a call was the command that shows the clock, whatever came of it
@@ -25,8 +25,7 @@ TurnsWithoutClockHaveCauses =
 
 -- a label of such a turn, or of no turn
 abbrev pub AsksNoClock : Label → Type 0
-AsksNoClock (TurnOf slot time told) = asks_clock told.call ≡ false
-AsksNoClock label = Unit {0}
+AsksNoClock label = asks_clock label.trace.call ≡ false
 
 -- so it is with a step that is such a turn, in any world
 abbrev pub StepsWithoutClockHaveCauses : Type 0

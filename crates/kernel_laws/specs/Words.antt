@@ -4,7 +4,7 @@ use Rattle.std.specs.Prelude.{◌≡◌, ℕ, List, [], ◌∷◌, ◌++◌}
 use Rattle.std.specs.List.{flat_map}
 use Rattle.tk_base.specs.declared.process.Choice.{Choice}
 use Rattle.kernel_model.specs.Turn.{Event, Word}
-use Rattle.kernel_model.specs.World.{World, Label, Answered}
+use Rattle.kernel_model.specs.World.{World, Label}
 use Rattle.kernel_model.specs.Choices.{labels_of_all}
 use Rattle.kernel_model.specs.Replay.{after_all}
 
@@ -15,8 +15,7 @@ word_in other = []
 
 -- the random word that a label tells a process, if it does
 abbrev pub word_told : Label → List ℕ
-word_told (Answered slot event) = word_in event
-word_told label = []
+word_told label = word_in label.event
 
 -- all that steps tell, in order, whichever processes they are told
 abbrev pub words_told : List Label → List ℕ

@@ -1,14 +1,16 @@
 -- Each step is accounted for, by its three laws.
-use Rattle.std.proofs.Common.{List, [], ◌∷◌, Option, None, Some, slice_get, refl}
+use Rattle.std.proofs.Common.{List, [], ◌∷◌, Option, None, Some, slice_get, refl, sym, ◌∙◌}
 use Rattle.std.specs.Prelude.{All}
+use Rattle.std.proofs.lemmas.Bool.{false≢true}
 use Rattle.std.proofs.lemmas.List.Elements.{All-nil, All-cons}
 use Rattle.tk_base.specs.declared.process.Choice.{Choice}
 use Rattle.tk_base.specs.declared.process.Choice.TheVariants.{Run, Device, Pass}
 use Rattle.kernel_model.specs.Record.{Record}
 use Rattle.kernel_model.specs.Turn.{turned}
-use Rattle.kernel_model.specs.World.{Stepped, TurnOf, World, after, carried_out, device_step_of, done, labels, ran}
+use Rattle.kernel_model.specs.World.{Stepped, World, after, carried_out, device_step_of, done, labels, ran}
+use Rattle.kernel_model.specs.World.{turn_label}
 use Rattle.kernel_model.specs.Shown.{IsShownIn, shown_by}
-use Rattle.kernel_model.proofs.Labels.{done_labels}
+use Rattle.kernel_model.proofs.Labels.{device_labels}
 use Rattle.kernel_model.proofs.Places.{of_stepped}
 use Rattle.kernel_model.specs.Accesses.{StepsAreGuarded}
 use Rattle.kernel_model.specs.Accounts.{IsAccountedFor, StepsAreAccountedFor}
@@ -28,11 +30,11 @@ choice_shown w (Run slot) = by_record (slice_get w.records slot)
     by_record None = All-nil (IsShownIn (shown_by []))
     by_record (Some r) =
         let ls = (ran w slot (Some r)).labels in
-        All-cons (IsShownIn (shown_by ls)) (TurnOf slot w.clock.time (turned w.settings w.clock.time r).told) []
-        (refl, refl, refl) (All-nil (IsShownIn (shown_by ls)))
+        All-cons (IsShownIn (shown_by ls)) (turn_label slot w.clock.time (turned w.settings w.clock.time r).told) []
+        (λ turn. (refl, refl, refl)) (All-nil (IsShownIn (shown_by ls)))
 choice_shown w (Device device) =
-    done_labels (IsShownIn (shown_by (done w (device_step_of w device)).labels)) (λ slot event. tt) (λ slot bytes. tt) w
-    (device_step_of w device)
+    device_labels (IsShownIn (shown_by (done w (device_step_of w device)).labels)) w
+    (λ slot r a there is turn. absurd (false≢true (sym is ∙ turn))) device
 choice_shown w (Pass ticks) = All-nil (IsShownIn (shown_by []))
 
 step_shown : (w : World) (choice : Choice) → All (IsShownIn (shown_by (labels w choice))) (labels w choice)

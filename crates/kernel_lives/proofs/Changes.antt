@@ -11,8 +11,8 @@ use Rattle.tk_base.specs.Regs.{Registers}
 use Rattle.fault_policy.specs.declared.Action.{Action}
 use Rattle.fault_policy.specs.declared.Action.TheVariants.{Stop, Restart}
 use Rattle.fault_policy.specs.Policy.{decision}
-use Rattle.process_layout.specs.LayoutView.{permits_break}
-use Rattle.process_model.specs.Own.{Own, own_ended as ended_own}
+use Rattle.process_layout.specs.Bounds.{permits_break}
+use Rattle.process_model.specs.Own.{Own, kernel_break_of, own_ended as ended_own}
 use Rattle.process_model.specs.Flag.{with_flag}
 use Rattle.driver_model.specs.Steps.{own_after}
 use Rattle.driver_model.specs.Commands.{Commanded}
@@ -63,7 +63,8 @@ pub record IsKept (R : Own → Own → Type 0) (I J : Record → Type 0) : Type 
   pub serves : (r : Record) (o : Own) (storage : List ℕ) → R r.own o → I r → I (record r { own = o; storage = storage })
   pub hands : (r : Record) (swap : Swap) → swap_refusal swap r.own ≡ None → I r
       → I (record_with_own r (own_swapped swap r.own))
-  pub moves : (r : Record) (new : ℕ) → permits_break r.own.layout new ≡ true → I r → I (with_break_at r new)
+  pub moves : (r : Record) (new : ℕ) → permits_break r.own.layout (kernel_break_of r.own) new ≡ true → I r
+      → I (with_break_at r new)
   pub flags : (r : Record) (at byte : ℕ) → I r → I (record_with_own r (with_flag at byte r.own))
   pub delivers : (r : Record) (upcall : Scheduled) (more : List Scheduled) → is_alive r.process.state ≡ true → I r
       → I (deliver_by r (upcall ∷ more))
@@ -103,7 +104,8 @@ module _ (R : Own → Own → Type 0) (services : OfEachService R) (I J : Record
   by_breaks : (r : Record) → I r → (new : Option ℕ) (reply : Reply) → Q (break_moved r new reply)
   by_breaks r h None reply = by_plain r h Break
   by_breaks r h (Some new) reply =
-      by_test (permits_break r.own.layout new) _ _ (λ may. by_replied (with_break_at r new) (k.moves r new may h) reply)
+      by_test (permits_break r.own.layout (kernel_break_of r.own) new) _ _
+      (λ may. by_replied (with_break_at r new) (k.moves r new may h) reply)
       (λ may_not. by_plain r h Break)
 
   by_regions : (r : Record) → I r → (offset : ℕ × ℕ → ℕ) (region : Option (ℕ × ℕ)) → Q (region_end r offset region)
@@ -143,7 +145,7 @@ module _ (R : Own → Own → Type 0) (services : OfEachService R) (I J : Record
                 (
                   by_replied r h (SuccessU32 (r.process.object.address + r.process.object.size)),
                   (
-                    by_replied r h (SuccessU32 r.own.layout.kernel_break),
+                    by_replied r h (SuccessU32 (kernel_break_of r.own)),
                     (
                       by_replied r h (SuccessU32 (region_count (regions_named (header_reading r.object)))),
                       (

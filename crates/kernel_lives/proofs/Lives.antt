@@ -14,9 +14,10 @@ use Rattle.tbf_headers.specs.Meaning.{Meaning, header_reading}
 use Rattle.tk_base.specs.declared.kinds.PairKind.{PairKind}
 use Rattle.tk_base.specs.Kinds.{is_buffer}
 use Rattle.grant_model.specs.Grants.{Grant}
-use Rattle.process_layout.specs.LayoutView.{LayoutView, first_break, permits_break}
+use Rattle.process_layout.specs.LayoutView.{first_break}
+use Rattle.process_layout.specs.Bounds.{Bounds, permits_break}
 use Rattle.upcall_queue.specs.Pending.{is_of, without_key}
-use Rattle.process_model.specs.Own.{Own}
+use Rattle.process_model.specs.Own.{Own, kernel_break_of}
 use Rattle.process_model.specs.Flag.{with_flag}
 use Rattle.process_model.specs.Handed.{lies_in_ram, still_pending}
 use Rattle.driver_model.specs.Alarm as alarm
@@ -142,8 +143,8 @@ none_waits request_kind own over = ap (λ (b : Bool). cond b (request_in request
 
 over_answer : (settings : Settings) (event : Event) (r : Record) → r.own.lives ≡ false → IsAnswer event
     → apply settings event r ≡ r
-unfolding IsAnswer apply alarm.answered random.answered storage.answered
-over_answer settings (Turn time) r over is = absurd is
+unfolding apply alarm.answered random.answered storage.answered
+over_answer settings (Turn time) r over is = absurd (cc)
 over_answer settings (Alarmed now) r over is =
     ap (λ (b : Bool). record_with_step r (alarm.fired_if now r.own
     (cond b (alarm.if_due now (alarm.alarm_in r.own)) None))) over
@@ -213,13 +214,13 @@ lies_on first r s h bytes object own_object flash_start flash_end start end = re
 }
 
 -- the same of a change of what is its own
-lies_own : (first r : Record) (o : Own) (storage : List ℕ) → LiesAs first r → o.object ≡ r.own.object → (k m b : ℕ)
-    → o.layout ≡ record r.own.layout { kernel_break = k; mark = m; brk = b }
+lies_own : (first r : Record) (o : Own) (storage : List ℕ) → LiesAs first r → o.object ≡ r.own.object → (m b : ℕ)
+    → o.layout ≡ record r.own.layout { mark = m; brk = b }
     → LiesAs first (record r { own = o; storage = storage })
-lies_own first r o storage h object k m b layout =
-    lies_on first r _ h refl refl object (ap (λ (e : LayoutView). e.flash_start) layout)
-    (ap (λ (e : LayoutView). e.flash_end) layout) (ap (λ (e : LayoutView). e.start) layout)
-    (ap (λ (e : LayoutView). e.end) layout)
+lies_own first r o storage h object m b layout =
+    lies_on first r _ h refl refl object (ap (λ (e : Bounds). e.flash_start) layout)
+    (ap (λ (e : Bounds). e.flash_end) layout) (ap (λ (e : Bounds). e.start) layout)
+    (ap (λ (e : Bounds). e.end) layout)
 
 lies_again : (first r : Record) → LiesAs first r → LiesAs first (restart r)
 lies_again first r h =
@@ -231,16 +232,16 @@ lies_kept law first = record {
   done = λ r h. h;
   regs = λ r regs refusal h. lies_on first r _ h refl refl refl refl refl refl refl;
   waits = λ r alive h. lies_on first r _ h refl refl refl refl refl refl refl;
-  serves = λ r o storage s h. lies_own first r o storage h (ap (λ (x : Own). x.object) s) o.layout.kernel_break
+  serves = λ r o storage s h. lies_own first r o storage h (ap (λ (x : Own). x.object) s)
       r.own.layout.mark r.own.layout.brk (ap (λ (x : Own). x.layout) s);
   hands = λ r swap may h.
       let p = law.handed_places swap.kind swap.driver swap.number swap.pair r.own in
       let o = own_swapped swap r.own in
-      lies_own first r o r.storage h (ap (λ (x : Own). x.object) p) o.layout.kernel_break o.layout.mark r.own.layout.brk
+      lies_own first r o r.storage h (ap (λ (x : Own). x.object) p) o.layout.mark r.own.layout.brk
       (ap (λ (x : Own). x.layout) p);
   moves = λ r new may h. lies_on first r _ h refl refl refl refl refl refl refl;
   flags = λ r at byte h.
-      lies_own first r _ r.storage h (ap (λ (x : Own). x.object) (flag_rest at byte r.own)) r.own.layout.kernel_break
+      lies_own first r _ r.storage h (ap (λ (x : Own). x.object) (flag_rest at byte r.own))
       r.own.layout.mark r.own.layout.brk (ap (λ (x : Own). x.layout) (flag_rest at byte r.own));
   delivers = λ r upcall more alive h. lies_on first r _ h refl refl refl refl refl refl refl;
   exits = λ r code h. lies_on first r _ h refl refl refl refl refl refl refl;
@@ -309,9 +310,9 @@ order_on r s h object start end places = record {
 
 pub order_same : (own o : Own) → o.layout ≡ own.layout → o.grants ≡ own.grants → IsInOrder own → IsInOrder o
 order_same own o layout grants h =
-    subst (λ (e : LayoutView). IsInOrder (record o { layout = e })) (sym layout)
+    subst (λ (e : Bounds). IsInOrder (record o { layout = e })) (sym layout)
     (subst (λ (gs : List Grant). IsInOrder (record o { layout = own.layout; grants = gs })) (sym grants)
-    (record { mark = h.mark; brk = h.brk; kernel_break = h.kernel_break; end = h.end }))
+    (record { mark = h.mark; brk = h.brk; grants = h.grants }))
 
 pub order_again : (r : Record) → HasOrder r → HasOrder (restart r)
 order_again r h = restart_by HasOrder r h (λ header m is main.
@@ -321,9 +322,7 @@ order_again r h = restart_by HasOrder r h (λ header m is main.
     (record {
       mark = omega arith;
       brk = up_to r.own.layout.start m.minimum_ram;
-      kernel_break = fits;
-      end =
-          omega arith;
+      grants = omega (arith, fits);
     }))
 
 all_true : (a b c : Bool) → (a && b && c) ≡ true → (a ≡ true) × (b ≡ true) × (c ≡ true)
@@ -332,18 +331,17 @@ all_true true true false e = absurd (false≢true e)
 all_true true false c e = absurd (false≢true e)
 all_true false b c e = absurd (false≢true e)
 
-pub order_moved : (r : Record) (new : ℕ) → permits_break r.own.layout new ≡ true → HasOrder r
+pub order_moved : (r : Record) (new : ℕ) → permits_break r.own.layout (kernel_break_of r.own) new ≡ true → HasOrder r
     → IsInOrder (record r.own { layout = record r.own.layout { brk = rounded_up new } })
 order_moved r new may h =
     let e = r.own.layout in
-    let all = all_true (nat_le e.start (rounded_up new)) (nat_le (rounded_up new) e.kernel_break)
+    let all = all_true (nat_le e.start (rounded_up new)) (nat_le (rounded_up new) (kernel_break_of r.own))
     (nat_le e.mark (rounded_up new)) may in
+    let below = leb-true (rounded_up new) (kernel_break_of r.own) all.1 in
     record {
       mark = h.places.mark;
       brk = leb-true e.mark (rounded_up new) all.2;
-      kernel_break =
-          leb-true (rounded_up new) e.kernel_break all.1;
-      end = h.places.end;
+      grants = omega (arith, below, h.places.grants);
     }
 
 abbrev pub KeepsBoth : Own → Own → Type 0

@@ -9,7 +9,7 @@ use Rattle.tk_base.specs.declared.access.Rule.TheVariants.{Misaligned, NoRegion}
 use Rattle.tk_base.specs.declared.access.Width.TheVariants.{Byte}
 use Rattle.grant_values.specs.declared.console.WaitingWrite.{WaitingWrite}
 use Rattle.tk_base.specs.declared.kinds.PairKind.TheVariants.{ReadOnly}
-use Rattle.process_layout.specs.LayoutView.{LayoutView}
+use Rattle.process_layout.specs.Bounds.{Bounds}
 use Rattle.process_layout.specs.Interval.{lies_within}
 use Rattle.process_layout.specs.Permission.{denied_in_flash, denied_in_ram}
 use Rattle.process_model.specs.Handed.{lies_in_flash, lies_in_ram, may_share}
@@ -17,7 +17,7 @@ use Rattle.process_model.specs.Permission.{denied}
 use Rattle.driver_model.specs.Console.{console, console_writes}
 use Rattle.driver_model.specs.Requests.{request_in}
 use Rattle.kernel_model.specs.Record.{Record}
-use Rattle.kernel_model.specs.World.{World, Label, TurnOf, Answered, Printed, labels}
+use Rattle.kernel_model.specs.World.{World, Label, labels}
 use Rattle.kernel_model.specs.Replay.{after_all}
 use Rattle.kernel_model.specs.Causes.{AreWhole}
 use Rattle.kernel_model.specs.Prints.{AreOfItsBuffer, CouldLoad, PrintsCouldBeLoaded, PrintsItsBuffer}
@@ -42,7 +42,7 @@ no_denial false false false e (inl lies) = absurd (false≢true lies)
 no_denial false false false e (inr lies) = absurd (false≢true lies)
 
 -- each byte of a read-only buffer that may be allowed may be loaded
-may_load : (e : LayoutView) (buffer : ℕ × ℕ) (j : ℕ) → may_share ReadOnly e buffer ≡ true → j < buffer.1
+may_load : (e : Bounds) (buffer : ℕ × ℕ) (j : ℕ) → may_share ReadOnly e buffer ≡ true → j < buffer.1
     → denied e Load (buffer.0 + j) Byte ≡ None
 unfolding denied
 may_load e buffer j may less =
@@ -62,17 +62,27 @@ may_load e buffer j may less =
 
 module _ (w : World) (whole : AreWhole w) where
   loads : (label : Label) → PrintsItsBuffer w label → PrintsWhatItCouldLoad w label
-  loads (TurnOf slot time told) h = tt
-  loads (Answered slot event) h = tt
-  loads (Printed slot bytes) h = by_record (slice_get w.records slot) refl h.1
+  loads label h = by_record (slice_get w.records label.slot) refl (λ some. (h some).1)
     where
-      by_record : (o : Option Record) → slice_get w.records slot ≡ o → IfSome o (AreOfItsBuffer bytes)
-          → IfSome o (λ r. IfSome (request_in console_writes r.own) (λ write. CouldLoad r write.taken (length bytes)))
+      count : ℕ
+      count = length label.printed
+
+      by_record : (o : Option Record) → slice_get w.records label.slot ≡ o
+          → (0 < count → IfSome o (AreOfItsBuffer label.printed))
+          → IfSome o (λ r. IfSome (request_in console_writes r.own) (λ write. CouldLoad r write.taken count))
       by_record None e h = tt
-      by_record (Some r) e h =
-          subst (λ (q : Option WaitingWrite). IfSome q (λ write. CouldLoad r write.taken (length bytes))) (sym h.waits)
-          (λ k less. may_load r.own.layout (console_buffer r) (h.write.taken + k)
-          ((whole slot r e).buffers.each ReadOnly console 1) (h.each k less).0)
+      by_record (Some r) e h = by_request (request_in console_writes r.own) refl
+        where
+          by_request : (q : Option WaitingWrite) → request_in console_writes r.own ≡ q
+              → IfSome q (λ write. CouldLoad r write.taken count)
+          by_request None f = tt
+          by_request (Some write) f = λ k less.
+              let is = h (omega (arith, less)) in
+              let same : is.write ≡ write = cc in
+              subst (λ (x : WaitingWrite). denied r.own.layout Load ((console_buffer r).0 + (x.taken + k)) Byte ≡ None)
+              same
+              (may_load r.own.layout (console_buffer r) (is.write.taken + k)
+              ((whole label.slot r e).buffers.each ReadOnly console 1) (is.each k less).0)
 
 pub prints_could_be_loaded : OwnsStayWhole → PrintsCouldBeLoaded
 prints_could_be_loaded law w choices choice all =

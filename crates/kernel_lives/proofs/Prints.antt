@@ -1,6 +1,6 @@
 -- What a step prints, it prints of a buffer.
 use Rattle.std.proofs.Common.{◌≡◌, ◌<◌, ℕ, ◌+◌, ◌==◌, Bool, true, false, cond, List, [], ◌∷◌, drop, length, slice_get}
-use Rattle.std.proofs.Common.{slice_index, unwrap_or, option_map, Option, None, Some, IfSome, is_some, refl, sym, subst}
+use Rattle.std.proofs.Common.{slice_index, unwrap_or, option_map, Option, None, Some, IfSome, is_some, refl, sym, ap, subst}
 use Rattle.std.proofs.Common.{◌∙◌, arith}
 use Rattle.std.specs.Prelude.{All}
 use Rattle.std.proofs.lemmas.Bool.{false≢true}
@@ -14,9 +14,9 @@ use Rattle.driver_model.specs.Console as console
 use Rattle.driver_model.specs.Console.{Sent, console_writes}
 use Rattle.driver_model.specs.Requests.{request_in, waiting_in}
 use Rattle.kernel_model.specs.Record.{Record}
-use Rattle.kernel_model.specs.Turn.{Event, flash_of}
-use Rattle.kernel_model.specs.World.{Answered, Printed, Stepped, World, carried_out, device_step_of, done, labels}
-use Rattle.kernel_model.specs.World.{printing, ran, transmitting}
+use Rattle.kernel_model.specs.Turn.{Event, flash_of, turned}
+use Rattle.kernel_model.specs.World.{Label, Stepped, World, answer_label, carried_out, device_step_of, done, labels}
+use Rattle.kernel_model.specs.World.{ran, transmitting, turn_label}
 use Rattle.kernel_model.specs.Laws.{one_answered}
 use Rattle.kernel_model.proofs.Told.{of_device}
 use Rattle.kernel_model.specs.Replay.{after_all}
@@ -41,7 +41,7 @@ if_so true o x e = (refl, e)
 if_so false o x e = cc
 
 -- what the UART prints of a process, if it prints anything
-sent_of : (r : Record) → (length (console.sent (flash_of r) r.own).printed == 0) ≡ false
+sent_of : (r : Record) → 0 < length (console.sent (flash_of r) r.own).printed
     → AreOfItsBuffer (console.sent (flash_of r) r.own).printed r
 unfolding console.sent
 sent_of r = by_waiting (waiting_in console_writes r.own) refl
@@ -55,54 +55,51 @@ sent_of r = by_waiting (waiting_in console_writes r.own) refl
           completed =
               false;
         }) in
-        (length s.printed == 0) ≡ false → AreOfItsBuffer s.printed r
-    by_portion write true is some = absurd (false≢true (sym some))
+        0 < length s.printed → AreOfItsBuffer s.printed r
+    by_portion write true is some = absurd (omega (arith, some))
     by_portion write false is some =
         let waits = if_so r.own.lives (request_in console_writes r.own) write is in
         record { lives = waits.0; write = write; waits = waits.1; each = next_of write r }
 
     by_waiting : (o : Option WaitingWrite) → waiting_in console_writes r.own ≡ o
         → let s : Sent = unwrap_or (option_map (console.sending (flash_of r) r.own) o) (console.unsent r.own) in
-        (length s.printed == 0) ≡ false → AreOfItsBuffer s.printed r
-    by_waiting None is some = absurd (false≢true (sym some))
+        0 < length s.printed → AreOfItsBuffer s.printed r
+    by_waiting None is some = absurd (omega (arith, some))
     by_waiting (Some write) is some = by_portion write (console.portion write r.own == 0) is some
 
 module _ (w : World) where
-  printed : (slot : ℕ) (bytes : List ℕ)
-      → ((length bytes == 0) ≡ false
-      → (is_some (slice_get w.records slot) ≡ true) × IfSome (slice_get w.records slot) (AreOfItsBuffer bytes))
-      → All (PrintsItsBuffer w) (printing slot bytes)
-  printed slot bytes each = by_length (length bytes == 0) refl
-    where
-      by_length : (b : Bool) → (length bytes == 0) ≡ b → All (PrintsItsBuffer w) (cond b [] (Printed slot bytes ∷ []))
-      by_length true e = All-nil (PrintsItsBuffer w)
-      by_length false e = All-cons (PrintsItsBuffer w) (Printed slot bytes) [] (each e) (All-nil (PrintsItsBuffer w))
-
   -- what is told of a device's step
   abbrev Tells : Stepped → Type 0
   Tells s = All (PrintsItsBuffer w) s.labels
 
-  silent : (slot : ℕ) (event : Event) → All (PrintsItsBuffer w) (Answered slot event ∷ [])
-  silent slot event = All-cons (PrintsItsBuffer w) (Answered slot event) [] tt (All-nil (PrintsItsBuffer w))
+  -- a label of which nothing is printed
+  silent : (label : Label) → label.printed ≡ [] → All (PrintsItsBuffer w) (label ∷ [])
+  silent label none =
+      All-cons (PrintsItsBuffer w) label [] (λ some. absurd (omega (arith, some, ap length none)))
+      (All-nil (PrintsItsBuffer w))
+
+  silently : (slot : ℕ) (event : Event)
+      → All (PrintsItsBuffer w) (answer_label slot (record { event = event; printed = [] }) ∷ [])
+  silently slot event = silent (answer_label slot (record { event = event; printed = [] })) refl
 
   sends : (slot : ℕ) (r : Record) → slice_get w.records slot ≡ Some r
       → Tells (one_answered w slot r (transmitting w.clock.time w.devices slot r))
   sends slot r is =
       let bytes = (console.sent (flash_of r) r.own).printed in
-      All-cons (PrintsItsBuffer w) _ _ tt (printed slot bytes
-      (λ some. subst (λ (o : Option Record). (is_some o ≡ true) × IfSome o (AreOfItsBuffer bytes)) (sym is)
-      (refl, sent_of r some)))
+      All-cons (PrintsItsBuffer w) _ [] (λ some.
+      subst (λ (o : Option Record). (is_some o ≡ true) × IfSome o (AreOfItsBuffer bytes)) (sym is)
+      (refl, sent_of r some)) (All-nil (PrintsItsBuffer w))
 
   deed_tells : (device : Dev) → Tells (done w (device_step_of w device))
   deed_tells device =
       of_device w Tells (record {
         none = All-nil (PrintsItsBuffer w);
         arrives = λ a rest. All-nil (PrintsItsBuffer w);
-        alarms = λ slot r is. silent slot _;
+        alarms = λ slot r is. silently slot _;
         sends = sends;
-        receives = λ slot r is. silent slot _;
-        draws = λ slot r is. silent slot _;
-        stores = λ slot r is. silent slot _;
+        receives = λ slot r is. silently slot _;
+        draws = λ slot r is. silently slot _;
+        stores = λ slot r is. silently slot _;
       }) device
 
   choice_prints : (choice : Choice) → All (PrintsItsBuffer w) (carried_out w choice).labels
@@ -111,7 +108,8 @@ module _ (w : World) where
     where
       by_record : (o : Option Record) → All (PrintsItsBuffer w) (ran w slot o).labels
       by_record None = All-nil (PrintsItsBuffer w)
-      by_record (Some r) = All-cons (PrintsItsBuffer w) _ [] tt (All-nil (PrintsItsBuffer w))
+      by_record (Some r) =
+          silent (turn_label slot w.clock.time (turned w.settings w.clock.time r).told) refl
   choice_prints (Device device) = deed_tells device
   choice_prints (Pass ticks) = All-nil (PrintsItsBuffer w)
 

@@ -57,7 +57,6 @@ starts_as first r h m l = λ i. record {
       start = l.start i;
       end = l.end i;
       brk = first_break (l.start i) m.minimum_ram;
-      kernel_break = l.end i;
       mark = l.start i;
     };
     ram = replicate (l.end i - l.start i) 0;

@@ -1,13 +1,13 @@
 -- That what is a process's own stays whole, by the one walk over what may happen to it.
 use Rattle.std.proofs.Common.{◌≡◌, ℕ, ◌+◌, ◌-◌, Bool, true, false, cond, List, [], ◌∷◌, length}
-use Rattle.std.proofs.Common.{slice_set, Option, None, Some, IfSome, refl, sym, subst, ◌∙◌}
+use Rattle.std.proofs.Common.{slice_set, Option, None, Some, IfSome, refl, sym, subst, ◌∙◌, arith}
 use Rattle.std.proofs.lemmas.List.{length-replicate, length-set}
 use Rattle.tk_base.specs.Bus.{byte_of, put}
 use Rattle.tk_base.specs.declared.access.Width.{Width}
 use Rattle.tk_base.specs.declared.access.Width.TheVariants.{Byte, Half, Word}
 use Rattle.rv32_model.specs.UserTurn.{Write}
 use Rattle.grant_model.specs.Grants.{Grant}
-use Rattle.process_layout.specs.LayoutView.{LayoutView}
+use Rattle.process_layout.specs.Bounds.{Bounds}
 use Rattle.process_model.proofs.Changes.{keeps_none}
 use Rattle.process_model.specs.Own.{Own}
 use Rattle.process_model.specs.Flag.{with_flag}
@@ -67,10 +67,10 @@ flag_keeps at byte own = by_test (lies_in_ram own.layout at 1)
 settled_on : (own o : Own) → o.layout ≡ own.layout → o.grants ≡ own.grants → length o.ram ≡ length own.ram
     → IsSettled own → IsSettled o
 settled_on own o layout grants size h =
-    subst (λ (e : LayoutView). IsSettled (record o { layout = e })) (sym layout)
+    subst (λ (e : Bounds). IsSettled (record o { layout = e })) (sym layout)
     (subst (λ (gs : List Grant). IsSettled (record o { layout = own.layout; grants = gs })) (sym grants)
     (record {
-      order = record { mark = h.order.mark; brk = h.order.brk; kernel_break = h.order.kernel_break; end = h.order.end };
+      order = record { mark = h.order.mark; brk = h.order.brk; grants = h.order.grants };
       bytes = size ∙ h.bytes;
       buffers = record { each = h.buffers.each };
       shape = record { counts = h.shape.counts };
@@ -107,7 +107,7 @@ module _ (law : DriversKeep) (pairs : OnlyHandingChangesPairs) (settled : Driver
             let none = pairs.none o refl in
             record {
               order = places;
-              bytes = length-replicate (r.own.layout.end - r.own.layout.start) 0;
+              bytes = omega (arith, length-replicate {A = ℕ} (r.own.layout.end - r.own.layout.start) 0);
               buffers = record {
                 each = λ kind driver number. keeps_none kind _;
               };

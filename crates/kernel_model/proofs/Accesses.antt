@@ -23,12 +23,12 @@ use Rattle.process_record.specs.declared.process.State.{State}
 use Rattle.process_record.specs.declared.process.State.TheVariants.{Running, Yielded, Faulted, Terminated}
 use Rattle.kernel_model.specs.Record.{Record, byte_at, instruction, with_effect}
 use Rattle.kernel_model.specs.declared.settings.Settings.{Settings}
-use Rattle.kernel_model.specs.Turn.{TurnTrace, calls, turn_counted, delivery, at_turn_end, turn_in, turned}
-use Rattle.kernel_model.specs.World.{Stepped, World, carried_out, device_step_of, labels, ran}
+use Rattle.kernel_model.specs.Turn.{TurnTrace, calls, turn_counted, delivery, at_turn_end, turn_in, turned, untraced}
+use Rattle.kernel_model.specs.World.{Stepped, World, carried_out, labels, ran}
 use Rattle.kernel_model.specs.Accesses.{EachAccessIsPermitted, EachDenialIsDue, DenialIsDue, IsPermitted, OfTurn}
 use Rattle.kernel_model.specs.Accesses.{StepsAreGuarded}
 use Rattle.kernel_model.specs.Replay.{after_all}
-use Rattle.kernel_model.proofs.Labels.{done_labels}
+use Rattle.kernel_model.proofs.Labels.{device_labels}
 use Rattle.kernel_model.proofs.Places.{of_stepped}
 
 -- a turn lists the accesses of its instruction, or none
@@ -132,7 +132,7 @@ module _ (law : DenialsAreDue) (of_ecall : CallsAreOfEcall) (settings : Settings
 
 -- what holds of each turn holds of each label
 module _ (P : Record → TurnTrace → Type 0) (w : World)
-    (each : (r : Record) → P r (turned w.settings w.clock.time r).told) where
+    (none : (r : Record) → P r untraced) (each : (r : Record) → P r (turned w.settings w.clock.time r).told) where
   ran_labels : (slot : ℕ) (o : Option Record) → slice_get w.records slot ≡ o → All (OfTurn P w) (ran w slot o).labels
   ran_labels slot None is = All-nil (OfTurn P w)
   ran_labels slot (Some r) is = All-cons (OfTurn P w) _ [] (r, is, each r) (All-nil (OfTurn P w))
@@ -141,7 +141,7 @@ module _ (P : Record → TurnTrace → Type 0) (w : World)
   unfolding carried_out
   choice_labels (Run slot) = ran_labels slot (slice_get w.records slot) refl
   choice_labels (Device device) =
-      done_labels (OfTurn P w) (λ slot event. tt) (λ slot bytes. tt) w (device_step_of w device)
+      device_labels (OfTurn P w) w (λ slot r a there is. (r, there, none r)) device
   choice_labels (Pass ticks) = All-nil (OfTurn P w)
 
   step_labels : (choice : Choice) → All (OfTurn P w) (labels w choice)
@@ -153,12 +153,13 @@ pub each_access_is_permitted : AccessesArePermitted → DataIsAligned → EachAc
 each_access_is_permitted permitted aligned w choices choice =
     let v = after_all w choices in
     step_labels (λ r told. All (IsPermitted r.own) told.accesses) v
-    (turn_permitted permitted aligned v.settings v.clock.time) choice
+    (λ r. All-nil (IsPermitted r.own)) (turn_permitted permitted aligned v.settings v.clock.time) choice
 
 pub each_denial_is_due : DenialsAreDue → CallsAreOfEcall → EachDenialIsDue
 each_denial_is_due law of_ecall w choices choice =
     let v = after_all w choices in
-    step_labels (λ r told. IfSome told.denial (DenialIsDue r)) v (turn_due law of_ecall v.settings v.clock.time) choice
+    step_labels (λ r told. IfSome told.denial (DenialIsDue r)) v (λ r. tt)
+    (turn_due law of_ecall v.settings v.clock.time) choice
 
 pub steps_are_guarded : AccessesArePermitted → DataIsAligned → DenialsAreDue → CallsAreOfEcall → StepsAreGuarded
 steps_are_guarded permitted aligned law of_ecall w choice = record {

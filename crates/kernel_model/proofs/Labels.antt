@@ -1,33 +1,48 @@
--- The labels of a device's step, of which none is a turn.
-use Rattle.std.proofs.Common.{ℕ, suc, ◌==◌, Bool, true, false, cond, List, [], ◌∷◌, length, Option, None, Some}
+-- The labels of a device's step: that of the one answer in it, or none. What labels show that was printed.
+use Rattle.std.proofs.Common.{◌≡◌, ◌==◌, ◌||◌, not, ℕ, Bool, true, false, cond, List, [], ◌∷◌, ◌++◌, length, Some, slice_get}
+use Rattle.std.proofs.Common.{refl, sym, ap, ◌∙◌, arith, eqb-true}
 use Rattle.std.specs.Prelude.{All}
-use Rattle.std.proofs.lemmas.List.Elements.{All-nil, All-cons, All-append}
-use Rattle.kernel_model.specs.Turn.{Event}
-use Rattle.kernel_model.specs.World.{Answer, Answered, DeviceStep, Label, Printed, World, done, labels_of, labels_told}
-use Rattle.kernel_model.specs.World.{printing}
+use Rattle.std.proofs.lemmas.List.Elements.{All-nil, All-cons}
+use Rattle.tk_base.specs.declared.process.Dev.{Dev}
 use Rattle.kernel_model.specs.Record.{Record}
+use Rattle.process_record.specs.declared.emit.Emit.{Emit}
+use Rattle.kernel_model.specs.Run.{printed}
+use Rattle.kernel_model.specs.Shown.{shown_by}
+use Rattle.kernel_model.specs.Turn.{is_turn}
+use Rattle.kernel_model.specs.World.{Answer, Label, Stepped, World, answer_label, device_step_of, done}
+use Rattle.kernel_model.proofs.Steps.{IsAnswer, of_answers}
 
--- what holds of each answer and of each piece that is printed holds of them
-module _ (P : Label → Type 0) (answered : (slot : ℕ) (event : Event) → P (Answered slot event))
-    (printed : (slot : ℕ) (bytes : List ℕ) → P (Printed slot bytes)) where
-  printing_labels : (slot : ℕ) (bytes : List ℕ) → All P (printing slot bytes)
-  printing_labels slot bytes = by_length (length bytes == 0)
-    where
-      by_length : (b : Bool) → All P (cond b [] (Printed slot bytes ∷ []))
-      by_length true = All-nil P
-      by_length false = All-cons P (Printed slot bytes) [] (printed slot bytes) (All-nil P)
+-- what holds of the label of each answer to a process that is there holds of them
+pub device_labels : (P : Label → Type 0) (w : World)
+    → ((slot : ℕ) (r : Record) (a : Answer) → slice_get w.records slot ≡ Some r → IsAnswer a.event
+    → P (answer_label slot a))
+    → (device : Dev) → All P (done w (device_step_of w device)).labels
+device_labels P w answered device =
+    of_answers w (λ (s : Stepped). All P s.labels) (All-nil P) (λ devices. All-nil P)
+    (λ slot r there a is. All-cons P _ [] (answered slot r a.answer there is) (All-nil P)) device
 
-  slot_labels : (slot : ℕ) (o : Option Answer) → All P (labels_of slot o)
-  slot_labels slot None = All-nil P
-  slot_labels slot (Some answer) =
-      All-cons P _ _ (answered slot answer.event) (printing_labels slot answer.printed)
+-- nothing is in a list without elements
+pub none_in : {X : Type 0} (xs : List X) → (length xs == 0) ≡ true → xs ≡ []
+none_in [] e = refl
+none_in (x ∷ xs) e = let zero_is : length (x ∷ xs) ≡ 0 = eqb-true (length (x ∷ xs)) 0 e in absurd (omega (arith, zero_is))
 
-  told_labels : (told : ℕ → Option Answer) (slot : ℕ) (rs : List Record) → All P (labels_told told slot rs)
-  told_labels told slot [] = All-nil P
-  told_labels told slot (r ∷ rs) =
-      All-append P (labels_of slot (told slot)) (labels_told told (suc slot) rs) (slot_labels slot (told slot))
-      (told_labels told (suc slot) rs)
+-- what a step shows that it printed
+pub shown_by-printed : (ls : List Label) → (shown_by ls).printed.items ≡ printed ls
+unfolding shown_by
+shown_by-printed [] = refl
+shown_by-printed (label ∷ ls) = by_shown (shown_by-printed ls) (is_turn label.event) (length label.printed == 0) refl
+  where
+    more : List ℕ → List ℕ
+    more bytes = label.printed ++ bytes
 
-  pub done_labels : (w : World) (o : Option DeviceStep) → All P (done w o).labels
-  done_labels w None = All-nil P
-  done_labels w (Some deed) = told_labels deed.told 0 w.records
+    by_shown : (shown_by ls).printed.items ≡ printed ls
+        → (turn none : Bool) → (length label.printed == 0) ≡ none
+        → (cond (turn || not none) (record {
+          slot = Some label.slot;
+          made = label.trace.call;
+          denial = label.trace.denial;
+          printed = record { items = more (shown_by ls).printed.items };
+        }) (shown_by ls)).printed.items ≡ more (printed ls)
+    by_shown later true none e = ap more later
+    by_shown later false false e = ap more later
+    by_shown later false true e = later ∙ sym (ap (λ (xs : List ℕ). xs ++ printed ls) (none_in label.printed e))

@@ -3,7 +3,8 @@
 use Rattle.std.proofs.Common.{ℕ, ◌+◌, ◌==◌, Bool, true, false, cond, List, [], ◌∷◌, find, Option, None, Some, option_map, unwrap_or}
 use Rattle.tk_base.specs.declared.call.CallRule.{CallRule}
 use Rattle.tk_base.specs.declared.call.CallRule.TheVariants.{Break, Index, NoOperation}
-use Rattle.process_layout.specs.LayoutView.{permits_break}
+use Rattle.process_layout.specs.Bounds.{permits_break}
+use Rattle.process_model.specs.Own.{kernel_break_of}
 use Rattle.syscall_abi.specs.declared.reply.Reply.{Reply}
 use Rattle.syscall_abi.specs.declared.reply.Reply.TheVariants.{Success, SuccessU32}
 use Rattle.kernel_model.specs.Record.{Record}
@@ -71,7 +72,8 @@ memop_gives P r operation argument refuses replies moved =
   where
     breaks : (new : Option ℕ) (reply : Reply) → P (break_moved r new reply)
     breaks None reply = refuses Break
-    breaks (Some new) reply = by_test P (permits_break r.own.layout new) _ _ (moved new reply) (refuses Break)
+    breaks (Some new) reply =
+        by_test P (permits_break r.own.layout (kernel_break_of r.own) new) _ _ (moved new reply) (refuses Break)
 
     regions : (offset : ℕ × ℕ → ℕ) (region : Option (ℕ × ℕ)) → P (region_end r offset region)
     regions offset None = refuses Index

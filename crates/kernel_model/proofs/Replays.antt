@@ -1,5 +1,5 @@
 -- A record after any choices, by the choices one after another.
-use Rattle.std.proofs.Common.{◌≡◌, ◌≢◌, ℕ, zero, suc, ◌==◌, Bool, true, false, cond, List, [], ◌∷◌, ◌++◌, length}
+use Rattle.std.proofs.Common.{◌≡◌, ◌≢◌, ℕ, zero, suc, ◌==◌, Bool, true, false, cond, List, [], ◌∷◌, ◌++◌}
 use Rattle.std.proofs.Common.{slice_get, Option, None, Some, refl, sym, ap, subst, ◌∙◌, arith}
 use Rattle.std.specs.List.{flat_map}
 use Rattle.std.specs.Option.{option_map}
@@ -9,8 +9,7 @@ use Rattle.tk_base.specs.declared.process.Choice.TheVariants.{Run, Device, Pass}
 use Rattle.kernel_model.specs.Record.{Record}
 use Rattle.kernel_model.specs.declared.settings.Settings.{Settings}
 use Rattle.kernel_model.specs.Turn.{Event, Turn, apply}
-use Rattle.kernel_model.specs.World.{DeviceAnswer, Label, Printed, Stepped, World, after, carried_out}
-use Rattle.kernel_model.specs.World.{printing, ran, stepped}
+use Rattle.kernel_model.specs.World.{DeviceAnswer, Stepped, World, after, carried_out, ran, stepped}
 use Rattle.kernel_model.specs.Run.{next, on_choice, round, stays, runs_on}
 use Rattle.kernel_model.specs.Replay.{after_all, chosen, events, happened, history, replay, RecordIsReplay}
 use Rattle.kernel_model.specs.Replay.{RoundFollowsChoices, SameHistorySameRecord}
@@ -66,15 +65,6 @@ ran_replayed w other slot (Some r) e =
     (ran-own w other (Some r) e ∙ ap (option_map (apply w.settings (Turn w.clock.time))) (sym e))
     (λ s ne. ran-other w other s (Some r) ne)
 
--- what reads nothing of what is printed
-pub nothing_printed : {X : Type 0} (read : Label → List X) (at : ℕ) (bytes : List ℕ) → read (Printed at bytes) ≡ []
-    → flat_map read (printing at bytes) ≡ []
-nothing_printed {X = X} read at bytes none = by_length (length bytes == 0)
-  where
-    by_length : (b : Bool) → flat_map read (cond b [] (Printed at bytes ∷ [])) ≡ []
-    by_length true = refl
-    by_length false = ap (λ (read_of : List X). read_of ++ []) none
-
 answer_replayed : (w : World) (slot at : ℕ) (r : Record) → slice_get w.records at ≡ Some r → (a : DeviceAnswer)
     → replayed w slot (one_answered w at r a)
 answer_replayed w slot at r there a =
@@ -82,8 +72,6 @@ answer_replayed w slot at r there a =
     lands w (one_answered w at r a).after.records at slot event
     (set_own w.records at (apply w.settings event r) r there ∙ sym (ap (option_map (apply w.settings event)) there))
     (λ other ne. slice_get-set_other w.records at other (apply w.settings event r) ne)
-    ∙ ap (λ (rest : List Event). option_map (replay w.settings (cond (at == slot) (event ∷ []) [] ++ rest))
-    (slice_get w.records slot)) (sym (nothing_printed (happened slot) at a.answer.printed refl))
 
 choice_replayed : (w : World) (choice : Choice) (slot : ℕ) → replayed w slot (carried_out w choice)
 unfolding carried_out

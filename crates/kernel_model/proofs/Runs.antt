@@ -11,6 +11,7 @@ use Rattle.tk_base.specs.declared.process.Dev.{Dev}
 use Rattle.tk_base.specs.declared.process.Dev.TheVariants.{Event, Alarm, Uart, Receive, Random, Store}
 use Rattle.turn_scheduler.specs.RoundRobin.{choice, device_order, place_is_ready as is_ready_at, next_slot}
 use Rattle.turn_scheduler.specs.RoundRobin.{device_place, ready_device, slots_after}
+use Rattle.process_model.specs.Own.{Own}
 use Rattle.driver_model.specs.Alarm.{due_slot, nearer, next_left}
 use Rattle.driver_model.specs.Laws.{IsDueWhereNoneAreLeft}
 use Rattle.script_text.specs.Settings.{ScriptEvent as Arrival}
@@ -20,7 +21,8 @@ use Rattle.kernel_model.specs.Record.{Record}
 use Rattle.kernel_model.specs.Turn.{may_turn}
 use Rattle.kernel_model.specs.World.{Devices, World, can_act, can_run, is_ready, is_waited_for, may_be_made, now_in}
 use Rattle.kernel_model.specs.World.{owns_in, slots_in}
-use Rattle.kernel_model.specs.Run.{alarm_time, next, next_time, ready_devices, ready_slots, sending_time}
+use Rattle.kernel_model.specs.Run.{next, next_time, ready_devices, ready_slots}
+use Rattle.kernel_model.specs.World.{sending_time}
 
 pub found_passes : {X : Type 0} (p : X → Bool) (xs : List X) (x : X) → find p xs ≡ Some x → p x ≡ true
 found_passes p [] x e = cc
@@ -104,7 +106,12 @@ arrival_ahead : (time : ℕ) (arrivals : List Arrival) → is_time time arrivals
 arrival_ahead time [] e = tt
 arrival_ahead time (arrival ∷ rest) e = grind (arith, nat_tests)
 
-alarm_ahead : (w : World) → IsDueWhereNoneAreLeft → can_act w Alarm ≡ false → Ahead w.clock.time (alarm_time w)
+-- when the next alarm becomes due, of a time with what the clock shows then
+abbrev pub alarm_time : ℕ → ℕ → List Own → Option ℕ
+alarm_time time now owns = option_map (λ left. time + left) (next_left now owns)
+
+alarm_ahead : (w : World) → IsDueWhereNoneAreLeft → can_act w Alarm ≡ false
+    → Ahead w.clock.time (alarm_time w.clock.time (now_in w) (owns_in w))
 alarm_ahead w law none = by_left (next_left (now_in w) (owns_in w)) refl
   where
     not_both : (b : Bool) → IsTrue b → b ≡ false → ⊥
@@ -132,10 +139,11 @@ pub lies_ahead : (w : World) → IsDueWhereNoneAreLeft → ready_device (ready_d
     → IfSome (next_time w) (λ at. w.clock.time < at)
 lies_ahead w law none =
     let n = none_acts w none in
-    nearer_ahead w.clock.time (arrival_time w.devices.arrivals) (nearer (alarm_time w) (sending_time w.devices))
+    let alarm = alarm_time w.clock.time (now_in w) (owns_in w) in
+    let sends = sending_time w.devices in
+    nearer_ahead w.clock.time (arrival_time w.devices.arrivals) (nearer alarm sends)
     (arrival_ahead w.clock.time w.devices.arrivals n.event)
-    (nearer_ahead w.clock.time (alarm_time w) (sending_time w.devices) (alarm_ahead w law n.alarm)
-    (sending_ahead w.clock.time w.devices n.uart))
+    (nearer_ahead w.clock.time alarm sends (alarm_ahead w law n.alarm) (sending_ahead w.clock.time w.devices n.uart))
 
 module _ (w : World) (c : Choice) (law : IsDueWhereNoneAreLeft) (h : w.clock.steps < STEP_LIMIT) where
   by_time : (at : Option ℕ) → Ahead w.clock.time at → option_map (λ n. Pass (n - w.clock.time)) at ≡ Some c

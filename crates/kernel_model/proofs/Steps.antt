@@ -1,5 +1,5 @@
 -- What a step does to the process in a slot: nothing, its turn, or what a device tells it.
-use Rattle.std.proofs.Common.{◌≡◌, ℕ, ◌==◌, Bool, true, false, cond, List, [], ◌∷◌, ◌++◌, slice_get, slice_set, Option}
+use Rattle.std.proofs.Common.{◌≡◌, ℕ, ◌==◌, ◌&&◌, Bool, true, false, cond, List, [], ◌∷◌, ◌++◌, slice_get, slice_set, Option}
 use Rattle.std.proofs.Common.{None, Some, refl, sym, ap, subst, ◌∙◌, eqb-true, eq-eqb}
 use Rattle.std.specs.List.{flat_map}
 use Rattle.std.proofs.lemmas.Bool.{false≢true}
@@ -11,33 +11,25 @@ use Rattle.driver_model.specs.Services.{OfEachService}
 use Rattle.kernel_model.specs.declared.settings.Settings.{Settings}
 use Rattle.kernel_model.specs.Record.{Record}
 use Rattle.kernel_model.specs.Turn.{Event, Turn, Alarmed, Taken, WriteDone, Input, Word, NoWord, Stored, TurnTrace}
-use Rattle.kernel_model.specs.Turn.{Turned, apply, turned}
+use Rattle.kernel_model.specs.Turn.{Turned, apply, is_turn, turned, untraced}
 use Rattle.driver_model.specs.Told.{drawn_told}
 use Rattle.kernel_model.specs.World.{DeviceAnswer, Devices, Stepped, World, after, alarmed, as_events}
 use Rattle.kernel_model.specs.World.{carried_out, device_step_of, done, labels, ran, random_step, receive_step, storing}
 use Rattle.kernel_model.specs.World.{transmitting, unmade}
 use Rattle.kernel_model.specs.Histories.{turns_in}
-use Rattle.kernel_model.proofs.Replays.{nothing_printed}
 use Rattle.kernel_model.proofs.Places.{of_stepped, ran-other, ran-own, set_own, slice_get-set_other}
 use Rattle.kernel_model.specs.Laws.{one_answered, quiet}
 use Rattle.kernel_model.proofs.Told.{of_device, with_arrived}
 
 -- an event that is no turn
-unfoldable pub IsAnswer : Event → Type 0
-IsAnswer (Turn time) = ⊥
-IsAnswer (Alarmed now) = Unit {0}
-IsAnswer Taken = Unit {0}
-IsAnswer WriteDone = Unit {0}
-IsAnswer (Input bytes) = Unit {0}
-IsAnswer (Word word) = Unit {0}
-IsAnswer NoWord = Unit {0}
-IsAnswer (Stored moved) = Unit {0}
+abbrev pub IsAnswer : Event → Type 0
+IsAnswer event = is_turn event ≡ false
 
 -- what holds of all that drivers do to a process holds of what is its own after such an event
 pub of_answer : (P : Own → Own → Type 0) → OfEachService P → (settings : Settings) (event : Event) (r : Record)
     → IsAnswer event → P r.own (apply settings event r).own
-unfolding IsAnswer apply
-of_answer P each settings (Turn time) r is = absurd is
+unfolding apply
+of_answer P each settings (Turn time) r is = absurd (cc)
 of_answer P each settings (Alarmed now) r is = each.alarmed now r.own
 of_answer P each settings Taken r is = each.taken r.own
 of_answer P each settings WriteDone r is = each.write_done r.own
@@ -50,8 +42,8 @@ of_answer P each settings (Stored moved) r is = each.stored _ _ _ r.own
 pub answer_changes : (settings : Settings) (event : Event) (r : Record) → IsAnswer event
     → apply settings event r
     ≡ record r { own = (apply settings event r).own; storage = (apply settings event r).storage }
-unfolding IsAnswer apply
-answer_changes settings (Turn time) r is = absurd is
+unfolding apply
+answer_changes settings (Turn time) r is = absurd (cc)
 answer_changes settings (Alarmed now) r is = refl
 answer_changes settings Taken r is = refl
 answer_changes settings WriteDone r is = refl
@@ -61,29 +53,26 @@ answer_changes settings NoWord r is = refl
 answer_changes settings (Stored moved) r is = refl
 
 sent_is_answer : (completed : Bool) → IsAnswer (cond completed WriteDone Taken)
-unfolding IsAnswer
-sent_is_answer true = tt
-sent_is_answer false = tt
+sent_is_answer true = refl
+sent_is_answer false = refl
 
 drawn_is_answer : (drawn : Option ℕ) → IsAnswer (drawn_told as_events drawn)
-unfolding IsAnswer
-drawn_is_answer None = tt
-drawn_is_answer (Some word) = tt
+drawn_is_answer None = refl
+drawn_is_answer (Some word) = refl
 
 -- what holds of each answer that a device may give holds of what a device does
 pub of_answers : (w : World) (P : Stepped → Type 0) → P (unmade w) → ((devices : Devices) → P (quiet w devices))
     → ((slot : ℕ) (r : Record) → slice_get w.records slot ≡ Some r → (a : DeviceAnswer) → IsAnswer a.answer.event
     → P (one_answered w slot r a)) → (device : Dev) → P (done w (device_step_of w device))
-unfolding IsAnswer
 of_answers w P none quietly each device =
     of_device w P (record {
       none = none;
       arrives = λ a rest. quietly (with_arrived w.devices a rest);
-      alarms = λ slot r is. each slot r is (alarmed w.settings w.clock.time w.devices) tt;
+      alarms = λ slot r is. each slot r is (alarmed w.settings w.clock.time w.devices) refl;
       sends = λ slot r is. each slot r is (transmitting w.clock.time w.devices slot r) (sent_is_answer _);
-      receives = λ slot r is. each slot r is (receive_step w.devices slot r) tt;
+      receives = λ slot r is. each slot r is (receive_step w.devices slot r) refl;
       draws = λ slot r is. each slot r is (random_step w.devices slot r) (drawn_is_answer _);
-      stores = λ slot r is. each slot r is (storing w.devices slot r) tt;
+      stores = λ slot r is. each slot r is (storing w.devices slot r) refl;
     }) device
 
 -- what holds of each thing that a step may do to the process in a slot: of what its turn tells, if it has one, and of
@@ -121,8 +110,8 @@ module _ (w : World) (slot : ℕ) (P : List TurnTrace → Option Record → Type
       → P (flat_map (turns_in slot) (one_answered w at r a).labels)
       (slice_get (one_answered w at r a).after.records slot)
   of_answer_at at r there a is =
-      subst (λ (tolds : List TurnTrace). P tolds (slice_get (one_answered w at r a).after.records slot))
-      (sym (nothing_printed (turns_in slot) at a.answer.printed refl)) (by_slot (at == slot) refl)
+      subst (λ (told : Bool). P (cond (told && at == slot) (untraced ∷ []) [] ++ [])
+      (slice_get (one_answered w at r a).after.records slot)) (sym is) (by_slot (at == slot) refl)
     where
       s : Record
       s = apply w.settings a.answer.event r

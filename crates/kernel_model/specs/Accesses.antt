@@ -14,7 +14,7 @@ use Rattle.process_model.specs.Own.{Own}
 use Rattle.process_model.specs.Permission.{denied}
 use Rattle.kernel_model.specs.Record.{Record, byte_at}
 use Rattle.kernel_model.specs.Turn.{TurnTrace}
-use Rattle.kernel_model.specs.World.{World, Label, TurnOf, labels}
+use Rattle.kernel_model.specs.World.{World, Label, labels}
 use Rattle.kernel_model.specs.Replay.{after_all}
 
 -- an access that nothing denies a process, by its layout; a load or a store is at a multiple of its width
@@ -33,11 +33,10 @@ pub record IsUnknownCall (r : Record) (d : Denial) : Type 0 where
 abbrev pub DenialIsDue : Record → Denial → Type 0
 DenialIsDue r d = IsDueAt (denied r.own.layout) (byte_at r) r.process.regs d ⊎ IsUnknownCall r d
 
--- Of a label that a step tells: where it is one of a turn, there was a process in its slot before the step, and so it
--- is with what the turn told, and with the process as it was then.
+-- Of a label that a step tells: there was a process in its slot before the step, and so it is with what its turn told,
+-- and with the process as it was then.
 abbrev pub OfTurn : (Record → TurnTrace → Type 0) → World → Label → Type 0
-OfTurn P w (TurnOf slot time told) = (r : Record) × (slice_get w.records slot ≡ Some r) × P r told
-OfTurn P w label = Unit {0}
+OfTurn P w label = (r : Record) × (slice_get w.records label.slot ≡ Some r) × P r label.trace
 
 -- so it is with each turn of every run, whatever the choices and wherever it begins
 abbrev pub OfEachTurn : (Record → TurnTrace → Type 0) → Type 0

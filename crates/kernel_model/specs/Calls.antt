@@ -10,7 +10,8 @@ use Rattle.tbf_headers.specs.declared.fault.HeaderFault.{HeaderFault}
 use Rattle.tbf_headers.specs.declared.program.Main.{Main}
 use Rattle.tbf_headers.specs.Meaning.{Meaning, header_reading, region_in, region_count}
 use Rattle.syscall_filter.specs.Permission.{permitted}
-use Rattle.process_layout.specs.LayoutView.{first_break, permits_break}
+use Rattle.process_layout.specs.LayoutView.{first_break}
+use Rattle.process_layout.specs.Bounds.{permits_break}
 use Rattle.tk_base.specs.declared.upcall.Upcall.{Upcall as Scheduled}
 use Rattle.grant_values.specs.Drivers.{counts_of}
 use Rattle.tk_base.specs.Kinds.{count_of}
@@ -69,8 +70,7 @@ swap_refusal swap o =
     if is_none (counts_of swap.driver) then Some NoDriver
     else (if not (nat_lt swap.number (count_of swap.kind (shape_of swap.driver))) then Some NoNumber
     else (if not (may_share swap.kind o.layout swap.pair) then Some Outside
-    else (if not (has_place swap.driver o) then Some NoRoom
-    else None)))
+    else (if not (has_place swap.driver o) then Some NoRoom else None)))
 
 -- a swap that is refused hands back the passed pair
 abbrev pub failed_swap : ℕ × ℕ → CallRule → Reply
@@ -138,7 +138,8 @@ with_break_at r new = record r { own = own.with_moved_break new r.own }
 abbrev pub break_moved : Record → Option ℕ → Reply → Served
 break_moved r None reply = refused r Break
 break_moved r (Some new) reply =
-    if permits_break r.own.layout new then replied (with_break_at r new) reply else refused r Break
+    if permits_break r.own.layout (own.kernel_break_of r.own) new then replied (with_break_at r new) reply
+    else refused r Break
 
 -- the writeable flash regions that the header of an object names
 abbrev pub regions_named : Result Meaning HeaderFault → Option (List ℕ)
@@ -164,7 +165,7 @@ memops r argument =
     ∷ (3, replied r (SuccessU32 r.own.layout.end))
     ∷ (4, replied r (SuccessU32 r.process.object.address))
     ∷ (5, replied r (SuccessU32 (r.process.object.address + r.process.object.size)))
-    ∷ (6, replied r (SuccessU32 r.own.layout.kernel_break))
+    ∷ (6, replied r (SuccessU32 (own.kernel_break_of r.own)))
     ∷ (7, replied r (SuccessU32 (region_count (regions_named (header_reading r.object)))))
     ∷ (8, region_end r (λ region. region.0) (region r argument))
     ∷ (9, region_end r (λ region. region.0 + region.1) (region r argument))

@@ -15,7 +15,7 @@ use Rattle.kernel_model.specs.Record.{Record}
 use Rattle.kernel_model.specs.declared.settings.Settings.{Settings}
 use Rattle.kernel_model.specs.Turn.{Event, Turn, Alarmed, Input, Word, Stored, TurnTrace}
 use Rattle.kernel_model.specs.Turn.{apply, flash_of, turned}
-use Rattle.kernel_model.specs.World.{World, Label, TurnOf, Answered, Printed, after, labels}
+use Rattle.kernel_model.specs.World.{World, Label, after, labels}
 use Rattle.kernel_model.specs.Histories.{ends_life}
 use Rattle.kernel_model.specs.Choices.{Throughout}
 use Rattle.kernel_model.specs.Replay.{chosen, events}
@@ -63,14 +63,12 @@ Overwrites other r k = ⊥
 -- step: its own turn with such a cause; or an answer to it, inside the buffer that it held before the step for the
 -- device.
 abbrev pub IsCause : ℕ → Record → Record → ℕ → Label → Type 0
-IsCause slot r s at (TurnOf other time told) = (other ≡ slot) × IsDoneByTurn r s told at
-IsCause slot r s at (Answered other event) = (other ≡ slot) × IsInside (buffer_for event r.own) at
-IsCause slot r s at (Printed other bytes) = ⊥
+IsCause slot r s at label =
+    (label.slot ≡ slot) × (IsDoneByTurn r s label.trace at ⊎ IsInside (buffer_for label.event r.own) at)
 
 -- a label with the cause of a change of a byte of its storage
 abbrev pub IsStorageCause : ℕ → Record → ℕ → Label → Type 0
-IsStorageCause slot r k (Answered other event) = (other ≡ slot) × Overwrites event r k
-IsStorageCause slot r k label = ⊥
+IsStorageCause slot r k label = (label.slot ≡ slot) × Overwrites label.event r k
 
 -- a byte of the storage is as it was, or there is a cause
 abbrev pub StorageChangesAt : (ℕ → Type 0) → List ℕ → List ℕ → Type 0

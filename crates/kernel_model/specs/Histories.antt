@@ -10,15 +10,14 @@ use Rattle.tk_base.specs.declared.kinds.PairKind.{PairKind}
 use Rattle.tk_base.specs.declared.kinds.PairKind.TheVariants.{Upcall, ReadOnly, ReadWrite, Readable}
 use Rattle.process_record.specs.declared.emit.CallMade.{CallMade}
 use Rattle.kernel_model.specs.Record.{Record}
-use Rattle.kernel_model.specs.Turn.{TurnTrace}
-use Rattle.kernel_model.specs.World.{World, Label, TurnOf, after, labels}
+use Rattle.kernel_model.specs.Turn.{TurnTrace, is_turn}
+use Rattle.kernel_model.specs.World.{World, Label, after, labels, turn_label}
 use Rattle.kernel_model.specs.Replay.{after_all}
 use Rattle.kernel_model.specs.Laws.{CanStartAgain}
 
 -- what a label tells of a turn of the process in a slot
 abbrev pub turns_in : ℕ → Label → List TurnTrace
-turns_in slot (TurnOf other time told) = if other == slot then told ∷ [] else []
-turns_in slot label = []
+turns_in slot label = if is_turn label.event && label.slot == slot then label.trace ∷ [] else []
 
 -- what its turns told while some choices were made, one after another
 abbrev pub turns_of : ℕ → World → List Choice → List TurnTrace
@@ -88,7 +87,7 @@ swap_reply former pair = 130 ∷ former.0 ∷ former.1 ∷ pair.1 ∷ []
 abbrev pub GivesBackTheLast : World → ℕ → Type 0
 GivesBackTheLast w slot =
     (choices : List Choice) (time : ℕ) (told : TurnTrace) (made : CallMade) (key : PairKey) (pair : ℕ × ℕ) →
-    labels (after_all w choices) (Run slot) ≡ TurnOf slot time told ∷ [] →
+    labels (after_all w choices) (Run slot) ≡ turn_label slot time told ∷ [] →
     told.call ≡ Some made → handed_by key made ≡ Some pair →
     made.reply ≡ Some (swap_reply (last_pair key (reverse (turns_of slot w choices))) pair)
 

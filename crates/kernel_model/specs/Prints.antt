@@ -13,7 +13,7 @@ use Rattle.driver_model.specs.Console.{console, console_writes}
 use Rattle.driver_model.specs.Requests.{request_in}
 use Rattle.kernel_model.specs.Record.{Record}
 use Rattle.kernel_model.specs.Turn.{flash_of}
-use Rattle.kernel_model.specs.World.{World, Label, Printed, labels}
+use Rattle.kernel_model.specs.World.{World, Label, labels}
 use Rattle.kernel_model.specs.Replay.{after_all}
 use Rattle.kernel_model.specs.Wholes.{AllHaveWholeOwns}
 
@@ -37,9 +37,9 @@ pub record AreOfItsBuffer (bytes : List ℕ) (r : Record) : Type 0 where
 
 -- what a step prints, it prints of the buffer that the process of that slot held before the step
 abbrev pub PrintsItsBuffer : World → Label → Type 0
-PrintsItsBuffer w (Printed slot bytes) =
-    (is_some (slice_get w.records slot) ≡ true) × IfSome (slice_get w.records slot) (AreOfItsBuffer bytes)
-PrintsItsBuffer w label = Unit {0}
+PrintsItsBuffer w label = 0 < length label.printed →
+    let there = slice_get w.records label.slot in
+    (is_some there ≡ true) × IfSome there (AreOfItsBuffer label.printed)
 
 -- so it is in each step after any choices; no process that has ended prints anything
 abbrev pub PrintsAreOfBuffers : Type 0
@@ -52,10 +52,9 @@ CouldLoad r from count = (k : ℕ) → k < count → denied r.own.layout Load ((
 
 -- what a step prints, the process of that slot could load where it stood before the step
 abbrev pub PrintsWhatItCouldLoad : World → Label → Type 0
-PrintsWhatItCouldLoad w (Printed slot bytes) =
-    IfSome (slice_get w.records slot) (λ r.
-    IfSome (request_in console_writes r.own) (λ write. CouldLoad r write.taken (length bytes)))
-PrintsWhatItCouldLoad w label = Unit {0}
+PrintsWhatItCouldLoad w label =
+    IfSome (slice_get w.records label.slot) (λ r.
+    IfSome (request_in console_writes r.own) (λ write. CouldLoad r write.taken (length label.printed)))
 
 -- so it is in each step after any choices, from a world in which what is the processes' own is whole
 abbrev pub PrintsCouldBeLoaded : Type 0

@@ -9,7 +9,7 @@ use Rattle.process_record.specs.Process.{after_refusal, after_turn}
 use Rattle.kernel_model.specs.Record.{Record, with_process}
 use Rattle.kernel_model.specs.Calls.{failure_of}
 use Rattle.kernel_model.specs.Turn.{TurnTrace}
-use Rattle.kernel_model.specs.World.{World, Label, TurnOf, after, labels}
+use Rattle.kernel_model.specs.World.{World, Label, after, labels}
 
 -- the rule by which the call of a turn was refused
 abbrev pub refusal_in : TurnTrace → Option CallRule
@@ -37,8 +37,8 @@ pub record LeavesRefused (w v : World) (slot : ℕ) (rule : CallRule) : Type 0 w
 
 -- this of a label that tells a refusal, in a step from one world to another
 abbrev pub IfRefused : World → World → Label → Type 0
-IfRefused w v (TurnOf slot time told) = (rule : CallRule) → refusal_in told ≡ Some rule → LeavesRefused w v slot rule
-IfRefused w v label = Unit {0}
+IfRefused w v label =
+    (rule : CallRule) → refusal_in label.trace ≡ Some rule → LeavesRefused w v label.slot rule
 
 -- so it is in a step
 abbrev pub RefusedChangesLittle : World → Choice → Type 0

@@ -6,15 +6,13 @@ use Rattle.std.specs.Option.{option_map}
 use Rattle.tk_base.specs.declared.process.Choice.{Choice}
 use Rattle.kernel_model.specs.Record.{Record}
 use Rattle.kernel_model.specs.declared.settings.Settings.{Settings}
-use Rattle.kernel_model.specs.Turn.{Event, Turn, apply}
-use Rattle.kernel_model.specs.World.{World, Label, TurnOf, Answered, Printed, after, labels}
+use Rattle.kernel_model.specs.Turn.{Event, apply}
+use Rattle.kernel_model.specs.World.{World, Label, after, labels}
 use Rattle.kernel_model.specs.Run.{next, on_choice, round}
 
--- what of a step's labels happened to the process in a slot: its turn, or an answer to it
+-- what a label tells that happened to the process in a slot: its turn, or an answer to it
 abbrev pub happened : ℕ → Label → List Event
-happened slot (TurnOf other time told) = if other == slot then Turn time ∷ [] else []
-happened slot (Answered other event) = if other == slot then event ∷ [] else []
-happened slot (Printed other bytes) = []
+happened slot label = if label.slot == slot then label.event ∷ [] else []
 
 -- what a step does to it
 abbrev pub events : ℕ → World → Choice → List Event

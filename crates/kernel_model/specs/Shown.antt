@@ -1,12 +1,14 @@
 -- What a step and a world show: the facts of the report, and of one step. What is shown is this board's own rule.
-use Rattle.std.specs.Prelude.{◌≡◌, List, [], ◌∷◌, ◌++◌, map, Some}
+use Rattle.std.specs.Prelude.{◌≡◌, ◌==◌, Bool, true, false, not, ◌||◌, if◌then◌else◌, List, [], ◌∷◌, ◌++◌, length}
+use Rattle.std.specs.Prelude.{map, Some}
 use Rattle.process_record.specs.declared.emit.Emit.{Emit}
 use Rattle.process_record.specs.declared.summary.SlotLine.{SlotLine}
 use Rattle.process_record.specs.declared.summary.Summary.{Summary}
 use Rattle.process_record.specs.Emit.{nothing}
 use Rattle.process_record.specs.Name.{name_of}
 use Rattle.kernel_model.specs.Record.{Record}
-use Rattle.kernel_model.specs.World.{World, Label, TurnOf, Answered, Printed}
+use Rattle.kernel_model.specs.Turn.{is_turn}
+use Rattle.kernel_model.specs.World.{World, Label}
 
 -- what the report says of a process
 abbrev pub slot_line_of : Record → SlotLine
@@ -30,11 +32,15 @@ summary_of w = record {
   time = w.clock.time;
 }
 
--- what a step shows once it has told a label; of a device's answer nothing
+-- what a step shows once it has told a label; of an answer for which nothing was printed, nothing
 abbrev pub with_label : Label → Emit → Emit
-with_label (TurnOf slot time told) e = record e { slot = Some slot; made = told.call; denial = told.denial }
-with_label (Answered slot event) e = e
-with_label (Printed slot bytes) e = record e { slot = Some slot; printed = record { items = bytes ++ e.printed.items } }
+with_label label e =
+    if is_turn label.event || not (length label.printed == 0) then record {
+      slot = Some label.slot;
+      made = label.trace.call;
+      denial = label.trace.denial;
+      printed = record { items = label.printed ++ e.printed.items };
+    } else e
 
 -- what a step shows that told these labels
 unfoldable pub shown_by : List Label → Emit
@@ -43,5 +49,6 @@ shown_by (label ∷ labels) = with_label label (shown_by labels)
 
 -- a turn that is told is shown: its slot, its call, and its denial with address and rule
 abbrev pub IsShownIn : Emit → Label → Type 0
-IsShownIn emit (TurnOf slot time told) = (emit.slot ≡ Some slot) × (emit.made ≡ told.call) × (emit.denial ≡ told.denial)
-IsShownIn emit label = Unit {0}
+IsShownIn emit label =
+    is_turn label.event ≡ true →
+    (emit.slot ≡ Some label.slot) × (emit.made ≡ label.trace.call) × (emit.denial ≡ label.trace.denial)

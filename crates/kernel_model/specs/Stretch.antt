@@ -1,20 +1,20 @@
 -- Quiet stretches: turns of processes, one after another, that only execute an instruction.
-use Rattle.std.specs.Prelude.{◌≡◌, ◌≤◌, ◌<◌, ℕ, zero, suc, ◌+◌, ◌-◌, [], length, slice_get, slice_set, Some, None, All}
+use Rattle.std.specs.Prelude.{◌≡◌, ◌≤◌, ◌<◌, ℕ, zero, suc, ◌+◌, ◌-◌, true, [], length, slice_get, slice_set, Some, None, All}
 use Rattle.tk_base.specs.declared.limits.TheConstants.{STEP_LIMIT}
 use Rattle.tk_base.specs.declared.process.Choice.TheVariants.{Run}
 use Rattle.rv32_model.specs.declared.turn_end.TurnEnd.TheVariants.{Went}
 use Rattle.process_record.specs.declared.process.State.TheVariants.{Running}
 use Rattle.turn_scheduler.specs.RoundRobin.{next_slot, ready_device, used_after}
 use Rattle.kernel_model.specs.Record.{Record, instruction, with_effect}
-use Rattle.kernel_model.specs.Turn.{turn_counted}
-use Rattle.kernel_model.specs.World.{World, Label, TurnOf, Answered, Printed}
+use Rattle.kernel_model.specs.Turn.{is_turn, turn_counted}
+use Rattle.kernel_model.specs.World.{World, Label}
 use Rattle.kernel_model.specs.Run.{next, printed, ready_devices, ready_slots, round, told_first}
 
 -- a turn that made no call, wrote no flag and was not denied
 abbrev pub IsQuietTurn : Label → Type 0
-IsQuietTurn (TurnOf slot time told) = (told.call ≡ None) × (told.flag ≡ None) × (told.denial ≡ None)
-IsQuietTurn (Answered slot event) = ⊥
-IsQuietTurn (Printed slot bytes) = ⊥
+IsQuietTurn label =
+    (is_turn label.event ≡ true) × (label.printed ≡ [])
+    × (label.trace.call ≡ None) × (label.trace.flag ≡ None) × (label.trace.denial ≡ None)
 
 -- the round robin's next so many steps are quiet turns, and lead to a world
 pub record IsStretch (k : ℕ) (w after : World) : Type 0 where

@@ -48,6 +48,14 @@ pub record TurnTrace : Type 0 where
   pub flag : Option ℕ
   pub denial : Option Denial
 
+-- no call, no flag and no denial
+abbrev pub only_accessed : List MemoryAccess → TurnTrace
+only_accessed accesses = record { accesses = accesses; call = None; flag = None; denial = None }
+
+-- what is told of what is no turn
+abbrev pub untraced : TurnTrace
+untraced = only_accessed []
+
 -- what a turn leaves, what it tells, and what the board is to do for it
 pub record Turned : Type 0 where
   pub after : Record
@@ -86,7 +94,7 @@ settled r Restart = restart r
 abbrev pub faulted : Settings → Record → Denial → Turned
 faulted settings r denial = record {
   after = settled (with_process r (after_fault r.process denial)) (decision settings.policy r.process.restarts);
-  told = record { accesses = []; call = None; flag = None; denial = Some denial };
+  told = record untraced { denial = Some denial };
   acts = leaving_all;
 }
 
@@ -104,11 +112,9 @@ yield_flag_of r form = None
 abbrev pub called : Record → List MemoryAccess → SystemCall → Served → Turned
 called r accesses call s = record {
   after = s.after;
-  told = record {
-    accesses = accesses;
+  told = record (only_accessed accesses) {
     call = Some (made r.process.regs s.outcome);
     flag = yield_flag_of r (form_of call);
-    denial = None;
   };
   acts = s.acts;
 }
@@ -129,11 +135,7 @@ calls settings time r accesses None = faulted settings r (unknown_call r.process
 
 -- what the end of an instruction asks for, once its effect stands; a denied one had none
 abbrev pub at_turn_end : Settings → ℕ → Record → List MemoryAccess → TurnEnd → Turned
-at_turn_end settings time r accesses Went = record {
-  after = r;
-  told = record { accesses = accesses; call = None; flag = None; denial = None };
-  acts = [];
-}
+at_turn_end settings time r accesses Went = record { after = r; told = only_accessed accesses; acts = [] }
 at_turn_end settings time r accesses Call = calls settings time r accesses (call_of r.process.regs)
 at_turn_end settings time r accesses (Trap denial) = faulted settings r denial
 
@@ -148,7 +150,7 @@ instructed settings time r = let t = instruction r in
 
 -- nothing was done
 abbrev pub idle : Record → Turned
-idle r = record { after = r; told = record { accesses = []; call = None; flag = None; denial = None }; acts = [] }
+idle r = record { after = r; told = untraced; acts = [] }
 
 -- a process that waits gets the first of its pending upcalls, which is its turn (TRD 104, "Yield")
 abbrev pub delivery : Record → List Upcall → Turned
@@ -177,6 +179,11 @@ pub data Event : Type 0 where
   Word : (word : ℕ) → Event
   NoWord : Event
   Stored : (moved : Bool) → Event
+
+-- whether an event is a turn
+abbrev pub is_turn : Event → Bool
+is_turn (Turn time) = true
+is_turn other = false
 
 -- flash as a process knows it, by address: its object in its place
 abbrev pub flash_of : Record → ℕ → ℕ

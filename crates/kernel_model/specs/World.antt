@@ -13,20 +13,22 @@ use Rattle.process_record.specs.Summary.{Unplaced}
 use Rattle.turn_scheduler.specs.RoundRobin.{used_after}
 use Rattle.kernel_model.specs.Record.{Record}
 use Rattle.kernel_model.specs.declared.settings.Settings.{Settings}
-use Rattle.board_devices.specs.Arriving.{is_time}
+use Rattle.board_devices.specs.Arriving.{first_arrival_time, is_time}
 use Rattle.board_devices.specs.Clock.{clock_at}
 use Rattle.board_devices.specs.SerialLine.{SerialLine, with_input}
 use Rattle.board_devices.specs.Storage.{is_fault}
 use Rattle.script_text.specs.Settings.{ScriptEvent as Arrival}
 use Rattle.process_model.specs.Own.{Own}
 use Rattle.driver_model.specs.Alarm as alarm
+use Rattle.driver_model.specs.Alarm.{nearer}
 use Rattle.driver_model.specs.Console as console
 use Rattle.driver_model.specs.Random as random
 use Rattle.driver_model.specs.Storage as storage
 use Rattle.driver_model.specs.Leds.{with_switched}
 use Rattle.driver_model.specs.Told.{Telling, drawn_told, received_told, sent_told, stored_told}
 use Rattle.driver_model.specs.Commands.{BoardRequest, Waits, Leaves, Lights, QueueName, Writes, Reads, Randoms, Stores}
-use Rattle.kernel_model.specs.Turn.{Event, Alarmed, Taken, WriteDone, Input, Word, NoWord, Stored, TurnTrace, Turned}
+use Rattle.kernel_model.specs.Turn.{Event, Turn, Alarmed, Taken, WriteDone, Input, Word, NoWord, Stored, TurnTrace, Turned}
+use Rattle.kernel_model.specs.Turn.{untraced}
 use Rattle.kernel_model.specs.Turn.{apply, flash_of, turned, may_turn}
 
 -- what of the settings no process sees: how many turns a slice has
@@ -72,11 +74,26 @@ pub record World : Type 0 where
   pub clock : Clock
   pub present : Present
 
--- what a step tells: whose turn it was, and what it did; what a device answered whom; what was printed for whom
-pub data Label : Type 0 where
-  TurnOf : (slot time : ℕ) → TurnTrace → Label
-  Answered : (slot : ℕ) → Event → Label
-  Printed : (slot : ℕ) → List ℕ → Label
+-- What a step tells of a process: its slot; what happened to it, its turn or what a device told it; what it did, where
+-- that was its turn; what was printed for it.
+pub record Label : Type 0 where
+  pub slot : ℕ
+  pub event : Event
+  pub trace : TurnTrace
+  pub printed : List ℕ
+
+-- of a turn at a time
+abbrev pub turn_label : ℕ → ℕ → TurnTrace → Label
+turn_label slot time trace = record { slot = slot; event = Turn time; trace = trace; printed = [] }
+
+-- what a step tells a process, and what is printed for it
+pub record Answer : Type 0 where
+  pub event : Event
+  pub printed : List ℕ
+
+-- of what a process was told
+abbrev pub answer_label : ℕ → Answer → Label
+answer_label slot a = record { slot = slot; event = a.event; trace = untraced; printed = a.printed }
 
 -- whether there is a process that can have a turn
 abbrev pub can_run : Option Record → Bool
@@ -89,11 +106,6 @@ now_in w = clock_at w.settings.start w.clock.time
 -- what each slot's process has as its own
 abbrev pub owns_in : World → List Own
 owns_in w = map (λ r. r.own) w.records
-
--- what a step tells a process, and what is printed for it
-pub record Answer : Type 0 where
-  pub event : Event
-  pub printed : List ℕ
 
 -- what a device does for one process: what it tells it, and the devices afterwards
 pub record DeviceAnswer : Type 0 where
@@ -237,15 +249,37 @@ can_act_at time now owns d dev.Receive = is_waited_for (slots_in Reads d.waiting
 can_act_at time now owns d dev.Random = is_waited_for (slots_in Randoms d.waiting)
 can_act_at time now owns d dev.Store = is_waited_for (slots_in Stores d.waiting)
 
--- whether one is in a world
+-- when the UART is free again, where a write waits
+abbrev pub sending_time : Devices → Option ℕ
+sending_time d = if is_waited_for (slots_in Writes d.waiting) then Some d.line.free else None
+
+-- What there is to do for the devices: which device steps are ready now; and the nearest time at which one becomes
+-- ready by itself: bytes come in, an alarm becomes due, or the UART is free for a write that waits.
+pub record Work : Type 0 where
+  pub ready : Dev → Bool
+  pub next : Option ℕ
+
+-- the work at a time with what the clock shows then, by what processes keep and by the devices
+abbrev pub work_at : ℕ → ℕ → List Own → Devices → Work
+work_at time now owns d = record {
+  ready = can_act_at time now owns d;
+  next = nearer (first_arrival_time d.arrivals)
+      (nearer (option_map (λ left. time + left) (alarm.next_left now owns)) (sending_time d));
+}
+
+-- that of a world
+abbrev pub work_of : World → Work
+work_of w = work_at w.clock.time (now_in w) (owns_in w) w.devices
+
+-- whether a device step is ready
 abbrev pub can_act : World → Dev → Bool
-can_act w device = can_act_at w.clock.time (now_in w) (owns_in w) w.devices device
+can_act w device = (work_of w).ready device
 
 -- whether a choice may be made: below the limit of steps a slot whose process can have a turn, a device step that is
 -- ready, and a pass of some ticks
 unfoldable pub may_be_made : World → Choice → Bool
 may_be_made w (Run slot) = can_run (slice_get w.records slot)
-may_be_made w (Device device) = can_act w device
+may_be_made w (Device device) = (work_of w).ready device
 may_be_made w (Pass ticks) = nat_lt 0 ticks
 
 -- whether a choice may be made: it is ready, and the limit of steps is not reached
@@ -287,7 +321,7 @@ abbrev pub ran : World → ℕ → Option Record → Stepped
 ran w slot None = unmade w
 ran w slot (Some r) =
     let t = turned w.settings w.clock.time r in
-    record { after = after_turn_of w slot t; labels = TurnOf slot w.clock.time t.told ∷ [] }
+    record { after = after_turn_of w slot t; labels = turn_label slot w.clock.time t.told ∷ [] }
 
 -- a record once its process was told something, or nothing
 abbrev pub happens : Settings → Option Answer → Record → Record
@@ -300,14 +334,10 @@ records_told settings told [] = []
 records_told settings told (r ∷ rs) =
     happens settings (told 0) r ∷ records_told settings (λ slot. told (suc slot)) rs
 
--- what was printed for a process
-abbrev pub printing : ℕ → List ℕ → List Label
-printing slot bytes = if length bytes == 0 then [] else Printed slot bytes ∷ []
-
--- what a step tells of a slot: what its process was told, and what was printed for it
+-- what a step tells of a slot, if its process was told anything
 abbrev pub labels_of : ℕ → Option Answer → List Label
 labels_of slot None = []
-labels_of slot (Some answer) = Answered slot answer.event ∷ printing slot answer.printed
+labels_of slot (Some answer) = answer_label slot answer ∷ []
 
 -- and of the slots in order, from one on
 abbrev pub labels_told : (ℕ → Option Answer) → ℕ → List Record → List Label

@@ -1,6 +1,6 @@
 -- How the memory of a process is laid out (TRD 104, "Memop"; Levy et al., SOSP 2017, section 4): its accessible flash,
 -- and its block of RAM with the mark, the break and the kernel break. Roundings are this board's own rule.
-use Rattle.std.specs.Prelude.{ℕ, ◌+◌, Bool, ◌&&◌, nat_le}
+use Rattle.std.specs.Prelude.{ℕ, ◌+◌}
 use Rattle.tk_base.specs.Numbers.{rounded_up}
 
 -- Where a process's memory lies. Its accessible flash is from flash_start up to flash_end and its
@@ -15,12 +15,6 @@ pub record LayoutView : Type 0 where
   pub kernel_break : ℕ
   pub mark : ℕ
 
--- whether the break may be moved (TRD 104, "Memop", brk): rounded up to a multiple of 4 it lies in
--- the block, not above the kernel break and not below the end of an allowed buffer
-abbrev pub permits_break : LayoutView → ℕ → Bool
-permits_break e new =
-    nat_le e.start (rounded_up new) && nat_le (rounded_up new) e.kernel_break && nat_le e.mark (rounded_up new)
-
 -- where the memory of a process lies with its first break: there are no grants and no buffers (TRD 104, "Exit";
 -- Levy et al., SOSP 2017)
 abbrev pub with_break : ℕ → LayoutView → LayoutView
@@ -30,16 +24,15 @@ with_break brk e = record e { brk = brk; kernel_break = e.end; mark = e.start }
 abbrev pub first_break : ℕ → ℕ → ℕ
 first_break start minimum_ram = rounded_up (start + minimum_ram)
 
--- where it lies at the process's start, by the ends of its accessible flash and of its block
+-- where it lies at the process's start, by the ends of its accessible flash and of its block, with its first break: there
+-- are no grants and no buffers
 abbrev pub extents_at_start : ℕ → ℕ → ℕ → ℕ → ℕ → LayoutView
-extents_at_start flash_start flash_end start end minimum_ram =
-    with_break (first_break start minimum_ram)
-    (record {
-      flash_start = flash_start;
-      flash_end = flash_end;
-      start = start;
-      end = end;
-      brk = start;
-      kernel_break = end;
-      mark = start;
-    })
+extents_at_start flash_start flash_end start end minimum_ram = record {
+  flash_start = flash_start;
+  flash_end = flash_end;
+  start = start;
+  end = end;
+  brk = first_break start minimum_ram;
+  kernel_break = end;
+  mark = start;
+}

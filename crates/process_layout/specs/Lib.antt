@@ -1,4 +1,5 @@
 pub mod Interval
 pub mod LayoutView
+pub mod Bounds
 pub mod Ordered
 pub mod Permission

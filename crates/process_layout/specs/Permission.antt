@@ -25,8 +25,7 @@ denied_in_ram Store = None
 abbrev pub denied_by_intervals : ℕ → ℕ → ℕ → ℕ → Access → ℕ → Width → Option Rule
 denied_by_intervals flash_start flash_end start brk access at width =
     if lies_within flash_start flash_end at (width_bytes width) then denied_in_flash access
-    else (if lies_within start brk at (width_bytes width) then denied_in_ram access
-    else Some NoRegion)
+    else (if lies_within start brk at (width_bytes width) then denied_in_ram access else Some NoRegion)
 
 -- which rule denies a process an access, if one does: its accessible flash is from flash_start up
 -- to flash_end and its accessible RAM from start up to brk

@@ -74,7 +74,8 @@ impl Model for Layout {
 
 impl Layout {
     ghost use Rattle.tk_base.specs.Numbers.{rounded_up};
-    ghost use Rattle.process_layout.specs.LayoutView.{permits_break, first_break, with_break, extents_at_start};
+    ghost use Rattle.process_layout.specs.LayoutView.{first_break, with_break, extents_at_start};
+    ghost use Rattle.process_layout.specs.Bounds.{bounds_of, permits_break};
     ghost use Rattle.process_layout.specs.Interval.{lies_within};
 
     /// Where the memory of a process lies at its start (TRD 104, "Exit"; Levy et al., SOSP 2017), by
@@ -112,7 +113,7 @@ impl Layout {
     /// the kernel break, or below the mark; then nothing changes. An address that rounds to `2^32`
     /// is above every kernel break.
     pub fn set_break(&mut self, new: u32) -> bool
-        ensures answer { result ≡ permits_break self.old new }
+        ensures answer { result ≡ permits_break (bounds_of self.old) self.old.kernel_break new }
         ensures moved { OnTrue result (self.new ≡ record self.old { brk = rounded_up new }) }
         ensures refused { OnFalse result (self.new ≡ self.old) }
     {

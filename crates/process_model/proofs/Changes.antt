@@ -16,14 +16,14 @@ use Rattle.tk_base.specs.Regs.{Registers}
 use Rattle.rv32_model.specs.declared.turn_end.TurnEnd.TheVariants.{Went}
 use Rattle.rv32_model.specs.UserTurn.{UserTurn, Write, touch_of}
 use Rattle.rv32_model.specs.Laws.{WritesAreListed, WritesArePermitted, stores_at}
-use Rattle.process_layout.specs.LayoutView.{LayoutView}
+use Rattle.process_layout.specs.Bounds.{Bounds}
 use Rattle.process_layout.specs.Interval.{lies_within}
 use Rattle.tk_base.specs.declared.kinds.PairKind.{PairKind}
 use Rattle.tk_base.specs.declared.kinds.PairKind.TheVariants.{Upcall, ReadOnly, ReadWrite, Readable}
 use Rattle.tk_base.specs.Kinds.{is_buffer, is_writable}
-use Rattle.grant_model.specs.Grants.{Grant, grant_of}
-use Rattle.grant_region.specs.Region.{roomed}
-use Rattle.process_model.specs.Own.{Own}
+use Rattle.grant_model.specs.Grants.{with_pair}
+use Rattle.grant_model.proofs.Costs.{same_costs}
+use Rattle.process_model.specs.Own.{Own, kernel_break_of}
 use Rattle.process_model.specs.Permission.{denied}
 use Rattle.process_model.specs.Instruction.{instruction_of, ram_after, with_write}
 use Rattle.process_model.specs.Handed.{may_keep, own_entering, handing, held, lies_in_ram, marked, raised}
@@ -82,7 +82,7 @@ not_denied false false false e = cc
 starts : (from to at size : ℕ) → lies_within from to at size ≡ true → from ≤ at
 starts from to at size e = grind (arith, nat_tests)
 
-store_starts : (e : LayoutView) (at : ℕ) (width : Width) → denied e Store at width ≡ None → e.start ≤ at
+store_starts : (e : Bounds) (at : ℕ) (width : Width) → denied e Store at width ≡ None → e.start ≤ at
 unfolding denied
 store_starts e at width none =
     starts e.start e.brk at (width_bytes width)
@@ -201,7 +201,7 @@ written_at ram bytes start from size offset a lies low high = by_room (cases_lt 
         (over_nothing ram (from - start + offset) (size - offset) bytes (omega arith)))
 
 -- a buffer that the kernel may write has no bytes, or lies in accessible RAM
-pub keeps_in_ram : (kind : PairKind) (e : LayoutView) (buffer : ℕ × ℕ) → IsTrue (is_writable kind)
+pub keeps_in_ram : (kind : PairKind) (e : Bounds) (buffer : ℕ × ℕ) → IsTrue (is_writable kind)
     → IsTrue (may_keep kind e buffer) → (buffer.1 == 0 || lies_in_ram e buffer.0 buffer.1) ≡ true
 keeps_in_ram Upcall e buffer can may = absurd (cc)
 keeps_in_ram ReadOnly e buffer can may = absurd (cc)
@@ -209,14 +209,14 @@ keeps_in_ram ReadWrite e buffer can may = may
 keeps_in_ram Readable e buffer can may = may
 
 -- a pair of zeros may be kept, whatever its kind
-pub keeps_none : (kind : PairKind) (e : LayoutView) → IsTrue (may_keep kind e (0, 0))
+pub keeps_none : (kind : PairKind) (e : Bounds) → IsTrue (may_keep kind e (0, 0))
 keeps_none Upcall e = refl
 keeps_none ReadOnly e = refl
 keeps_none ReadWrite e = refl
 keeps_none Readable e = refl
 
 -- such a buffer with bytes begins in the block
-begins : (e : LayoutView) (buffer : ℕ × ℕ) → (buffer.1 == 0 || lies_in_ram e buffer.0 buffer.1) ≡ true → 0 < buffer.1
+begins : (e : Bounds) (buffer : ℕ × ℕ) → (buffer.1 == 0 || lies_in_ram e buffer.0 buffer.1) ≡ true → 0 < buffer.1
     → e.start ≤ buffer.0
 begins e buffer may some = by_size (buffer.1 == 0) (lies_in_ram e buffer.0 buffer.1) refl refl may
   where
@@ -237,51 +237,43 @@ changes_written kind driver number offset bytes own can whole a before after =
     (omega (arith, before.0, before.1, whole.bytes))
 
 -- bytes that are cut at the kernel break stay up to there
-cut : (own o : Own) (e : LayoutView) → o.layout.start ≡ e.start → o.layout.kernel_break ≡ e.kernel_break
-    → e.start ≡ own.layout.start → o.ram ≡ take (e.kernel_break - e.start) own.ram → KeepsBytes own o
-cut own o e start grants same ram a before after =
-    ap₂ (λ (xs : List ℕ) (s : ℕ). slice_index xs (a - s)) ram (start ∙ same)
-    ∙ get_or-take (e.kernel_break - e.start) own.ram (a - own.layout.start) 0
-    (omega (arith, before.0, after.1, start, grants, same))
+cut : (own o : Own) (kernel_break : ℕ) → kernel_break_of o ≡ kernel_break → o.layout.start ≡ own.layout.start
+    → o.ram ≡ take (kernel_break - own.layout.start) own.ram → KeepsBytes own o
+cut own o kernel_break ends start ram a before after =
+    ap₂ (λ (xs : List ℕ) (s : ℕ). slice_index xs (a - s)) ram start
+    ∙ get_or-take (kernel_break - own.layout.start) own.ram (a - own.layout.start) 0
+    (omega (arith, before.0, after.1, start, ends))
 
-room_start : (driver : ℕ) (e : LayoutView) (found : Option Grant) → (roomed driver e found).start ≡ e.start
-room_start driver e None = refl
-room_start driver e (Some g) = refl
+-- a mark moves neither the start of the block nor its end
+abbrev Stays : Bounds → Bounds → Type 0
+Stays e f = (f.start ≡ e.start) × (f.end ≡ e.end)
 
--- a mark moves neither the start nor the kernel break
-raised_stays : (pair : ℕ × ℕ) (e : LayoutView)
-    → ((raised pair e).start ≡ e.start) × ((raised pair e).kernel_break ≡ e.kernel_break)
+raised_stays : (pair : ℕ × ℕ) (e : Bounds) → Stays e (raised pair e)
 raised_stays pair e = by_tests (pair.1 == 0) (lies_in_ram e pair.0 pair.1)
   where
-    Stays : LayoutView → Type 0
-    Stays x = (x.start ≡ e.start) × (x.kernel_break ≡ e.kernel_break)
-
-    by_tests : (none ram : Bool) → Stays (cond none e (cond ram (record e { mark = max e.mark (pair.0 + pair.1) }) e))
+    by_tests : (none ram : Bool) → Stays e (cond none e (cond ram (record e { mark = max e.mark (pair.0 + pair.1) }) e))
     by_tests true ram = (refl, refl)
     by_tests false true = (refl, refl)
     by_tests false false = (refl, refl)
 
-marked_stays : (kind : PairKind) (pair : ℕ × ℕ) (e : LayoutView)
-    → ((marked kind pair e).start ≡ e.start) × ((marked kind pair e).kernel_break ≡ e.kernel_break)
+marked_stays : (kind : PairKind) (pair : ℕ × ℕ) (e : Bounds) → Stays e (marked kind pair e)
 marked_stays kind pair e = by_test (is_buffer kind)
   where
-    by_test : (b : Bool)
-        → ((cond b (raised pair e) e).start ≡ e.start) × ((cond b (raised pair e) e).kernel_break ≡ e.kernel_break)
+    by_test : (b : Bool) → Stays e (cond b (raised pair e) e)
     by_test true = raised_stays pair e
     by_test false = (refl, refl)
 
 keeps_entering : (driver : ℕ) (own : Own) → KeepsBytes own (own_entering driver own)
 keeps_entering driver own =
-    cut own (own_entering driver own) (own_entering driver own).layout refl refl
-    (room_start driver own.layout (grant_of driver own.grants)) refl
+    cut own (own_entering driver own) (kernel_break_of (own_entering driver own)) refl refl refl
 
 keeps_handing : (kind : PairKind) (driver number : ℕ) (pair : ℕ × ℕ) (own : Own)
     → KeepsBytes own (handing kind driver number pair own)
 keeps_handing kind driver number pair own =
-    let e = (own_entering driver own).layout in
-    let stays = marked_stays kind pair e in
-    cut own (handing kind driver number pair own) e stays.0 stays.1
-    (room_start driver own.layout (grant_of driver own.grants)) refl
+    let o = own_entering driver own in
+    let stays = marked_stays kind pair own.layout in
+    cut own (handing kind driver number pair own) (kernel_break_of o)
+    (ap₂ ◌-◌ stays.1 (same_costs driver (with_pair kind number pair) o.grants (λ g. refl))) stays.0 refl
 
 pub only_writes_change_bytes : WritesAreListed → WritesArePermitted → OnlyWritesChangeBytes
 only_writes_change_bytes listed permitted = record {

@@ -7,7 +7,7 @@ use Rattle.rv32_model.specs.declared.turn_end.TurnEnd.TheVariants.{Went}
 use Rattle.rv32_model.specs.Laws.{stores_at}
 use Rattle.tk_base.specs.declared.kinds.PairKind.{PairKind}
 use Rattle.tk_base.specs.Kinds.{is_writable}
-use Rattle.process_model.specs.Own.{Own}
+use Rattle.process_model.specs.Own.{Own, kernel_break_of}
 use Rattle.process_model.specs.Instruction.{instruction_of, with_write}
 use Rattle.process_model.specs.Handed.{HoldsInPlace, own_entering, handing, held}
 use Rattle.process_model.specs.Flag.{flag_place, with_flag}
@@ -15,7 +15,7 @@ use Rattle.process_model.specs.Served.{with_written}
 
 -- an address at which a byte of the process's own lies: from the start of its block on, below its kernel break
 abbrev pub IsOwnAddress : ℕ → Own → Type 0
-IsOwnAddress at own = (own.layout.start ≤ at) × (at < own.layout.kernel_break)
+IsOwnAddress at own = (own.layout.start ≤ at) × (at < kernel_break_of own)
 
 -- the byte there
 abbrev pub own_byte : Own → ℕ → ℕ
@@ -24,7 +24,7 @@ own_byte own at = slice_index own.ram (at - own.layout.start)
 -- a process's own as it always is: there are as many bytes as the layout says, and each buffer that it has allowed lies
 -- where it may be allowed
 pub record IsWhole (own : Own) : Type 0 where
-  pub bytes : length own.ram ≡ own.layout.kernel_break - own.layout.start
+  pub bytes : length own.ram ≡ kernel_break_of own - own.layout.start
   pub buffers : HoldsInPlace own
 
 -- each byte that is the process's own before and after is as it was, or there is a cause at its address

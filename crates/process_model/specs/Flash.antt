@@ -1,7 +1,7 @@
 -- What of flash is a process's own: the bytes of its object (Tock Binary Format, "TBF Header Base").
 use Rattle.std.specs.Prelude.{◌≡◌, ◌≤◌, ℕ, ◌+◌, ◌-◌, IsTrue, List, length, slice_index, slice_range}
 use Rattle.tk_base.specs.declared.access.TheConstants.{FLASH_START}
-use Rattle.process_layout.specs.LayoutView.{LayoutView}
+use Rattle.process_layout.specs.Bounds.{Bounds}
 use Rattle.tk_base.specs.declared.kinds.PairKind.TheVariants.{ReadOnly}
 use Rattle.process_model.specs.declared.place.Object.{Object}
 use Rattle.process_model.specs.Own.{Own}
@@ -9,7 +9,7 @@ use Rattle.process_model.specs.Handed.{may_share}
 use Rattle.process_model.specs.Served.{bytes_at}
 
 -- a process's object lies in so many bytes of flash, and its accessible flash in the object
-pub record HasObject (flash : ℕ) (object : Object) (e : LayoutView) : Type 0 where
+pub record HasObject (flash : ℕ) (object : Object) (e : Bounds) : Type 0 where
   pub from : FLASH_START ≤ object.address
   pub to : object.address + object.size ≤ FLASH_START + flash
   pub accessible_from : object.address ≤ e.flash_start

@@ -4,8 +4,9 @@
 use Rattle.std.specs.Prelude.{ℕ, ◌+◌, ◌-◌, Bool, true, false, List, [], ◌++◌, replicate, drop}
 use Rattle.tk_base.specs.Numbers.{rounded_up}
 use Rattle.upcall_queue.specs.declared.inbox.Inbox.{Inbox}
-use Rattle.process_layout.specs.LayoutView.{LayoutView, with_break}
-use Rattle.grant_model.specs.Grants.{Grant}
+use Rattle.process_layout.specs.LayoutView.{LayoutView}
+use Rattle.process_layout.specs.Bounds.{Bounds, bounds_of, layout_within}
+use Rattle.grant_model.specs.Grants.{Grant, costs}
 use Rattle.grant_model.specs.Encoding.{encode_grants}
 use Rattle.process_model.specs.declared.place.Object.{Object}
 use Rattle.process_model.specs.declared.place.Footprint.{Footprint}
@@ -14,7 +15,7 @@ use Rattle.process_model.specs.declared.place.Footprint.{Footprint}
 -- lives it is in, counted from 0, and whether it lives; how many upcalls were dropped.
 pub record Own : Type 0 where
   pub object : Object
-  pub layout : LayoutView
+  pub layout : Bounds
   -- the bytes of the block below the kernel break: the process's
   pub ram : List ℕ
   -- its grants, the last entered first; their bytes fill the block from the kernel break on
@@ -24,37 +25,44 @@ pub record Own : Type 0 where
   pub life : ℕ
   pub lives : Bool
 
+-- the kernel break: the block's end less what the drivers that were entered cost
+abbrev pub kernel_break_of : Own → ℕ
+kernel_break_of own = own.layout.end - costs own.grants
+
+-- how all of its memory is laid out
+abbrev pub layout_of : Own → LayoutView
+layout_of own = layout_within own.layout (kernel_break_of own)
+
 -- the bytes of the block: the process's own, and its grants
 abbrev pub block_of : Own → List ℕ
 block_of own = own.ram ++ encode_grants own.grants
 
--- a process in its place, before its first turn: its block is zero, and it has no grants
-abbrev pub opened : Footprint → Own
-opened f = record {
-  object = f.object;
-  layout = f.layout;
-  ram = replicate (f.layout.kernel_break - f.layout.start) 0;
+-- a process in its place at the start of a life: its block is zero, and it has no grants
+abbrev pub at_start : Object → Bounds → Inbox → ℕ → Own
+at_start object e inbox life = record {
+  object = object;
+  layout = e;
+  ram = replicate (e.end - e.start) 0;
   grants = [];
-  inbox = record { pending = []; dropped = 0 };
-  life = 0;
+  inbox = inbox;
+  life = life;
   lives = true;
 }
+
+-- before its first turn
+abbrev pub opened : Footprint → Own
+opened f = at_start f.object (bounds_of f.layout) (record { pending = []; dropped = 0 }) 0
 
 -- a process whose break was moved to an address, rounded up to a multiple of 4 (TRD 104, "Memop")
 abbrev pub with_moved_break : ℕ → Own → Own
 with_moved_break new own = record own { layout = record own.layout { brk = rounded_up new } }
 
--- a process that starts again, with its first break: its block is zeroed, it has no grants and no pending upcalls, and
--- its next life begins; how many upcalls were dropped stays
+-- a process that starts again, with its first break: its next life begins, its block is zeroed, it has no grants and no
+-- pending upcalls; how many upcalls were dropped stays
 abbrev pub own_restarted : ℕ → Own → Own
-own_restarted brk own = record own {
-  layout = with_break brk own.layout;
-  ram = replicate (own.layout.end - own.layout.start) 0;
-  grants = [];
-  inbox = record own.inbox { pending = [] };
-  life = own.life + 1;
-  lives = true;
-}
+own_restarted brk own =
+    at_start own.object (record own.layout { brk = brk; mark = own.layout.start }) (record own.inbox { pending = [] })
+    (own.life + 1)
 
 -- a process that ended: it has no pending upcalls, and its memory stays as it is
 abbrev pub own_ended : Own → Own

@@ -54,8 +54,7 @@ ram_at own buffer = slice_range own.ram (buffer.0 - own.layout.start) (buffer.0 
 -- the bytes of a buffer that may be read, which lies in accessible RAM, or in flash with these bytes by address
 abbrev pub bytes_at : (ℕ → ℕ) → Own → ℕ × ℕ → List ℕ
 bytes_at flash own buffer =
-    if lies_in_ram own.layout buffer.0 buffer.1 then ram_at own buffer
-    else map flash (range_with_len buffer.0 buffer.1)
+    if lies_in_ram own.layout buffer.0 buffer.1 then ram_at own buffer else map flash (range_with_len buffer.0 buffer.1)
 
 -- those bytes that fit a buffer from an offset in it on
 abbrev pub fitting : ℕ × ℕ → ℕ → List ℕ → List ℕ

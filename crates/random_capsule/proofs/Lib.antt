@@ -1,2 +1,1 @@
 mod Advancing
-mod Visited

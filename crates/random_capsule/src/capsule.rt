@@ -47,11 +47,12 @@ impl RandomCapsule {
         }
     }
 
-    /// Serves a command of the process of an id to the source: the reply, and the rule that refuses it, if one does. 0
-    /// asks whether the driver is there. 1 asks for `count` bytes; the process then waits, after all others; it is
-    /// refused with [`CallRule::Busy`] where one of its requests waits already, else with [`CallRule::NoRoom`] where
-    /// there is no room for its grant. Any other number is refused with [`CallRule::NoCommand`]. Nothing of another
-    /// process changes, and nothing at all where it is refused.
+    /// Serves a command of the process of an id to the source: the reply, and the rule that refuses
+    /// it, if one does. 0 asks whether the driver is there. 1 asks for `count` bytes; the process
+    /// then waits, after all others; it is refused with [`CallRule::Busy`] where one of its
+    /// requests waits already, else with [`CallRule::NoRoom`] where there is no room for its grant.
+    /// Any other number is refused with [`CallRule::NoCommand`]. Nothing of another process
+    /// changes, and nothing at all where it is refused.
     ///
     /// It asks that the process is there, and that it waits only where it has a request.
     pub fn command(
@@ -68,14 +69,14 @@ impl RandomCapsule {
         reply_of(self.obey(home, id, number, count))
     }
 
-    /// Answers the process that waits longest: a step of its request, with the next word where it takes one.
-    /// The process waits no more exactly where its request completed. Nothing of it changes where it is not
-    /// there in that life, or has no request; and nothing of another slot. The answer is whom it served, and what
-    /// it told it: the word that was drawn, or that none was. [`NotReady`] comes exactly where none waits, and
-    /// then nothing changes.
+    /// Answers the process that waits longest: a step of its request, with the next word where it
+    /// takes one. The process waits no more exactly where its request completed. Nothing of it
+    /// changes where it is not there in that life, or has no request; and nothing of another slot.
+    /// The answer is whom it served, and what it told it: the word that was drawn, or that none
+    /// was. [`NotReady`] comes exactly where none waits, and then nothing changes.
     ///
-    /// It asks that the slot of the first is one of the home's, and that its count of dropped upcalls has
-    /// room for one more.
+    /// It asks that the slot of the first is one of the home's, and that its count of dropped
+    /// upcalls has room for one more.
     pub fn answer(&mut self, home: &mut Home, words: &mut Words) -> Result<Answer, NotReady>
         requires { IfSome (slice_get self.old.waiting 0) (MayBeTold home.old) }
         ensures none { OnErr result (self.old.waiting ≡ []) }
@@ -85,7 +86,8 @@ impl RandomCapsule {
         self.waiting.answer::<RandomCapsule>(home, words)
     }
 
-    /// The process of an id ended, or starts again: no request of it waits any more. The others keep their order.
+    /// The process of an id ended, or starts again: no request of it waits any more. The others
+    /// keep their order.
     pub fn gone(&mut self, id: ProcessId)
         ensures { self.new.waiting ≡ without id.slot self.old.waiting }
     {

@@ -4,7 +4,8 @@ ghost use Rattle.grant_enter.specs.Seen.{Framed, IsLent, own_entered, seen};
 ghost use Rattle.driver_model.specs.Random.{completing, drawing, progress, random, wanted};
 ghost use Rattle.random_capsule.specs.Steps.{Progresses};
 
-use grant_enter::{Entered, Grant, Visit, a_buffer_is_written, buffers_are_whole, frames_join};
+use driver_requests::VisitRequest;
+use grant_enter::{Entered, Grant, a_buffer_is_written, buffers_are_whole, frames_join};
 use grant_values::{Driver, Random, RandomRequest};
 
 /// Bytes of a word.
@@ -42,29 +43,30 @@ pub(crate) struct Advance {
     pub word: Option<u32>,
 }
 
-impl Visit<Random> for Advance {
+impl VisitRequest<RandomRequest> for Advance {
     ghost use Rattle.std.specs.Prelude.{◌≡◌, ◌+◌, ◌<◌, ◌^◌};
-    ghost use Rattle.random_capsule.specs.Steps.{Steps};
+    ghost use Rattle.driver_model.specs.Random.{progress};
 
     type Answer = Step;
 
-    ghost asks = { λ advance value seen. (seen.driver ≡ random) × (0 < seen.counts.upcalls)
+    ghost asks = { λ advance request seen. (seen.driver ≡ random) × (0 < seen.counts.upcalls)
         × (0 < seen.counts.rw) × (seen.own.inbox.dropped + 1 < 2 ^ 32) };
 
-    ghost leaves = { λ advance value seen answer value' own.
-        Steps advance.word value.request seen.own answer value' own };
+    ghost step = { λ advance request seen. (progress advance.word request seen.own).step };
 
-    fn run(self, value: &mut Random, entered: &mut Entered<'_>) -> Step {
-        frames_join();
-        let Some(request) = value.request else {
-            return Step {
-                rest: None,
-                drawn: None,
-            };
-        };
-        let step = take_step(entered, &request, self.word);
-        value.request = step.rest;
-        step
+    ghost rest = { λ advance request seen. (progress advance.word request seen.own).rest };
+
+    ghost answers = { λ advance request seen step.
+        let p = progress advance.word request seen.own in
+        (step.rest ≡ p.rest) × (step.drawn ≡ p.drawn) };
+
+    fn run(
+        self,
+        request: &RandomRequest,
+        entered: &mut Entered<'_>,
+    ) -> (Step, Option<RandomRequest>) {
+        let step = take_step(entered, request, self.word);
+        (step, step.rest)
     }
 }
 

@@ -1,13 +1,11 @@
 -- What serving a request to the storage leaves.
-use Rattle.std.specs.Prelude.{◌≡◌, ℕ, Bool, List, Option, None, Some}
+use Rattle.std.specs.Prelude.{ℕ, Bool, List, Option, None, Some}
 use Rattle.tk_outside.specs.Count.{counted}
-use Rattle.grant_values.specs.declared.storage.Storage.{Storage as Value}
 use Rattle.grant_values.specs.declared.storage.StorageRequest.{StorageRequest}
 use Rattle.board_devices.specs.Storage.{StoredSlots, is_fault, slot_bytes, with_slot_bytes}
 use Rattle.process_model.specs.Own.{Own}
-use Rattle.driver_model.specs.Requests.{keeping_request}
-use Rattle.driver_model.specs.Steps.{own_after}
-use Rattle.driver_model.specs.Storage.{storage_served, storages}
+use Rattle.process_model.specs.Flash.{flash_byte}
+use Rattle.driver_model.specs.Storage.{StorageServed, storage_served}
 
 -- the storage with bytes written over those of a slot, from an offset on, if any are
 abbrev pub storage_after : ℕ → Option (ℕ × List ℕ) → StoredSlots → StoredSlots
@@ -22,16 +20,11 @@ after_count s = record s { served = counted s.served }
 abbrev pub store_fails_next : StoredSlots → Bool
 store_fails_next s = is_fault s.faults (counted s.served)
 
--- what a visit to a process leaves that has a request: it is served, and waits no more
-abbrev pub ServesStorage : ℕ → Bool → (ℕ → ℕ) → StoredSlots → Option StorageRequest → Own → StoredSlots → Value → Own
-    → Type 0
-ServesStorage slot fault flash old None own new value own' = Unit {0}
-ServesStorage slot fault flash old (Some request) own new value own' =
-    let s = storage_served fault flash (slot_bytes old slot) request own in
-    (own' ≡ own_after s.step) × (new ≡ storage_after slot s.written old) × (value ≡ record { request = None })
+-- what serving a request comes to, which the storage counts
+abbrev pub serving : ℕ → List ℕ → StoredSlots → StorageRequest → Own → StorageServed
+serving slot flash s request own =
+    storage_served (store_fails_next s) (flash_byte flash) (slot_bytes s slot) request own
 
--- what serving a process's request leaves of it, and of the storage, which counts it
-abbrev pub Completes : ℕ → (ℕ → ℕ) → StoredSlots → Own → StoredSlots → Own → StorageRequest → Type 0
-Completes slot flash old own new own' request =
-    let s = storage_served (store_fails_next old) flash (slot_bytes old slot) request own in
-    (own' ≡ own_after (keeping_request storages None s.step)) × (new ≡ storage_after slot s.written (after_count old))
+-- the storage after it counted a request that was served
+abbrev pub stored : ℕ → Option (ℕ × List ℕ) → StoredSlots → StoredSlots
+stored slot written s = storage_after slot written (after_count s)

@@ -26,8 +26,8 @@ pub struct StorageCapsule {
 }
 
 impl StorageCapsule {
-    /// A command of the process of an id to the storage, of which a slot has `size` bytes: the reply, or the rule that
-    /// refuses it.
+    /// A command of the process of an id to the storage, of which a slot has `size` bytes: the
+    /// reply, or the rule that refuses it.
     #[tactic(auto, unfolding(driver_model::specs::Storage::command, driver_model::specs::Storage::commands))]
     fn obey(
         &mut self,
@@ -63,14 +63,15 @@ impl StorageCapsule {
         }
     }
 
-    /// Serves a command of the process of an id to the storage, of which a slot has `size` bytes (TRD 104,
-    /// "Command"): the reply, and the rule that refuses it, if one does. 0 asks whether the driver is there. 1 asks for
-    /// `size`. 2 asks to read, and 3 to write, `a3` bytes from the offset `a2` in the slot's storage on; the
-    /// process then waits, after all others. It is refused with [`CallRule::Range`] where `a2 + a3` is
-    /// above `size`, else with [`CallRule::Busy`] where one of its requests waits already, of either
-    /// kind, else with [`CallRule::NoRoom`] where there is no room for its grant. Any other number is
-    /// refused with [`CallRule::NoCommand`]. Nothing of another process changes, and nothing at all
-    /// where it is refused.
+    /// Serves a command of the process of an id to the storage, of which a slot has `size` bytes
+    /// (TRD 104, "Command"): the reply, and the rule that refuses it, if one does. 0 asks whether
+    /// the driver is there. 1 asks for `size`. 2 asks to read, and 3 to write, `a3` bytes from the
+    /// offset `a2` in the slot's storage on; the process then waits, after all others. It is
+    /// refused with [`CallRule::Range`] where `a2 + a3` is above `size`, else with
+    /// [`CallRule::Busy`] where one of its requests waits already, of either kind, else with
+    /// [`CallRule::NoRoom`] where there is no room for its grant. Any other number is refused with
+    /// [`CallRule::NoCommand`]. Nothing of another process changes, and nothing at all where it is
+    /// refused.
     ///
     /// It asks that the process is there, and that it waits only where it has a request.
     pub fn command(
@@ -89,19 +90,20 @@ impl StorageCapsule {
         reply_of(self.obey(home, size, id, number, a2, a3))
     }
 
-    /// Answers the process that waits longest: its request is served and completes, and the process waits no
-    /// more. A read copies bytes of the slot's storage to the start of read-write buffer 0, and completes by
-    /// upcall 0; a write copies bytes from the start of read-only buffer 0 over the slot's storage, and
-    /// completes by upcall 1. As many are copied as were asked for, and no more than the buffer has that is
-    /// held now; the upcall has that count, 0 and 0. Where the storage counts the request among its faults
-    /// nothing is copied, and the upcall has 0, 1 and 0. Nothing changes where the process is not there in
-    /// that life, or has no request; and nothing of another slot. The answer is whom it served, and what it told
-    /// it: that the request was served, or failed. [`NotReady`] comes exactly where none waits, and then nothing
+    /// Answers the process that waits longest: its request is served and completes, and the process
+    /// waits no more. A read copies bytes of the slot's storage to the start of read-write buffer
+    /// 0, and completes by upcall 0; a write copies bytes from the start of read-only buffer 0 over
+    /// the slot's storage, and completes by upcall 1. As many are copied as were asked for, and no
+    /// more than the buffer has that is held now; the upcall has that count, 0 and 0. Where the
+    /// storage counts the request among its faults nothing is copied, and the upcall has 0, 1 and
+    /// 0. Nothing changes where the process is not there in that life, or has no request; and
+    /// nothing of another slot. The answer is whom it served, and what it told it: that the request
+    /// was served, or failed. [`NotReady`] comes exactly where none waits, and then nothing
     /// changes.
     ///
-    /// It asks that the slot of the first is one of the home's, that its count of dropped upcalls has room
-    /// for one more, and that its request lies in a slot's storage, as [`StorageCapsule::command`] sees
-    /// to.
+    /// It asks that the slot of the first is one of the home's, that its count of dropped upcalls
+    /// has room for one more, and that its request lies in a slot's storage, as
+    /// [`StorageCapsule::command`] sees to.
     pub fn answer(&mut self, home: &mut Home, stores: &mut Stores) -> Result<Answer, NotReady>
         requires told { IfSome (slice_get self.old.waiting 0) (MayBeTold home.old) }
         requires within { IfSome (slice_get self.old.waiting 0)
@@ -113,7 +115,8 @@ impl StorageCapsule {
         self.waiting.answer::<StorageCapsule>(home, stores)
     }
 
-    /// The process of an id ended, or starts again: no request of it waits any more. The others keep their order.
+    /// The process of an id ended, or starts again: no request of it waits any more. The others
+    /// keep their order.
     pub fn gone(&mut self, id: ProcessId)
         ensures { self.new.waiting ≡ without id.slot self.old.waiting }
     {

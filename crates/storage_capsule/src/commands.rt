@@ -10,8 +10,8 @@ use grant_values::StorageRequest;
 use syscall_abi::Reply;
 use tk_base::{CallRule, ProcessId};
 
-/// A process asks for bytes of its slot's storage, which has so many: where its request begins to wait it is
-/// put last.
+/// A process asks for bytes of its slot's storage, which has so many: where its request begins to
+/// wait it is put last.
 pub(crate) fn ask_within(
     waiting: &mut RequestQueue<StorageRequest>,
     home: &mut Home,

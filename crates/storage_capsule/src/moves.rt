@@ -7,8 +7,8 @@ use board_devices::Stores;
 use grant_values::StorageRequest;
 use tk_base::Slot;
 
-/// Copies bytes of a slot's storage to the start of a buffer, as many as a request asks for, and no more than
-/// the buffer has. The answer is how many.
+/// Copies bytes of a slot's storage to the start of a buffer, as many as a request asks for, and no
+/// more than the buffer has. The answer is how many.
 pub(crate) fn fill(buffer: &mut [u8], stores: &Stores, slot: Slot, request: &StorageRequest) -> u32
     requires { request.now.offset + request.now.length ≤ stores.now.size }
     ensures count { result ≡ min request.now.length (length buffer.old) }
@@ -24,8 +24,8 @@ pub(crate) fn fill(buffer: &mut [u8], stores: &Stores, slot: Slot, request: &Sto
     count as u32
 }
 
-/// Writes bytes from the start of a buffer over those of a slot's storage, as many as a request asks for, and
-/// no more than the buffer has. The answer is how many.
+/// Writes bytes from the start of a buffer over those of a slot's storage, as many as a request
+/// asks for, and no more than the buffer has. The answer is how many.
 pub(crate) fn put(stores: &mut Stores, slot: Slot, request: &StorageRequest, buffer: &[u8]) -> u32
     requires { request.now.offset + request.now.length ≤ stores.old.size }
     ensures count { result ≡ min request.now.length (length buffer.now) }

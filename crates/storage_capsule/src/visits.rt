@@ -12,7 +12,8 @@ ghost use Rattle.storage_capsule.specs.Serving.{storage_after};
 
 use crate::moves::{fill, put};
 use board_devices::Stores;
-use grant_enter::{Entered, Grant, Visit, a_buffer_is_written, buffers_are_whole, frames_join};
+use driver_requests::VisitRequest;
+use grant_enter::{Entered, Grant, a_buffer_is_written, buffers_are_whole, frames_join};
 use grant_values::{Driver, Storage, StorageKind, StorageRequest};
 use tk_base::Slot;
 
@@ -22,7 +23,8 @@ const MOVED: u32 = 0;
 /// How it tells of a fault.
 const FAULT: u32 = 1;
 
-/// The grants that processes keep for the storage: two upcalls, one read-only and one read-write buffer.
+/// The grants that processes keep for the storage: two upcalls, one read-only and one read-write
+/// buffer.
 pub(crate) type Storages = Grant<Storage, 2, 1, 1, 0>;
 
 /// Those that there are.
@@ -33,43 +35,43 @@ pub(crate) fn storages() -> Storages
     Storages::of(Driver::Storage.number())
 }
 
-/// Serves the request that waits, over the storage of a slot; on a fault it moves nothing. It hands the
-/// storage back.
+/// Serves the request that waits, over the storage of a slot, which counts it; on a fault it moves
+/// nothing. It hands the storage back.
 #[derive(Drop)]
 pub(crate) struct Transfer<'a> {
     pub stores: &'a mut Stores,
     pub slot: Slot,
-    pub fault: bool,
 }
 
-impl<'a> Visit<Storage> for Transfer<'a> {
-    ghost use Rattle.std.specs.Prelude.{◌≡◌, ◌+◌, ◌<◌, ◌≤◌, ◌^◌, IfSome};
-    ghost use Rattle.process_model.specs.Flash.{flash_byte};
-    ghost use Rattle.storage_capsule.specs.Serving.{ServesStorage};
+impl<'a> VisitRequest<StorageRequest> for Transfer<'a> {
+    ghost use Rattle.std.specs.Prelude.{◌≡◌, ◌+◌, ◌<◌, ◌≤◌, ◌^◌, None};
+    ghost use Rattle.storage_capsule.specs.Serving.{serving, stored};
 
     type Answer = &'a mut Stores;
 
-    ghost asks = { λ serve value seen. (seen.driver ≡ storage) × (1 < seen.counts.upcalls)
+    ghost asks = { λ transfer request seen. (seen.driver ≡ storage) × (1 < seen.counts.upcalls)
         × (0 < seen.counts.ro) × (0 < seen.counts.rw) × (seen.own.inbox.dropped + 1 < 2 ^ 32)
-        × IfSome value.request (λ request.
-        request.offset + request.length ≤ serve.stores.now.size) };
+        × (request.offset + request.length ≤ transfer.stores.now.size) };
 
-    ghost leaves = { λ serve value seen stores value' own. (stores.ghost_name ≡ serve.stores.ghost_name)
-        × ServesStorage serve.slot serve.fault (flash_byte seen.flash) serve.stores.now
-        value.request seen.own stores.now value' own };
+    ghost step = { λ transfer request seen.
+        (serving transfer.slot seen.flash transfer.stores.now request seen.own).step };
 
-    fn run(self, value: &mut Storage, entered: &mut Entered<'_>) -> &'a mut Stores {
-        frames_join();
-        let Transfer {
-            stores,
-            slot,
-            fault,
-        } = self;
-        if let Some(request) = value.request {
-            serve_request(entered, stores, slot, &request, fault);
-            value.request = None;
-        }
-        stores
+    ghost rest = { λ transfer request seen. None };
+
+    ghost answers = { λ transfer request seen stores.
+        let s = serving transfer.slot seen.flash transfer.stores.now request seen.own in
+        (stores.ghost_name ≡ transfer.stores.ghost_name)
+        × (stores.now ≡ stored transfer.slot s.written transfer.stores.now) };
+
+    fn run(
+        self,
+        request: &StorageRequest,
+        entered: &mut Entered<'_>,
+    ) -> (&'a mut Stores, Option<StorageRequest>) {
+        let Transfer { stores, slot } = self;
+        let fault = stores.count();
+        serve_request(entered, stores, slot, request, fault);
+        (stores, None)
     }
 }
 
@@ -108,7 +110,8 @@ fn move_bytes(
         (slot_bytes stores.old slot) request.now (own_entered entered.old) in
         (completing request.now.kind result 0 (own_entered entered.new) ≡ s.step)
         × (stores.new ≡ storage_after slot s.written stores.old) }
-    ensures dropped { (own_entered entered.new).inbox.dropped ≡ (own_entered entered.old).inbox.dropped }
+    ensures dropped { (own_entered entered.new).inbox.dropped
+        ≡ (own_entered entered.old).inbox.dropped }
     // what a visitor owes
     ensures lent { IsLent entered.new }
     ensures framed { Framed entered.old entered.new }
@@ -156,7 +159,8 @@ fn serve_request(
     requires within { request.now.offset + request.now.length ≤ stores.old.size }
     ensures served { let s = storage_served fault (flash_byte (seen entered.old).flash)
         (slot_bytes stores.old slot) request.now (own_entered entered.old) in
-        (own_entered entered.new ≡ own_after s.step) × (stores.new ≡ storage_after slot s.written stores.old) }
+        (own_entered entered.new ≡ own_after s.step)
+        × (stores.new ≡ storage_after slot s.written stores.old) }
     // what a visitor owes
     ensures lent { IsLent entered.new }
     ensures framed { Framed entered.old entered.new }

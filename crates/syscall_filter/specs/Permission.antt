@@ -4,7 +4,6 @@ use Rattle.std.specs.Prelude.{ℕ, Bool, true, not, ◌&&◌, if◌then◌else�
 use Rattle.std.specs.Prelude.{Ok, Err}
 use Rattle.tk_base.specs.declared.call.CallRule.{CallRule}
 use Rattle.tk_base.specs.declared.call.CallRule.TheVariants.{Permission}
-use Rattle.tbf_headers.specs.Meaning.{Meaning}
 use Rattle.tbf_headers.specs.Permissions.{allows, lists}
 use Rattle.syscall_abi.specs.declared.call.Call.{Call}
 use Rattle.syscall_abi.specs.declared.form.CallForm.{CallForm}
@@ -23,7 +22,8 @@ abbrev pub permitted : Bool → Option (List ℕ) → CallForm → Bool
 permitted strict None form = not (strict && is_some (driver_in form))
 permitted strict (Some entries) form = listed entries form
 
--- the answer to a call under a header, by a strict filter or an open one: refused exactly where it is not permitted
-abbrev pub permission : Meaning → Bool → Call → Result Unit CallRule
-permission header strict call =
-    if permitted strict header.permissions (form_of call) then Ok tt else Err Permission
+-- the answer to a call by the Permissions TLV, if there is one, by a strict filter or an open one: refused exactly
+-- where it is not permitted
+abbrev pub permission : Option (List ℕ) → Bool → Call → Result Unit CallRule
+permission permissions strict call =
+    if permitted strict permissions (form_of call) then Ok tt else Err Permission

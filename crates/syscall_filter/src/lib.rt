@@ -1,25 +1,26 @@
 //! Which system calls an application may make.
 #![tactic(auto)]
 
-ghost use Rattle.std.specs.Prelude.{◌≡◌};
+ghost use Rattle.std.specs.Prelude.{◌≡◌, option_map};
 ghost use Rattle.syscall_abi.specs.Call.{form_of};
 ghost use Rattle.syscall_filter.specs.Permission.{listed, permission};
-ghost use Rattle.tbf_headers.specs.Shown.{permissions_of, shown};
+ghost use Rattle.tbf_headers.specs.Shown.{permissions_of};
 
 use syscall_abi::{Call, CallForm};
-use tbf_headers::{Header, Perms};
+use tbf_headers::Perms;
 use tk_base::CallRule;
 
-/// Whether an application may make a call, by the Permissions TLV of its header (Tock Binary Format, "Permissions").
-/// The error is [`CallRule::Permission`], exactly where the header has one and the call is a command that no entry of
-/// its driver allows, or a subscribe or an allow of a driver that has no entry; or where the header has none, the
-/// filter is strict, and the call is a command, a subscribe or an allow. All other calls are permitted, and so is every
-/// call without the TLV under a filter that is not strict.
-pub fn filter(header: &Header<'_>, strict: bool, call: &Call) -> Result<(), CallRule>
-    ensures { result ≡ permission (shown header.now) strict call.now }
+/// Whether an application may make a call, by the Permissions TLV of its header, if it has one
+/// (Tock Binary Format, "Permissions"). The error is [`CallRule::Permission`], exactly where it has
+/// one and the call is a command that no entry of its driver allows, or a subscribe or an allow of
+/// a driver that has no entry; or where it has none, the filter is strict, and the call is a
+/// command, a subscribe or an allow. All other calls are permitted, and so is every call without
+/// the TLV under a filter that is not strict.
+pub fn filter(permissions: Option<Perms<'_>>, strict: bool, call: &Call) -> Result<(), CallRule>
+    ensures { result ≡ permission (option_map permissions_of permissions.entry) strict call.now }
 {
-    let permitted = match header.perms() {
-        Some(perms) => lists_call(&perms, call),
+    let permitted = match permissions {
+        Some(permissions) => lists_call(&permissions, call),
         None => !(strict && call.driver().is_some()),
     };
     if permitted {

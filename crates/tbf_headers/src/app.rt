@@ -20,8 +20,8 @@ pub struct AppHeader<'a> {
 
 impl AppHeader<'_> {
     /// The first address after the header and the protected bytes, for an object at an address: the
-    /// sum of it, the header's size and the protected size, which does not wrap (Tock Binary Format,
-    /// "Main").
+    /// sum of it, the header's size and the protected size, which does not wrap (Tock Binary
+    /// Format, "Main").
     pub fn after_protected(&self, object: Addr) -> u64
         ensures { result ≡ after_protected object (shown self.now.header) self.now.main }
     {
@@ -36,9 +36,9 @@ impl AppHeader<'_> {
         rounded_sum(object, self.header.header_size, self.main.protected)
     }
 
-    /// The end of accessible flash, for an object at an address: the object's end, or with a Program
-    /// TLV the binary's end rounded up to a multiple of 4 (Tock Binary Format, "Program"). It does
-    /// not wrap.
+    /// The end of accessible flash, for an object at an address: the object's end, or with a
+    /// Program TLV the binary's end rounded up to a multiple of 4 (Tock Binary Format, "Program").
+    /// It does not wrap.
     pub fn accessible_end(&self, object: Addr) -> u64
         ensures { result ≡ accessible_end_of object (shown self.now.header) self.now.main }
     {

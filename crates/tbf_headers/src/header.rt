@@ -1,11 +1,14 @@
 //! The header of an object.
-ghost use Rattle.std.specs.Prelude.{◌≡◌, ◌*◌, ◌%◌, ◌<◌, ◌≤◌, length, Err, None, IsSome, IfSome, IfOk, option_map, option_and_then, MatchResult};
+ghost use Rattle.std.specs.Prelude.{◌≡◌, ◌*◌, ◌%◌, ◌<◌, ◌≤◌, length, Err, None, IsOk, IsSome};
+ghost use Rattle.std.specs.Prelude.{IfSome, IfOk, option_map, option_and_then, MatchResult};
 ghost use Rattle.std.specs.Option.{option_copied};
 ghost use Rattle.tbf_headers.specs.Addresses.{entry_of};
 ghost use Rattle.tbf_headers.specs.Numbers.{word_at};
 ghost use Rattle.tbf_headers.specs.Tlv.{first_bad, content};
-ghost use Rattle.tbf_headers.specs.Meaning.{header_reading, meaning_of, region_in, region_count, program_of, main_of, program_or_main, fixed_of};
-ghost use Rattle.tbf_headers.specs.Shown.{shown, shown_result, permissions_of, regions_of, IsChecked, IsSized};
+ghost use Rattle.tbf_headers.specs.Meaning.{header_reading, meaning_of, region_in, region_count};
+ghost use Rattle.tbf_headers.specs.Meaning.{program_of, main_of, program_or_main, fixed_of};
+ghost use Rattle.tbf_headers.specs.Shown.{shown, shown_result, permissions_of, regions_of};
+ghost use Rattle.tbf_headers.specs.Shown.{IsChecked, IsSized};
 
 use crate::app::{AppHeader, sum};
 use crate::fault::HeaderFault;
@@ -229,4 +232,25 @@ fn fields<'a>(object: &[u8], header: &'a [u8]) -> Header<'a>
         regions: regions_in(header),
         perms: perms_in(header),
     }
+}
+
+/// The bytes of the header of an object whose header has no fault.
+#[tactic(auto, using(crate::proofs::Known::known))]
+fn known_header(object: &[u8]) -> &[u8]
+    requires { IsOk (header_reading object.now) }
+    ensures checked { IsChecked object.now result.now }
+    ensures good { first_bad result.now ≡ None }
+{
+    &object[..usize::from(half_at(object, 2))]
+}
+
+/// The permissions in the header of an object, as [`Header::perms`] of [`read_header`] gives them.
+/// It looks at nothing else in the header, which is known to have no fault.
+#[tactic(auto, unfolding(crate::specs::Meaning::meaning_of))]
+pub fn permissions_in(object: &[u8]) -> Option<Perms<'_>>
+    requires { IsOk (header_reading object.now) }
+    ensures { IfOk (header_reading object.now)
+        (λ h. option_map permissions_of result ≡ h.permissions) }
+{
+    perms_in(known_header(object))
 }

@@ -13,7 +13,7 @@ mod tlv;
 
 pub use app::AppHeader;
 pub use fault::HeaderFault;
-pub use header::{Header, read_header};
+pub use header::{Header, permissions_in, read_header};
 pub use numbers::{checksum_of, half_at, word_at};
 pub use object::object_at;
 pub use perms::Perms;

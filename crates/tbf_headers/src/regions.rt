@@ -3,8 +3,8 @@ ghost use Rattle.std.specs.Prelude.{◌≡◌, ◌<◌, length, Some};
 
 use crate::numbers::word_at;
 
-/// The writeable flash regions of an application (Tock Binary Format, "Writeable Flash Regions"). It
-/// borrows the content of the TLV.
+/// The writeable flash regions of an application (Tock Binary Format, "Writeable Flash Regions").
+/// It borrows the content of the TLV.
 #[derive(Clone, Copy, Debug)]
 pub struct Regions<'a> {
     content: &'a [u8],

@@ -1,9 +1,9 @@
 -- The run that the program tells is one from a boot, and so it is accounted for.
-use Rattle.std.proofs.Common.{List, [], Option, None, Some}
+use Rattle.std.proofs.Common.{[], Option, None, Some}
 use Rattle.image_make.specs.Generator.{soak_flash}
 use Rattle.board_opening.specs.Certified.{RunsFromBootAreAccountedFor}
 use Rattle.tock_cli.specs.Words.{Command}
-use Rattle.tock_cli.specs.Comes.{Task, IsTask, files_of}
+use Rattle.tock_cli.specs.Comes.{files_of}
 use Rattle.tock_cli.specs.Causes.{ShelfAccount}
 use Rattle.tock_cli.specs.Accounts.{IsAccountedTask, RunIsAccountedFor}
 use Rattle.tock_cli.proofs.Files.{all_texts}

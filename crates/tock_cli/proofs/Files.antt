@@ -1,12 +1,12 @@
 -- Files that are read one after another.
-use Rattle.std.proofs.Common.{◌≡◌, ℕ, List, [], ◌∷◌, ◌++◌, Option, None, Some, IfSome, ◌⊎◌, inl, inr, refl, sym, subst}
+use Rattle.std.proofs.Common.{ℕ, List, [], ◌∷◌, ◌++◌, Option, None, Some, IfSome, inl, inr, refl, sym, subst}
 use Rattle.tock_cli.specs.declared.refusal.File.{File}
 use Rattle.tock_cli.specs.declared.refusal.Refusal.{Refusal}
 use Rattle.tock_cli.specs.Words.{Command}
 use Rattle.tock_cli.specs.Refusals.{status_of}
 use Rattle.tock_cli.specs.Comes.{Named, Passes, ReadsAll, ReadsUpTo, refused_at}
 use Rattle.tock_cli.specs.Causes.{ShelfAccount, IsRefusedFor, IsUnsound}
-use Rattle.tock_cli.specs.Served.{IsUnhindered, IsOrMemory, IsRefusedOr, DecidedBy}
+use Rattle.tock_cli.specs.Served.{IsUnhindered, IsRefusedOr, DecidedBy}
 
 -- behind files that were read, more are
 module _ (bytes : List ℕ → Option (List ℕ)) (command : Command) where

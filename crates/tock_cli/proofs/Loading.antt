@@ -1,6 +1,6 @@
 -- Why files that are read lead to a task, or to a refusal.
-use Rattle.std.proofs.Common.{◌≡◌, ℕ, suc, ◌<◌, ◌≤◌, nat_lt, nat_le, cond, Bool, true, false, List, [], ◌∷◌, ◌++◌}
-use Rattle.std.proofs.Common.{length, replicate, take, drop, Option, None, Some, IfSome, Result, Ok, Err, ◌⊎◌, inl, inr}
+use Rattle.std.proofs.Common.{◌≡◌, ℕ, suc, ◌<◌, ◌≤◌, nat_lt, cond, Bool, true, false, List, [], ◌∷◌, ◌++◌}
+use Rattle.std.proofs.Common.{length, replicate, take, drop, Option, None, Some, IfSome, Result, Ok, Err, inl, inr}
 use Rattle.std.proofs.Common.{refl, sym, subst, ap, ◌∙◌, arith}
 use Rattle.std.proofs.Math.Seq.{take-append_seam}
 use Rattle.std.proofs.lemmas.Bool.Decides.{nat_tests}
@@ -10,16 +10,14 @@ use Rattle.script_text.specs.Settings.{ScriptSettings}
 use Rattle.script_text.specs.Reading.{Fault as BadLine, reading}
 use Rattle.image_make.specs.declared.edits.EditFault.{EditFault}
 use Rattle.image_make.specs.Generator.{soak_flash, soak_script}
-use Rattle.tk_outside.specs.Shelf.{ShelfFacts, FaultsRose}
+use Rattle.tk_outside.specs.Shelf.{ShelfFacts}
 use Rattle.kernel_model.specs.World.{World}
-use Rattle.board_opening.specs.Opening.{opening}
 use Rattle.tock_cli.specs.declared.refusal.File.{File}
 use Rattle.tock_cli.specs.declared.refusal.File.TheVariants.{Flash, Script as ScriptFile}
 use Rattle.tock_cli.specs.declared.refusal.Refusal.{Refusal}
 use Rattle.tock_cli.specs.declared.refusal.Refusal.TheVariants.{Usage, Fault, TooLong, Script, Image, Memory}
-use Rattle.tock_cli.specs.declared.run.Mode.{Mode}
 use Rattle.tock_cli.specs.declared.run.Mode.TheVariants.{Soak}
-use Rattle.tock_cli.specs.Words.{Command, Runs, Lists, Soaks, Packs, Edits, RunWords, EditWords}
+use Rattle.tock_cli.specs.Words.{Command, Runs, Lists, Soaks, Edits, RunWords, EditWords}
 use Rattle.tock_cli.specs.Refusals.{limit_of, edit_refused}
 use Rattle.tock_cli.specs.Comes.{Named, Task, Running, Listing, Making, IsTaskOf, IsText, comes_to, edit_made}
 use Rattle.tock_cli.specs.Comes.{edited_by, flash_named, script_named, refusal_of_task, refused_at, run_under}

@@ -1,6 +1,6 @@
 -- Files that are packed one behind another while they are read.
 use Rattle.std.proofs.Common.{◌≡◌, ℕ, ◌+◌, ◌≤◌, List, [], ◌∷◌, ◌++◌, length, map, take, drop, Option, None, Some, ◌<◌}
-use Rattle.std.proofs.Common.{String, string_bytes, slice_index_or, unwrap_or, Result, Ok, Err, inl, inr, refl, sym}
+use Rattle.std.proofs.Common.{String, string_bytes, slice_index_or, unwrap_or, Result, Ok, inl, inr, refl, sym}
 use Rattle.std.proofs.Common.{subst, ap, ◌∙◌, arith, append_assoc, append-nil}
 use Rattle.std.proofs.lemmas.List.{map-append, take_all, take_more, take-append-drop}
 use Rattle.tk_base.specs.declared.limits.TheConstants.{FLASH_LIMIT, OBJECT_LIMIT}
@@ -17,9 +17,9 @@ use Rattle.tock_cli.specs.declared.refusal.Refusal.{Refusal}
 use Rattle.tock_cli.specs.declared.refusal.Refusal.TheVariants.{Image, Memory}
 use Rattle.tock_cli.specs.Words.{Packs, argument_bytes}
 use Rattle.tock_cli.specs.Refusals.{pack_refused}
-use Rattle.tock_cli.specs.Comes.{Named, Task, Making, IsTaskOf, IsText, Passes, ReadsAll, ReadsUpTo, comes_to}
+use Rattle.tock_cli.specs.Comes.{Named, Making, IsTaskOf, IsText, Passes, ReadsAll, ReadsUpTo, comes_to}
 use Rattle.tock_cli.specs.Comes.{flash_named, pack_made, refusal_of_task, refused_at}
-use Rattle.tock_cli.specs.Causes.{ShelfAccount, CauseOf, ReadingComesTo, IsRefusedFor, told_by}
+use Rattle.tock_cli.specs.Causes.{CauseOf, ReadingComesTo, IsRefusedFor, told_by}
 use Rattle.tock_cli.specs.Ready.{IsNotPacked, IsPackedFile, IsUnpacked, KeepsShelf}
 use Rattle.tock_cli.proofs.Files.{all_on, up_to_on}
 use Rattle.tock_cli.proofs.Loading.{not_read, text_later, unread_later, within_limit}

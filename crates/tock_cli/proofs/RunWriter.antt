@@ -1,6 +1,6 @@
 -- What is told of a run, by what its steps show and by their labels.
-use Rattle.std.proofs.Common.{◌≡◌, inl, inr, ℕ, zero, suc, ◌==◌, Bool, true, false, cond, List, [], ◌∷◌, ◌++◌, length}
-use Rattle.std.proofs.Common.{slice_get}
+use Rattle.std.proofs.Common.{◌≡◌, inl, inr, ℕ, zero, suc, ◌==◌, ◌||◌, not, Bool, true, false, cond, List, []}
+use Rattle.std.proofs.Common.{◌∷◌, ◌++◌, length, slice_get}
 use Rattle.std.proofs.Common.{Option, None, Some, All, refl, sym, ap, ap₂, subst, ◌∙◌, append-nil}
 use Rattle.std.specs.List.{flat_map}
 use Rattle.std.proofs.lemmas.List.Elements.{All-cons, All-head, All-nil, All-tail}
@@ -8,16 +8,19 @@ use Rattle.tk_base.specs.declared.access.Denial.{Denial}
 use Rattle.tk_base.specs.declared.process.Choice.{Choice}
 use Rattle.tk_base.specs.declared.process.Choice.TheVariants.{Run, Device, Pass}
 use Rattle.process_record.specs.declared.emit.CallMade.{CallMade}
+use Rattle.process_record.specs.Emit.{nothing}
 use Rattle.process_record.specs.declared.emit.Emit.{Emit}
 use Rattle.kernel_model.specs.Record.{Record}
-use Rattle.kernel_model.specs.World.{Answered, Label, Printed, Stepped, TurnOf, World, after}
-use Rattle.kernel_model.specs.World.{carried_out, labels, ran}
+use Rattle.kernel_model.specs.World.{Answer, Label, Stepped, World, after}
+use Rattle.kernel_model.specs.World.{answer_label, carried_out, labels, ran}
+use Rattle.kernel_model.specs.Turn.{is_turn}
+use Rattle.kernel_model.proofs.Labels.{shown_by-printed}
 use Rattle.kernel_model.specs.Laws.{ComesTo, DevicesAnswerOne}
 use Rattle.kernel_model.specs.Run.{Ran, next, printed, round}
 use Rattle.kernel_model.specs.Stretch.{IsQuietTurn, IsStretch}
 use Rattle.kernel_model.specs.Shown.{shown_by}
-use Rattle.board_report.specs.Trace.{out_text, trace_text, turn_text}
-use Rattle.tock_cli.proofs.Runs.{of_stepped, printed-round, round-step, shown_by-printed, steps-step, steps-stop}
+use Rattle.board_report.specs.Trace.{out_line, out_text, trace_text, turn_text}
+use Rattle.tock_cli.proofs.Runs.{of_stepped, printed-round, round-step, steps-step, steps-stop}
 use Rattle.tock_cli.proofs.Runs.{steps-zero}
 use Rattle.tock_cli.proofs.Tallies.{counting-tally_of}
 use Rattle.tock_cli.specs.declared.run.Mode.{Mode}
@@ -37,14 +40,27 @@ trace_text-carried_out law time w (Run slot) = of_record (slice_get w.records sl
     of_record : (o : Option Record)
         → trace_text time (shown_by (ran w slot o).labels) ≡ flat_map (label_lines time) (ran w slot o).labels
     of_record None = refl
-    of_record (Some r) = refl
+    of_record (Some r) =
+        sym (append-nil (trace_text time (shown_by (ran w slot (Some r)).labels)))
 trace_text-carried_out law time w (Device device) = by_case _ (law.each w device)
   where
-    of_bytes : (slot : ℕ) (bytes : List ℕ) (b : Bool)
-        → trace_text time (shown_by (cond b [] (Printed slot bytes ∷ [])))
-        ≡ flat_map (label_lines time) (cond b [] (Printed slot bytes ∷ []))
-    of_bytes slot bytes true = refl
-    of_bytes slot bytes false = ap (out_text time slot) (append-nil bytes) ∙ sym (append-nil (out_text time slot bytes))
+    of_answer : (slot : ℕ) (a : Answer)
+        → trace_text time (shown_by (answer_label slot a ∷ []))
+        ≡ flat_map (label_lines time) (answer_label slot a ∷ [])
+    of_answer slot a = by_shown (is_turn a.event) (length a.printed == 0) refl
+      where
+        shows : List ℕ → Emit
+        shows bytes = record nothing { slot = Some slot; printed = record { items = bytes } }
+
+        both : trace_text time (shows (a.printed ++ [])) ≡ out_text time slot a.printed ++ []
+        both = ap (out_text time slot) (append-nil a.printed) ∙ sym (append-nil (out_text time slot a.printed))
+
+        by_shown : (turn none : Bool) → (length a.printed == 0) ≡ none
+            → trace_text time (cond (turn || not none) (shows (a.printed ++ [])) nothing)
+            ≡ out_text time slot a.printed ++ []
+        by_shown true none e = both
+        by_shown false false e = both
+        by_shown false true e = sym (ap (λ (b : Bool). cond b [] (out_line time slot a.printed) ++ []) e)
 
     by_case : (s : Stepped) → ComesTo w s
         → trace_text time (shown_by s.labels) ≡ flat_map (label_lines time) s.labels
@@ -56,7 +72,7 @@ trace_text-carried_out law time w (Device device) = by_case _ (law.each w device
         (sym nobody.1) refl
     by_case s (inr (inr one)) =
         subst (λ (x : Stepped). trace_text time (shown_by x.labels) ≡ flat_map (label_lines time) x.labels) (sym one.is)
-        (of_bytes one.slot one.answer.answer.printed (length one.answer.answer.printed == 0))
+        (of_answer one.slot one.answer.answer)
 trace_text-carried_out law time w (Pass ticks) = refl
 
 trace_text-shown_by : DevicesAnswerOne → (time : ℕ) (w : World) (c : Choice)
@@ -127,13 +143,13 @@ text_in Soak n w end =
 -- quiet turns have no lines
 quiet_lines : (time : ℕ) (ls : List Label) → All IsQuietTurn ls → flat_map (label_lines time) ls ≡ []
 quiet_lines time [] all = refl
-quiet_lines time (TurnOf slot at told ∷ ls) all =
-    let quiet = All-head IsQuietTurn (TurnOf slot at told) ls all in
-    ap (λ (t : List ℕ). turn_text time slot told.call told.denial ++ t)
-    (quiet_lines time ls (All-tail IsQuietTurn (TurnOf slot at told) ls all))
-    ∙ ap₂ (λ (call : Option CallMade) (denial : Option Denial). turn_text time slot call denial ++ []) quiet.0 quiet.2
-quiet_lines time (Answered slot event ∷ ls) all = absurd (All-head IsQuietTurn (Answered slot event) ls all)
-quiet_lines time (Printed slot bytes ∷ ls) all = absurd (All-head IsQuietTurn (Printed slot bytes) ls all)
+quiet_lines time (label ∷ ls) all =
+    let quiet = All-head IsQuietTurn label ls all in
+    ap (λ (t : List ℕ). label_lines time label ++ t) (quiet_lines time ls (All-tail IsQuietTurn label ls all))
+    ∙ ap (λ (bytes : List ℕ). (turn_text time label.slot label.trace.call label.trace.denial
+    ++ out_text time label.slot bytes) ++ []) quiet.1
+    ∙ ap₂ (λ (call : Option CallMade) (denial : Option Denial). (turn_text time label.slot call denial ++ []) ++ [])
+    quiet.2 quiet.4
 
 both_parts : {X : Type 0} (P : X → Type 0) (xs ys : List X) → All P (xs ++ ys) → All P xs × All P ys
 both_parts P [] ys all = (All-nil P, all)

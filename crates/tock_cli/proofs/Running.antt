@@ -1,5 +1,5 @@
 -- A run on its way.
-use Rattle.std.proofs.Common.{◌≡◌, ℕ, zero, suc, ◌+◌, ◌-◌, ◌*◌, ◌^◌, ◌<◌, ◌≤◌, Bool, true, false, cond, List, [], ◌∷◌}
+use Rattle.std.proofs.Common.{◌≡◌, ℕ, zero, suc, ◌+◌, ◌-◌, ◌*◌, ◌^◌, ◌<◌, ◌≤◌, List, [], ◌∷◌}
 use Rattle.std.proofs.Common.{◌++◌, slice_get, Option, None, Some, sym, ap, subst, ◌∙◌, arith, append_assoc, append-nil}
 use Rattle.std.proofs.lemmas.Grind.{flat_map-append}
 use Rattle.std.specs.List.{flat_map}
@@ -8,7 +8,8 @@ use Rattle.tk_base.specs.declared.process.Choice.{Choice}
 use Rattle.tk_base.specs.declared.process.Choice.TheVariants.{Run, Device, Pass}
 use Rattle.tk_outside.specs.Sink.{SinkFacts}
 use Rattle.tk_outside.specs.Writes.{WroteAll, WrotePart}
-use Rattle.tk_outside.specs.Laws.{WritesCompose}
+use Rattle.gathered_output.specs.Laws.{PutsCompose}
+use Rattle.gathered_output.specs.Puts.{PutBehind}
 use Rattle.process_record.specs.declared.emit.Emit.{Emit}
 use Rattle.kernel_model.specs.Record.{Record}
 use Rattle.kernel_model.specs.Laws.{DevicesAnswerOne}
@@ -17,7 +18,8 @@ use Rattle.kernel_model.specs.Shown.{shown_by}
 use Rattle.kernel_model.specs.Stretch.{IsStretch, RoundsJoin}
 use Rattle.kernel_model.specs.Run.{Ran, next, round, printed, stays}
 use Rattle.tock_cli.proofs.Runs.{of_stepped, printed_in, printed-round, round-stop, round-step, round-zero, round-more}
-use Rattle.tock_cli.proofs.Runs.{shown_by-printed, steps-plus, steps-stop, steps-step, steps-zero}
+use Rattle.tock_cli.proofs.Runs.{steps-plus, steps-stop, steps-step, steps-zero}
+use Rattle.kernel_model.proofs.Labels.{shown_by-printed}
 use Rattle.tock_cli.proofs.RunWriter.{nothing_told, passed_on-steps, told_on-step, told_text-step}
 use Rattle.tock_cli.specs.declared.run.Mode.{Mode}
 use Rattle.tock_cli.specs.declared.run.Mode.TheVariants.{Boot, Trace, Soak}
@@ -25,12 +27,12 @@ use Rattle.tock_cli.specs.declared.teller.RunWriter.{RunWriter}
 use Rattle.tock_cli.specs.RunText.{Step, step_of, steps, IsWorldOf}
 use Rattle.tock_cli.specs.RunWriter.{counted_bytes, passed_on, step_text, steps_text, telling_of, told_on, told_text}
 
--- After i steps of a run of n steps, from a world to another: what the mode tells of the steps done is written, what it
--- needs of them is kept, and the run goes on as the rest of it would from there.
+-- After i steps of a run of n steps, from a world to another: what the mode tells of the steps done is put behind what
+-- was gathered before, what it needs of them is kept, and the run goes on as the rest of it would from there.
 pub record RunsOn {K : Type 0} (tells : K → SinkFacts) (mode : Mode) (n i : ℕ) (from here : World) (old now : K)
-    (telling : RunWriter) : Type 0 where
+    (before gathered : List ℕ) (telling : RunWriter) : Type 0 where
   pub done : List Step
-  pub wrote : WroteAll tells old now (steps_text mode done)
+  pub wrote : PutBehind tells old now before gathered (steps_text mode done)
   pub kept : telling ≡ telling_of mode here (printed_in done)
   pub few : counted_bytes telling ≤ PRINT_LIMIT * i
   pub goes : steps n from ≡ done ++ steps (n - i) here
@@ -64,7 +66,8 @@ flat_map-more f done step =
     flat_map-append f done (step ∷ []) ∙ ap (λ (t : List ℕ). flat_map f done ++ t) (append-nil (f step))
 
 module _ {K : Type 0} {tells : K → SinkFacts} {mode : Mode} {n i : ℕ} {from here : World} {old now : K}
-    {telling : RunWriter} (r : RunsOn tells mode n i from here old now telling) where
+    {before gathered : List ℕ} {telling : RunWriter}
+    (r : RunsOn tells mode n i from here old now before gathered telling) where
   -- one choice fewer is left
   fewer : i < n → n - i ≡ suc (n - (i + 1))
   fewer h = omega arith
@@ -94,17 +97,18 @@ module _ {K : Type 0} {tells : K → SinkFacts} {mode : Mode} {n i : ℕ} {from 
   room h k = omega (arith, r.few)
 
   -- one step more
-  pub one_more : WritesCompose tells → DevicesAnswerOne → (c : Choice) (then : World) (later : K) (step : Emit) (kept
-      : RunWriter) → i < n
+  pub one_more : PutsCompose tells → DevicesAnswerOne → (c : Choice) (then : World) (later : K) (more : List ℕ)
+      (step : Emit) (kept : RunWriter) → i < n
       → next here ≡ Some c → then ≡ after here c → step ≡ shown_by (labels here c)
-      → WroteAll tells now later (told_text telling step) → kept ≡ told_on telling then step
-      → counted_bytes kept ≤ counted_bytes telling + PRINT_LIMIT → RunsOn tells mode n (i + 1) from then old later kept
-  one_more law one c then later step kept h e f s w k l = record {
+      → PutBehind tells now later gathered more (told_text telling step) → kept ≡ told_on telling then step
+      → counted_bytes kept ≤ counted_bytes telling + PRINT_LIMIT
+      → RunsOn tells mode n (i + 1) from then old later before more kept
+  one_more law one c then later more step kept h e f s w k l = record {
     done = r.done ++ step_of here c ∷ [];
-    wrote = subst (λ (text : List ℕ). WroteAll tells old later text)
-        (sym (flat_map-more (step_text mode) r.done (step_of here c))) (law.all_then_all r.wrote told);
+    wrote = subst (λ (text : List ℕ). PutBehind tells old later before more text)
+        (sym (flat_map-more (step_text mode) r.done (step_of here c))) (law.put_then_put r.wrote told);
     kept = k ∙ told_on-step mode here then (printed_in r.done) (printed (labels here c)) telling step r.kept bytes
-        ∙ ap (telling_of mode then) (sym more);
+        ∙ ap (telling_of mode then) (sym longer);
     few = omega (arith, r.few, l);
     goes = around c h e ∙ sym (append_assoc r.done (step_of here c ∷ []) (steps (n - (i + 1)) (after here c)))
         ∙ ap (λ (v : World). (r.done ++ step_of here c ∷ []) ++ steps (n - (i + 1)) v) (sym f);
@@ -119,19 +123,19 @@ module _ {K : Type 0} {tells : K → SinkFacts} {mode : Mode} {n i : ℕ} {from 
       bytes : step.printed.items ≡ printed (labels here c)
       bytes = ap (λ (x : Emit). x.printed.items) s ∙ shown_by-printed (labels here c)
 
-      told : WroteAll tells now later (step_text mode (step_of here c))
-      told = subst (λ (text : List ℕ). WroteAll tells now later text)
+      told : PutBehind tells now later gathered more (step_text mode (step_of here c))
+      told = subst (λ (text : List ℕ). PutBehind tells now later gathered more text)
           (told_text-step one mode here c (printed_in r.done) telling step r.kept s) w
 
-      more : printed_in (r.done ++ step_of here c ∷ []) ≡ printed_in r.done ++ printed (labels here c)
-      more = flat_map-more (λ (x : Step). printed x.labels) r.done (step_of here c)
+      longer : printed_in (r.done ++ step_of here c ∷ []) ≡ printed_in r.done ++ printed (labels here c)
+      longer = flat_map-more (λ (x : Step). printed x.labels) r.done (step_of here c)
 
   -- a quiet stretch more
   pub ran_on : RoundsJoin → (k j : ℕ) (then : World) (kept : RunWriter) → k ≤ n - i → j ≡ i + k → IsStretch k here then
-      → kept ≡ passed_on telling then → RunsOn tells mode n j from then old now kept
+      → kept ≡ passed_on telling then → RunsOn tells mode n j from then old now before gathered kept
   ran_on law k j then kept h e s p = record {
     done = r.done ++ steps k here;
-    wrote = subst (λ (text : List ℕ). WroteAll tells old now text) (sym same_text) r.wrote;
+    wrote = subst (λ (text : List ℕ). PutBehind tells old now before gathered text) (sym same_text) r.wrote;
     kept = passed.0 ∙ ap (telling_of mode then) (sym same_printed);
     few = omega (arith, passed.1, r.few, e);
     goes = r.goes ∙ ap (λ (ss : List Step). r.done ++ ss)
@@ -160,30 +164,62 @@ module _ {K : Type 0} {tells : K → SinkFacts} {mode : Mode} {n i : ℕ} {from 
           ∙ ap (λ (t : List ℕ). printed_in r.done ++ t) (sym (printed-round k here) ∙ s.prints)
           ∙ append-nil (printed_in r.done)
 
+  -- so many steps, told otherwise
+  pub made_so : (j : ℕ) → i ≡ j → RunsOn tells mode n j from here old now before gathered telling
+  made_so j e = subst (λ (k : ℕ). RunsOn tells mode n k from here old now before gathered telling) e r
+
+  -- what is gathered was written
+  pub flushed : PutsCompose tells → (later : K) (after : List ℕ) → WroteAll tells now later gathered → after ≡ []
+      → RunsOn tells mode n i from here old later before after telling
+  flushed law later after w none = record {
+    done = r.done;
+    wrote = subst (λ (xs : List ℕ). PutBehind tells old later before xs (steps_text mode r.done)) (sym none)
+        (law.put_then_flushed r.wrote w);
+    kept = r.kept;
+    few = r.few;
+    goes = r.goes;
+    leads = r.leads;
+    came = r.came;
+    steps_made = r.steps_made;
+  }
+
+  -- a part of what is gathered was written
+  pub unflushed : PutsCompose tells → (later : K) → WrotePart tells now later gathered
+      → WrotePart tells old later (before ++ steps_text mode (steps n from))
+  unflushed law later w =
+      let whole : steps_text mode (steps n from) ≡ steps_text mode r.done ++ steps_text mode (steps (n - i) here) =
+      ap (steps_text mode) r.goes ∙ flat_map-append (step_text mode) r.done (steps (n - i) here) in
+      subst (λ (t : List ℕ). WrotePart tells old later (before ++ t)) (sym whole)
+      (law.put_then_unflushed (steps_text mode (steps (n - i) here)) r.wrote w)
+
   -- a write that failed in a step
-  pub part : WritesCompose tells → DevicesAnswerOne → (c : Choice) (later : K) (step : Emit) → i < n
+  pub part : PutsCompose tells → DevicesAnswerOne → (c : Choice) (later : K) (step : Emit) → i < n
       → next here ≡ Some c
-      → step ≡ shown_by (labels here c) → WrotePart tells now later (told_text telling step)
-      → WrotePart tells old later (steps_text mode (steps n from))
+      → step ≡ shown_by (labels here c) → WrotePart tells now later (gathered ++ told_text telling step)
+      → WrotePart tells old later (before ++ steps_text mode (steps n from))
   part law one c later step h e s w =
       let rest : List Step = steps (n - (i + 1)) (after here c) in
       let whole : steps_text mode (steps n from)
       ≡ steps_text mode r.done ++ (step_text mode (step_of here c) ++ steps_text mode rest) =
       ap (steps_text mode) (around c h e) ∙ flat_map-append (step_text mode) r.done (step_of here c ∷ rest) in
-      subst (λ (t : List ℕ). WrotePart tells old later t) (sym whole)
-      (law.all_then_part r.wrote (law.part_of_more (steps_text mode rest) told))
+      subst (λ (t : List ℕ). WrotePart tells old later (before ++ t)) (sym whole)
+      (law.put_then_part (step_text mode (step_of here c)) (steps_text mode rest) r.wrote told)
     where
-      told : WrotePart tells now later (step_text mode (step_of here c))
-      told = subst (λ (text : List ℕ). WrotePart tells now later text)
+      told : WrotePart tells now later (gathered ++ step_text mode (step_of here c))
+      told = subst (λ (text : List ℕ). WrotePart tells now later (gathered ++ text))
           (told_text-step one mode here c (printed_in r.done) telling step r.kept s) w
 
   -- a world of the run
   pub world_on : (c : Choice) (then : World) → i < n → next here ≡ Some c → then ≡ after here c → IsWorldOf n from then
   world_on c then h e f = record { steps = suc i; within = omega arith; reached = f ∙ came_on c e }
 
+  -- this world is one, too
+  pub world_here : i ≤ n → IsWorldOf n from here
+  world_here h = record { steps = i; within = h; reached = r.came }
+
   -- the whole run was made
   pub record IsWhole : Type 0 where
-    pub text : WroteAll tells old now (steps_text mode (steps n from))
+    pub text : PutBehind tells old now before gathered (steps_text mode (steps n from))
     pub kept_is : telling ≡ telling_of mode (round n from).world (printed (round n from).labels)
     pub last : here ≡ (round n from).world
 
@@ -192,7 +228,8 @@ module _ {K : Type 0} {tells : K → SinkFacts} {mode : Mode} {n i : ℕ} {from 
       let last : here ≡ (round n from).world = sym (r.leads ∙ ap (λ (q : Ran). q.world) e) in
       let all : steps n from ≡ r.done = r.goes ∙ ap (λ (ss : List Step). r.done ++ ss) none ∙ append-nil r.done in
       record {
-        text = subst (λ (ss : List Step). WroteAll tells old now (steps_text mode ss)) (sym all) r.wrote;
+        text = subst (λ (ss : List Step). PutBehind tells old now before gathered (steps_text mode ss)) (sym all)
+            r.wrote;
         kept_is = r.kept ∙ ap (λ (w : World). telling_of mode w (printed_in r.done)) last
             ∙ ap (telling_of mode (round n from).world) (ap printed_in (sym all) ∙ sym (printed-round n from));
         last = last;
@@ -210,11 +247,12 @@ module _ {K : Type 0} {tells : K → SinkFacts} {mode : Mode} {n i : ℕ} {from 
       (ap (λ (k : ℕ). round k here) none ∙ round-zero here)
 
 -- a run that begins
-pub begins : {K : Type 0} (tells : K → SinkFacts) (mode : Mode) (n : ℕ) (from : World) (old : K) (telling : RunWriter)
-    → WritesCompose tells → telling ≡ telling_of mode from [] → RunsOn tells mode n 0 from from old old telling
-begins tells mode n from old telling law t = record {
+pub begins : {K : Type 0} (tells : K → SinkFacts) (mode : Mode) (n : ℕ) (from : World) (old : K) (before : List ℕ)
+    (telling : RunWriter) → PutsCompose tells → telling ≡ telling_of mode from []
+    → RunsOn tells mode n 0 from from old old before before telling
+begins tells mode n from old before telling law t = record {
   done = [];
-  wrote = law.wrote_nothing old;
+  wrote = law.put_nothing old before;
   kept = t;
   few = subst (λ (x : RunWriter). counted_bytes x ≤ 0) (sym t) (nothing mode);
   goes = ap (λ (k : ℕ). steps k from) (whole n);

@@ -4,7 +4,7 @@ use Rattle.std.proofs.Common.{refl, sym, ap, ◌∙◌, arith}
 use Rattle.std.proofs.lemmas.Grind.{flat_map-append}
 use Rattle.std.specs.List.{flat_map}
 use Rattle.tk_base.specs.declared.process.Choice.{Choice}
-use Rattle.kernel_model.specs.World.{World, Label, Stepped, TurnOf, Answered, Printed, after, carried_out, is_ready}
+use Rattle.kernel_model.specs.World.{World, Label, Stepped, after, carried_out, is_ready}
 use Rattle.kernel_model.specs.World.{labels, stepped, unmade}
 use Rattle.kernel_model.specs.Run.{Ran, next, round, stays, told_first, runs_on, on_choice, printed}
 use Rattle.kernel_model.specs.Shown.{shown_by}
@@ -121,11 +121,3 @@ printed-round (suc n) w = by_next (next w) refl (λ c. printed-round n (after w 
         ∙ flat_map-append _ (labels w c) (round n (after w c)).labels
         ∙ ap (λ (t : List ℕ). printed (labels w c) ++ t) (later c)
         ∙ sym (ap printed_in (steps-step n w c e))
-
--- what a step shows that it printed
-pub shown_by-printed : (ls : List Label) → (shown_by ls).printed.items ≡ printed ls
-unfolding shown_by
-shown_by-printed [] = refl
-shown_by-printed (TurnOf slot time told ∷ ls) = shown_by-printed ls
-shown_by-printed (Answered slot event ∷ ls) = shown_by-printed ls
-shown_by-printed (Printed slot bytes ∷ ls) = ap (λ (xs : List ℕ). bytes ++ xs) (shown_by-printed ls)

@@ -1,6 +1,6 @@
 -- From what happened to what the program's answer says.
 use Rattle.std.specs.Prelude.{⊤}
-use Rattle.std.proofs.Common.{◌≡◌, ℕ, zero, suc, List, [], ◌∷◌, Option, None, Some, IsSome, Ok, Err, ◌⊎◌, ◌↔◌, inl}
+use Rattle.std.proofs.Common.{◌≡◌, ℕ, zero, suc, List, [], Option, None, Some, IsSome, Ok, ◌↔◌, inl}
 use Rattle.std.proofs.Common.{inr, refl, sym, subst}
 use Rattle.kernel_model.specs.World.{World}
 use Rattle.tock_cli.specs.declared.refusal.File.{File}
@@ -13,7 +13,7 @@ use Rattle.tock_cli.specs.Refusals.{refusal_line}
 use Rattle.tock_cli.specs.Comes.{Task, IsTask, comes_to, files_of, left_by}
 use Rattle.tock_cli.specs.Causes.{ShelfAccount, Cause}
 use Rattle.tock_cli.specs.Served.{SinkAccount, All, Happens, exit_status_of, RefusalIs, TaskIs, LeavesBoard, Decided}
-use Rattle.tock_cli.specs.Served.{DecidedBy, ProgramDoes, TaskIsDone, TaskIsRefused, IsBadScript, SinkFault, IsBadImage}
+use Rattle.tock_cli.specs.Served.{ProgramDoes, TaskIsDone, TaskIsRefused, IsBadScript, SinkFault, IsBadImage}
 use Rattle.tock_cli.proofs.Tasks.{of_command}
 use Rattle.tock_cli.proofs.Files.{all_texts, by_task, by_refusal, by_fault, by_memory}
 

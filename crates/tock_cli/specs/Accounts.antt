@@ -1,8 +1,8 @@
 -- What holds of the run that the program tells. It is this tool's own promise, of Levy et al., SOSP 2017.
-use Rattle.std.specs.Prelude.{ℕ, List, Option}
+use Rattle.std.specs.Prelude.{Option}
 use Rattle.board_opening.specs.Certified.{IsAccountedRun}
 use Rattle.tock_cli.specs.Words.{Command}
-use Rattle.tock_cli.specs.Comes.{Task, Running, Listing, Making, IsTask}
+use Rattle.tock_cli.specs.Comes.{Task, Running, IsTask}
 use Rattle.tock_cli.specs.Causes.{ShelfAccount}
 
 -- Of a run: each of its steps is accounted for, each byte of a process that changes, each access, each denial; and the

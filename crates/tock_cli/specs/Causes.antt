@@ -1,5 +1,5 @@
 -- Why a command is refused. The causes are this tool's own.
-use Rattle.std.specs.Prelude.{◌≡◌, ℕ, ◌≤◌, List, [], Option, None, Some}
+use Rattle.std.specs.Prelude.{◌≡◌, ℕ, List, [], Option, None, Some}
 use Rattle.tk_outside.specs.Shelf.{ShelfFacts, FaultsRose}
 use Rattle.tock_cli.specs.declared.refusal.File.{File}
 use Rattle.tock_cli.specs.declared.refusal.Refusal.{Refusal}

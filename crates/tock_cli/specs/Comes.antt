@@ -1,7 +1,6 @@
 -- What a command comes to, by the bytes of the files that it names. The commands are this tool's own.
 use Rattle.std.specs.Prelude.{◌≡◌, ℕ, nat_lt, if◌then◌else◌, List, [], ◌∷◌, ◌++◌, length, map, Option, None, Some}
 use Rattle.std.specs.Prelude.{IfSome, Result, Ok, Err, ◌⊎◌}
-use Rattle.tk_base.specs.declared.limits.TheConstants.{FLASH_LIMIT, SCRIPT_LIMIT}
 use Rattle.script_text.specs.Settings.{ScriptSettings}
 use Rattle.script_text.specs.Reading.{Fault as BadLine, reading}
 use Rattle.image_make.specs.declared.edits.EditFault.{EditFault}

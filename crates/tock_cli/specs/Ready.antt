@@ -1,5 +1,5 @@
 -- What is left to do once the files are read.
-use Rattle.std.specs.Prelude.{◌≡◌, ℕ, ◌<◌, ◌≤◌, List, [], ◌∷◌, ◌++◌, length, take, map, Option, None, Some, unwrap_or}
+use Rattle.std.specs.Prelude.{◌≡◌, ℕ, ◌<◌, ◌≤◌, List, length, Option, None, unwrap_or}
 use Rattle.std.specs.Prelude.{IfSome, Ok, Err, ◌⊎◌}
 use Rattle.tk_base.specs.declared.limits.TheConstants.{FLASH_LIMIT, OBJECT_LIMIT}
 use Rattle.script_text.specs.Settings.{ScriptSettings}

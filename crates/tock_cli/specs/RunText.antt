@@ -1,9 +1,9 @@
 -- The text of a run, by what is written of it. Its form is this tool's own.
 use Rattle.std.specs.Prelude.{◌≡◌, ℕ, zero, suc, ◌%◌, ◌^◌, ◌≤◌, List, [], ◌∷◌, ◌++◌, length, sum, codes, decimal}
-use Rattle.std.specs.Prelude.{Option, None, Some, is_none, if◌then◌else◌}
+use Rattle.std.specs.Prelude.{is_none, if◌then◌else◌}
 use Rattle.std.specs.List.{flat_map}
 use Rattle.tk_base.specs.declared.process.Choice.{Choice}
-use Rattle.kernel_model.specs.World.{World, Label, TurnOf, Answered, Printed, after, labels}
+use Rattle.kernel_model.specs.World.{World, Label, after, labels}
 use Rattle.kernel_model.specs.Run.{next, on_choice, round, printed}
 use Rattle.kernel_model.specs.Shown.{summary_of}
 use Rattle.board_report.specs.declared.report.End.{End}
@@ -36,12 +36,10 @@ unfoldable pub steps : ℕ → World → List Step
 steps zero w = []
 steps (suc n) w = on_choice [] (λ choice. step_of w choice ∷ steps n (after w choice)) (next w)
 
--- the lines of a label of a step that began at a time, which is a turn's own time too: those of a turn tell the call or
--- the denial in it, the others what was printed
+-- the lines of a label of a step that began at a time: the call or the denial in it, and what was printed
 abbrev pub label_lines : ℕ → Label → List ℕ
-label_lines time (TurnOf slot at told) = turn_text time slot told.call told.denial
-label_lines time (Answered slot event) = []
-label_lines time (Printed slot bytes) = out_text time slot bytes
+label_lines time label =
+    turn_text time label.slot label.trace.call label.trace.denial ++ out_text time label.slot label.printed
 
 -- the lines of a step
 abbrev pub step_lines : Step → List ℕ

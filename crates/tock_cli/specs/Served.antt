@@ -12,7 +12,7 @@ use Rattle.tock_cli.specs.declared.refusal.Refusal.{Refusal}
 use Rattle.tock_cli.specs.declared.refusal.Refusal.TheVariants.{Usage, Fault, TooLong, Script, Image, Memory}
 use Rattle.tock_cli.specs.declared.serve.ServeOutcome.{ServeOutcome}
 use Rattle.tock_cli.specs.declared.serve.ServeOutcome.TheVariants.{Done, Refused, SinkFailed}
-use Rattle.tock_cli.specs.Words.{Command, Runs, Lists, Soaks, Packs, Edits, command_of}
+use Rattle.tock_cli.specs.Words.{Command, Runs, Soaks, command_of}
 use Rattle.tock_cli.specs.Refusals.{refusal_line, status_of}
 use Rattle.tock_cli.specs.Comes.{Named, Task, IsTask, files_of, left_by, refused_at, task_text}
 use Rattle.tock_cli.specs.Causes.{ShelfAccount, Cause, told_by}

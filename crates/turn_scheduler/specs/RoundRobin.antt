@@ -50,16 +50,24 @@ next_slot ready present used slice =
     if goes_on ready present used slice then present
     else find (place_is_ready ready) (slots_after present)
 
+-- that of a situation
+abbrev pub slot_in : Situation → Option ℕ
+slot_in s = next_slot s.ready s.present s.used s.slice
+
 -- the next step, or none
 unfoldable pub choice : Situation → Option Choice
 choice s =
     option_or (option_map Device (ready_device s.devices))
-    (option_or (option_map Run (next_slot s.ready s.present s.used s.slice))
+    (option_or (option_map Run (slot_in s))
     (option_map (λ at. Pass (at - s.time)) s.next))
 
--- Where no device step is ready, the time at which one becomes ready lies ahead, and a Pass leads to it.
+-- a time lies ahead of another, and a Pass leads to it
+abbrev pub LiesAhead : ℕ → ℕ → Type 0
+LiesAhead time at = (time < at) × (at - time < 2 ^ 32)
+
+-- Where no device step is ready, the time at which one becomes ready lies ahead.
 abbrev pub IsNextAhead : Situation → Type 0
-IsNextAhead s = ready_device s.devices ≡ None → ForSome s.next (λ at. (s.time < at) × (at - s.time < 2 ^ 32))
+IsNextAhead s = ready_device s.devices ≡ None → ForSome s.next (LiesAhead s.time)
 
 -- How many turns of its slice a slot has used after one more: the present slot goes on with its slice while it lasts;
 -- else a slice begins.

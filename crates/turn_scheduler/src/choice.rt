@@ -4,7 +4,8 @@ ghost use Rattle.tk_base.specs.declared.process.Choice.TheVariants.{Pass};
 ghost use Rattle.turn_scheduler.specs.RoundRobin.{ready_device, choice, IsNextAhead};
 ghost use Rattle.turn_scheduler.specs.Status.{situation_shown};
 
-use crate::slots::{is_ready, next_slot};
+use crate::situated::Situated;
+use crate::slots::next_slot;
 use crate::status::Status;
 use tk_base::{Choice, Dev};
 
@@ -18,15 +19,14 @@ const DEVICES: [Dev; 6] = [
     Dev::Store,
 ];
 
-/// The first device step that is ready. `devices` says of each whether it is, in the order of `Dev`'s
-/// variants; those past its end are not.
+/// The first device step that is ready.
 #[tactic(auto, unfolding(crate::specs::RoundRobin::ready_device))]
-pub fn ready_device(devices: &[bool]) -> Option<Dev>
-    ensures { result ≡ ready_device devices.now }
+fn ready_device<S: Situated>(situated: &S) -> Option<Dev>
+    ensures { result ≡ ready_device (S.situation situated.now).devices }
 {
     DEVICES
         .iter()
-        .find(|device| is_ready(devices, **device as usize))
+        .find(|device| situated.device_is_ready(**device))
         .copied()
 }
 
@@ -39,21 +39,29 @@ fn pass_to(at: u64, time: u64) -> Choice
     Choice::Pass((at - time) as u32)
 }
 
-/// The next choice of the board with this status, as round robin chooses: the first ready device step;
-/// else the slot that has the next turn of a process ([`next_slot`]); else a Pass to the time at which a
-/// device step becomes ready, which takes `next - time` ticks; else none. It asks that such a time lies
-/// ahead, by at most `2^32 - 1` ticks, where no device step is ready.
+/// The next choice in a situation, as round robin chooses: the first ready device step; else the slot that has the next
+/// turn of a process ([`next_slot`]); else a Pass to the time at which a device step becomes ready, which takes
+/// `next - time` ticks; else none. It asks what the situation is told under.
 #[tactic(auto, unfolding(crate::specs::RoundRobin::choice))]
+pub fn next_choice_in<S: Situated>(situated: &S) -> Option<Choice>
+    requires { S.asks situated.now }
+    ensures { result ≡ choice (S.situation situated.now) }
+{
+    if let Some(device) = ready_device(situated) {
+        return Some(Choice::Device(device));
+    }
+    if let Some(slot) = next_slot(situated) {
+        return Some(Choice::Run(slot));
+    }
+    let at = situated.next()?;
+    Some(pass_to(at, situated.time()))
+}
+
+/// The next choice of the board with this status ([`next_choice_in`]). It asks that, where no device step is ready, the
+/// time at which one becomes so lies ahead, by at most `2^32 - 1` ticks.
 pub fn next_choice(status: &Status) -> Option<Choice>
     requires { IsNextAhead (situation_shown status.now) }
     ensures { result ≡ choice (situation_shown status.now) }
 {
-    if let Some(device) = ready_device(&status.devices) {
-        return Some(Choice::Device(device));
-    }
-    if let Some(slot) = next_slot(&status.ready, status.present, status.used, status.slice) {
-        return Some(Choice::Run(slot));
-    }
-    let at = status.next?;
-    Some(pass_to(at, status.time))
+    next_choice_in(status)
 }

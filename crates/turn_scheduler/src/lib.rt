@@ -3,10 +3,12 @@
 
 mod choice;
 mod laws;
+mod situated;
 mod slots;
 mod status;
 
-pub use choice::{next_choice, ready_device};
+pub use choice::{next_choice, next_choice_in};
 pub use laws::{choice_is_ready, present_goes_on, ready_has_turn};
+pub use situated::Situated;
 pub use slots::{next_slot, used_after};
 pub use status::Status;

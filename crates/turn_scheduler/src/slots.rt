@@ -2,24 +2,19 @@
 ghost use Rattle.std.specs.Prelude.{◌≡◌, ◌-◌, ◌≤◌, find};
 ghost use Rattle.std.specs.List.{range_with_len};
 ghost use Rattle.tk_base.specs.declared.limits.TheConstants.{SLOT_COUNT};
-ghost use Rattle.turn_scheduler.specs.RoundRobin.{place_is_ready, slots_after, next_slot, used_after};
+ghost use Rattle.turn_scheduler.specs.RoundRobin.{place_is_ready, slots_after, slot_in, used_after};
 
+use crate::situated::Situated;
 use tk_base::{SLOT_COUNT, Slot};
 
-/// What a table of flags says of a place; false past its end.
-pub(crate) fn is_ready(table: &[bool], place: usize) -> bool
-    ensures { result ≡ place_is_ready table.now place }
-{
-    place < table.len() && table[place]
-}
-
 /// The first slot that is ready, from one on and below another.
-fn first_ready(ready: &[bool], from: usize, to: usize) -> Option<Slot>
+fn first_ready<S: Situated>(situated: &S, from: usize, to: usize) -> Option<Slot>
     requires { to ≤ SLOT_COUNT }
-    ensures { result ≡ find (place_is_ready ready.now) (range_with_len from (to - from)) }
+    ensures { result
+        ≡ find (place_is_ready (S.situation situated.now).ready) (range_with_len from (to - from)) }
 {
     for slot in from..to {
-        if is_ready(ready, slot) {
+        if situated.slot_is_ready(Slot::new(slot)) {
             return Some(Slot::new(slot));
         }
     }
@@ -28,34 +23,35 @@ fn first_ready(ready: &[bool], from: usize, to: usize) -> Option<Slot>
 
 /// The next ready slot after the present one in cyclic order, the present one last; with none present,
 /// the first from slot 0.
-fn next_in_order(ready: &[bool], present: Option<Slot>) -> Option<Slot>
-    ensures { result ≡ find (place_is_ready ready.now) (slots_after present) }
+fn next_in_order<S: Situated>(situated: &S, present: Option<Slot>) -> Option<Slot>
+    ensures { result
+        ≡ find (place_is_ready (S.situation situated.now).ready) (slots_after present) }
 {
     let Some(present) = present else {
-        return first_ready(ready, 0, SLOT_COUNT);
+        return first_ready(situated, 0, SLOT_COUNT);
     };
     let after = present.index() + 1;
-    match first_ready(ready, after, SLOT_COUNT) {
+    match first_ready(situated, after, SLOT_COUNT) {
         Some(slot) => Some(slot),
-        None => first_ready(ready, 0, after),
+        None => first_ready(situated, 0, after),
     }
 }
 
 /// The slot that has the next turn of a process: the present one, if it is ready and has used fewer
 /// turns than its slice; else the next ready one after it in cyclic order, the present one last (with
-/// none present, from slot 0). None exactly where no slot is ready. `ready` says of each slot whether it
-/// is ready, slot 0 first; those past its end are not.
+/// none present, from slot 0). None exactly where no slot is ready.
 #[tactic(auto, unfolding(crate::specs::RoundRobin::next_slot))]
-pub fn next_slot(ready: &[bool], present: Option<Slot>, used: u32, slice: u32) -> Option<Slot>
-    ensures { result ≡ next_slot ready.now present used slice }
+pub fn next_slot<S: Situated>(situated: &S) -> Option<Slot>
+    ensures { result ≡ slot_in (S.situation situated.now) }
 {
+    let present = situated.present();
     if let Some(slot) = present
-        && used < slice
-        && is_ready(ready, slot.index())
+        && situated.used() < situated.slice()
+        && situated.slot_is_ready(slot)
     {
         return Some(slot);
     }
-    next_in_order(ready, present)
+    next_in_order(situated, present)
 }
 
 /// How many turns of its slice a slot has used after one more turn, after which it is the present one:

@@ -1,6 +1,10 @@
-//! What the choice of the next step rests on.
+//! What the choice of the next step rests on, as tables.
+ghost use Rattle.std.specs.Prelude.{◌≡◌};
+ghost use Rattle.turn_scheduler.specs.RoundRobin.{place_is_ready};
+
+use crate::situated::Situated;
 use arrayvec::ArrayVec;
-use tk_base::{SLOT_COUNT, Slot};
+use tk_base::{Dev, SLOT_COUNT, Slot};
 
 /// What the round robin reads of a board. Contracts speak of it as a situation, with lists for the tables
 /// and a number for the slot.
@@ -20,4 +24,48 @@ pub struct Status {
     pub used: u32,
     /// How many turns a slot may have in a row while another one is ready.
     pub slice: u32,
+}
+
+/// What a table of flags says of a place; false past its end.
+fn is_ready(table: &[bool], place: usize) -> bool
+    ensures { result ≡ place_is_ready table.now place }
+{
+    place < table.len() && table[place]
+}
+
+impl Situated for Status {
+    ghost use Rattle.turn_scheduler.specs.RoundRobin.{IsNextAhead};
+    ghost use Rattle.turn_scheduler.specs.Status.{situation_shown};
+
+    ghost situation = { situation_shown };
+
+    ghost asks = { λ status. IsNextAhead (situation_shown status) };
+
+    fn device_is_ready(&self, device: Dev) -> bool {
+        is_ready(&self.devices, device as usize)
+    }
+
+    fn slot_is_ready(&self, slot: Slot) -> bool {
+        is_ready(&self.ready, slot.index())
+    }
+
+    fn next(&self) -> Option<u64> {
+        self.next
+    }
+
+    fn time(&self) -> u64 {
+        self.time
+    }
+
+    fn present(&self) -> Option<Slot> {
+        self.present
+    }
+
+    fn used(&self) -> u32 {
+        self.used
+    }
+
+    fn slice(&self) -> u32 {
+        self.slice
+    }
 }

@@ -1,4 +1,4 @@
-use Rattle.std.proofs.Common.{◌≡◌, ℕ, ◌-◌, ◌≤◌, List, length, take, refl, ap, arith, ◌∙◌}
+use Rattle.std.proofs.Common.{ℕ, ◌-◌, ◌≤◌, List, length, take, refl, ap, arith, ◌∙◌}
 use Rattle.std.specs.Int.{w32, to_le_bytes}
 use Rattle.std.proofs.lemmas.List.{length-take}
 use Rattle.tk_base.specs.Bytes.{over}

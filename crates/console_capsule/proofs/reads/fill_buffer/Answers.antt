@@ -19,7 +19,8 @@ returns-clause-own c =
     let buffer = held ReadWrite e.driver 1 own in
     let room = ram_at own buffer in
     let bytes = c.read_write.ensures.bytes in
-    (c.a_buffer_is_written.ensures ReadWrite 1 e c.fill.new.buffer refl c.requires.lent (c.fill.ensures.long ∙ ap length bytes)).own
+    (c.a_buffer_is_written.ensures ReadWrite 1 e c.fill.new.buffer refl c.requires.lent
+    (c.fill.ensures.long ∙ ap length bytes)).own
     ∙ (ap (λ xs. with_written ReadWrite e.driver 1 0 xs own)
     (c.fill.ensures.buffer ∙ ap (λ xs. over xs 0 (take (min most (length xs)) ring)) bytes)
     ∙ (c.buffers_are_whole.ensures.front own buffer (take (min most (length room)) ring) (fits most room ring)

@@ -19,7 +19,7 @@ value_at-value-requires g c =
     c.requires.counted g.met.T.GrantValue.whole in
     omega (
       arith,
-      c.in_ok-at.ensures.found.within,
+      c.in-Some.ensures.found.within,
       size,
       ap length (c.kernel_of-2.ensures.bytes ∙ sym c.kernel_of.ensures.bytes),
     )
@@ -28,23 +28,23 @@ lent : (g : Over) (c : After-kernel_of-2 g) → IsLentTo c.args.driver c.args.co
 lent g c = record { sits = c.requires.sits; counts_are = c.requires.counted.counts_are }
 
 stands : (g : Over) (c : After-kernel_of-2 g)
-    → IsValue (kernel_in c.args.memory.now.ram c.args.seat.now.layout) c.in_ok-at.at g.T.GrantValue.SIZE c.args.driver
+    → IsValue (kernel_in c.args.memory.now.ram c.args.seat.now.layout) c.in-Some.at g.T.GrantValue.SIZE c.args.driver
 stands g c =
-    subst (λ (n : ℕ). IsValue (kernel_in c.args.memory.now.ram c.args.seat.now.layout) c.in_ok-at.at n c.args.driver)
+    subst (λ (n : ℕ). IsValue (kernel_in c.args.memory.now.ram c.args.seat.now.layout) c.in-Some.at n c.args.driver)
     (size_of g.T.GrantValue.driver c.args.driver g.T.GrantValue.SIZE g.T.GrantValue.count c.args.counts
     c.requires.counted g.met.T.GrantValue.whole)
-    (subst (λ (xs : List ℕ). IsValue xs c.in_ok-at.at (value_bytes c.args.driver) c.args.driver)
-    c.kernel_of.ensures.bytes c.in_ok-at.ensures.found)
+    (subst (λ (xs : List ℕ). IsValue xs c.in-Some.at (value_bytes c.args.driver) c.args.driver)
+    c.kernel_of.ensures.bytes c.in-Some.ensures.found)
 
 is : (g : Over) (c : After-value_at-value g)
     → g.T.GrantValue.kept c.value_at-value.result
     ≡ value_told c.args.driver (words_of (take g.T.GrantValue.SIZE
-    (drop c.in_ok-at.at (kernel_in c.args.memory.now.ram c.args.seat.now.layout))))
+    (drop c.in-Some.at (kernel_in c.args.memory.now.ram c.args.seat.now.layout))))
 is g c =
     let words = words_of (take g.T.GrantValue.SIZE
-    (drop c.in_ok-at.at (kernel_in c.args.memory.now.ram c.args.seat.now.layout))) in
+    (drop c.in-Some.at (kernel_in c.args.memory.now.ram c.args.seat.now.layout))) in
     c.value_at-value.ensures
-    ∙ ap (λ (xs : List ℕ). value_by (words_of (take g.T.GrantValue.SIZE (drop c.in_ok-at.at xs))) g.T.GrantValue.driver)
+    ∙ ap (λ (xs : List ℕ). value_by (words_of (take g.T.GrantValue.SIZE (drop c.in-Some.at xs))) g.T.GrantValue.driver)
     c.kernel_of-2.ensures.bytes
     ∙ sym (told_is g.T.GrantValue.driver c.args.driver words c.requires.counted.driver_is)
 
@@ -59,7 +59,7 @@ pub run_visit-answer-requires-clause-asks : goal.run_visit-answer-requires-claus
 run_visit-answer-requires-clause-asks g c =
     let at = goal.at.run_visit-answer-requires-clause-asks g c in
     asks_by (grants_of c.args.driver c.args.counts g.T.GrantValue.kept) (g.V.Visit.leaves c.args.visitor)
-    c.args.memory.now c.args.seat.now (lent g at.After-kernel_of-2) c.in_ok-at.at g.T.GrantValue.SIZE
+    c.args.memory.now c.args.seat.now (lent g at.After-kernel_of-2) c.in-Some.at g.T.GrantValue.SIZE
     (stands g at.After-kernel_of-2) c.value_at-value.result (is g at.After-value_at-value)
     (g.V.Visit.asks c.args.visitor) c.requires.asks
 
@@ -67,7 +67,7 @@ pub keep_value-requires-clause-within : goal.keep_value-requires-clause-within
 keep_value-requires-clause-within g c =
     let at = goal.at.keep_value-requires-clause-within g c in
     (value_again c.args.driver c.args.counts c.args.memory.now c.args.seat.now (lent g at.After-kernel_of-2)
-    c.in_ok-at.at g.T.GrantValue.SIZE (stands g at.After-kernel_of-2) c.run_visit-answer.new.memory
+    c.in-Some.at g.T.GrantValue.SIZE (stands g at.After-kernel_of-2) c.run_visit-answer.new.memory
     c.run_visit-answer.new.seat c.run_visit-answer.ensures.serves).within
 
 pub returns-clause-visited : goal.returns-clause-visited
@@ -79,7 +79,7 @@ returns-clause-visited g c =
     subst (λ (x : MemoryBytes). Visited grants (g.V.Visit.leaves c.args.visitor) c.args.memory.now.flash
     (own_in c.args.memory.now.ram c.args.seat.now) r.result (own_in x.ram r.new.seat)) (sym k.kept)
     (visited_by grants (g.V.Visit.leaves c.args.visitor) c.args.memory.now c.args.seat.now
-    (lent g at.After-kernel_of-2) c.in_ok-at.at g.T.GrantValue.SIZE (stands g at.After-kernel_of-2)
+    (lent g at.After-kernel_of-2) c.in-Some.at g.T.GrantValue.SIZE (stands g at.After-kernel_of-2)
     c.value_at-value.result (is g at.After-value_at-value) r.new.memory r.new.seat r.ensures.serves r.new.value
     (can g at.After-keep_value) k.long r.result r.ensures.left)
 
@@ -90,6 +90,6 @@ returns-clause-reseats g c =
     let k = c.keep_value.ensures in
     subst (λ (x : MemoryBytes). Reseats c.args.memory.now c.args.seat.now x r.new.seat) (sym k.kept)
     (visit_reseats (grants_of c.args.driver c.args.counts g.T.GrantValue.kept) (g.V.Visit.leaves c.args.visitor)
-    c.args.memory.now c.args.seat.now (lent g at.After-kernel_of-2) c.in_ok-at.at g.T.GrantValue.SIZE
+    c.args.memory.now c.args.seat.now (lent g at.After-kernel_of-2) c.in-Some.at g.T.GrantValue.SIZE
     (stands g at.After-kernel_of-2) c.value_at-value.result (is g at.After-value_at-value) r.new.memory r.new.seat
     r.ensures.serves r.new.value (can g at.After-keep_value) k.long)

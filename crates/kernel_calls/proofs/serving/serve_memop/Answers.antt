@@ -9,6 +9,7 @@ pub returns-clause-serves : goal.returns-clause-serves
 returns-clause-serves c = λ storage.
     let home = c.memop_call-answer.new.home in
     sym (c.memop_call-answer.ensures.answer storage)
-    ∙ given home.flash c.args.process.now c.give.new.process (own_of home c.args.slot) storage c.memop_call-answer.result
+    ∙ given home.flash c.args.process.now c.give.new.process (own_of home c.args.slot) storage
+    c.memop_call-answer.result
     c.give.result (ap (λ (p : Process). p.object) c.give.ensures.stays)
     (c.give.ensures.gives (record_of_slot home c.args.slot c.args.process.now storage))

@@ -12,9 +12,7 @@ made brk object flash_start flash_end start end life dropped = record {
     flash_end = flash_end;
     start = start;
     end = end;
-    brk =
-        brk;
-    kernel_break = end;
+    brk = brk;
     mark = start;
   };
   ram = replicate (end - start) 0;

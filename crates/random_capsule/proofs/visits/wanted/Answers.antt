@@ -10,6 +10,7 @@ returns-clause-own c =
     let e = c.args.entered.now in
     let own = own_entered e in
     let bytes = c.read_write-length.ensures.bytes in
-    (c.a_buffer_is_written.ensures ReadWrite 0 e c.read_write-length.result.now refl c.requires.lent (ap length bytes)).own
+    (c.a_buffer_is_written.ensures ReadWrite 0 e c.read_write-length.result.now refl c.requires.lent
+    (ap length bytes)).own
     ∙ (ap (λ bs. with_written ReadWrite e.driver 0 0 bs own) bytes
     ∙ c.buffers_are_whole.ensures.same own (held ReadWrite e.driver 0 own))

@@ -14,7 +14,8 @@ returns-clause-own c =
     let bs = bytes_from c.args.stores.now c.args.slot c.args.request.now.offset c.fill.result in
     let bytes = c.read_write.ensures.bytes in
     let fits = subst (λ (xs : List ℕ). length bs ≤ length xs) bytes c.fill.ensures.fits in
-    (c.a_buffer_is_written.ensures ReadWrite 0 e c.fill.new.buffer refl c.requires.lent (c.fill.ensures.long ∙ ap length bytes)).own
+    (c.a_buffer_is_written.ensures ReadWrite 0 e c.fill.new.buffer refl c.requires.lent
+    (c.fill.ensures.long ∙ ap length bytes)).own
     ∙ (ap (λ xs. with_written ReadWrite e.driver 0 0 xs own) (c.fill.ensures.buffer ∙ ap (λ xs. over xs 0 bs) bytes)
     ∙ (c.buffers_are_whole.ensures.front own (held ReadWrite e.driver 0 own) bs fits
     ∙ ap (λ d. with_written ReadWrite d 0 0 bs own) c.requires.driver))

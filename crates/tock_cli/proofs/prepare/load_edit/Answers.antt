@@ -1,4 +1,4 @@
-use Rattle.std.proofs.Common.{rules, subst, sym, ap, ◌∙◌, arith, ◌≡◌, List, ℕ, Ok, Err}
+use Rattle.std.proofs.Common.{rules, subst, sym, arith, ◌≡◌, List, ℕ, Ok, Err}
 use Rattle.tock_cli.specs.declared.refusal.Refusal.TheVariants.{Image}
 use Rattle.tock_cli.specs.declared.refusal.ImageFault.{ImageFault}
 use Rattle.tock_cli.specs.Words.{edit_given, edit_words, edits_of}

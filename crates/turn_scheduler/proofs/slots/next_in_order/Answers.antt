@@ -4,18 +4,18 @@ use Rattle.turn_scheduler.proofs.Order.{slots_after-none, slots_after-some, slot
 use Rattle.turn_scheduler.proofs.slots.next_in_order.Goals as goal
 
 pub returns-in-Some-first_ready : goal.returns-in-Some-first_ready
-returns-in-Some-first_ready c =
-    slots_after-some (place_is_ready c.args.ready.now) c.args.present c.in-Some.present c.index-after.result
+returns-in-Some-first_ready g c =
+    slots_after-some (place_is_ready (g.S.Situated.situation c.args.situated.now).ready) c.args.present c.in-Some.present c.index-after.result
     c.in-Some-first_ready.slot c.in-Some.is c.index-after.ensures.value
     (sym c.in-Some-first_ready.is ∙ c.first_ready-2.ensures)
 
 pub returns-in-None : goal.returns-in-None
-returns-in-None c =
-    slots_after-none (place_is_ready c.args.ready.now) c.args.present c.in-Some.present c.index-after.result
+returns-in-None g c =
+    slots_after-none (place_is_ready (g.S.Situated.situation c.args.situated.now).ready) c.args.present c.in-Some.present c.index-after.result
     c.first_ready-in-None.result c.in-Some.is c.index-after.ensures.value (sym c.in-None.is ∙ c.first_ready-2.ensures)
     c.first_ready-in-None.ensures
 
 pub returns-in_default : goal.returns-in_default
-returns-in_default c =
+returns-in_default g c =
     let none : c.args.present ≡ None = search rules in
-    slots_after-start (place_is_ready c.args.ready.now) c.args.present c.first_ready.result none c.first_ready.ensures
+    slots_after-start (place_is_ready (g.S.Situated.situation c.args.situated.now).ready) c.args.present c.first_ready.result none c.first_ready.ensures

@@ -1,11 +1,13 @@
 use Rattle.std.proofs.Common.{◌≡◌, ℕ, subst, sym, ap, ◌∙◌, rules}
 use Rattle.grant_enter.specs.Buffers.{buffer_held, buffer_start, last_of}
+use Rattle.process_layout.specs.Bounds.{bounds_of}
 use Rattle.grant_enter.specs.Seats.{LiesBelowMark}
 use Rattle.grant_enter.proofs.Buffers.{EndsAt, below_held, ends_at, small}
 use Rattle.grant_enter.proofs.entered.Entered.ends.Goals as goal
 use Rattle.grant_enter.proofs.entered.Entered.ends.Goals.{After-held-buffer}
 
-lies : (c : After-held-buffer) → LiesBelowMark c.args.self.now.seat.now.layout (buffer_held c.args.kind c.args.n c.args.self.now)
+lies : (c : After-held-buffer)
+    → LiesBelowMark (bounds_of c.args.self.now.seat.now.layout) (buffer_held c.args.kind c.args.n c.args.self.now)
 lies c = let e = c.args.self.now in
     below_held e.memory.now e.seat.now c.requires.lent.sits c.args.kind e.driver c.args.n c.requires.writable
 
@@ -14,7 +16,7 @@ ends_of-requires c =
     let at = (goal.at.ends_of-requires c).After-held-buffer in
     let e = c.args.self.now in
     small e.memory.now e.seat.now c.requires.lent.sits.settled c.held-buffer.result
-    (subst (LiesBelowMark e.seat.now.layout) (sym c.held-buffer.ensures) (lies at)) (search rules)
+    (subst (LiesBelowMark (bounds_of e.seat.now.layout)) (sym c.held-buffer.ensures) (lies at)) (search rules)
 
 pub returns : goal.returns
 returns c =

@@ -2,16 +2,17 @@ use Rattle.std.proofs.Common.{subst, sym, ap, ◌∙◌}
 use Rattle.tk_base.specs.declared.kinds.PairKind.TheVariants.{ReadOnly}
 use Rattle.process_model.specs.Flash.{flash_byte}
 use Rattle.process_model.specs.Served.{bytes_at}
+use Rattle.process_layout.specs.Bounds.{bounds_of}
 use Rattle.grant_enter.specs.Seats.{MayBeRead}
 use Rattle.grant_enter.specs.Seen.{own_entered}
 use Rattle.grant_enter.proofs.Buffers.{lies_held, read_is}
 use Rattle.grant_enter.proofs.entered.Entered.read_only.Goals as goal
 use Rattle.grant_enter.proofs.entered.Entered.read_only.Goals.{After-held-at}
 
-may : (c : After-held-at) → MayBeRead c.args.self.now.seat.now.layout c.held-at.result
+may : (c : After-held-at) → MayBeRead (bounds_of c.args.self.now.seat.now.layout) c.held-at.result
 may c =
     let e = c.args.self.now in
-    subst (MayBeRead e.seat.now.layout) (sym c.held-at.ensures)
+    subst (MayBeRead (bounds_of e.seat.now.layout)) (sym c.held-at.ensures)
     (lies_held e.memory.now e.seat.now c.requires.lent.sits ReadOnly e.driver c.args.n)
 
 pub buffer_at-requires-clause-may : goal.buffer_at-requires-clause-may

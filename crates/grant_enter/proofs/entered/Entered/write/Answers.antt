@@ -14,7 +14,8 @@ done : (c : After-put_from) → let e = c.args.self.now in
     (with_run e.memory.now (buffer_start e.seat.now.layout
     (held ReadWrite e.driver c.args.n (own_in e.memory.now.ram e.seat.now))) c.put_from.new.buffer)
 done c = let e = c.args.self.now in
-    wrote ReadWrite refl e.driver c.args.n e.counts e.memory.now e.seat.now c.requires.lent c.args.offset c.args.bytes.now
+    wrote ReadWrite refl e.driver c.args.n e.counts e.memory.now e.seat.now c.requires.lent c.args.offset
+    c.args.bytes.now
     c.read_write.result.now c.put_from.new.buffer c.read_write.ensures.bytes c.put_from.ensures.buffer
 
 pub returns-clause-count : goal.returns-clause-count
@@ -22,7 +23,8 @@ returns-clause-count c =
     let e = c.args.self.now in
     c.put_from.ensures.count
     ∙ ap (λ (k : ℕ). min (length c.args.bytes.now) (k - c.args.offset))
-    (size_is ReadWrite refl e.driver c.args.n e.counts e.memory.now e.seat.now c.requires.lent c.args.offset c.args.bytes.now
+    (size_is ReadWrite refl e.driver c.args.n e.counts e.memory.now e.seat.now c.requires.lent c.args.offset
+    c.args.bytes.now
     c.read_write.result.now c.read_write.ensures.bytes)
 
 pub returns-clause-own : goal.returns-clause-own

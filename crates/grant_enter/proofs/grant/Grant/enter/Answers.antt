@@ -33,15 +33,18 @@ invariant_of-home g c =
 
 pub returns-clause-enters : goal.returns-clause-enters
 returns-clause-enters g c =
-    let same : c.args.self.now.counts ≡ counting g.row.UP g.row.RO g.row.RW g.row.UR g.T.GrantValue.SIZE = search rules in
+    let same : c.args.self.now.counts ≡ counting g.row.UP g.row.RO g.row.RW g.row.UR g.T.GrantValue.SIZE =
+    search rules in
     subst (λ (counts : Counts). Enters (grants_of c.args.self.now.driver counts g.T.GrantValue.kept)
     (g.V.Visit.leaves c.args.visitor) c.args.id.life c.args.home.now.flash (own_of c.args.home.now c.args.id.slot)
-    c.enter_seat.result (own_of (homes_of (with_seat c.home.inside c.enter_seat.new.memory c.index.result c.enter_seat.new.seat))
+    c.enter_seat.result (own_of (homes_of (with_seat c.home.inside c.enter_seat.new.memory c.index.result
+    c.enter_seat.new.seat))
     c.args.id.slot)) same
     (reseated_shows (reads g (goal.at.returns-clause-enters g c).After-index_mut-seat) c.enter_seat.new.memory
     c.enter_seat.new.seat c.enter_seat.ensures.reseats
     (λ flash own own_after.
-    Enters (grants_of c.args.self.now.driver c.args.self.now.counts g.T.GrantValue.kept) (g.V.Visit.leaves c.args.visitor)
+    Enters (grants_of c.args.self.now.driver c.args.self.now.counts g.T.GrantValue.kept)
+    (g.V.Visit.leaves c.args.visitor)
     c.args.id.life flash own c.enter_seat.result own_after) c.enter_seat.ensures.enters)
 
 pub returns-clause-rest : goal.returns-clause-rest

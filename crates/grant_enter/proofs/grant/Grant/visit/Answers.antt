@@ -33,16 +33,19 @@ invariant_of-home g c =
 
 pub returns-clause-visits : goal.returns-clause-visits
 returns-clause-visits g c =
-    let same : c.args.self.now.counts ≡ counting g.row.UP g.row.RO g.row.RW g.row.UR g.T.GrantValue.SIZE = search rules in
-    subst (λ (counts : Counts). Visits (grants_of c.args.self.now.driver counts g.T.GrantValue.kept)
+    let same : c.args.self.now.counts ≡ counting g.row.UP g.row.RO g.row.RW g.row.UR g.T.GrantValue.SIZE =
+    search rules in
+    subst (λ (counts : Counts). Visits (grants_of c.args.self.now.driver counts g.T.GrantValue.kept) c.args.visitor
     (g.V.Visit.leaves c.args.visitor) c.args.id.life c.args.home.now.flash (own_of c.args.home.now c.args.id.slot)
-    c.visit_seat.result (own_of (homes_of (with_seat c.home.inside c.visit_seat.new.memory c.index.result c.visit_seat.new.seat))
+    c.visit_seat.result (own_of (homes_of (with_seat c.home.inside c.visit_seat.new.memory c.index.result
+    c.visit_seat.new.seat))
     c.args.id.slot)) same
     (reseated_shows (reads g (goal.at.returns-clause-visits g c).After-index_mut-visited) c.visit_seat.new.memory
     c.visit_seat.new.seat c.visit_seat.ensures.reseats
     (λ flash own own_after.
-    Visits (grants_of c.args.self.now.driver c.args.self.now.counts g.T.GrantValue.kept) (g.V.Visit.leaves c.args.visitor)
-    c.args.id.life flash own c.visit_seat.result own_after) c.visit_seat.ensures.visits)
+    Visits (grants_of c.args.self.now.driver c.args.self.now.counts g.T.GrantValue.kept) c.args.visitor
+    (g.V.Visit.leaves c.args.visitor) c.args.id.life flash own c.visit_seat.result own_after)
+    c.visit_seat.ensures.visits)
 
 pub returns-clause-rest : goal.returns-clause-rest
 returns-clause-rest g c =

@@ -1,9 +1,10 @@
-use Rattle.std.proofs.Common.{◌≡◌, ap}
+use Rattle.std.proofs.Common.{◌≡◌, ap, sym, ◌∙◌}
 use Rattle.process_layout.specs.LayoutView.{LayoutView}
+use Rattle.process_layout.specs.Bounds.{bounds_of, permits_break}
 use Rattle.process_model.specs.Own.{with_moved_break}
 use Rattle.grant_enter.specs.Seats.{Reseats, own_in}
 use Rattle.grant_enter.proofs.Moves.{Reads, break_reseats, on_true, reseated, reseated_only, reseated_shows}
-use Rattle.grant_enter.proofs.Moves.{sits_before}
+use Rattle.grant_enter.proofs.Moves.{sits_before, whole_layout}
 use Rattle.grant_enter.proofs.home.Home.set_break.Goals as goal
 use Rattle.grant_enter.proofs.home.Home.set_break.Goals.{After-set_break}
 
@@ -28,6 +29,12 @@ moves c = break_reseats c.self.inside.memory c.index_mut.result.now c.args.new c
 pub invariant_of-self : goal.invariant_of-self
 invariant_of-self c = let a = (goal.at.invariant_of-self c).After-set_break in
     reseated (reads a) c.self.inside.memory _ (moves a)
+
+pub returns-clause-answer : goal.returns-clause-answer
+returns-clause-answer c =
+    let a = (goal.at.returns-clause-answer c).After-set_break in
+    c.set_break.ensures.answer
+    ∙ ap (λ (e : LayoutView). permits_break (bounds_of e) e.kernel_break c.args.new) (sym (whole_layout (reads a)))
 
 pub returns-clause-moved : goal.returns-clause-moved
 returns-clause-moved c =

@@ -32,7 +32,8 @@ invariant_of-self c = let a = (goal.at.invariant_of-self c).After-pop in
 pub returns-clause-first : goal.returns-clause-first
 returns-clause-first c =
     c.pop.ensures.first
-    ∙ ap (λ (o : Own). slice_get o.inbox.pending 0) (sym (own_before (reads (goal.at.returns-clause-first c).After-pop)))
+    ∙ ap (λ (o : Own). slice_get o.inbox.pending 0)
+    (sym (own_before (reads (goal.at.returns-clause-first c).After-pop)))
 
 pub returns-clause-own : goal.returns-clause-own
 returns-clause-own c =

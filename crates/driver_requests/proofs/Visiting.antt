@@ -1,0 +1,74 @@
+-- A visit to the request of a process.
+use Rattle.std.proofs.Common.{◌≡◌, ℕ, ◌==◌, Bool, true, false, cond, not, ◌&&◌, List, Option, None, Some, IfSome}
+use Rattle.std.proofs.Common.{option_and_then, unwrap_or, Result, refl, ap, sym, subst, ◌∙◌}
+use Rattle.tk_base.specs.declared.upcall.Counts.{Counts}
+use Rattle.grant_values.specs.Values.{KeptValue, NoValue}
+use Rattle.process_model.specs.Own.{Own}
+use Rattle.process_model.specs.Served.{kept, with_kept}
+use Rattle.driver_model.specs.Requests.{RequestKind, request_in, with_request}
+use Rattle.driver_model.specs.Steps.{DriverStep}
+use Rattle.driver_model.proofs.Requesting.{requesting_commutes}
+use Rattle.grant_enter.specs.Seen.{Seen, seen_of}
+use Rattle.grant_enter.specs.Visits.{Visited, grants_of, is_stale}
+use Rattle.driver_requests.specs.Asking.{waiting_of}
+use Rattle.driver_requests.specs.Visits.{ServesWaiting, VisitsRequest}
+use Rattle.driver_requests.proofs.Keeping.{kept_still}
+
+-- what holds of the request that a process keeps holds of the one in the value
+pub asked : {R : Type 0} (P : R → Type 0) (request_kind : RequestKind R) (driver : ℕ) (own : Own) (value : KeptValue)
+    → driver ≡ request_kind.driver → kept driver own ≡ Some value
+    → ((request : R) → request_in request_kind own ≡ Some request → P request) → IfSome (request_kind.told value) P
+asked P request_kind driver own value is kept_is holds = by_request (request_kind.told value) refl
+  where
+    by_request : (told : Option _) → request_kind.told value ≡ told → IfSome told P
+    by_request None e = tt
+    by_request (Some request) e =
+        holds request
+        (ap (λ d. option_and_then request_kind.told (kept d own)) (sym is)
+        ∙ ap (option_and_then request_kind.told) kept_is ∙ e)
+
+-- of a process that is there its request waits
+present : {R : Type 0} (lives same : Bool) (request : Option R) → not (lives && same) ≡ false
+    → cond same (cond lives request None) None ≡ request
+present true true request e = refl
+present true false request e = cc
+present false same request e = cc
+
+module _ {R T A V : Type 0} (request_kind : RequestKind R) (driver life : ℕ) (counts : Counts) (keeps : T → KeptValue)
+    (flash : List ℕ) (visitor : V) (step : R → DriverStep) (rest : R → Option R) (answers : R → A → Type 0)
+    (leaves : T → Seen → Result A V → T → Own → Type 0) (old new : Own) (answer : Result A V)
+    (is : driver ≡ request_kind.driver)
+    (says : (value value' : T) (own : Own) → leaves value (seen_of driver counts flash old) answer value' own
+    → ServesWaiting request_kind visitor step rest answers (request_kind.told (keeps value)) (keeps value) old answer
+    (keeps value') own)
+    (present_is : is_stale life old ≡ false)
+    (v : Visited (grants_of driver counts keeps) leaves flash old answer new) where
+  -- the value that was kept
+  was : kept request_kind.driver old ≡ Some (keeps v.was)
+  was = ap (λ d. kept d old) (sym is) ∙ v.kept
+
+  serves : (waiting : Option R)
+      → ServesWaiting request_kind visitor step rest answers waiting (keeps v.was) old answer (keeps v.value) v.own
+      → VisitsRequest request_kind visitor step rest answers waiting old answer new
+  serves None s = (
+    s.0,
+    v.after ∙ ap (λ k. with_kept driver k v.own) s.1 ∙ ap (with_kept driver (keeps v.was)) s.2
+        ∙ ap (λ gs. record old { grants = gs }) (kept_still driver (keeps v.was) old.grants v.kept),
+  )
+  serves (Some request) s =
+      let kind = request_kind in
+      let still = ap (kept kind.driver) v.serves.rest ∙ was in (
+        s.0,
+        s.1,
+        v.after ∙ ap (λ k. with_kept driver k v.own) s.2
+            ∙ ap (λ d. with_kept d (kind.with_request (rest request) (keeps v.was)) v.own) is
+            ∙ ap (λ k. with_kept kind.driver (kind.with_request (rest request) (unwrap_or k NoValue)) v.own) (sym still)
+            ∙ ap (with_request kind (rest request)) s.3
+            ∙ requesting_commutes kind (rest request) (step request).schedules (step request).own,
+      )
+
+  pub visited : VisitsRequest request_kind visitor step rest answers (waiting_of request_kind life old) old answer new
+  visited =
+      subst (λ o. VisitsRequest request_kind visitor step rest answers o old answer new)
+      (sym (present old.lives (old.life == life) _ present_is ∙ ap (option_and_then request_kind.told) was))
+      (serves (request_kind.told (keeps v.was)) (says _ _ _ v.left))

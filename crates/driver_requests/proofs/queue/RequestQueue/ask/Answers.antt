@@ -1,0 +1,14 @@
+use Rattle.grant_enter.specs.Homes.{own_of}
+use Rattle.driver_requests.proofs.Busy.{is_busy, obeys_busy}
+use Rattle.driver_requests.proofs.queue.RequestQueue.ask.Goals as goal
+
+pub returns-then-not-begins : goal.returns-then-not-begins
+returns-then-not-begins g c =
+    let kind = g.R.Request.request_kind in
+    let own = own_of c.args.home.now c.args.id.slot in
+    let place = c.owns_lie_in_place.ensures c.args.id.slot c.requires.may.there.slot in
+    obeys_busy kind c.args.request c.args.id c.args.self.now c.args.home.now c.enter.new.home
+    (is_busy kind c.args.request c.args.grants.now.driver _ _ _ _ _ own (own_of c.enter.new.home c.args.id.slot)
+    (λ value seen begun value' own left. left) c.requires.driver c.args.grants.now.known.driver_is
+    g.met.R.Request.none_at_first place c.in-Ok.begins c.if-not-begins.true c.in-Ok.ensures.enters.2)
+    c.enter.ensures.rest
