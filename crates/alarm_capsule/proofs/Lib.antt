@@ -1,3 +1,4 @@
 mod Firing
 mod Showing
 mod Slots
+pub mod KeptTimes

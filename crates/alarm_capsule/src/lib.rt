@@ -5,8 +5,8 @@
 mod answers;
 mod capsule;
 mod commands;
-mod next;
+mod times;
 mod visits;
 
 pub use capsule::AlarmCapsule;
-pub use next::next_due;
+pub use times::AlarmTimes;

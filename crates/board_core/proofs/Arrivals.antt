@@ -44,7 +44,8 @@ arrived_deed d [] time e = absurd (false≢true e)
 arrived_deed d (event ∷ events) time e = refl
 
 module _ (b : Inside) (events : List ScriptEvent) (line : SerialLine)
-    (may : is_time b.machine.moment.time b.machine.drivers.arrivals ≡ true) (left : events ≡ drop 1 b.machine.drivers.arrivals)
+    (may : is_time b.machine.moment.time b.machine.drivers.arrivals ≡ true)
+    (left : events ≡ drop 1 b.machine.drivers.arrivals)
     (with : line ≡ with_first_arrived b.machine.drivers.arrivals b.machine.drivers.uart) where
   abbrev pub drivers_then : Drivers
   drivers_then = record b.machine.drivers { arrivals = events; uart = line }
@@ -60,7 +61,8 @@ module _ (b : Inside) (events : List ScriptEvent) (line : SerialLine)
       deed_with devices = record { told = λ slot. None; devices = devices }
 
   -- the world after they came in
-  pub world_arrived : DevicesAnswerOne → with_step b (world_of b).records (devices_of drivers_then) (a_step_later b.machine.moment) b.present
+  pub world_arrived : DevicesAnswerOne → with_step b (world_of b).records (devices_of drivers_then)
+      (a_step_later b.machine.moment) b.present
       b.used ≡ (carried_out (world_of b) (Device dev.Event)).after
   unfolding carried_out
   world_arrived law =
@@ -75,8 +77,14 @@ module _ (b : Inside) (events : List ScriptEvent) (line : SerialLine)
       sym (ap (λ (s : Stepped). shown_by s.labels)
       (ap (done w) deed_is ∙ law.nobody w (devices_of drivers_then)))
 
-  pub soon : b.machine.drivers.uart.free ≤ b.machine.moment.time + SENDING_LIMIT → line.free ≤ b.machine.moment.time + SENDING_LIMIT
-  soon h = omega (arith, ap (λ (l : SerialLine). l.free) with, (line_keeps b.machine.drivers.arrivals b.machine.drivers.uart).1, h)
+  pub soon : b.machine.drivers.uart.free ≤ b.machine.moment.time + SENDING_LIMIT
+      → line.free ≤ b.machine.moment.time + SENDING_LIMIT
+  soon h = omega (
+    arith,
+    ap (λ (l : SerialLine). l.free) with,
+    (line_keeps b.machine.drivers.arrivals b.machine.drivers.uart).1,
+    h,
+  )
 
   pub arrived_board : IsBoard b → (calm : ℕ) → b.machine.moment.steps < STEP_LIMIT
       → IsCalm b.machine.moment.settings.start b.machine.moment.time calm b.machine.home.owns drivers_then
@@ -85,9 +93,11 @@ module _ (b : Inside) (events : List ScriptEvent) (line : SerialLine)
         calm = calm;
       })
   arrived_board h calm below quiet = record {
-    seated = All-weaker (IsResident b.machine.home.flash b.machine.moment.steps) (IsResident b.machine.home.flash (b.machine.moment.steps + 1))
+    seated = All-weaker (IsResident b.machine.home.flash b.machine.moment.steps)
+        (IsResident b.machine.home.flash (b.machine.moment.steps + 1))
         (rests_seated b.machine.home.flash b.machine.moment.steps) (residents b) h.seated;
-    lost = All-weaker (HasLost b.machine.moment.steps) (HasLost (b.machine.moment.steps + 1)) (λ o l. omega (arith, l)) b.machine.home.owns
+    lost = All-weaker (HasLost b.machine.moment.steps) (HasLost (b.machine.moment.steps + 1)) (λ o l. omega (arith, l))
+        b.machine.home.owns
         h.lost;
     owns = h.owns;
     few = h.few;
@@ -110,6 +120,7 @@ module _ (b : Inside) (events : List ScriptEvent) (line : SerialLine)
     steps = omega (arith, below);
     time = omega (arith, h.time);
     calm = quiet;
+    alarms = h.alarms;
     slice = h.slice;
     used = h.used;
   }

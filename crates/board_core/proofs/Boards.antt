@@ -1,7 +1,7 @@
 -- What a board shows.
 use Rattle.std.proofs.Common.{◌≡◌, ℕ, zero, suc, ◌+◌, ◌-◌, ◌^◌, ◌<◌, ◌≤◌, Bool, true, false, List, [], ◌∷◌, ◌++◌}
 use Rattle.std.proofs.Common.{length, map, take, slice_get, slice_index_or, nat_lt, ◌&&◌, Option, None, Some, IfSome}
-use Rattle.std.proofs.Common.{IsTrue, refl, sym, ap, ap₂, subst, ◌∙◌, add-one, arith}
+use Rattle.std.proofs.Common.{replicate, IsTrue, refl, sym, ap, ap₂, subst, ◌∙◌, add-one, arith}
 use Rattle.std.specs.List.{zip}
 use Rattle.std.specs.Option.{option_map, option_or}
 use Rattle.std.proofs.lemmas.Bool.Decides.{nat_tests}
@@ -9,13 +9,17 @@ use Rattle.std.proofs.Math.Seq.{take-suc}
 use Rattle.std.proofs.lemmas.List.{map-append, take_all}
 use Rattle.std.proofs.lemmas.Option.{slice_get-map, slice_get-get_or, slice_get_within, get_or_from_slice_get}
 use Rattle.arrayvec.specs.ArrayVec.{ArrayVec}
-use Rattle.tk_base.specs.declared.limits.TheConstants.{STEP_LIMIT}
+use Rattle.tk_base.specs.declared.limits.TheConstants.{SLOT_COUNT, STEP_LIMIT}
 use Rattle.tk_base.specs.declared.process.Choice.TheVariants.{Run, Device, Pass}
 use Rattle.tk_base.specs.declared.process.Choice.{Choice}
 use Rattle.turn_scheduler.specs.Situation.{Situation}
 use Rattle.turn_scheduler.specs.RoundRobin.{LiesAhead, choice, place_is_ready, ready_device, slot_in}
 use Rattle.process_model.specs.Handed.{HoldsInPlace}
-use Rattle.process_model.specs.Own.{Own, kernel_break_of}
+use Rattle.process_model.specs.declared.place.Footprint.{Footprint}
+use Rattle.process_model.specs.Own.{Own, kernel_break_of, opened}
+use Rattle.board_devices.specs.Clock.{clock_at}
+use Rattle.alarm_capsule.specs.Times.{AllTell}
+use Rattle.alarm_capsule.proofs.KeptTimes.{fresh_tell}
 use Rattle.process_record.specs.Name.{name_of}
 use Rattle.process_model.specs.Flash.{object_in}
 use Rattle.process_record.specs.declared.process.Process.{Process}
@@ -50,7 +54,8 @@ pub shown_whole : (b : Inside) → IsBoard b
 shown_whole b board holds lies slot r is =
     let there : slice_get b.machine.home.owns slot ≡ Some r.own
     = ap (λ (owns : List Own). slice_get owns slot)
-    (sym (owns_shown b.machine.home.flash b.processes.items b.machine.home.owns b.machine.drivers.stores.slots board.owns
+    (sym (owns_shown b.machine.home.flash b.processes.items b.machine.home.owns b.machine.drivers.stores.slots
+    board.owns
     (has_storage b board)))
     ∙ slice_get-map (λ (x : Record). x.own) (world_of b).records slot ∙ ap (option_map (λ (x : Record). x.own)) is in
     let within = slice_get_within b.machine.home.owns slot r.own there in
@@ -64,7 +69,8 @@ shown_whole b board holds lies slot r is =
 -- which slots are ready
 pub ready_slots_shown : (b : Inside) → IsBoard b → ready_slots (world_of b) ≡ map resident_turns (residents b)
 ready_slots_shown b board =
-    reads_shown may_turn resident_turns b.machine.home.flash (residents b) b.machine.drivers.stores.slots (has_storage b board)
+    reads_shown may_turn resident_turns b.machine.home.flash (residents b) b.machine.drivers.stores.slots
+    (has_storage b board)
     (λ p. refl)
 
 -- the status of the world that a board shows
@@ -95,7 +101,8 @@ unfolding summary_of
 summary_shown b lines unplaced leds board e f lit =
     let s = summary_of (world_of b) in
     ap (λ (xs : List SlotLine). record s { slots = record { items = xs }; unplaced = unplaced; leds = leds })
-    (e ∙ sym (reads_shown slot_line_of (line_in b.machine.home.flash) b.machine.home.flash (residents b) b.machine.drivers.stores.slots
+    (e ∙ sym (reads_shown slot_line_of (line_in b.machine.home.flash) b.machine.home.flash (residents b)
+    b.machine.drivers.stores.slots
     (has_storage b board) (λ p. refl)))
     ∙ ap₂ (λ (xs : List Unplaced) (bits : ℕ). record s { unplaced = record { items = xs }; leds = bits }) f lit
 
@@ -166,7 +173,8 @@ ready_shown b slot board =
     ∙ of_resident (slice_index_or slots slot []) (slice_get (residents b) slot))
   where
     of_resident : (storage : List ℕ) (o : Option Resident)
-        → can_run (option_map (record_of b.machine.home.flash) (option_map (λ (r : Resident). (r, storage)) o)) ≡ can_turn_in o
+        → can_run (option_map (record_of b.machine.home.flash) (option_map (λ (r : Resident). (r, storage)) o))
+        ≡ can_turn_in o
     of_resident storage None = refl
     of_resident storage (Some r) = refl
 
@@ -264,3 +272,20 @@ pub may_turn_on : (turns : ℕ) (b : Inside) (slot : ℕ) → IsBoard b → slot
     → MayTurnAt turns slot b.machine b.processes.items
 may_turn_on turns b slot board within limit =
     record { within = within; owns = board.owns; seated = board.seated; limit = limit; guard = board.guard }
+
+-- no process has an alarm armed before the first step, and none is kept
+pub first_tell : (start : ℕ) (times : List (Option ℕ)) (home : Homes) (es : List Footprint)
+    → home.owns ≡ map opened es → times ≡ replicate SLOT_COUNT None → AllTell (clock_at start 0) 0 times home.owns
+first_tell start times home es owns none =
+    subst (λ (xs : List (Option ℕ)). AllTell (clock_at start 0) 0 xs home.owns) (sym none)
+    (subst (AllTell (clock_at start 0) 0 (replicate SLOT_COUNT None)) (sym owns)
+    (fresh_tell (clock_at start 0) 0 (map opened es) (ungranted es)))
+  where
+    the_one : (x y : Own) → Some x ≡ Some y → x ≡ y
+    the_one x y e = cc
+
+    ungranted : (es : List Footprint) (slot : ℕ) (own : Own) → slice_get (map opened es) slot ≡ Some own
+        → own.grants ≡ []
+    ungranted [] slot own is = cc
+    ungranted (e ∷ es) zero own is = ap (λ (o : Own). o.grants) (sym (the_one (opened e) own is))
+    ungranted (e ∷ es) (suc slot) own is = ungranted es slot own is

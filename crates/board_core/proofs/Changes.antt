@@ -126,7 +126,8 @@ module _ (b : Inside) (slot : ℕ) (x : Machine) (processes : List Process) (sho
 
   -- the world after the turn
   pub world_after : (used : ℕ) → used ≡ used_after b.present b.used b.slice slot
-      → with_step b (map (record_of x.home.flash) (zip (zip processes x.home.owns) x.drivers.stores.slots)) (devices_of x.drivers)
+      → with_step b (map (record_of x.home.flash) (zip (zip processes x.home.owns) x.drivers.stores.slots))
+      (devices_of x.drivers)
       (turn_later b.machine.moment) (Some slot) used ≡ (carried_out (world_of b) (Run slot)).after
   unfolding carried_out
   world_after used u =

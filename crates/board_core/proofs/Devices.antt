@@ -1,5 +1,8 @@
 -- Device steps of a board.
-use Rattle.std.proofs.Common.{◌≡◌, ℕ, zero, suc, ◌+◌, ◌==◌, ◌<◌, ◌≤◌, Bool, true, false, cond, not, ◌&&◌, ◌||◌}
+use Rattle.board_devices.specs.Clock.{clock_at}
+use Rattle.alarm_capsule.proofs.KeptTimes.{others_tell}
+use Rattle.alarm_capsule.specs.Times.{OthersTell}
+use Rattle.std.proofs.Common.{◌≡◌, ℕ, zero, suc, ◌+◌, ◌==◌, ◌<◌, ◌≤◌, Bool, true, false, cond, not, ◌&&◌, ◌||◌, Option}
 use Rattle.std.proofs.Common.{nat_lt}
 use Rattle.std.proofs.Common.{if◌then◌else◌, List, [], ◌∷◌, ◌++◌, length, map, slice_get, slice_set, slice_index_or}
 use Rattle.std.proofs.Common.{All, None, Some, Ok, Err, IsTrue, refl, sym, ap, subst, ◌∙◌, arith, eq-eqb}
@@ -37,7 +40,7 @@ use Rattle.kernel_model.specs.Laws.{DevicesAnswerOne, one_answered}
 use Rattle.board_core.specs.declared.board.Board.TheInside.{Inside}
 use Rattle.board_drivers.specs.declared.drivers.Drivers.{Drivers}
 use Rattle.board_turns.specs.declared.guard.ActivePmp.{ActivePmp}
-use Rattle.board_drivers.specs.Calm.{IsCalm}
+use Rattle.board_drivers.specs.Calm.{AlarmsTell, IsCalm}
 use Rattle.board_drivers.specs.Driven.{AreDriven, IsQueueOf, devices_of, ids_waiting_in}
 use Rattle.board_turns.specs.Guards.{GuardsOnly}
 use Rattle.board_core.specs.Makes.{MakesStep, shown_printed}
@@ -176,9 +179,11 @@ module _ (b : Inside) (device : Dev) (slot : ℕ) (printed : List ℕ) (home : H
   few = beside b.processes.items b.machine.home.owns b.machine.drivers.stores.slots h.owns h.few h.driven.slots
 
   told_found : slice_get (world_of b).records slot
-      ≡ Some (record_of b.machine.home.flash ((t.process, own_of b.machine.home slot), bytes_of b.machine.drivers.stores.slots slot))
+      ≡ Some (record_of b.machine.home.flash
+      ((t.process, own_of b.machine.home slot), bytes_of b.machine.drivers.stores.slots slot))
   unfolding told_at
-  told_found = found slot b.machine.home home b.processes.items b.processes.items told_at b.machine.drivers.stores.slots few
+  told_found = found slot b.machine.home home b.processes.items b.processes.items told_at b.machine.drivers.stores.slots
+      few
 
   -- its process alone was answered
   answered_so : DevicesAnswerOne → done (world_of b) (device_step_of (world_of b) device)
@@ -188,7 +193,11 @@ module _ (b : Inside) (device : Dev) (slot : ℕ) (printed : List ℕ) (home : H
       (record { answer = record { event = t.serves.event; printed = printed }; devices = devices_of d })
   answered_so law = ap (done (world_of b)) t.serves.deed ∙ law.one (world_of b) slot
       (record { answer = record { event = t.serves.event; printed = printed }; devices = devices_of d })
-      (record_of b.machine.home.flash ((t.process, own_of b.machine.home slot), bytes_of b.machine.drivers.stores.slots slot)) told_found
+      (record_of b.machine.home.flash (
+        (t.process, own_of b.machine.home slot),
+        bytes_of b.machine.drivers.stores.slots
+            slot,
+      )) told_found
 
   -- the world after it
   pub world_told : DevicesAnswerOne → with_step b (map (record_of home.flash) (zip (zip b.processes.items home.owns)
@@ -201,7 +210,8 @@ module _ (b : Inside) (device : Dev) (slot : ℕ) (printed : List ℕ) (home : H
       ≡ slice_set w.records slot (record_of b.machine.home.flash ((t.process, own_of home slot), t.serves.bytes)) =
       ap (λ (s : List (List ℕ)). map (record_of home.flash) (zip (zip b.processes.items home.owns) s))
       t.serves.stores.slots
-      ∙ changed_records slot b.machine.home home b.processes.items b.processes.items told_at b.machine.drivers.stores.slots
+      ∙ changed_records slot b.machine.home home b.processes.items b.processes.items told_at
+      b.machine.drivers.stores.slots
       t.serves.bytes in
       ap (λ (rs : List Record). with_step b rs (devices_of d) (a_step_later b.machine.moment) b.present b.used)
       (changed ∙ ap (slice_set w.records slot) (sym t.serves.tells))
@@ -236,45 +246,66 @@ module _ (b : Inside) (device : Dev) (slot : ℕ) (printed : List ℕ) (home : H
   told_line : (queue : QueueName)
       → IsQueueOf queue (ids_waiting_in d queue) (slice_set b.machine.home.owns slot (own_of home slot))
   told_line queue =
-      left_line queue (t.serves.left queue) (ids_waiting_in b.machine.drivers queue) (ids_waiting_in d queue) b.machine.home.owns slot
-      (own_of b.machine.home slot) (own_of home slot) (h.driven.queues queue) own_was (t.serves.follows.lines queue) own_life
+      left_line queue (t.serves.left queue) (ids_waiting_in b.machine.drivers queue) (ids_waiting_in d queue)
+      b.machine.home.owns slot
+      (own_of b.machine.home slot) (own_of home slot) (h.driven.queues queue) own_was (t.serves.follows.lines queue)
+      own_life
       (t.serves.lines queue)
 
   told_driven : AreDriven b.machine.moment.settings b.machine.moment.time home.owns d
-  told_driven = subst (λ (owns : List Own). AreDriven b.machine.moment.settings b.machine.moment.time owns d) (sym told_owns) (record {
-    queues = told_line;
-    within = All-set (IsWithin b.machine.moment.settings.storage) b.machine.home.owns slot (own_of home slot)
-        (t.serves.follows.within b.machine.moment.settings.storage (h.driven.within slot nobody t.there)) h.driven.within;
-    leds = t.serves.leds ∙ h.driven.leds;
-    size = t.serves.stores.size ∙ h.driven.size;
-    slots = ap length t.serves.stores.slots ∙ length-set b.machine.drivers.stores.slots slot t.serves.bytes ∙ h.driven.slots;
-    ticks = omega (arith, t.serves.uart.ticks, h.driven.ticks);
-    free = t.serves.uart.free;
-  })
+  told_driven = subst (λ (owns : List Own). AreDriven b.machine.moment.settings b.machine.moment.time owns d)
+      (sym told_owns) (record {
+        queues = told_line;
+        within = All-set (IsWithin b.machine.moment.settings.storage) b.machine.home.owns slot (own_of home slot)
+            (t.serves.follows.within b.machine.moment.settings.storage (h.driven.within slot nobody t.there))
+            h.driven.within;
+        leds = t.serves.leds ∙ h.driven.leds;
+        size = t.serves.stores.size ∙ h.driven.size;
+        slots = ap length t.serves.stores.slots ∙ length-set b.machine.drivers.stores.slots slot t.serves.bytes
+            ∙ h.driven.slots;
+        ticks = omega (arith, t.serves.uart.ticks, h.driven.ticks);
+        free = t.serves.uart.free;
+      })
+
+  -- what is told of the alarms of all other processes stays true
+  pub others_still : OthersTell slot (clock_at b.machine.moment.settings.start b.machine.moment.time)
+      b.machine.moment.time b.alarms home.owns
+  others_still =
+      subst (OthersTell slot (clock_at b.machine.moment.settings.start b.machine.moment.time) b.machine.moment.time
+      b.alarms) (sym told_owns)
+      (others_tell (clock_at b.machine.moment.settings.start b.machine.moment.time) b.machine.moment.time slot b.alarms
+      b.machine.home.owns (own_of home slot) h.alarms)
 
   -- what always holds of a board holds then
-  pub told_board : (calm : ℕ) → b.machine.moment.steps < STEP_LIMIT
+  pub told_board : (calm : ℕ) (times : List (Option ℕ)) → b.machine.moment.steps < STEP_LIMIT
+      → AlarmsTell b.machine.moment times home.owns
       → IsCalm b.machine.moment.settings.start b.machine.moment.time calm home.owns d
       → IsBoard (record b {
         machine = record b.machine { home = home; drivers = d; moment = a_step_later b.machine.moment };
         calm = calm;
+        alarms = times;
       })
   unfolding told_at
-  told_board calm below quiet = record {
+  told_board calm times below tell quiet = record {
     seated = still_seated slot b.machine.home home b.processes.items b.processes.items told_at b.machine.moment.steps
-        (remains_seated b.machine.home.flash b.machine.moment.steps t.process (own_of b.machine.home slot) (own_of home slot)
-        t.serves.follows.rest (seated_there b.machine.home.flash b.machine.moment.steps b.processes.items b.machine.home.owns slot
+        (remains_seated b.machine.home.flash b.machine.moment.steps t.process (own_of b.machine.home slot)
+        (own_of home slot)
+        t.serves.follows.rest (seated_there b.machine.home.flash b.machine.moment.steps b.processes.items
+        b.machine.home.owns slot
         (t.process, own_of b.machine.home slot) t.was own_was h.seated)) h.seated;
     lost = still_lost b.machine.moment.steps slot b.machine.home home (own_of home slot) t.only
-        (omega (arith, t.serves.follows.dropped.not_more, lost_there b.machine.moment.steps b.machine.home slot h.lost)) h.lost;
+        (omega (arith, t.serves.follows.dropped.not_more, lost_there b.machine.moment.steps b.machine.home slot h.lost))
+        h.lost;
     owns = as_many_owns slot b.machine.home home b.processes.items b.processes.items told_at ∙ h.owns;
     few = h.few;
-    guard = still_guards b.machine.guard b.machine.home home slot t.only (ap (λ (o : Own). o.layout) t.serves.follows.rest) h.guard;
+    guard = still_guards b.machine.guard b.machine.home home slot t.only
+        (ap (λ (o : Own). o.layout) t.serves.follows.rest) h.guard;
     driven = told_driven;
     served = omega (arith, t.serves.stores.counts, h.served);
     steps = omega (arith, below);
     time = omega (arith, h.time);
     calm = quiet;
+    alarms = tell;
     slice = h.slice;
     used = h.used;
   }
@@ -296,7 +327,8 @@ pub ready_now : (w : World) (choice : Choice) → IsTrue (is_ready w choice)
 ready_now w choice is = (λ e. is, λ h. refl)
 
 -- a board that shows a world below the limit of steps is below it
-pub below_shown : (b : Inside) (w : World) → world_of b ≡ w → w.clock.steps < STEP_LIMIT → b.machine.moment.steps < STEP_LIMIT
+pub below_shown : (b : Inside) (w : World) → world_of b ≡ w → w.clock.steps < STEP_LIMIT
+    → b.machine.moment.steps < STEP_LIMIT
 below_shown b w is h = subst (λ (x : World). x.clock.steps < STEP_LIMIT) (sym is) h
 
 -- a choice that may not be made, in a world that a board shows, is refused

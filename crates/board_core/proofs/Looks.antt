@@ -42,18 +42,22 @@ module _ (b : Inside) (board : IsBoard b) (slot : ℕ) where
       ∙ joined o
     where
       joined : (o : Option Resident)
-          → option_map (record_of b.machine.home.flash) (option_map (λ (r : Resident). (r, slot_bytes b.machine.drivers.stores slot)) o)
-          ≡ option_map (λ (r : Resident). record_of b.machine.home.flash (r, slot_bytes b.machine.drivers.stores slot)) o
+          → option_map (record_of b.machine.home.flash)
+          (option_map (λ (r : Resident). (r, slot_bytes b.machine.drivers.stores slot)) o)
+          ≡ option_map (λ (r : Resident). record_of b.machine.home.flash (r, slot_bytes b.machine.drivers.stores slot))
+          o
       joined None = refl
       joined (Some r) = refl
 
   -- a slot that has a process
   pub there : (p : Process) → slice_get b.processes.items slot ≡ Some p
       → slice_get (world_of b).records slot
-      ≡ Some (record_of b.machine.home.flash ((p, own_of b.machine.home slot), slot_bytes b.machine.drivers.stores slot))
+      ≡ Some (record_of b.machine.home.flash
+      ((p, own_of b.machine.home slot), slot_bytes b.machine.drivers.stores slot))
   there p is =
       let within : slot < length b.processes.items = slice_get_within b.processes.items slot p is in
-      looked (Some (p, own_of b.machine.home slot)) (zip-get b.processes.items b.machine.home.owns slot p (own_of b.machine.home slot) is
+      looked (Some (p, own_of b.machine.home slot))
+      (zip-get b.processes.items b.machine.home.owns slot p (own_of b.machine.home slot) is
       (slice_get-get_or b.machine.home.owns slot nobody (omega (arith, within, board.owns))))
 
   -- one without a process
@@ -73,7 +77,8 @@ module _ (b : Inside) (board : IsBoard b) (slot : ℕ) where
 
     pub read_there : (x : X) → slot < length b.processes.items
         → ((p : Process) → slice_get b.processes.items slot ≡ Some p
-        → x ≡ read (record_of b.machine.home.flash ((p, own_of b.machine.home slot), slot_bytes b.machine.drivers.stores slot)))
+        → x ≡ read (record_of b.machine.home.flash
+        ((p, own_of b.machine.home slot), slot_bytes b.machine.drivers.stores slot)))
         → Some x ≡ option_map read (slice_get (world_of b).records slot)
     read_there x within is =
         let found = some_at b.processes.items slot within in
@@ -107,7 +112,8 @@ module _ (b : Inside) (board : IsBoard b) where
       → slice_get b.machine.home.owns slot ≡ option_map (λ (r : Record). r.own) (slice_get (world_of b).records slot)
   own_read slot =
       ap (λ (owns : List Own). slice_get owns slot)
-      (sym (owns_shown b.machine.home.flash b.processes.items b.machine.home.owns b.machine.drivers.stores.slots board.owns
+      (sym (owns_shown b.machine.home.flash b.processes.items b.machine.home.owns b.machine.drivers.stores.slots
+      board.owns
       (has_storage b board)))
       ∙ slice_get-map (λ (r : Record). r.own) (world_of b).records slot
 

@@ -1,6 +1,10 @@
 -- Which device steps of a board are ready, and when the next one becomes so.
+use Rattle.board_drivers.specs.Residents.{HasLost, IsResident}
+use Rattle.tk_base.specs.declared.limits.TheConstants.{STEP_LIMIT}
+use Rattle.alarm_capsule.proofs.KeptTimes.{all_later}
+use Rattle.driver_model.specs.Laws.{TimeBringsNearer}
 use Rattle.std.proofs.Common.{◌≡◌, ℕ, ◌+◌, Bool, true, false, cond, List, [], ◌∷◌, map, Ok, IsTrue, refl, sym, ap}
-use Rattle.std.proofs.Common.{◌∙◌}
+use Rattle.std.proofs.Common.{◌<◌, ◌^◌, ◌∙◌, arith}
 use Rattle.process_model.specs.Own.{Own}
 use Rattle.tk_base.specs.declared.process.Choice.{Choice}
 use Rattle.tk_base.specs.declared.process.Choice.TheVariants.{Pass}
@@ -14,10 +18,13 @@ use Rattle.tk_base.specs.declared.process.Dev.TheVariants as dev
 use Rattle.turn_scheduler.specs.RoundRobin.{device_order, device_place, place_is_ready}
 use Rattle.board_core.specs.declared.board.Board.TheInside.{Inside}
 use Rattle.board_drivers.specs.Calm.{IsCalmAt, work_in}
+use Rattle.board_drivers.proofs.Calm.{later_calm}
+use Rattle.board_turns.proofs.Turns.{rests_seated}
+use Rattle.std.proofs.lemmas.List.Elements.{All-weaker}
 use Rattle.board_drivers.specs.declared.drivers.Drivers.{Drivers}
 use Rattle.board_drivers.specs.declared.moment.Moment.{Moment}
 use Rattle.board_core.specs.Makes.{MakesStep, ready_in}
-use Rattle.board_core.specs.Shows.{IsBoard, world_of}
+use Rattle.board_core.specs.Shows.{IsBoard, residents, world_of}
 use Rattle.board_core.proofs.Boards.{has_storage}
 use Rattle.board_drivers.proofs.Records.{owns_shown}
 
@@ -45,7 +52,8 @@ module _ (b : Inside) (board : IsBoard b) where
   -- what the owns of the world that a board shows are
   pub owns_in_world : owns_in (world_of b) ≡ b.machine.home.owns
   owns_in_world =
-      owns_shown b.machine.home.flash b.processes.items b.machine.home.owns b.machine.drivers.stores.slots board.owns (has_storage b board)
+      owns_shown b.machine.home.flash b.processes.items b.machine.home.owns b.machine.drivers.stores.slots board.owns
+      (has_storage b board)
 
   -- the nearest time at which a device step becomes ready by itself
   pub next_shown : (work_in b.machine.moment b.machine.home.owns b.machine.drivers).next ≡ next_time (world_of b)
@@ -69,6 +77,43 @@ is_carried_out w choice ready = by_ready (is_ready w choice) ready
     by_ready : (b : Bool) → IsTrue b → cond b (carried_out w choice) (unmade w) ≡ carried_out w choice
     by_ready true h = refl
     by_ready false h = absurd (cc)
+
+-- what always holds of a board holds after so many ticks
+pub passed_board : TimeBringsNearer → (b : Inside) (n : ℕ) → n < 2 ^ 32 → b.machine.moment.steps < STEP_LIMIT → IsBoard b
+    → IsBoard (record b {
+      machine = record b.machine {
+        moment = record b.machine.moment { time = b.machine.moment.time + n; steps = b.machine.moment.steps + 1 };
+      };
+    })
+passed_board law b n small below h =
+    let time = b.machine.moment.time in
+    let start = b.machine.moment.settings.start in
+    record {
+      seated = All-weaker (IsResident b.machine.home.flash b.machine.moment.steps)
+          (IsResident b.machine.home.flash (b.machine.moment.steps + 1))
+          (rests_seated b.machine.home.flash b.machine.moment.steps) (residents b) h.seated;
+      lost = All-weaker (HasLost b.machine.moment.steps) (HasLost (b.machine.moment.steps + 1))
+          (λ o l. omega (arith, l)) b.machine.home.owns h.lost;
+      owns = h.owns;
+      few = h.few;
+      guard = h.guard;
+      driven = record {
+        queues = h.driven.queues;
+        within = h.driven.within;
+        leds = h.driven.leds;
+        size = h.driven.size;
+        slots = h.driven.slots;
+        ticks = h.driven.ticks;
+        free = omega (arith, h.driven.free);
+      };
+      served = omega (arith, h.served);
+      steps = omega (arith, below);
+      time = omega (arith, h.time, small);
+      calm = later_calm start time (time + n) b.calm b.machine.home.owns b.machine.drivers (omega arith) h.calm;
+      alarms = all_later law start time n b.alarms b.machine.home.owns h.alarms;
+      slice = h.slice;
+      used = h.used;
+    }
 
 -- the world after so many ticks
 pub passes : (b : Inside) (w : World) (ticks n : ℕ) (before after_it : Emit) → world_of b ≡ w → n ≡ ticks

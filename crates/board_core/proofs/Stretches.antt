@@ -1,4 +1,7 @@
 -- Quiet turns of a process, and what they leave of a board.
+use Rattle.board_devices.specs.Clock.{clock_at}
+use Rattle.alarm_capsule.proofs.KeptTimes.{all_later, kept_tell}
+use Rattle.driver_model.specs.Laws.{TimeBringsNearer}
 use Rattle.std.proofs.Common.{◌≡◌, ℕ, zero, suc, ◌+◌, ◌-◌, ◌<◌, ◌≤◌, Bool, true, false, List, [], ◌∷◌, length, map}
 use Rattle.std.proofs.Common.{slice_get, slice_set, All, Option, None, Some, refl, sym, ap, ap₂, subst, ◌∙◌, arith}
 use Rattle.process_model.specs.Own.{Own}
@@ -27,7 +30,7 @@ use Rattle.kernel_model.specs.Stretch.{GoesOn, IsStretch, NoneActs, NoneIsStretc
 use Rattle.kernel_model.specs.Stretch.{PresentIsNextOnTheWay, PresentStaysOn, RoundIsStretch}
 use Rattle.kernel_model.specs.Stretch.{after_stretch, at_turn}
 use Rattle.kernel_model.specs.World.{World, owns_in}
-use Rattle.board_drivers.specs.Calm.{HasCome, IsCalm, ServesNobody, work_in}
+use Rattle.board_drivers.specs.Calm.{AlarmsTell, HasCome, IsCalm, ServesNobody, work_in}
 use Rattle.board_core.specs.declared.board.Board.TheInside.{Inside}
 use Rattle.board_drivers.specs.declared.drivers.Drivers.{Drivers}
 use Rattle.board_drivers.specs.declared.moment.Moment.{Moment}
@@ -90,6 +93,7 @@ pub record StillHolds (b : Inside) (k : ℕ) (home : Homes) (processes : List Pr
   pub few : length processes ≤ SLOT_COUNT
   pub driven : AreDriven b.machine.moment.settings (b.machine.moment.time + k) home.owns b.machine.drivers
   pub calm : IsCalm b.machine.moment.settings.start (b.machine.moment.time + k) b.calm home.owns b.machine.drivers
+  pub alarms : TimeBringsNearer → AlarmsTell (turns_later k b.machine.moment) b.alarms home.owns
 
 set-same : {X : Type 0} (xs : List X) (i : ℕ) (x : X) → slice_get xs i ≡ Some x → slice_set xs i x ≡ xs
 set-same xs i x e = ap (slice_set xs i) (sym (get_or_from_slice_get xs i x x e)) ∙ set-get_or xs i x
@@ -147,7 +151,8 @@ module _ (b : Inside) (board : IsBoard b) where
       (comes (record { receive = idle.0; random = idle.1; store = idle.2 }))
     where
       not_both : (at : Option ℕ) → world_next_time (world_of b) ≡ at
-          → IfSome (world_next_time (world_of b)) (λ n. b.machine.moment.time < n) → HasCome b.machine.moment.time at → ⊥
+          → IfSome (world_next_time (world_of b)) (λ n. b.machine.moment.time < n) → HasCome b.machine.moment.time at
+          → ⊥
       not_both None e ahead come = come
       not_both (Some n) e ahead come = let later : b.machine.moment.time < n =
           subst (λ (o : Option ℕ). IfSome o (λ n. b.machine.moment.time < n)) e ahead in omega (arith, later, come)
@@ -159,7 +164,8 @@ module _ (b : Inside) (board : IsBoard b) where
       sym (slice_get-map (λ (r : Record). r.process) (world_of b).records slot)
       ∙ ap (λ (ps : List Process). slice_get ps slot)
       (reads_shown (λ (r : Record). r.process) (λ (r : Resident). r.0) b.machine.home.flash (residents b)
-      b.machine.drivers.stores.slots (beside b.processes.items b.machine.home.owns b.machine.drivers.stores.slots board.owns board.few
+      b.machine.drivers.stores.slots (beside b.processes.items b.machine.home.owns b.machine.drivers.stores.slots
+      board.owns board.few
       board.driven.slots) (λ p. refl))
       ∙ slice_get-map (λ (r : Resident). r.0) (residents b) slot
       ∙ sym (get-firsts b.processes.items b.machine.home.owns slot board.owns)
@@ -179,7 +185,8 @@ module _ (b : Inside) (board : IsBoard b) where
   module _ (slot k most used : ℕ) (present : Option ℕ) (x : Machine) (processes : List Process)
       (q : QuietAt k most slot b.machine x b.processes.items processes) where
     few : length (residents b) ≤ length b.machine.drivers.stores.slots
-    few = beside b.processes.items b.machine.home.owns b.machine.drivers.stores.slots board.owns board.few board.driven.slots
+    few = beside b.processes.items b.machine.home.owns b.machine.drivers.stores.slots board.owns board.few
+        board.driven.slots
 
     abbrev storage : List ℕ
     storage = bytes_of b.machine.drivers.stores.slots slot
@@ -207,7 +214,8 @@ module _ (b : Inside) (board : IsBoard b) where
     none_acts until j h =
         let then = (after_instructions j before).own in
         let m = turns_later j b.machine.moment in
-        let calm = kept_calm m.settings.start b.machine.moment.time b.calm slot b.machine.home.owns b.machine.drivers q.at.before.1
+        let calm = kept_calm m.settings.start b.machine.moment.time b.calm slot b.machine.home.owns b.machine.drivers
+        q.at.before.1
         then q.at.own_was (ap (λ (o : Own). o.grants) (own_after j before))
         (ap (λ (o : Own). o.lives) (own_after j before)) board.calm m.time (omega arith)
         (omega (arith, h, until)) in
@@ -224,7 +232,8 @@ module _ (b : Inside) (board : IsBoard b) where
     world_then = world_after_ticks k
 
     records_then : world_then.records ≡ slice_set (world_of b).records slot after
-    records_then = kept_records slot b.machine.home x.home b.processes.items processes q.at b.machine.drivers.stores.slots
+    records_then = kept_records slot b.machine.home x.home b.processes.items processes q.at
+        b.machine.drivers.stores.slots
 
     state_is : (s : State) → is_running s ≡ true → s ≡ Running
     state_is Running e = refl
@@ -236,13 +245,15 @@ module _ (b : Inside) (board : IsBoard b) where
     none_left : k ≡ 0 → present ≡ b.present → used ≡ b.used → world_then ≡ world_of b
     unfolding after_instructions
     none_left none p u =
-        ap (λ (rs : List Record). with_step b rs (devices_of b.machine.drivers) (turns_later k b.machine.moment) present used)
+        ap (λ (rs : List Record). with_step b rs (devices_of b.machine.drivers) (turns_later k b.machine.moment) present
+        used)
         (records_then ∙ ap (slice_set (world_of b).records slot)
         (q.quiet.leads storage ∙ ap (λ (n : ℕ). after_instructions n before) none)
         ∙ set-same (world_of b).records slot before was_there)
         ∙ ap₂ (λ (o : Option ℕ) (n : ℕ). with_step b (world_of b).records (devices_of b.machine.drivers)
         (turns_later k b.machine.moment) o n) p u
-        ∙ ap (λ (n : ℕ). with_step b (world_of b).records (devices_of b.machine.drivers) (turns_later n b.machine.moment) b.present
+        ∙ ap (λ (n : ℕ). with_step b (world_of b).records (devices_of b.machine.drivers)
+        (turns_later n b.machine.moment) b.present
         b.used) none
         ∙ ap₂ (λ (time steps : ℕ). with_step b (world_of b).records (devices_of b.machine.drivers)
         (record b.machine.moment { time = time; steps = steps }) b.present b.used) (none_more b.machine.moment.time)
@@ -267,7 +278,8 @@ module _ (b : Inside) (board : IsBoard b) where
 
           same : world_then ≡ after_stretch k (at_turn (world_of b) slot) slot (after_instructions k before)
           same =
-              ap (λ (rs : List Record). with_step b rs (devices_of b.machine.drivers) (turns_later k b.machine.moment) present used)
+              ap (λ (rs : List Record). with_step b rs (devices_of b.machine.drivers) (turns_later k b.machine.moment)
+              present used)
               (records_then ∙ ap (slice_set (world_of b).records slot) (q.quiet.leads storage))
               ∙ ap₂ (λ (o : Option ℕ) (n : ℕ). with_step b
               (slice_set (world_of b).records slot (after_instructions k before)) (devices_of b.machine.drivers)
@@ -325,7 +337,8 @@ module _ (b : Inside) (board : IsBoard b) where
       -- nor where none were left
       pub ends_shown : PresentStaysOn → (ticks asked until : ℕ) → ticks ≡ k → k ≤ most → (most ≤ k → most ≡ 0)
           → first + most ≤ b.slice → first < b.slice → b.machine.moment.time < until → 0 < asked
-          → (most < asked → first + most < b.slice → b.machine.moment.steps + most < STEP_LIMIT → b.machine.moment.time + most < until
+          → (most < asked → first + most < b.slice → b.machine.moment.steps + most < STEP_LIMIT
+          → b.machine.moment.time + most < until
           → ⊥)
           → GoesOn (world_after_ticks ticks) → ⊥
       ends_shown law ticks asked until is made ends last below ahead asks all g =
@@ -345,7 +358,8 @@ module _ (b : Inside) (board : IsBoard b) where
     -- what always holds of a board holds after them
     pub still : StillHolds b k x.home processes
     still = record {
-      seated = still_seated_on slot b.machine.home x.home b.processes.items processes q.at b.machine.moment.steps k q.seated board.seated;
+      seated = still_seated_on slot b.machine.home x.home b.processes.items processes q.at b.machine.moment.steps k
+          q.seated board.seated;
       lost = still_lost_on b.machine.moment.steps k slot b.machine.home x.home q.at.after.1 q.at.own_is
           (omega (
             arith,
@@ -354,17 +368,30 @@ module _ (b : Inside) (board : IsBoard b) where
           )) board.lost;
       owns = as_many_owns slot b.machine.home x.home b.processes.items processes q.at ∙ board.owns ∙ many;
       few = omega (arith, many, board.few);
-      driven = subst (λ (h : Homes). AreDriven b.machine.moment.settings (b.machine.moment.time + k) h.owns b.machine.drivers) (sym q.at.own_is)
-          (subst (λ (o : Own). AreDriven b.machine.moment.settings (b.machine.moment.time + k) (slice_set b.machine.home.owns slot o) b.machine.drivers)
+      driven = subst (λ (h : Homes). AreDriven b.machine.moment.settings (b.machine.moment.time + k) h.owns
+          b.machine.drivers) (sym q.at.own_is)
+          (subst (λ (o : Own). AreDriven b.machine.moment.settings (b.machine.moment.time + k)
+          (slice_set b.machine.home.owns slot o) b.machine.drivers)
           (sym kept)
-          (ram_driven b.machine.moment.settings b.machine.moment.time (b.machine.moment.time + k) slot b.machine.home.owns b.machine.drivers q.at.before.1
+          (ram_driven b.machine.moment.settings b.machine.moment.time (b.machine.moment.time + k) slot
+          b.machine.home.owns b.machine.drivers q.at.before.1
           q.at.after.1.ram q.at.own_was (omega arith) board.driven));
-      calm = subst (λ (h : Homes). IsCalm b.machine.moment.settings.start (b.machine.moment.time + k) b.calm h.owns b.machine.drivers)
+      calm = subst (λ (h : Homes). IsCalm b.machine.moment.settings.start (b.machine.moment.time + k) b.calm h.owns
+          b.machine.drivers)
           (sym q.at.own_is)
-          (kept_calm b.machine.moment.settings.start (b.machine.moment.time + k) b.calm slot b.machine.home.owns b.machine.drivers q.at.before.1
+          (kept_calm b.machine.moment.settings.start (b.machine.moment.time + k) b.calm slot b.machine.home.owns
+          b.machine.drivers q.at.before.1
           q.at.after.1 q.at.own_was (ap (λ (o : Own). o.grants) kept) (ap (λ (o : Own). o.lives) kept)
-          (later_calm b.machine.moment.settings.start b.machine.moment.time (b.machine.moment.time + k) b.calm b.machine.home.owns b.machine.drivers
+          (later_calm b.machine.moment.settings.start b.machine.moment.time (b.machine.moment.time + k) b.calm
+          b.machine.home.owns b.machine.drivers
           (omega arith) board.calm));
+      alarms = λ law.
+          subst (λ (h : Homes). AlarmsTell (turns_later k b.machine.moment) b.alarms h.owns) (sym q.at.own_is)
+          (kept_tell (clock_at b.machine.moment.settings.start (b.machine.moment.time + k))
+          (b.machine.moment.time + k) slot b.alarms b.machine.home.owns q.at.before.1 q.at.after.1 q.at.own_was
+          (ap (λ (o : Own). o.grants) kept) (ap (λ (o : Own). o.lives) kept)
+          (all_later law b.machine.moment.settings.start b.machine.moment.time k b.alarms b.machine.home.owns
+          board.alarms));
     }
 
 -- what is used of a slice, after so many turns
@@ -384,7 +411,8 @@ runs_within processes slot e = by_process (slice_get processes slot) refl e
 
 -- a board that looked up to when no device step is ready
 pub looked_ahead : (b : Inside) (calm : ℕ) → IsBoard b
-    → IsCalm b.machine.moment.settings.start b.machine.moment.time calm b.machine.home.owns b.machine.drivers → IsBoard (record b { calm = calm })
+    → IsCalm b.machine.moment.settings.start b.machine.moment.time calm b.machine.home.owns b.machine.drivers
+    → IsBoard (record b { calm = calm })
 looked_ahead b calm board is = record {
   seated = board.seated;
   lost = board.lost;
@@ -396,6 +424,7 @@ looked_ahead b calm board is = record {
   steps = board.steps;
   time = board.time;
   calm = is;
+  alarms = board.alarms;
   slice = board.slice;
   used = board.used;
 }

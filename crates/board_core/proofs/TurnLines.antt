@@ -1,4 +1,8 @@
 -- Who waits, once a process had its turn.
+use Rattle.board_devices.specs.Clock.{clock_at}
+use Rattle.alarm_capsule.proofs.KeptTimes.{all_later, kept_tell, others_tell}
+use Rattle.alarm_capsule.specs.Times.{OthersTell}
+use Rattle.driver_model.specs.Laws.{TimeBringsNearer}
 use Rattle.std.proofs.Common.{◌≡◌, ℕ, ◌+◌, ◌<◌, ◌≤◌, Bool, true, false, if◌then◌else◌, List, [], length, slice_get}
 use Rattle.std.proofs.Common.{slice_set, is_some, Option, None, Some, Result, Ok, Err, refl, sym, ap, subst, ◌∙◌, arith}
 use Rattle.std.proofs.lemmas.List.Elements.{All-set}
@@ -30,7 +34,7 @@ use Rattle.board_drivers.specs.Driven.{AreDriven, Drives, IsQueueOf, MayServe, i
 use Rattle.board_drivers.specs.Residents.{IsResident, id_of, record_of, resident_turns}
 use Rattle.board_turns.specs.Turning.{TurnsAt, nothing_shown}
 use Rattle.board_drivers.specs.Residents.{can_turn_in}
-use Rattle.board_drivers.specs.Calm.{IsCalm}
+use Rattle.board_drivers.specs.Calm.{AlarmsTell, IsCalm}
 use Rattle.board_core.specs.Shows.{IsBoard, residents, world_of}
 use Rattle.board_core.proofs.Boards.{below_limit, ready_within}
 use Rattle.board_core.proofs.Changes.{as_many, as_many_owns, still_seated, turn_later}
@@ -82,11 +86,13 @@ module _ (b : Inside) (slot : ℕ) (x : Machine) (processes : List Process) (sho
   own_is = ap (λ (r : Record). r.own) (t.turns []).0
 
   seat : IsResident b.machine.home.flash b.machine.moment.steps t.at.before
-  seat = seated_there b.machine.home.flash b.machine.moment.steps b.processes.items b.machine.home.owns slot t.at.before t.at.was t.at.own_was
+  seat = seated_there b.machine.home.flash b.machine.moment.steps b.processes.items b.machine.home.owns slot t.at.before
+      t.at.was t.at.own_was
       h.seated
 
   -- where nothing was shown, nothing was asked of the drivers
-  pub turn_is_idle : TurnsActAtCalls → shown ≡ nothing_shown → Drives (id_of slot t.at.before.1) [] b.machine.drivers x.drivers
+  pub turn_is_idle : TurnsActAtCalls → shown ≡ nothing_shown → Drives (id_of slot t.at.before.1) [] b.machine.drivers
+      x.drivers
   turn_is_idle law quiet =
       let says = (t.turns []).1 in
       subst (λ (acts : List BoardRequest). Drives (id_of slot t.at.before.1) acts b.machine.drivers x.drivers)
@@ -110,12 +116,14 @@ module _ (b : Inside) (slot : ℕ) (x : Machine) (processes : List Process) (sho
     line_is queue =
         subst (λ (xs : List ProcessId). IsQueueOf queue xs (slice_set b.machine.home.owns slot t.at.after.1))
         (sym (drives.queues queue))
-        (line_after queue (ids_waiting_in b.machine.drivers queue) b.machine.home.owns slot t.at.before.1 t.at.after.1 turn.acts
+        (line_after queue (ids_waiting_in b.machine.drivers queue) b.machine.home.owns slot t.at.before.1 t.at.after.1
+        turn.acts
         (h.driven.queues queue) t.at.own_was (keeps.lines queue) (keeps.life queue))
 
     -- who waits has a request then, and no other
     turn_driven : AreDriven b.machine.moment.settings (b.machine.moment.time + 1) x.home.owns x.drivers
-    turn_driven = subst (λ (y : Homes). AreDriven b.machine.moment.settings (b.machine.moment.time + 1) y.owns x.drivers) (sym t.at.own_is)
+    turn_driven = subst (λ (y : Homes). AreDriven b.machine.moment.settings (b.machine.moment.time + 1) y.owns
+        x.drivers) (sym t.at.own_is)
         (record {
           queues = line_is;
           within = All-set (IsWithin b.machine.moment.settings.storage) b.machine.home.owns slot t.at.after.1
@@ -138,6 +146,27 @@ module _ (b : Inside) (slot : ℕ) (x : Machine) (processes : List Process) (sho
   served_stays : x.drivers.stores.served ≡ b.machine.drivers.stores.served
   served_stays = ap (λ (s : _). s.served) drives.bytes
 
+  -- what is told of the alarms of all other processes stays true, a tick later
+  pub others_later : TimeBringsNearer
+      → OthersTell slot (clock_at b.machine.moment.settings.start (b.machine.moment.time + 1))
+      (b.machine.moment.time + 1) b.alarms x.home.owns
+  others_later law =
+      let start = b.machine.moment.settings.start in
+      let time = b.machine.moment.time in
+      subst (λ (y : Homes). OthersTell slot (clock_at start (time + 1)) (time + 1) b.alarms y.owns) (sym t.at.own_is)
+      (others_tell (clock_at start (time + 1)) (time + 1) slot b.alarms b.machine.home.owns t.at.after.1
+      (all_later law start time 1 b.alarms b.machine.home.owns h.alarms))
+
+  -- and of all, where its process keeps the same for the alarm
+  pub alarms_later : TimeBringsNearer → t.at.after.1.grants ≡ t.at.before.1.grants
+      → t.at.after.1.lives ≡ t.at.before.1.lives → AlarmsTell (turn_later b.machine.moment) b.alarms x.home.owns
+  alarms_later law grants lives =
+      let start = b.machine.moment.settings.start in
+      let time = b.machine.moment.time in
+      subst (λ (y : Homes). AlarmsTell (turn_later b.machine.moment) b.alarms y.owns) (sym t.at.own_is)
+      (kept_tell (clock_at start (time + 1)) (time + 1) slot b.alarms b.machine.home.owns t.at.before.1 t.at.after.1
+      t.at.own_was grants lives (all_later law start time 1 b.alarms b.machine.home.owns h.alarms))
+
   -- a process that can have a turn lives
   turn_lives : can_turn_in (slice_get (residents b) slot) ≡ true → t.at.before.1.lives ≡ true
   turn_lives can =
@@ -155,22 +184,25 @@ module _ (b : Inside) (slot : ℕ) (x : Machine) (processes : List Process) (sho
 -- A board whose tables, registers and drivers are then these: after the turn it is one again, and the slot is present.
 module _ (b a : Inside) (slot : ℕ) (shown : Shown) (h : IsBoard b)
     (t : TurnsAt slot b.machine a.machine b.processes.items a.processes.items shown) where
-  pub turned_board : (calm used : ℕ) → DropsAtMostOne → TurnsKeepLines → is_ready (world_of b) (Run slot) ≡ true
+  pub turned_board : (calm used : ℕ) (times : List (Option ℕ)) → DropsAtMostOne → TurnsKeepLines → is_ready (world_of b) (Run slot) ≡ true
       → IsCalm b.machine.moment.settings.start (b.machine.moment.time + 1) calm a.machine.home.owns a.machine.drivers
-      → used ≤ b.slice
+      → AlarmsTell (turn_later b.machine.moment) times a.machine.home.owns → used ≤ b.slice
       → IsBoard (record b {
         machine = record a.machine { moment = turn_later b.machine.moment };
         processes = a.processes;
         calm = calm;
+        alarms = times;
         present = Some slot;
         used = used;
       })
-  turned_board calm used drops keeps ready quiet within = record {
-    seated = still_seated slot b.machine.home a.machine.home b.processes.items a.processes.items t.at b.machine.moment.steps t.seated h.seated;
+  turned_board calm used times drops keeps ready quiet tell within = record {
+    seated = still_seated slot b.machine.home a.machine.home b.processes.items a.processes.items t.at
+        b.machine.moment.steps t.seated h.seated;
     lost = still_lost b.machine.moment.steps slot b.machine.home a.machine.home t.at.after.1 t.at.own_is
         (omega (
           arith,
-          loses_one b.machine.moment slot b.machine.home.flash t.at.before t.at.after shown b.machine.drivers a.machine.drivers drops
+          loses_one b.machine.moment slot b.machine.home.flash t.at.before t.at.after shown b.machine.drivers
+              a.machine.drivers drops
               t.turns,
           lost_where b.machine.moment.steps b.machine.home.owns slot t.at.before.1 t.at.own_was h.lost,
         )) h.lost;
@@ -183,6 +215,7 @@ module _ (b a : Inside) (slot : ℕ) (shown : Shown) (h : IsBoard b)
     steps = omega (arith, (ready_within b slot h ready).0);
     time = omega (arith, h.time);
     calm = quiet;
+    alarms = tell;
     slice = h.slice;
     used = within;
   }

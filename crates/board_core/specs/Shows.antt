@@ -7,7 +7,7 @@ use Rattle.kernel_model.specs.World.{World}
 use Rattle.board_turns.specs.Guards.{GuardsOnly}
 use Rattle.board_drivers.specs.Residents.{HasLost, Resident, record_of, IsResident}
 use Rattle.board_opening.specs.Settings.{pace}
-use Rattle.board_drivers.specs.Calm.{IsCalm}
+use Rattle.board_drivers.specs.Calm.{AlarmsTell, IsCalm}
 use Rattle.board_drivers.specs.Driven.{AreDriven, devices_of}
 use Rattle.board_core.specs.declared.board.Board.TheInside.{Inside}
 
@@ -38,5 +38,6 @@ pub record IsBoard (b : Inside) : Type 0 where
   pub steps : b.machine.moment.steps ≤ STEP_LIMIT
   pub time : b.machine.moment.time ≤ b.machine.moment.steps * 2 ^ 32
   pub calm : IsCalm b.machine.moment.settings.start b.machine.moment.time b.calm b.machine.home.owns b.machine.drivers
+  pub alarms : AlarmsTell b.machine.moment b.alarms b.machine.home.owns
   pub slice : 1 ≤ b.slice
   pub used : b.used ≤ b.slice

@@ -1,9 +1,13 @@
 //! The board.
-ghost use Rattle.std.specs.Prelude.{◌≡◌, ◌+◌, ◌-◌, ◌^◌, [], ◌∷◌, true, false, ◌≤◌, ◌<◌, ◌↔◌, All, map, length, slice_get, IsOk, IsTrue, IfOk, IfSome, Some, OnOk, OnErr, vec_len};
+ghost use Rattle.std.specs.Prelude.{◌≡◌, ◌+◌, ◌-◌, ◌^◌, [], ◌∷◌, true, false, ◌≤◌, ◌<◌, ◌↔◌, All};
+ghost use Rattle.std.specs.Prelude.{map, length, slice_get, IsOk, IsTrue, IfOk, IfSome, Some, OnOk};
+ghost use Rattle.std.specs.Prelude.{OnErr, vec_len};
 ghost use Rattle.std.specs.List.{zip};
 ghost use Rattle.tk_base.specs.declared.process.Choice.TheVariants.{Run, Device, Pass};
-ghost use Rattle.tk_base.specs.declared.process.Dev.TheVariants.{Event, Alarm, Uart, Receive, Random, Store};
-ghost use Rattle.tk_base.specs.declared.limits.TheConstants.{OBJECT_LIMIT, SENDING_LIMIT, SLOT_COUNT, STEP_LIMIT};
+ghost use Rattle.tk_base.specs.declared.process.Dev.TheVariants.{Event, Alarm, Uart, Receive};
+ghost use Rattle.tk_base.specs.declared.process.Dev.TheVariants.{Random, Store};
+ghost use Rattle.tk_base.specs.declared.limits.TheConstants.{OBJECT_LIMIT, SENDING_LIMIT};
+ghost use Rattle.tk_base.specs.declared.limits.TheConstants.{SLOT_COUNT, STEP_LIMIT};
 ghost use Rattle.turn_scheduler.specs.RoundRobin.{used_after};
 ghost use Rattle.turn_scheduler.specs.Status.{situation_shown as status_situation};
 ghost use Rattle.process_record.specs.Emit.{nothing};
@@ -17,16 +21,20 @@ ghost use Rattle.kernel_model.specs.Shown.{shown_by, summary_of};
 ghost use Rattle.board_opening.specs.Alone.{IsReplayed, OpensAlone};
 ghost use Rattle.board_opening.specs.Opening.{opening};
 ghost use Rattle.board_opening.specs.Settings.{visible_settings};
-ghost use Rattle.board_drivers.specs.Calm.{IsCalm};
+ghost use Rattle.board_devices.specs.Clock.{clock_at};
+ghost use Rattle.alarm_capsule.specs.Times.{OthersTell};
+ghost use Rattle.board_drivers.specs.Calm.{AlarmsTell, IsCalm};
 ghost use Rattle.board_core.specs.Makes.{MakesStep, ready_in, shown_printed};
 ghost use Rattle.board_drivers.specs.Tells.{tells_somebody};
 ghost use Rattle.board_drivers.specs.Residents.{InFlash, line_in, resident_turns, can_turn_in};
 ghost use Rattle.board_turns.specs.Turning.{nothing_shown, told_in_emit};
 
+use alarm_capsule::AlarmTimes;
 use arrayvec::ArrayVec;
 use board_drivers::{Drivers, Moment};
 use board_opening::{LoadedProcesses, first_crew, placed_in, unplaced};
 use board_turns::{ActivePmp, Machine, can_turn};
+use driver_model::time_brings_an_alarm_nearer;
 use grant_enter::Home;
 use kernel_laws::{grants_change_at_calls, turns_keep_lines};
 use kernel_lives::steps_are_accounted_for;
@@ -58,6 +66,8 @@ pub struct Board {
     unplaced: ArrayVec<(u32, PlaceFault), OBJECT_LIMIT>,
     /// A time up to which no device step is ready.
     pub(crate) calm: u64,
+    /// When the alarm of each process becomes due.
+    pub(crate) alarms: AlarmTimes,
     /// How many turns a process may have in a row while another is ready.
     pub(crate) slice: u32,
     /// The slot that had the last turn, and how many turns of its slice it has used.
@@ -88,8 +98,8 @@ fn can_run(home: &Home, processes: &[Process], slot: Slot) -> bool
     }
 }
 
-/// Takes back what the last step told, but for whose turn it was. What it printed, a call or a denial is seldom
-/// there, and writing it takes time.
+/// Takes back what the last step told, but for whose turn it was. What it printed, a call or a
+/// denial is seldom there, and writing it takes time.
 #[inline(always)]
 fn clear(emit: &mut Emit)
     ensures { emit.new ≡ record nothing { slot = emit.old.slot } }
@@ -123,16 +133,22 @@ fn show(emit: &mut Emit, slot: Slot, printed: ArrayVec<u8, PRINT_LIMIT>)
 }
 
 /// Which device steps are ready at a moment.
-fn devices_ready(home: &Home, drivers: &Drivers, moment: &Moment) -> ArrayVec<bool, 6>
+fn devices_ready(
+    home: &Home,
+    alarms: &AlarmTimes,
+    drivers: &Drivers,
+    moment: &Moment,
+) -> ArrayVec<bool, 6>
+    requires { AlarmsTell moment.now alarms.now home.now.owns }
     ensures { result.items ≡ ready_in moment.now home.now.owns drivers.now }
 {
     ArrayVec::from([
-        moment.is_ready(home, drivers, Dev::Event),
-        moment.is_ready(home, drivers, Dev::Alarm),
-        moment.is_ready(home, drivers, Dev::Uart),
-        moment.is_ready(home, drivers, Dev::Receive),
-        moment.is_ready(home, drivers, Dev::Random),
-        moment.is_ready(home, drivers, Dev::Store),
+        moment.is_ready(home, alarms, drivers, Dev::Event),
+        moment.is_ready(home, alarms, drivers, Dev::Alarm),
+        moment.is_ready(home, alarms, drivers, Dev::Uart),
+        moment.is_ready(home, alarms, drivers, Dev::Receive),
+        moment.is_ready(home, alarms, drivers, Dev::Random),
+        moment.is_ready(home, alarms, drivers, Dev::Store),
     ])
 }
 
@@ -151,24 +167,55 @@ fn settings_of(script: &Script) -> Settings
     }
 }
 
-/// A time up to which no device step is ready after a turn, by what it showed. It asks that the one so far holds
-/// on where it showed nothing.
+/// Whether a turn showed a call or a denial.
+fn has_shown(emit: &Emit) -> bool
+    ensures { result ≡ false → told_in_emit emit.now ≡ nothing_shown }
+{
+    emit.made.is_some() || emit.denial.is_some()
+}
+
+/// Looks again when the alarm of a process becomes due, where its turn showed something: what it
+/// keeps for the alarm, and that it lives, changes at calls and denials alone.
 #[inline(always)]
-fn calm_after(calm: u64, moment: &Moment, home: &Home, drivers: &Drivers, emit: &Emit) -> u64
+fn look_again(alarms: &mut AlarmTimes, moment: &Moment, home: &Home, slot: Slot, emit: &Emit)
+    requires time { moment.now.time + 2 ^ 32 ≤ 2 ^ 64 }
+    requires others { OthersTell slot (clock_at moment.now.settings.start moment.now.time)
+        moment.now.time alarms.old home.now.owns }
+    requires quiet { told_in_emit emit.now ≡ nothing_shown
+        → AlarmsTell moment.now alarms.old home.now.owns }
+    ensures { AlarmsTell moment.now alarms.new home.now.owns }
+{
+    if has_shown(emit) {
+        alarms.note(home, slot, moment.tick(), moment.time);
+    }
+}
+
+/// A time up to which no device step is ready after a turn, by what it showed. It asks that the one
+/// so far holds on where it showed nothing.
+#[inline(always)]
+fn calm_after(
+    calm: u64,
+    moment: &Moment,
+    home: &Home,
+    alarms: &AlarmTimes,
+    drivers: &Drivers,
+    emit: &Emit,
+) -> u64
+    requires alarms { AlarmsTell moment.now alarms.now home.now.owns }
     requires time { moment.now.time + 2 ^ 32 ≤ 2 ^ 64 }
     requires free { drivers.now.uart.free ≤ moment.now.time + SENDING_LIMIT }
     requires calm { told_in_emit emit.now ≡ nothing_shown
         → IsCalm moment.now.settings.start moment.now.time calm home.now.owns drivers.now }
     ensures { IsCalm moment.now.settings.start moment.now.time result home.now.owns drivers.now }
 {
-    if emit.made.is_some() || emit.denial.is_some() {
-        return moment.look_ahead(home, drivers);
+    if has_shown(emit) {
+        return moment.look_ahead(home, alarms, drivers);
     }
     calm
 }
 
-/// Adds for each slot whether it is ready. The table is filled where it lies: moving it would cost more
-/// than filling it, at each step.
+/// Adds for each slot whether it is ready. The table is filled where it lies: moving it would cost
+/// more than filling it, at each step.
 fn add_ready(home: &Home, processes: &[Process], ready: &mut ArrayVec<bool, SLOT_COUNT>)
     requires few { length processes.now ≤ SLOT_COUNT }
     requires owns { length home.now.owns ≡ length processes.now }
@@ -231,9 +278,12 @@ impl Situated for Board {
     ghost asks = { λ w. Unit {0} };
 
     fn device_is_ready(&self, device: Dev) -> bool {
-        self.machine
-            .moment
-            .is_ready(&self.machine.home, &self.machine.drivers, device)
+        self.machine.moment.is_ready(
+            &self.machine.home,
+            &self.alarms,
+            &self.machine.drivers,
+            device,
+        )
     }
 
     fn slot_is_ready(&self, slot: Slot) -> bool {
@@ -244,7 +294,7 @@ impl Situated for Board {
         next_is_ready();
         self.machine
             .moment
-            .next_time(&self.machine.home, &self.machine.drivers)
+            .next_time(&self.machine.home, &self.alarms, &self.machine.drivers)
     }
 
     fn time(&self) -> u64 {
@@ -265,10 +315,11 @@ impl Situated for Board {
 }
 
 impl Board {
-    /// The board of a flash image of at most [`FLASH_LIMIT`] bytes under a script, before its first step. The
-    /// applications of the image are in their places, each block of RAM is zeroed. The one error is
-    /// want of memory; image and script are dropped then. The record of each process is a function of the bytes of its
-    /// object, of where that and its block lie, and of the size of its storage: of nothing else in image and script.
+    /// The board of a flash image of at most [`FLASH_LIMIT`] bytes under a script, before its first
+    /// step. The applications of the image are in their places, each block of RAM is zeroed. The
+    /// one error is want of memory; image and script are dropped then. The record of each process
+    /// is a function of the bytes of its object, of where that and its block lie, and of the size
+    /// of its storage: of nothing else in image and script.
     pub fn boot(alloc: Global, flash: Vec<u8>, script: Script) -> Result<Board, NoMemory>
         requires { vec_len flash ≤ FLASH_LIMIT }
         ensures world { IfOk result (λ board. board ≡ opening script flash.items) }
@@ -289,7 +340,8 @@ impl Board {
         };
         let slice = script.slice;
         let drivers = Drivers::new(alloc, script)?;
-        let calm = moment.look_ahead(&home, &drivers);
+        let alarms = AlarmTimes::new();
+        let calm = moment.look_ahead(&home, &alarms, &drivers);
         let machine = Machine {
             home,
             guard: ActivePmp::new(),
@@ -301,6 +353,7 @@ impl Board {
             processes,
             unplaced: unplaced(&placed),
             calm,
+            alarms,
             slice,
             present: None,
             used: 0,
@@ -315,8 +368,9 @@ impl Board {
         can_run(&self.machine.home, &self.processes, slot)
     }
 
-    /// A turn of the process in a slot. Whether an alarm is due is looked at again where it showed something:
-    /// what processes keep for the alarm, and that they live, changes at calls and denials alone.
+    /// A turn of the process in a slot. Whether an alarm is due is looked at again where it showed
+    /// something: what processes keep for the alarm, and that they live, changes at calls and
+    /// denials alone.
     #[inline(always)]
     fn run(&mut self, slot: Slot, emit: &mut Emit) -> Result<(), NotReady>
         requires { self.old.clock.steps < STEP_LIMIT }
@@ -324,6 +378,7 @@ impl Board {
     {
         grants_change_at_calls();
         turns_keep_lines();
+        time_brings_an_alarm_nearer();
         if !self.may_run(slot) {
             return Err(NotReady);
         }
@@ -334,10 +389,18 @@ impl Board {
         self.present = Some(slot);
         self.machine.moment.time += 1;
         self.machine.moment.steps += 1;
+        look_again(
+            &mut self.alarms,
+            &self.machine.moment,
+            &self.machine.home,
+            slot,
+            emit,
+        );
         self.calm = calm_after(
             self.calm,
             &self.machine.moment,
             &self.machine.home,
+            &self.alarms,
             &self.machine.drivers,
             emit,
         );
@@ -367,7 +430,7 @@ impl Board {
         self.calm = self
             .machine
             .moment
-            .look_ahead(&self.machine.home, &self.machine.drivers);
+            .look_ahead(&self.machine.home, &self.alarms, &self.machine.drivers);
         Ok(())
     }
 
@@ -388,12 +451,19 @@ impl Board {
         else {
             return Err(NotReady);
         };
-        show(emit, answer.to.slot, printed);
+        let served = answer.to.slot;
+        show(emit, served, printed);
         self.machine.moment.steps += 1;
+        self.alarms.note(
+            &self.machine.home,
+            served,
+            self.machine.moment.tick(),
+            self.machine.moment.time,
+        );
         self.calm = self
             .machine
             .moment
-            .look_ahead(&self.machine.home, &self.machine.drivers);
+            .look_ahead(&self.machine.home, &self.alarms, &self.machine.drivers);
         Ok(())
     }
 
@@ -429,14 +499,15 @@ impl Board {
         if !self.may_pass(ticks) {
             return Err(NotReady);
         }
+        time_brings_an_alarm_nearer();
         hide(emit);
         self.machine.moment.time += u64::from(ticks);
         self.machine.moment.steps += 1;
         Ok(())
     }
 
-    /// As always, what is a process's own is whole, and each buffer that it has allowed lies where it may. The function
-    /// does nothing.
+    /// As always, what is a process's own is whole, and each buffer that it has allowed lies where
+    /// it may. The function does nothing.
     #[inline(always)]
     fn owns_are_whole(&self)
         ensures { AreWhole self.now }
@@ -445,14 +516,16 @@ impl Board {
         self.machine.home.owns_lie_in_place();
     }
 
-    /// Makes one step, and shows it in `emit`. Afterwards the board shows the world after the abstract
-    /// kernel's step. `NotReady` comes exactly where the choice may not be made: its slot holds no
-    /// process that can have a turn, its device has nothing to do (the alarm, where none is due), a pass takes no
-    /// ticks, or 4,000,000,000 steps were made; nothing has changed then. Each byte of a process that the step changes,
-    /// of its block and of its storage, has its cause among the labels; each access of a turn was permitted, and each
-    /// denial was due, and is shown with its address and its rule; a call that was refused changes the process's reply and
-    /// counts alone; what is printed was in the read-only buffer that its process then held. The record of each process is
-    /// the replay of its own turn, or of what the device answers it, and as it was where the step is neither.
+    /// Makes one step, and shows it in `emit`. Afterwards the board shows the world after the
+    /// abstract kernel's step. `NotReady` comes exactly where the choice may not be made: its slot
+    /// holds no process that can have a turn, its device has nothing to do (the alarm, where none
+    /// is due), a pass takes no ticks, or 4,000,000,000 steps were made; nothing has changed then.
+    /// Each byte of a process that the step changes, of its block and of its storage, has its cause
+    /// among the labels; each access of a turn was permitted, and each denial was due, and is shown
+    /// with its address and its rule; a call that was refused changes the process's reply and
+    /// counts alone; what is printed was in the read-only buffer that its process then held. The
+    /// record of each process is the replay of its own turn, or of what the device answers it, and
+    /// as it was where the step is neither.
     #[inline(always)]
     #[tactic(auto, unfolding(kernel_model::specs::World::may_be_made))]
     pub fn step(&mut self, choice: Choice, emit: &mut Emit) -> Result<(), NotReady>
@@ -487,13 +560,14 @@ impl Board {
             ready: ArrayVec::new(),
             devices: devices_ready(
                 &self.machine.home,
+                &self.alarms,
                 &self.machine.drivers,
                 &self.machine.moment,
             ),
             next: self
                 .machine
                 .moment
-                .next_time(&self.machine.home, &self.machine.drivers),
+                .next_time(&self.machine.home, &self.alarms, &self.machine.drivers),
             time: self.machine.moment.time,
             present: self.present,
             used: self.used,
@@ -503,7 +577,8 @@ impl Board {
         status
     }
 
-    /// The slot that has the next turn of a process, where no device step is ready for a while. None says nothing.
+    /// The slot that has the next turn of a process, where no device step is ready for a while.
+    /// None says nothing.
     #[inline(always)]
     fn next_in_calm(&self) -> Option<Slot>
         ensures { IfSome result (λ slot. Some (Run slot) ≡ next self.now) }
@@ -514,9 +589,9 @@ impl Board {
         next_slot(self)
     }
 
-    /// The next choice of the round robin; None exactly where no process can have a turn, no device has anything to do,
-    /// no input is still to come in, no write waits and no alarm is armed. It may be made while fewer than 4,000,000,000
-    /// steps were made.
+    /// The next choice of the round robin; None exactly where no process can have a turn, no device
+    /// has anything to do, no input is still to come in, no write waits and no alarm is armed. It
+    /// may be made while fewer than 4,000,000,000 steps were made.
     // Inlined, it saves 4 to 8 machine instructions a turn.
     #[inline(always)]
     pub fn next_choice(&self) -> Option<Choice>

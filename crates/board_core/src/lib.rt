@@ -1,5 +1,5 @@
-//! The board: processes over one RAM and one register file, one step at a time, as the abstract kernel
-//! makes it.
+//! The board: processes over one RAM and one register file, one step at a time, as the abstract
+//! kernel makes it.
 #![tactic(auto)]
 
 mod board;

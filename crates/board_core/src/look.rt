@@ -12,8 +12,8 @@ use process_record::Process;
 use tk_base::{Dev, ProcessId, Slot, Upcall};
 
 impl Board {
-    /// The process in a slot: its registers, its state, its counts, its last denial and its last refusal. None exactly
-    /// where the slot has no process, as in each of these functions.
+    /// The process in a slot: its registers, its state, its counts, its last denial and its last
+    /// refusal. None exactly where the slot has no process, as in each of these functions.
     pub fn process(&self, slot: Slot) -> Option<Process>
         ensures { result ≡ option_map (λ r. r.process) (slice_get self.now.records slot) }
     {
@@ -33,8 +33,9 @@ impl Board {
         Some(self.machine.home.layout(slot))
     }
 
-    /// The block of the process in a slot, as it lies in memory: the bytes of its record, and then those of its grants,
-    /// which are its areas one after another. So no byte of it depends on another process, or on who waits where.
+    /// The block of the process in a slot, as it lies in memory: the bytes of its record, and then
+    /// those of its grants, which are its areas one after another. So no byte of it depends on
+    /// another process, or on who waits where.
     pub fn block(&self, slot: Slot) -> Option<&[u8]>
         ensures { option_copied result
             ≡ option_map (λ r. block_of r.own) (slice_get self.now.records slot) }
@@ -85,8 +86,9 @@ impl Board {
         self.machine.home.id(slot)
     }
 
-    /// The processes that wait for a device step, the one that waits longest first. Each lives in its slot, in the life
-    /// in which it asked. None waits for input that comes in, nor for the alarm, which each process has for itself.
+    /// The processes that wait for a device step, the one that waits longest first. Each lives in
+    /// its slot, in the life in which it asked. None waits for input that comes in, nor for the
+    /// alarm, which each process has for itself.
     pub fn waiting(&self, device: Dev) -> &[Waiting]
         ensures slots { map (λ id. id.slot) result.now ≡ waiting_for self.now.devices device }
         ensures lives { All (LivesThere self.now) result.now }

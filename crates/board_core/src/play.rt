@@ -10,20 +10,23 @@ use tk_outside::{Sink, put_all, writes_compose};
 /// Why a list of choices was not made to its end.
 #[derive(Clone, Copy, Debug, PartialEq, Eq)]
 pub enum PlayEnd {
-    /// The choice at this place was not ready. Those before it were made, and what they printed was written.
+    /// The choice at this place was not ready. Those before it were made, and what they printed was
+    /// written.
     NotReady(usize),
     /// What the last choice made had printed could not be written whole: the sink failed.
     Failed,
 }
 
 impl Board {
-    /// Makes the choices of a list, one after another, and writes what the processes print. Whoever calls it decides
-    /// whose turn it is, and when devices act: the board's processes and devices may be interleaved in any way.
+    /// Makes the choices of a list, one after another, and writes what the processes print. Whoever
+    /// calls it decides whose turn it is, and when devices act: the board's processes and devices
+    /// may be interleaved in any way.
     ///
-    /// `NotReady` comes exactly where a choice is not ready in its turn, with the place of the first such one: the
-    /// board then shows the world after those before it, and all that they printed was written. `Failed` comes only
-    /// where the sink's count of faults rose; what was written is a front of what the choices made print, and they
-    /// are as few as print more than that. No memory is taken.
+    /// `NotReady` comes exactly where a choice is not ready in its turn, with the place of the
+    /// first such one: the board then shows the world after those before it, and all that they
+    /// printed was written. `Failed` comes only where the sink's count of faults rose; what was
+    /// written is a front of what the choices made print, and they are as few as print more than
+    /// that. No memory is taken.
     pub fn play<K: Sink>(&mut self, choices: &[Choice], out: &mut K) -> Result<(), PlayEnd>
         ensures { Plays K.tells self.old self.new choices.now out.old out.new result }
     {

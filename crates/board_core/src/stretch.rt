@@ -1,5 +1,6 @@
 //! A quiet stretch: turns of processes, one after another, that only execute an instruction.
-ghost use Rattle.std.specs.Prelude.{◌≡◌, ◌+◌, ◌-◌, ◌≤◌, ◌<◌, ◌^◌, true, false, ℕ, Some, IfSome, IfNone, slice_get};
+ghost use Rattle.std.specs.Prelude.{◌≡◌, ◌+◌, ◌-◌, ◌≤◌, ◌<◌, ◌^◌, true, false, ℕ, Some, IfSome};
+ghost use Rattle.std.specs.Prelude.{IfNone, slice_get};
 ghost use Rattle.tk_base.specs.declared.limits.TheConstants.{SENDING_LIMIT, STEP_LIMIT};
 ghost use Rattle.turn_scheduler.specs.RoundRobin.{used_after};
 ghost use Rattle.tk_base.specs.declared.process.Choice.TheVariants.{Run};
@@ -8,11 +9,14 @@ ghost use Rattle.kernel_model.specs.Choices.{Throughout};
 ghost use Rattle.kernel_model.specs.Replay.{chosen};
 ghost use Rattle.kernel_model.specs.Run.{next};
 ghost use Rattle.kernel_model.specs.Stretch.{GoesOn, IsStretch};
-ghost use Rattle.board_drivers.specs.Calm.{HasCome, IsCalm, ServesNobody, work_in};
+ghost use Rattle.board_drivers.specs.Calm.{AlarmsTell, HasCome, IsCalm};
+ghost use Rattle.board_drivers.specs.Calm.{ServesNobody, work_in};
 ghost use Rattle.board_core.specs.Stretches.{EndsStretch, slot_runs};
 
 use crate::board::Board;
+use alarm_capsule::AlarmTimes;
 use board_drivers::{Drivers, Moment};
+use driver_model::time_brings_an_alarm_nearer;
 use grant_enter::Home;
 use kernel_laws::round_is_stretch;
 use kernel_lives::steps_are_accounted_for;
@@ -40,8 +44,8 @@ fn runs(processes: &[Process], slot: Slot) -> bool
     }
 }
 
-/// How many turns are left, of so many, up to the end of the slice, to the limit of steps, and to a time that lies
-/// ahead.
+/// How many turns are left, of so many, up to the end of the slice, to the limit of steps, and to a
+/// time that lies ahead.
 fn turns_left(used: u32, slice: u32, moment: &Moment, until: u64, most: u32) -> u32
     requires used { used ≤ slice }
     requires steps { moment.now.steps ≤ STEP_LIMIT }
@@ -58,10 +62,17 @@ fn turns_left(used: u32, slice: u32, moment: &Moment, until: u64, most: u32) -> 
     left.min(until - moment.time) as u32
 }
 
-/// A time up to which no device step is ready, which lies ahead where none is ready now: the one so far, while it
-/// lies ahead.
+/// A time up to which no device step is ready, which lies ahead where none is ready now: the one so
+/// far, while it lies ahead.
 #[inline(always)]
-fn calm_ahead(calm: u64, moment: &Moment, home: &Home, drivers: &Drivers) -> u64
+fn calm_ahead(
+    calm: u64,
+    moment: &Moment,
+    home: &Home,
+    alarms: &AlarmTimes,
+    drivers: &Drivers,
+) -> u64
+    requires alarms { AlarmsTell moment.now alarms.now home.now.owns }
     requires time { moment.now.time + 2 ^ 32 ≤ 2 ^ 64 }
     requires free { drivers.now.uart.free ≤ moment.now.time + SENDING_LIMIT }
     requires calm { IsCalm moment.now.settings.start moment.now.time calm home.now.owns
@@ -74,10 +85,11 @@ fn calm_ahead(calm: u64, moment: &Moment, home: &Home, drivers: &Drivers) -> u64
     if moment.time < calm {
         return calm;
     }
-    moment.look_ahead(home, drivers)
+    moment.look_ahead(home, alarms, drivers)
 }
 
-/// Whether a stretch ends after these turns, of so many that were left: the next one is none of it, or none was left.
+/// Whether a stretch ends after these turns, of so many that were left: the next one is none of it,
+/// or none was left.
 fn is_over(made: u32, left: u32) -> bool
     ensures over { result ≡ true → left ≤ made → left ≡ 0 }
     ensures on { result ≡ false → 0 < made }
@@ -85,7 +97,8 @@ fn is_over(made: u32, left: u32) -> bool
     made < left || left == 0
 }
 
-/// How many turns of its slice a slot has used before its next turn: none, where a slice begins with it.
+/// How many turns of its slice a slot has used before its next turn: none, where a slice begins
+/// with it.
 fn used_before(present: Option<Slot>, used: u32, slice: u32, slot: Slot) -> u32
     requires { 1 ≤ slice }
     ensures value { result ≡ used_after present used slice slot - 1 }
@@ -97,8 +110,8 @@ fn used_before(present: Option<Slot>, used: u32, slice: u32, slot: Slot) -> u32
     }
 }
 
-/// The present slot and how many turns of its slice it has used, after so many turns of a slot that had used `before`.
-/// No turn changes nothing.
+/// The present slot and how many turns of its slice it has used, after so many turns of a slot that
+/// had used `before`. No turn changes nothing.
 fn present_after(
     present: Option<Slot>,
     used: u32,
@@ -128,7 +141,8 @@ impl Board {
         }
     }
 
-    /// A part of a stretch: turns of one process in its slice, at most so many, up to when a device step may be ready.
+    /// A part of a stretch: turns of one process in its slice, at most so many, up to when a device
+    /// step may be ready.
     fn run_part(&mut self, most: u32) -> Part
         requires { 0 < most }
         ensures most { result.made ≤ most }
@@ -138,6 +152,7 @@ impl Board {
     {
         round_is_stretch();
         next_is_ready();
+        time_brings_an_alarm_nearer();
         let ends = Part {
             made: 0,
             is_over: true,
@@ -152,6 +167,7 @@ impl Board {
             self.calm,
             &self.machine.moment,
             &self.machine.home,
+            &self.alarms,
             &self.machine.drivers,
         );
         if self.calm <= self.machine.moment.time {
@@ -172,10 +188,11 @@ impl Board {
         }
     }
 
-    /// Makes as many of the round robin's next steps as are turns that only execute an instruction, one after another,
-    /// at most `most`, and answers how many. None of these steps makes a system call, is denied or prints, and each byte
-    /// of a process that one of them changes has its cause among its labels: a store that the process may make. Where it
-    /// answers less than `most`, the next step is not such a turn.
+    /// Makes as many of the round robin's next steps as are turns that only execute an instruction,
+    /// one after another, at most `most`, and answers how many. None of these steps makes a system
+    /// call, is denied or prints, and each byte of a process that one of them changes has its cause
+    /// among its labels: a store that the process may make. Where it answers less than `most`, the
+    /// next step is not such a turn.
     pub fn run_quietly(&mut self, most: u32) -> u32
         ensures most { result ≤ most }
         ensures stretch { IsStretch result self.old self.new }

@@ -1,5 +1,5 @@
-//! Two applications on one board, step by step. Each function makes few calls: the proof of a long one costs more than
-//! those of its parts.
+//! Two applications on one board, step by step. Each function makes few calls: the proof of a long
+//! one costs more than those of its parts.
 use super::*;
 use process_record::{Emit, State};
 use script_text::read_script;
@@ -12,7 +12,8 @@ use tk_outside::MemSink;
 /// `j .`
 const SPIN: [u32; 1] = [0x0000_006f];
 
-/// `lui a1, 0x80000` and `sw x0, 0(a1)`: a store at the start of RAM, which is the first application's.
+/// `lui a1, 0x80000` and `sw x0, 0(a1)`: a store at the start of RAM, which is the first
+/// application's.
 const STRAY: [u32; 2] = [0x8000_05b7, 0x0005_a023];
 
 /// `ebreak`
@@ -24,8 +25,9 @@ const COUNT: [u32; 2] = [0x0012_8293, 0xffdf_f06f];
 /// `li a4, 6`, `li a0, 0`, `li a1, 7` and `ecall`: it exits with the code 7.
 const EXIT: [u32; 4] = [0x0060_0713, 0x0000_0513, 0x0070_0593, 0x0000_0073];
 
-/// It allows the console a buffer that it may read into, the first 16 bytes of its RAM, and then 8 bytes at 32: `mv s0,
-/// a1`, `li a4, 3`, and twice `li a0, 1`, `li a1, 1`, the buffer's address in a2 and its size in a3, and `ecall`.
+/// It allows the console a buffer that it may read into, the first 16 bytes of its RAM, and then 8
+/// bytes at 32: `mv s0, a1`, `li a4, 3`, and twice `li a0, 1`, `li a1, 1`, the buffer's address in
+/// a2 and its size in a3, and `ecall`.
 const ALLOWS: [u32; 12] = [
     0x0005_8413,
     0x0030_0713,
@@ -59,8 +61,8 @@ fn board_of(alloc: Global) -> Option<Board> {
     Board::boot(alloc, flash, script).ok()
 }
 
-/// A board with three applications: one with this code, one that stops at an `ebreak`, and one that exits; a process
-/// that faults is started again twice. None for want of memory.
+/// A board with three applications: one with this code, one that stops at an `ebreak`, and one that
+/// exits; a process that faults is started again twice. None for want of memory.
 fn board_beside(alloc: Global, code: &[u32]) -> Option<Board> {
     let flash: [u8; 140] = image(&[
         &application::<40>(code),
@@ -85,7 +87,8 @@ fn fourteen_turns() -> [Choice; 14] {
     choices
 }
 
-/// Whether the process in a slot of two boards has the same registers, state and counts, layout, block and storage.
+/// Whether the process in a slot of two boards has the same registers, state and counts, layout,
+/// block and storage.
 fn is_alike(board: &Board, other: &Board, slot: Slot) -> bool {
     board.process(slot) == other.process(slot)
         && board.layout(slot) == other.layout(slot)
@@ -107,8 +110,9 @@ fn state(board: &Board, slot: Slot) -> Option<State> {
     board.process(slot).map(|process| process.state)
 }
 
-/// Of each slot whether its process is the same on two boards, which differ in what the first application does, after
-/// fourteen turns; and how the second and the third process stand. None for want of memory.
+/// Of each slot whether its process is the same on two boards, which differ in what the first
+/// application does, after fourteen turns; and how the second and the third process stand. None for
+/// want of memory.
 fn beside_another(alloc: Global) -> Option<([bool; 3], [Option<State>; 2])> {
     let mut board = board_beside(alloc, &SPIN)?;
     let mut other = board_beside(alloc, &COUNT)?;
@@ -135,8 +139,8 @@ fn go_on(board: &mut Board) -> (Option<Slot>, Option<Denial>) {
     (emit.slot, emit.denial)
 }
 
-/// How many turns quiet stretches have: ten at the most from the first step on; then to the end of the slice and on to
-/// the second application's first turn; and before its second one.
+/// How many turns quiet stretches have: ten at the most from the first step on; then to the end of
+/// the slice and on to the second application's first turn; and before its second one.
 fn stretches(board: &mut Board) -> [u32; 3] {
     let ten = board.run_quietly(10);
     let rest = board.run_quietly(1000);
@@ -160,7 +164,8 @@ fn five_turns() -> [Choice; 5] {
     choices
 }
 
-/// What is seen of the board, what comes of choices from outside then, and how many steps were made.
+/// What is seen of the board, what comes of choices from outside then, and how many steps were
+/// made.
 fn seen(board: &mut Board, alloc: Global) -> ([u32; 3], bool, Option<PlayEnd>, u64) {
     let stretches = stretches(board);
     let is_stopped = is_stopped(board);
@@ -189,8 +194,9 @@ fn a_process_is_the_same_beside_any_other(rt: HostRuntime) {
     );
 }
 
-/// The console's area once the second buffer was allowed: the driver's number and what the area costs, three upcalls and a
-/// read-only buffer that were not handed over, the read-write buffer, and the driver's value.
+/// The console's area once the second buffer was allowed: the driver's number and what the area
+/// costs, three upcalls and a read-only buffer that were not handed over, the read-write buffer,
+/// and the driver's value.
 fn console_area() -> [u8; 96] {
     let mut area = [0; 96];
     area[0] = 1;
@@ -201,8 +207,8 @@ fn console_area() -> [u8; 96] {
     area
 }
 
-/// Whether the last bytes of the block are the console's area after the twelve turns of the two allows. None for want of
-/// memory.
+/// Whether the last bytes of the block are the console's area after the twelve turns of the two
+/// allows. None for want of memory.
 fn lays_its_grant(alloc: Global) -> Option<bool> {
     let flash: [u8; 80] = image(&[&application::<80>(&ALLOWS)]);
     let flash = Vec::from_slice(alloc, &flash).ok()?;

@@ -69,7 +69,8 @@ lost_there steps home slot lost = of_each home.owns slot lost
     past (o ∷ owns) zero h = absurd (omega arith)
     past (o ∷ owns) (suc k) h = past owns k (omega arith)
 
-    of_each : (owns : List Own) (k : ℕ) → All (HasLost steps) owns → (slice_index_or owns k nobody).inbox.dropped ≤ steps
+    of_each : (owns : List Own) (k : ℕ) → All (HasLost steps) owns
+        → (slice_index_or owns k nobody).inbox.dropped ≤ steps
     of_each owns k all = by_place (nat_lt k (length owns)) refl
       where
         by_place : (b : Bool) → nat_lt k (length owns) ≡ b → (slice_index_or owns k nobody).inbox.dropped ≤ steps

@@ -243,7 +243,8 @@ record Answering (D : Type 0) : Type 0 where
   prints : D → List ℕ
 
 -- what such a device does for a process by an answer, where it is the first
-abbrev ServesFirst : {D : Type 0} (b : BoardParts) (h : AreBoardParts b) (id : ProcessId) → IsThere b.home.owns id → Answering D
+abbrev ServesFirst : {D : Type 0} (b : BoardParts) (h : AreBoardParts b) (id : ProcessId) → IsThere b.home.owns id
+    → Answering D
     → Answered D → Type 0
 ServesFirst b h id there is a =
     DeviceServes b (its_process b h id there) is.device id.slot (is.prints a.device) (own_after a.step)
@@ -351,7 +352,8 @@ sends b = record {
   prints = λ printed. printed.items;
 }
 
-serves_sent : (b : BoardParts) (h : AreBoardParts b) → LinesFollowAnswers → EventsTellSteps → ReadsOwnFlash → Lent b.home
+serves_sent : (b : BoardParts) (h : AreBoardParts b) → LinesFollowAnswers → EventsTellSteps → ReadsOwnFlash
+    → Lent b.home
     → ServesWhoeverIsFirst b h (sends b)
 serves_sent b h lines events law lent id is_there first =
     let own : Own = own_of b.home id.slot in
@@ -470,7 +472,8 @@ draws b = record {
   prints = λ words. [];
 }
 
-serves_drawn : (b : BoardParts) (h : AreBoardParts b) → LinesFollowAnswers → EventsTellSteps → ServesWhoeverIsFirst b h (draws b)
+serves_drawn : (b : BoardParts) (h : AreBoardParts b) → LinesFollowAnswers → EventsTellSteps
+    → ServesWhoeverIsFirst b h (draws b)
 serves_drawn b h lines events id is_there first =
     let own : Own = own_of b.home id.slot in
     let r : Record = its_record b h id is_there in
@@ -661,7 +664,8 @@ pub acted_by : (b : BoardParts) (device is : Dev) (o : Result Answer NotReady) (
 acted_by b device is o printed home d e acted = subst (λ (x : Dev). Acted b x o printed home d) (sym e) acted
 
 -- nothing was printed
-acted_silent : (b : BoardParts) (device : Dev) (o : Result Answer NotReady) (home : Homes) (d : Drivers) (printed : List ℕ)
+acted_silent : (b : BoardParts) (device : Dev) (o : Result Answer NotReady) (home : Homes) (d : Drivers)
+    (printed : List ℕ)
     → printed ≡ [] → Acted b device o [] home d → Acted b device o printed home d
 acted_silent b device o home d printed empty acted =
     subst (λ (xs : List ℕ). Acted b device o xs home d) (sym empty) acted
@@ -681,12 +685,14 @@ acts_alarmed b h (Ok answer) home lines law answers printed empty =
     let id : ProcessId = answer.to in
     let now : ℕ = clock_at b.moment.settings.start b.moment.time in
     let there : IsThere b.home.owns id = (law now id.slot b.home.owns answers.0, sym answers.1) in
-    let due : due_slot now (owns_in (world_shown b)) ≡ Some id.slot = ap (due_slot now) (owns_in_parts b h) ∙ answers.0 in
+    let due : due_slot now (owns_in (world_shown b)) ≡ Some id.slot = ap (due_slot now) (owns_in_parts b h)
+    ∙ answers.0 in
     acted_silent b Alarm (Ok answer) home b.drivers printed empty
     (told_by b h id there Alarm [] (own_after (answered now (own_of b.home id.slot))) home b.drivers answers.4 answers.3
     (ap is_some due) (serves_alarmed b h id there lines due))
 
-pub acts_sent : (b : BoardParts) (h : AreBoardParts b) (o : Result Answer NotReady) (home : Homes) (capsule : ConsoleCapsule)
+pub acts_sent : (b : BoardParts) (h : AreBoardParts b) (o : Result Answer NotReady) (home : Homes)
+    (capsule : ConsoleCapsule)
     (line : SerialLine) (printed : ArrayVec ℕ)
     → LinesFollowAnswers → EventsTellSteps → ReadsOwnFlash → Lent b.home → (before : ArrayVec ℕ) → before.items ≡ []
     → is_ok o ≡ not (cannot_send b.drivers.console.writes b.drivers.uart b.moment.time)
@@ -704,7 +710,8 @@ acts_sent b h o home capsule line printed lines events law lent before empty can
     { uart = sending_at b.moment.time xs b.drivers.uart }) empty) (serves_sent b h lines events law lent)
     o home capsule.writes printed (can_send b.drivers.console.writes b.drivers.uart b.moment.time ∙ sym can) answers))
 
-pub acts_received : (b : BoardParts) (h : AreBoardParts b) (o : Result Answer NotReady) (home : Homes) (capsule : ConsoleCapsule)
+pub acts_received : (b : BoardParts) (h : AreBoardParts b) (o : Result Answer NotReady) (home : Homes)
+    (capsule : ConsoleCapsule)
     (line : SerialLine)
     → LinesFollowAnswers → EventsTellSteps
     → is_ok o ≡ not (cannot_give b.drivers.console.reads b.drivers.uart)
@@ -720,7 +727,8 @@ acts_received b h o home capsule line lines events can answers writes printed em
     (acts_on b h (receives b) b.drivers.uart refl (serves_received b h lines events)
     o home capsule.reads line (can_give b.drivers.console.reads b.drivers.uart ∙ sym can) answers))
 
-pub acts_drawn : (b : BoardParts) (h : AreBoardParts b) (o : Result Answer NotReady) (home : Homes) (capsule : RandomCapsule)
+pub acts_drawn : (b : BoardParts) (h : AreBoardParts b) (o : Result Answer NotReady) (home : Homes)
+    (capsule : RandomCapsule)
     (words : List ℕ)
     → LinesFollowAnswers → EventsTellSteps
     → OnErr o (b.drivers.random.waiting ≡ [])
@@ -734,7 +742,8 @@ acts_drawn b h o home capsule words lines events none answers printed empty =
     o home capsule.waiting words (waited_for (random_to b.drivers.words b.home) b.drivers.random.waiting b.drivers.words
     b.home o capsule.waiting words home none answers) answers)
 
-pub acts_stored : (b : BoardParts) (h : AreBoardParts b) (o : Result Answer NotReady) (home : Homes) (capsule : StorageCapsule)
+pub acts_stored : (b : BoardParts) (h : AreBoardParts b) (o : Result Answer NotReady) (home : Homes)
+    (capsule : StorageCapsule)
     (bytes : StoredSlots)
     → LinesFollowAnswers → ReadsOwnFlash → Lent b.home
     → OnErr o (b.drivers.storage.waiting ≡ [])

@@ -5,6 +5,7 @@ use Rattle.tk_base.specs.declared.process.Dev.TheVariants.{Receive, Random, Stor
 use Rattle.board_devices.specs.Clock.{clock_at}
 use Rattle.process_model.specs.Own.{Own}
 use Rattle.kernel_model.specs.World.{Work, work_at}
+use Rattle.alarm_capsule.specs.Times.{AllTell}
 use Rattle.board_drivers.specs.declared.drivers.Drivers.{Drivers}
 use Rattle.board_drivers.specs.declared.moment.Moment.{Moment}
 use Rattle.board_drivers.specs.Driven.{devices_of}
@@ -27,6 +28,10 @@ IsCalmAt start time owns d = (device : Dev)
 -- none is from a time on, and before another
 abbrev pub IsCalm : ℕ → ℕ → ℕ → List Own → Drivers → Type 0
 IsCalm start from until owns d = (time : ℕ) → from ≤ time → time < until → IsCalmAt start time owns d
+
+-- the times that are kept of alarms tell of all of them, at a moment
+abbrev pub AlarmsTell : Moment → List (Option ℕ) → List Own → Type 0
+AlarmsTell m times owns = AllTell (clock_at m.settings.start m.time) m.time times owns
 
 -- what there is to do for the devices at a moment
 abbrev pub work_in : Moment → List Own → Drivers → Work

@@ -1,5 +1,6 @@
 //! The drivers of the board.
-ghost use Rattle.std.specs.Prelude.{◌≡◌, ◌+◌, ◌*◌, ◌<◌, ◌≤◌, ◌^◌, ◌↔◌, ℕ, true, false, [], length, All, IfOk, IfSome};
+ghost use Rattle.std.specs.Prelude.{◌≡◌, ◌+◌, ◌*◌, ◌<◌, ◌≤◌, ◌^◌, ◌↔◌, ℕ, true, false, [], length};
+ghost use Rattle.std.specs.Prelude.{All, IfOk, IfSome};
 ghost use Rattle.board_devices.specs.Arriving.{first_arrival_time};
 ghost use Rattle.driver_model.specs.Commands.{leaving_all};
 ghost use Rattle.grant_enter.specs.Homes.{own_of, ChangesOnly};
@@ -8,7 +9,8 @@ ghost use Rattle.kernel_model.specs.World.{sending_time};
 ghost use Rattle.board_drivers.specs.Residents.{HasLost};
 ghost use Rattle.board_drivers.specs.Tells.{Acts, tells_somebody};
 ghost use Rattle.tk_base.specs.declared.limits.TheConstants.{STEP_LIMIT};
-ghost use Rattle.board_drivers.specs.Driven.{AreDriven, AreFresh, Commands, Drives, IsTaken, MayAsk, devices_of};
+ghost use Rattle.board_drivers.specs.Driven.{AreDriven, AreFresh, Commands, Drives, IsTaken};
+ghost use Rattle.board_drivers.specs.Driven.{MayAsk, devices_of};
 
 use crate::moment::Moment;
 use alarm_capsule::AlarmCapsule;
@@ -29,7 +31,8 @@ use syscall_abi::Reply;
 use tk_base::{CallRule, Dev, NotReady, PRINT_LIMIT, ProcessId};
 use tk_outside::NoMemory;
 
-/// The drivers that have processes wait, each with who waits for it, and the devices that they serve.
+/// The drivers that have processes wait, each with who waits for it, and the devices that they
+/// serve.
 #[derive(Drop)]
 pub struct Drivers {
     pub console: ConsoleCapsule,
@@ -52,8 +55,8 @@ pub struct Order {
 }
 
 impl Drivers {
-    /// The drivers and devices under a script, before the first step: nobody waits. The one error is want of
-    /// memory.
+    /// The drivers and devices under a script, before the first step: nobody waits. The one error
+    /// is want of memory.
     pub fn new(alloc: Global, script: Script) -> Result<Drivers, NoMemory>
         ensures { IfOk result (AreFresh script) }
     {
@@ -71,7 +74,8 @@ impl Drivers {
         })
     }
 
-    /// The process of an id ended, or starts again: it waits in no list any more. Its alarm went with its grant.
+    /// The process of an id ended, or starts again: it waits in no list any more. Its alarm went
+    /// with its grant.
     pub fn gone(&mut self, id: &ProcessId)
         ensures { (life : ℕ)
             → Drives (record { slot = id.now.slot; life = life }) leaving_all self.old self.new }
@@ -101,8 +105,9 @@ impl Drivers {
         }
     }
 
-    /// Has a device act that tells a process something at a moment: which process, what it is told, and what was
-    /// printed for it. [`NotReady`] comes, and nothing changes, where the device may not act.
+    /// Has a device act that tells a process something at a moment: which process, what it is told,
+    /// and what was printed for it. [`NotReady`] comes, and nothing changes, where the device may
+    /// not act.
     // Inlined, what is told is not copied: the board takes of it whom it was told.
     #[inline(always)]
     pub fn act(
@@ -138,9 +143,9 @@ impl Drivers {
         }
     }
 
-    /// Has the driver of a command of the process of an id serve it, when the alarm's clock shows a tick: the reply,
-    /// and the rule that refuses it, if one does. It asks that the driver takes commands, and that the process is
-    /// there, and waits only where it has a request.
+    /// Has the driver of a command of the process of an id serve it, when the alarm's clock shows a
+    /// tick: the reply, and the rule that refuses it, if one does. It asks that the driver takes
+    /// commands, and that the process is there, and waits only where it has a request.
     pub fn command(
         &mut self,
         home: &mut Home,

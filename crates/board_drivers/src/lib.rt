@@ -1,5 +1,5 @@
-//! The drivers of a board with their devices, and the moment of a step: what a command asks of them, what a device does
-//! for a process, and up to when none is ready.
+//! The drivers of a board with their devices, and the moment of a step: what a command asks of
+//! them, what a device does for a process, and up to when none is ready.
 #![tactic(auto)]
 
 mod drivers;

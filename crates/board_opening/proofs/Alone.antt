@@ -24,7 +24,8 @@ use Rattle.kernel_model.specs.Replay.{replay}
 use Rattle.kernel_model.specs.World.{World, after}
 use Rattle.board_opening.specs.Alone.{IsFirstAlone, IsReplayed, OpeningsAreAlone, RunsAreAlone, SameViewSameRecord}
 use Rattle.board_opening.specs.Alone.{extents_of, first_alone, first_by}
-use Rattle.board_opening.specs.Opening.{first_record, opening_record, opened_by, opening, record_placed, record_with_place}
+use Rattle.board_opening.specs.Opening.{first_record, opening_record, opened_by, opening, record_placed}
+use Rattle.board_opening.specs.Opening.{record_with_place}
 use Rattle.board_opening.proofs.Openings.{with_first}
 
 module _ (flash : List ℕ) where

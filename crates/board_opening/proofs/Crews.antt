@@ -252,7 +252,8 @@ module _ (flash : List ℕ) (offset : ℕ) (e : LayoutView) (a : KnownApplicatio
             omega (arith, a.protected, access.not_empty, below);
         fits = omega (arith, a.least, end);
       } in
-      let application : IsApplication (FLASH_START + offset) (bounds_of e) (header_reading (object_bytes flash offset)) =
+      let application : IsApplication (FLASH_START + offset) (bounds_of e)
+      (header_reading (object_bytes flash offset)) =
       subst (IsApplication (FLASH_START + offset) (bounds_of e)) (sym a.read)
       (subst (HasStart (FLASH_START + offset) (bounds_of e) a.h) (sym a.main) start) in
       record {
@@ -264,8 +265,10 @@ module _ (flash : List ℕ) (offset : ℕ) (e : LayoutView) (a : KnownApplicatio
               accessible_from = omega (arith, at, access.from_object);
               accessible_to = omega (arith, at, size, access.within_object);
             };
-            application = subst (λ (n : ℕ). IsApplication n (bounds_of e) (header_reading (object_in flash p.object))) (sym at)
-                (subst (λ (o : List ℕ). IsApplication (FLASH_START + offset) (bounds_of e) (header_reading o)) (sym object)
+            application = subst (λ (n : ℕ). IsApplication n (bounds_of e) (header_reading (object_in flash p.object)))
+                (sym at)
+                (subst (λ (o : List ℕ). IsApplication (FLASH_START + offset) (bounds_of e) (header_reading o))
+                (sym object)
                 application);
           };
           object_is = refl;
@@ -553,7 +556,8 @@ module _ (script : Script) (flash : List ℕ) where
       → map (fresh_record script.storage flash) (zip processes (map own_opened footprints))
       ≡ filter_map (record_placed script.storage flash) (placed_applications script.ram flash)
       → unplaced.items ≡ filter_map unplaced_at (placed_applications script.ram flash)
-      → visible ≡ visible_settings script.leds script.start script.storage script.policy script.strict → AreFresh script d
+      → visible ≡ visible_settings script.leds script.start script.storage script.policy script.strict
+      → AreFresh script d
       → world_with (map (record_of home.flash) (zip (zip processes home.owns) d.stores.slots)) unplaced.items visible
       (devices_of d) ≡ opening script flash
   unfolding opening

@@ -91,7 +91,8 @@ module _ (script : Script) (d : Drivers) where
 
   -- they are those of a board
   pub driven_first : (fs : List Footprint) → script.uart ≤ BYTE_TICKS_LIMIT → AreFresh script d
-      → AreDriven (visible_settings script.leds script.start script.storage script.policy script.strict) 0 (map opened fs) d
+      → AreDriven (visible_settings script.leds script.start script.storage script.policy script.strict) 0
+      (map opened fs) d
   driven_first fs slow fresh = record {
     queues = λ queue. subst (λ (ids : List ProcessId). IsQueueOf queue ids (map opened fs)) (sym (fresh.queues queue))
         (empty_line queue fs);

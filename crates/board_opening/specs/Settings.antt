@@ -7,13 +7,8 @@ use Rattle.kernel_model.specs.World.{Pace}
 -- so many LEDs, an alarm's clock that shows a number at time 0, so many bytes of storage for each slot, a policy for
 -- processes that fault, and whether an application without a Permissions TLV is refused every call to a driver
 abbrev pub visible_settings : ℕ → ℕ → ℕ → Policy → Bool → Settings
-visible_settings leds start storage policy strict = record {
-  leds = leds;
-  start = start;
-  storage = storage;
-  policy = policy;
-  strict = strict;
-}
+visible_settings leds start storage policy strict =
+    record { leds = leds; start = start; storage = storage; policy = policy; strict = strict }
 
 -- slices of so many turns
 abbrev pub pace : ℕ → Pace

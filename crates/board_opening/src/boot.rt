@@ -1,11 +1,14 @@
 //! The applications of a flash image in their slots, before the first step.
-ghost use Rattle.std.specs.Prelude.{◌≡◌, ◌≤◌, ℕ, All, AllPairs, count_by, length, filter_map, Ok, Some, IfOk};
+ghost use Rattle.std.specs.Prelude.{◌≡◌, ◌≤◌, ℕ, All, AllPairs, count_by, length, filter_map, Ok};
+ghost use Rattle.std.specs.Prelude.{Some, IfOk};
 ghost use Rattle.tk_base.specs.declared.limits.TheConstants.{OBJECT_LIMIT, SLOT_COUNT};
 ghost use Rattle.process_model.specs.Own.{opened};
-ghost use Rattle.app_placement.specs.Placement.{LiesBefore, LiesInFlash, LiesInRam, IsLaidOut, is_placed};
+ghost use Rattle.app_placement.specs.Placement.{LiesBefore, LiesInFlash, LiesInRam, IsLaidOut};
+ghost use Rattle.app_placement.specs.Placement.{is_placed};
 ghost use Rattle.board_opening.specs.Opening.{placed_applications, record_with_place, unplaced_at};
 ghost use Rattle.board_drivers.specs.Residents.{IsResident};
-ghost use Rattle.board_opening.specs.Boot.{at_offset, footprint_of, fresh_record, IsCrew, IsFirst, StartsInRam};
+ghost use Rattle.board_opening.specs.Boot.{at_offset, footprint_of, fresh_record, IsCrew, IsFirst};
+ghost use Rattle.board_opening.specs.Boot.{StartsInRam};
 
 use app_placement::{Placed, place};
 use arrayvec::ArrayVec;
@@ -18,7 +21,8 @@ use tbf_headers::{object_at, read_header, word_at};
 use tk_base::{FLASH_LIMIT, FLASH_START, OBJECT_LIMIT, PlaceFault, RAM_LIMIT, Slot};
 use tk_outside::NoMemory;
 
-/// The applications of a flash image, each with its place in so many bytes of RAM or why it has none.
+/// The applications of a flash image, each with its place in so many bytes of RAM or why it has
+/// none.
 pub fn placed_in(flash: &[u8], ram: u32) -> ArrayVec<Placed, OBJECT_LIMIT>
     requires flash { length flash.now ≤ FLASH_LIMIT }
     requires ram { ram ≤ RAM_LIMIT }
@@ -35,7 +39,8 @@ pub fn placed_in(flash: &[u8], ram: u32) -> ArrayVec<Placed, OBJECT_LIMIT>
     place(&found, flash, ram)
 }
 
-/// The processes of the applications that have a place, slot 0 first, and what each takes up of flash and RAM.
+/// The processes of the applications that have a place, slot 0 first, and what each takes up of
+/// flash and RAM.
 #[derive(Drop)]
 pub struct LoadedProcesses {
     pub processes: Vec<Process>,

@@ -2,8 +2,12 @@
 ghost use Rattle.kernel_model.specs.Lives.{HasOrder, HasPendingWithinLimit, LivesAsItRuns};
 ghost use Rattle.kernel_model.specs.Prints.{PrintsItsBuffer, PrintsWhatItCouldLoad};
 ghost use Rattle.kernel_model.specs.Wholes.{HasWholeOwn};
-ghost use Rattle.board_opening.specs.Certified.{BlocksFromBootAreApart, ChangesFromBootHaveCauses, CountsFromBootAddUp, EachFromBoot, EachLabelFromBoot};
-ghost use Rattle.board_opening.specs.Certified.{IsDoneFromBoot, ListsFromBootAreOfRequests, RestartsFromBoot, RunsFromBootAreAccountedFor, WordsFromBootAreTheScripts};
+ghost use Rattle.board_opening.specs.Certified.{BlocksFromBootAreApart, ChangesFromBootHaveCauses};
+ghost use Rattle.board_opening.specs.Certified.{CountsFromBootAddUp, EachFromBoot};
+ghost use Rattle.board_opening.specs.Certified.{EachLabelFromBoot};
+ghost use Rattle.board_opening.specs.Certified.{IsDoneFromBoot, ListsFromBootAreOfRequests};
+ghost use Rattle.board_opening.specs.Certified.{RestartsFromBoot, RunsFromBootAreAccountedFor};
+ghost use Rattle.board_opening.specs.Certified.{WordsFromBootAreTheScripts};
 
 use crate::laws::a_process_depends_on_its_own_view_alone;
 use kernel_laws::{a_run_is_one_run, words_are_drawn_in_order};
@@ -14,9 +18,10 @@ use kernel_lives::{
 };
 use process_model::only_handing_changes_pairs;
 
-/// Whatever choices are made after a boot: a process lives exactly while it is Running or Yielded, and its life is the
-/// number of its restarts. Its memory is in order: the block's start, the mark, the break, the kernel break, which is the
-/// block's end less what the drivers cost that it has entered. No two blocks overlap. At most [`tk_base::PENDING_LIMIT`] upcalls wait.
+/// Whatever choices are made after a boot: a process lives exactly while it is Running or Yielded,
+/// and its life is the number of its restarts. Its memory is in order: the block's start, the mark,
+/// the break, the kernel break, which is the block's end less what the drivers cost that it has
+/// entered. No two blocks overlap. At most [`tk_base::PENDING_LIMIT`] upcalls wait.
 pub fn processes_from_boot_keep_their_places()
     ensures lives { EachFromBoot LivesAsItRuns }
     ensures order { EachFromBoot HasOrder }
@@ -27,49 +32,53 @@ pub fn processes_from_boot_keep_their_places()
     processes_live_as_they_run();
 }
 
-/// Whatever choices are made after a boot, a step that starts a process again leaves it as it was at the boot, but for
-/// its turns, its restarts and its life, its dropped upcalls, its last denial, its last refusal and its storage.
+/// Whatever choices are made after a boot, a step that starts a process again leaves it as it was
+/// at the boot, but for its turns, its restarts and its life, its dropped upcalls, its last denial,
+/// its last refusal and its storage.
 pub fn restarts_from_boot_are_as_opened()
     ensures { RestartsFromBoot }
 {
     restarts_are_as_opened();
 }
 
-/// After choices from a boot that are each ready in its turn, time is the turns made and the ticks passed, the steps are
-/// the choices made, and the turns of all processes together are the turns made.
+/// After choices from a boot that are each ready in its turn, time is the turns made and the ticks
+/// passed, the steps are the choices made, and the turns of all processes together are the turns
+/// made.
 pub fn counts_from_boot_add_up()
     ensures { CountsFromBootAddUp }
 {
     time_steps_and_turns_add_up();
 }
 
-/// After any choices from a boot the round robin is done exactly where no process and no device is ready, no bytes are
-/// still to come in, no process that lives has an alarm armed, and no write waits.
+/// After any choices from a boot the round robin is done exactly where no process and no device is
+/// ready, no bytes are still to come in, no process that lives has an alarm armed, and no write
+/// waits.
 pub fn runs_from_boot_are_done_where_nothing_is_left()
     ensures { IsDoneFromBoot }
 {
     a_run_is_one_run();
 }
 
-/// Whatever choices are made after a boot, a slot stands in a waiting list once where its process lives and keeps that
-/// request, and else not at all.
+/// Whatever choices are made after a boot, a slot stands in a waiting list once where its process
+/// lives and keeps that request, and else not at all.
 pub fn lists_from_boot_are_of_requests()
     ensures { ListsFromBootAreOfRequests }
 {
     lists_are_of_requests();
 }
 
-/// Whatever choices are made after a boot, the random words that processes were told, in that order, and then those that
-/// are left are the script's.
+/// Whatever choices are made after a boot, the random words that processes were told, in that
+/// order, and then those that are left are the script's.
 pub fn words_from_boot_are_the_scripts()
     ensures { WordsFromBootAreTheScripts }
 {
     words_are_drawn_in_order();
 }
 
-/// Whatever choices are made after a boot: a process's own bytes end at its kernel break, where its grants begin, and each
-/// buffer that it has allowed lies in accessible flash, or in its RAM below the mark. No step changes a byte of a process
-/// without a cause among the step's labels (Levy et al., SOSP 2017; TRD 104, "Read-Only Allow", "Read-Write Allow").
+/// Whatever choices are made after a boot: a process's own bytes end at its kernel break, where its
+/// grants begin, and each buffer that it has allowed lies in accessible flash, or in its RAM below
+/// the mark. No step changes a byte of a process without a cause among the step's labels (Levy et
+/// al., SOSP 2017; TRD 104, "Read-Only Allow", "Read-Write Allow").
 pub fn changes_from_boot_have_causes()
     ensures whole { EachFromBoot HasWholeOwn }
     ensures causes { ChangesFromBootHaveCauses }
@@ -78,11 +87,13 @@ pub fn changes_from_boot_have_causes()
     owns_stay_whole();
 }
 
-/// In each run by round robin from a boot, each byte of a process that changes has its cause. One below its kernel break is
-/// changed by an own permitted act, or lies in a buffer that the process then allowed to the driver which answers it; one
-/// of its grants, above, is changed in its own turn or by an answer to it; one of its storage by a served request of its
-/// own. Each access was permitted, each denial was due and is shown with its address and rule, and a refused call changed
-/// little. The record of each process is what becomes of it alone, by its own turns and answers (Levy et al., SOSP 2017).
+/// In each run by round robin from a boot, each byte of a process that changes has its cause. One
+/// below its kernel break is changed by an own permitted act, or lies in a buffer that the process
+/// then allowed to the driver which answers it; one of its grants, above, is changed in its own
+/// turn or by an answer to it; one of its storage by a served request of its own. Each access was
+/// permitted, each denial was due and is shown with its address and rule, and a refused call
+/// changed little. The record of each process is what becomes of it alone, by its own turns and
+/// answers (Levy et al., SOSP 2017).
 pub fn runs_from_boot_are_accounted_for()
     ensures { RunsFromBootAreAccountedFor }
 {
@@ -91,8 +102,9 @@ pub fn runs_from_boot_are_accounted_for()
     a_process_depends_on_its_own_view_alone();
 }
 
-/// Whatever choices are made after a boot, what a step prints is of the read-only buffer 1 that a process holds of the
-/// console before the step, one that lives and has a write waiting, and the process could load it there.
+/// Whatever choices are made after a boot, what a step prints is of the read-only buffer 1 that a
+/// process holds of the console before the step, one that lives and has a write waiting, and the
+/// process could load it there.
 pub fn prints_from_boot_are_of_buffers()
     ensures prints { EachLabelFromBoot PrintsItsBuffer }
     ensures loads { EachLabelFromBoot PrintsWhatItCouldLoad }

@@ -1,15 +1,17 @@
 //! Laws of all runs from a boot. The functions do nothing.
 ghost use Rattle.board_opening.specs.Alone.{OpeningsAreAlone, RunsAreAlone, SameViewSameRecord};
-ghost use Rattle.board_opening.specs.Histories.{DeliveriesFromBootAreOfTheLast, OpensWithNothingHanded, RunsFromBootAreFair, SwapsFromBootGiveBackTheLast};
+ghost use Rattle.board_opening.specs.Histories.{DeliveriesFromBootAreOfTheLast};
+ghost use Rattle.board_opening.specs.Histories.{OpensWithNothingHanded, RunsFromBootAreFair};
+ghost use Rattle.board_opening.specs.Histories.{SwapsFromBootGiveBackTheLast};
 
 use kernel_histories::{deliveries_are_of_the_last, swaps_give_back_the_last};
 use kernel_laws::ready_processes_have_turns;
 use kernel_model::a_record_is_the_replay_of_its_events;
 
-/// Whatever choices are made after a boot, each subscribe and each allow of a process that succeeds gives back
-/// the pair of the last one of its kind, driver and number that succeeded in the process's present life, and
-/// (0, 0) where there was none (TRD 104, "Subscribe", "Read-Only Allow", "Read-Write Allow"). At the boot no
-/// process has handed anything.
+/// Whatever choices are made after a boot, each subscribe and each allow of a process that succeeds
+/// gives back the pair of the last one of its kind, driver and number that succeeded in the
+/// process's present life, and (0, 0) where there was none (TRD 104, "Subscribe", "Read-Only
+/// Allow", "Read-Write Allow"). At the boot no process has handed anything.
 pub fn swaps_from_boot_give_back_the_last()
     ensures opens { OpensWithNothingHanded }
     ensures swaps { SwapsFromBootGiveBackTheLast }
@@ -17,9 +19,9 @@ pub fn swaps_from_boot_give_back_the_last()
     swaps_give_back_the_last();
 }
 
-/// Whatever choices are made after a boot, each delivery to a process is of the upcall that it has subscribed at that
-/// moment, and was scheduled since it subscribed it, in the process's present life (TRD 104, "Subscribe", "Yield",
-/// "Exit").
+/// Whatever choices are made after a boot, each delivery to a process is of the upcall that it has
+/// subscribed at that moment, and was scheduled since it subscribed it, in the process's present
+/// life (TRD 104, "Subscribe", "Yield", "Exit").
 pub fn deliveries_from_boot_are_of_the_last()
     ensures { DeliveriesFromBootAreOfTheLast }
 {
@@ -27,20 +29,21 @@ pub fn deliveries_from_boot_are_of_the_last()
     deliveries_are_of_the_last();
 }
 
-/// No process that is ready waits for good after a boot: in the run by round robin, every window of as many
-/// turns of processes as all slots have in a slice each, in which a process is ready throughout, has a turn of that
-/// process.
+/// No process that is ready waits for good after a boot: in the run by round robin, every window of
+/// as many turns of processes as all slots have in a slice each, in which a process is ready
+/// throughout, has a turn of that process.
 pub fn runs_from_boot_are_fair()
     ensures { RunsFromBootAreFair }
 {
     ready_processes_have_turns();
 }
 
-/// What becomes of a process depends on nothing but its object, where that and its block lie, the settings that it can
-/// see, and its own turns and answers. On any two boards, whatever their other objects and scripts are, and after any two
-/// lists of choices, two processes that agree in these have equal records: registers, state and counts, the whole
-/// block with its grants, layout, pending upcalls, life and storage, byte by byte. The slots may differ. So it is in each
-/// world of a run by round robin (Levy et al., SOSP 2017).
+/// What becomes of a process depends on nothing but its object, where that and its block lie, the
+/// settings that it can see, and its own turns and answers. On any two boards, whatever their other
+/// objects and scripts are, and after any two lists of choices, two processes that agree in these
+/// have equal records: registers, state and counts, the whole block with its grants, layout,
+/// pending upcalls, life and storage, byte by byte. The slots may differ. So it is in each world of
+/// a run by round robin (Levy et al., SOSP 2017).
 pub fn a_process_depends_on_its_own_view_alone()
     ensures opens { OpeningsAreAlone }
     ensures same { SameViewSameRecord }

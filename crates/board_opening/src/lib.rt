@@ -1,5 +1,5 @@
-//! The board before its first step: the first processes of a flash image, the world that they open with, and laws of
-//! each run from there.
+//! The board before its first step: the first processes of a flash image, the world that they open
+//! with, and laws of each run from there.
 #![tactic(auto)]
 
 mod boot;

@@ -10,8 +10,8 @@ use pmp_regions::Pmp;
 use process_layout::Layout;
 use tk_base::Slot;
 
-/// The board's protection registers (RISC-V privileged manual, "Physical Memory Protection"), and the slot
-/// for whose process they are set, if they are for any.
+/// The board's protection registers (RISC-V privileged manual, "Physical Memory Protection"), and
+/// the slot for whose process they are set, if they are for any.
 #[derive(Drop)]
 pub struct ActivePmp {
     pub pmp: Pmp,
@@ -29,7 +29,8 @@ impl ActivePmp {
         }
     }
 
-    /// Sets the registers for the process in a slot, where they are set for another one or for none.
+    /// Sets the registers for the process in a slot, where they are set for another one or for
+    /// none.
     pub fn switch_to(&mut self, home: &Home, slot: Slot)
         requires slot { slot < length home.now.owns }
         requires guards { GuardsOnly self.old home.now }
@@ -42,8 +43,8 @@ impl ActivePmp {
         }
     }
 
-    /// Sets the registers again for the process in a slot, where its layout is no longer the one that they
-    /// were set for.
+    /// Sets the registers again for the process in a slot, where its layout is no longer the one
+    /// that they were set for.
     pub fn refresh(&mut self, home: &Home, slot: Slot, before: &Layout)
         requires slot { slot < length home.now.owns }
         requires set { Protect self.old.pmp (bounds_of before.now) }

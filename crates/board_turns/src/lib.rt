@@ -1,5 +1,5 @@
-//! Turns of the process in a slot: one, with its call or its fault, and many that only execute instructions; and the
-//! protection registers under which they are made.
+//! Turns of the process in a slot: one, with its call or its fault, and many that only execute
+//! instructions; and the protection registers under which they are made.
 #![tactic(auto)]
 
 mod guard;

@@ -9,8 +9,8 @@ use process_record::Process;
 use tk_base::Slot;
 
 impl Machine {
-    /// As many turns of the process in a slot as only execute an instruction, at most `most`. The registers are set,
-    /// and memory is lent, once for all of them.
+    /// As many turns of the process in a slot as only execute an instruction, at most `most`. The
+    /// registers are set, and memory is lent, once for all of them.
     pub fn take_turns(&mut self, process: &mut Process, slot: Slot, most: u32) -> u32
         requires { MayTurnOn most slot self.old process.old }
         ensures most { result ≤ most }

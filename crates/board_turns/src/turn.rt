@@ -13,7 +13,11 @@ ghost use Rattle.kernel_model.specs.Calls.{restart};
 ghost use Rattle.kernel_model.specs.Turn.{arguments, made, unknown_call};
 ghost use Rattle.board_turns.specs.Guards.{IsSetFor};
 ghost use Rattle.board_drivers.specs.Residents.{id_of, resident, resident_turns};
-ghost use Rattle.board_turns.specs.Turning.{InTurn, InTurnOn, FinishesOn, IsMade, LeavesOn, LeavesSlot, MayServeOn, MayTurn, MayTurnOn, ServesCallOn, Settles, TurnsOn, next_instruction, nothing_shown, told_in_emit, with_shown, MayTurnAt, TurnsAt};
+ghost use Rattle.board_turns.specs.Turning.{InTurn, InTurnOn, FinishesOn, IsMade, LeavesOn};
+ghost use Rattle.board_turns.specs.Turning.{LeavesSlot, MayServeOn, MayTurn, MayTurnOn};
+ghost use Rattle.board_turns.specs.Turning.{ServesCallOn, Settles, TurnsOn, next_instruction};
+ghost use Rattle.board_turns.specs.Turning.{nothing_shown, told_in_emit, with_shown, MayTurnAt};
+ghost use Rattle.board_turns.specs.Turning.{TurnsAt};
 
 use crate::guard::ActivePmp;
 use crate::machine::Machine;
@@ -164,7 +168,8 @@ fn make_instruction(
 }
 
 impl Machine {
-    /// A denial: the process in a slot faults, and has ended or starts again, as the policy decides.
+    /// A denial: the process in a slot faults, and has ended or starts again, as the policy
+    /// decides.
     fn fault_at(&mut self, process: &mut Process, slot: Slot, denial: Denial) -> Shown
         requires turn { InTurnOn slot self.old process.old }
         ensures settles { Settles self.old.moment.settings.policy self.old.home.flash process.old
@@ -194,7 +199,8 @@ impl Machine {
         }
     }
 
-    /// The driver of a command of the process in a slot, which the kernel left to it, replies to it or refuses it.
+    /// The driver of a command of the process in a slot, which the kernel left to it, replies to it
+    /// or refuses it.
     #[inline(never)]
     fn command_driver(&mut self, process: &mut Process, slot: Slot, call: &Call) -> Outcome
         requires turn { InTurn self.old.moment slot self.old.home process.old }
@@ -275,8 +281,9 @@ impl Machine {
         }
     }
 
-    /// The turn of a process that runs: an instruction of it, and what a system call or a denial asks for. What it
-    /// shows is told in `emit`, where nothing was told before: most turns show nothing, and write nothing there.
+    /// The turn of a process that runs: an instruction of it, and what a system call or a denial
+    /// asks for. What it shows is told in `emit`, where nothing was told before: most turns show
+    /// nothing, and write nothing there.
     fn run_on(&mut self, process: &mut Process, slot: Slot, emit: &mut Emit)
         requires turn { MayTurnOn 1 slot self.old process.old }
         requires runs { process.old.state ≡ Running }
@@ -301,8 +308,8 @@ impl Machine {
         }
     }
 
-    /// The turn of a process that waits: the first of its pending upcalls is delivered, if there is one. The
-    /// registers are set for it, since it is the next to run. It shows nothing.
+    /// The turn of a process that waits: the first of its pending upcalls is delivered, if there is
+    /// one. The registers are set for it, since it is the next to run. It shows nothing.
     fn wake(&mut self, process: &mut Process, slot: Slot)
         requires turn { MayTurnOn 1 slot self.old process.old }
         requires waits { process.old.state ≡ Yielded }
@@ -316,8 +323,8 @@ impl Machine {
         }
     }
 
-    /// One turn of the process in a slot, which tells in `emit` what it shows. One that has ended has none, and
-    /// nothing changes.
+    /// One turn of the process in a slot, which tells in `emit` what it shows. One that has ended
+    /// has none, and nothing changes.
     pub fn take_turn(&mut self, process: &mut Process, slot: Slot, emit: &mut Emit)
         requires turn { MayTurnOn 1 slot self.old process.old }
         requires may { MayServeOn slot self.old }

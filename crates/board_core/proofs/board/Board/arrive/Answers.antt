@@ -16,7 +16,8 @@ returns-then-not-is_time c =
 
 pub arrive-requires : goal.arrive-requires
 arrive-requires c =
-    some_left c.self.inside.machine.moment.time c.self.inside.machine.drivers.arrivals (sym c.is_time.ensures ∙ c.if-not-is_time.false)
+    some_left c.self.inside.machine.moment.time c.self.inside.machine.drivers.arrivals
+    (sym c.is_time.ensures ∙ c.if-not-is_time.false)
 
 pub look_ahead-self-inside-requires-clause-free : goal.look_ahead-self-inside-requires-clause-free
 look_ahead-self-inside-requires-clause-free c =
@@ -33,7 +34,8 @@ invariant_of-self c =
 pub returns : goal.returns
 returns c =
     let b = c.self.inside in
-    let may : is_time b.machine.moment.time b.machine.drivers.arrivals ≡ true = sym c.is_time.ensures ∙ c.if-not-is_time.false in
+    let may : is_time b.machine.moment.time b.machine.drivers.arrivals ≡ true = sym c.is_time.ensures
+    ∙ c.if-not-is_time.false in
     made_so (world_of b) c.args.self.now _ (Device Event) c.args.emit.now c.hide.new.emit c.self.view_is
     (may_act (world_of b) Event (below_shown b c.args.self.now c.self.view_is c.requires) may)
     (world_arrived b c.arrive.new.self c.arrive.new.uart may c.arrive.ensures.left c.arrive.ensures.line

@@ -23,6 +23,7 @@ use Rattle.board_opening.proofs.Alone.{openings_are_alone}
 use Rattle.board_opening.proofs.Crews.{all_apart, all_move_in, all_ordered, all_settled, all_stand_apart, few_processes}
 use Rattle.board_opening.proofs.Crews.{opening_shown}
 use Rattle.board_opening.proofs.Fresh.{driven_first}
+use Rattle.board_core.proofs.Boards.{first_tell}
 use Rattle.board_core.proofs.board.Board.boot.Goals as goal
 use Rattle.board_core.proofs.board.Board.boot.Goals.{After-deref-4}
 
@@ -72,6 +73,17 @@ new-requires-clause-apart c =
     (subst (AllPairs EndsBefore) (sym (layouts a))
     (all_apart c.placed_in-placed.result.items c.placed_in-placed.ensures.apart))
 
+pub look_ahead-calm-requires-clause-alarms : goal.look_ahead-calm-requires-clause-alarms
+look_ahead-calm-requires-clause-alarms c =
+    let es = c.in_ok-processes.field-0.footprints.items in
+    let home_is : c.in-Ok.home ≡ record { flash = c.deref-2.result.now; owns = map opened es }
+    = c.in-Ok.ensures
+    ∙ ap (λ (xs : List Footprint). record { flash = c.args.flash.items; owns = map opened xs })
+    c.deref-4.ensures.value
+    ∙ ap (λ (f : List ℕ). record { flash = f; owns = map opened es }) (sym c.deref-2.ensures.value) in
+    first_tell c.settings_of.result.start c.new-alarms.result c.in-Ok.home es (ap (λ (h : Homes). h.owns) home_is)
+    c.new-alarms.ensures
+
 pub invariant_of-result : goal.invariant_of-result
 invariant_of-result c =
     let crew = c.in_ok-processes.ensures in
@@ -100,6 +112,8 @@ invariant_of-result c =
       steps = omega arith;
       time = omega arith;
       calm = c.look_ahead-calm.ensures.calm;
+      alarms = first_tell c.settings_of.result.start c.new-alarms.result c.in-Ok.home es
+          (ap (λ (h : Homes). h.owns) home_is) c.new-alarms.ensures;
       slice = c.script.invariant.slice_least;
       used = omega arith;
     }

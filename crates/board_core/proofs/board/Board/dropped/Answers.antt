@@ -9,10 +9,12 @@ pub returns-then-index-len : goal.returns-then-index-len
 returns-then-index-len c =
     read_missing c.self.inside c.self.invariant c.args.slot (λ (r : Record). r.own.inbox.dropped)
     (omega (arith, c.len.ensures, c.index.ensures.value, c.if-index-len.true))
-    ∙ ap (λ (w : World). option_map (λ (r : Record). r.own.inbox.dropped) (slice_get w.records c.args.slot)) c.self.view_is
+    ∙ ap (λ (w : World). option_map (λ (r : Record). r.own.inbox.dropped) (slice_get w.records c.args.slot))
+    c.self.view_is
 
 pub returns : goal.returns
 returns c =
     read_there c.self.inside c.self.invariant c.args.slot (λ (r : Record). r.own.inbox.dropped) c.dropped.result
     (omega (arith, c.len.ensures, c.index.ensures.value, c.if-index-len.false)) (λ p is. c.dropped.ensures)
-    ∙ ap (λ (w : World). option_map (λ (r : Record). r.own.inbox.dropped) (slice_get w.records c.args.slot)) c.self.view_is
+    ∙ ap (λ (w : World). option_map (λ (r : Record). r.own.inbox.dropped) (slice_get w.records c.args.slot))
+    c.self.view_is

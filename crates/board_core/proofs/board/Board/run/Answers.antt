@@ -5,7 +5,9 @@ use Rattle.board_devices.specs.SerialLine.{SerialLine}
 use Rattle.grant_enter.specs.Homes.{Homes}
 use Rattle.kernel_model.specs.World.{World, carried_out, is_ready}
 use Rattle.process_record.specs.declared.emit.Emit.{Emit}
-use Rattle.board_drivers.specs.Calm.{IsCalm}
+use Rattle.board_devices.specs.Clock.{clock_at}
+use Rattle.alarm_capsule.specs.Times.{OthersTell}
+use Rattle.board_drivers.specs.Calm.{AlarmsTell, IsCalm}
 use Rattle.board_drivers.specs.Residents.{id_of}
 use Rattle.board_turns.specs.Turning.{told_in_emit, with_shown}
 use Rattle.board_drivers.specs.declared.moment.Moment.{Moment}
@@ -16,7 +18,8 @@ use Rattle.board_core.proofs.Changes.{turn_later, turn_shown, world_after}
 use Rattle.board_drivers.proofs.Records.{beside}
 use Rattle.board_core.proofs.Devices.{made_so}
 use Rattle.board_core.proofs.Boards.{may_turn_on}
-use Rattle.board_core.proofs.TurnLines.{line_stays, may_serve, turn_is_idle, turned_board}
+use Rattle.board_core.proofs.TurnLines.{alarms_later, line_stays, may_serve, others_later}
+use Rattle.board_core.proofs.TurnLines.{turn_is_idle, turned_board}
 use Rattle.board_turns.proofs.Turns.{keeps_quiet}
 use Rattle.board_core.proofs.board.Board.run.Goals as goal
 use Rattle.board_core.proofs.board.Board.run.Goals.{After-clear}
@@ -60,7 +63,8 @@ calm_after-self-inside-requires-clause-calm c quiet =
     let t = c.turn_at.ensures.turn in
     let start = b.machine.moment.settings.start in
     let keeps = keeps_quiet b.machine.moment c.args.slot b.machine.home.flash t.at.before t.at.after
-    (told_in_emit c.turn_at.new.emit) b.machine.drivers x.drivers c.grants_change_at_calls.ensures.grants quiet t.turns in
+    (told_in_emit c.turn_at.new.emit) b.machine.drivers x.drivers c.grants_change_at_calls.ensures.grants quiet
+    t.turns in
     subst (λ (m : Moment). IsCalm m.settings.start (m.time + 1) b.calm x.home.owns x.drivers) (sym t.moment)
     (subst (λ (h : Homes). IsCalm start (b.machine.moment.time + 1) b.calm h.owns x.drivers) (sym t.at.own_is)
     (kept_calm start (b.machine.moment.time + 1) b.calm c.args.slot b.machine.home.owns x.drivers t.at.before.1
@@ -72,24 +76,50 @@ calm_after-self-inside-requires-clause-calm c quiet =
     (later_calm start b.machine.moment.time (b.machine.moment.time + 1) b.calm b.machine.home.owns b.machine.drivers
     (omega arith) c.self.invariant.calm))))
 
+pub look_again-requires-clause-others : goal.look_again-requires-clause-others
+look_again-requires-clause-others c =
+    let b = c.self.inside in
+    let x = c.turn_at.new.self in
+    let t = c.turn_at.ensures.turn in
+    subst (λ (m : Moment). OthersTell c.args.slot (clock_at m.settings.start (m.time + 1)) (m.time + 1) b.alarms
+    x.home.owns) (sym t.moment)
+    (others_later b c.args.slot x c.turn_at.new.processes.items (told_in_emit c.turn_at.new.emit) c.self.invariant t
+    c.time_brings_an_alarm_nearer.ensures)
+
+pub look_again-requires-clause-quiet : goal.look_again-requires-clause-quiet
+look_again-requires-clause-quiet c quiet =
+    let b = c.self.inside in
+    let x = c.turn_at.new.self in
+    let t = c.turn_at.ensures.turn in
+    let keeps = keeps_quiet b.machine.moment c.args.slot b.machine.home.flash t.at.before t.at.after
+    (told_in_emit c.turn_at.new.emit) b.machine.drivers x.drivers c.grants_change_at_calls.ensures.grants quiet
+    t.turns in
+    subst (λ (m : Moment). AlarmsTell (turn_later m) b.alarms x.home.owns) (sym t.moment)
+    (alarms_later b c.args.slot x c.turn_at.new.processes.items (told_in_emit c.turn_at.new.emit) c.self.invariant t
+    c.time_brings_an_alarm_nearer.ensures keeps.0 keeps.1)
+
 pub invariant_of-self : goal.invariant_of-self
 invariant_of-self c =
     let b = c.self.inside in
     let t = c.turn_at in
     let left = record b { machine = t.new.self; processes = t.new.processes } in
     let calm = c.calm_after-self-inside.result in
+    let times = c.look_again.new.alarms in
     subst (λ (m : Moment). IsBoard (record b {
       machine = record t.new.self { moment = turn_later m };
       processes = t.new.processes;
       calm = calm;
+      alarms = times;
       present = Some c.args.slot;
       used = c.used_after-self-inside.result;
     })) (sym t.ensures.turn.moment)
     (turned_board b left c.args.slot (told_in_emit t.new.emit) c.self.invariant t.ensures.turn calm
-    c.used_after-self-inside.result c.grants_change_at_calls.ensures.drops c.turns_keep_lines.ensures.lines
+    c.used_after-self-inside.result times c.grants_change_at_calls.ensures.drops c.turns_keep_lines.ensures.lines
     (can_run_is (goal.at.invariant_of-self c).After-clear)
     (subst (λ (m : Moment). IsCalm m.settings.start (m.time + 1) calm t.new.self.home.owns t.new.self.drivers)
     t.ensures.turn.moment c.calm_after-self-inside.ensures)
+    (subst (λ (m : Moment). AlarmsTell (turn_later m) times t.new.self.home.owns) t.ensures.turn.moment
+    c.look_again.ensures)
     (c.used_after-self-inside.ensures.within c.self.invariant.slice c.self.invariant.used))
 
 pub returns : goal.returns
@@ -107,6 +137,7 @@ returns c =
       machine = record x { moment = turn_later m };
       processes = processes;
       calm = c.calm_after-self-inside.result;
+      alarms = c.look_again.new.alarms;
       present = Some c.args.slot;
       used = c.used_after-self-inside.result;
     }) ≡ (carried_out (world_of b) (Run c.args.slot)).after) (sym t.moment)

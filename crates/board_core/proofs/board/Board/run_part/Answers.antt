@@ -4,7 +4,7 @@ use Rattle.tk_base.specs.declared.process.Choice.TheVariants.{Run}
 use Rattle.process_record.specs.declared.process.Process.{Process}
 use Rattle.kernel_model.specs.Run.{next}
 use Rattle.kernel_model.specs.Stretch.{GoesOn, IsStretch}
-use Rattle.board_drivers.specs.Calm.{IsCalm}
+use Rattle.board_drivers.specs.Calm.{AlarmsTell, IsCalm}
 use Rattle.board_drivers.specs.Driven.{AreDriven}
 use Rattle.board_drivers.specs.Residents.{HasLost, IsResident}
 use Rattle.board_drivers.specs.declared.drivers.Drivers.{Drivers}
@@ -14,7 +14,7 @@ use Rattle.board_core.specs.declared.board.Board.TheInside.{Inside}
 use Rattle.board_core.specs.Shows.{IsBoard, world_of}
 use Rattle.board_core.specs.Stretches.{slot_runs}
 use Rattle.board_core.proofs.Stretches.{chosen_in_calm, ends_shown, looked_ahead, nothing_comes, rests_there}
-use Rattle.board_core.proofs.Stretches.{runs_within, still, stretch_shown, used_within}
+use Rattle.board_core.proofs.Stretches.{runs_within, still, stretch_shown, turns_later, used_within}
 use Rattle.board_core.proofs.Boards.{may_turn_on}
 use Rattle.board_core.proofs.board.Board.run_part.Goals as goal
 use Rattle.board_core.proofs.board.Board.run_part.Goals.{After-is_over}
@@ -62,7 +62,10 @@ same_machine c = left_machine c.self.inside.machine c.turns_at-made.new.self c.t
 abbrev turned : After-is_over → Machine → Inside
 turned c x = record c.self.inside {
   machine = record x {
-    moment = record x.moment { time = x.moment.time + c.from-ticks.result; steps = x.moment.steps + c.from-ticks.result };
+    moment = record x.moment {
+      time = x.moment.time + c.from-ticks.result;
+      steps = x.moment.steps + c.from-ticks.result;
+    };
   };
   processes = c.turns_at-made.new.processes;
   calm = c.calm_ahead-self-inside.result;
@@ -98,6 +101,8 @@ invariant_of-self-2 c =
       time = omega (arith, board.time);
       calm = subst (λ (n : ℕ). IsCalm b.machine.moment.settings.start (b.machine.moment.time + n) b.calm x.home.owns
           b.machine.drivers) (sym ticks) holds.calm;
+      alarms = subst (λ (n : ℕ). AlarmsTell (turns_later n b.machine.moment) b.alarms x.home.owns) (sym ticks)
+          (holds.alarms c.time_brings_an_alarm_nearer.ensures);
       slice = board.slice;
       used = used_within b.used b.slice c.used_before-before.result k present.result.1 board.used
           (omega (arith, left.slice, c.turns_at-made.ensures.most)) (λ none. (present.ensures.none none).1)

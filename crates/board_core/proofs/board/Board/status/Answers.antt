@@ -11,7 +11,8 @@ pub returns-clause-status : goal.returns-clause-status
 returns-clause-status c =
     let b = c.self.inside in
     status_shown b c.add_ready.new.ready.items c.devices_ready.result.items c.next_time.result c.self.invariant
-    (c.add_ready.ensures ∙ ap (λ (ps : List Process). map resident_turns (zip ps b.machine.home.owns)) c.deref.ensures.value)
+    (c.add_ready.ensures ∙ ap (λ (ps : List Process). map resident_turns (zip ps b.machine.home.owns))
+    c.deref.ensures.value)
     (c.devices_ready.ensures ∙ devices_shown b c.self.invariant)
     (c.next_time.ensures.at ∙ next_shown b c.self.invariant)
     ∙ ap situation_of c.self.view_is

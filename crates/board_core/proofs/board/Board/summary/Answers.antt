@@ -11,11 +11,13 @@ use Rattle.board_core.proofs.board.Board.summary.Goals as goal
 pub slot_lines-requires-clause-objects : goal.slot_lines-requires-clause-objects
 slot_lines-requires-clause-objects c =
     let b = c.self.inside in
-    let objects = all-firsts (IsResident b.machine.home.flash b.machine.moment.steps) (InFlash b.machine.home.flash) b.processes.items
+    let objects = all-firsts (IsResident b.machine.home.flash b.machine.moment.steps) (InFlash b.machine.home.flash)
+    b.processes.items
     b.machine.home.owns nobody c.self.invariant.owns
     (λ h s. record { from_base = s.own.object.lies.from; in_flash = s.own.object.lies.to })
     c.self.invariant.seated in
-    subst (λ (processes : List Process). All (InFlash b.machine.home.flash) processes) (sym c.deref.ensures.value) objects
+    subst (λ (processes : List Process). All (InFlash b.machine.home.flash) processes) (sym c.deref.ensures.value)
+    objects
 
 pub returns : goal.returns
 returns c =

@@ -1,4 +1,5 @@
-use Rattle.std.proofs.Common.{Result, Err, ap₂, sym, subst, ◌∙◌}
+use Rattle.alarm_capsule.specs.Times.{AllTell, OthersTell}
+use Rattle.std.proofs.Common.{ℕ, Result, Err, ap₂, sym, subst, ◌∙◌}
 use Rattle.tk_base.specs.declared.process.Choice.TheVariants.{Device}
 use Rattle.board_devices.specs.declared.answer.Answer.{Answer}
 use Rattle.tk_base.specs.declared.process.NotReady.{NotReady}
@@ -6,7 +7,8 @@ use Rattle.grant_enter.specs.Homes.{Homes}
 use Rattle.board_drivers.specs.declared.drivers.Drivers.{Drivers}
 use Rattle.board_core.specs.Shows.{IsBoard, world_of}
 use Rattle.board_drivers.specs.Tells.{Acted, DeviceTold}
-use Rattle.board_core.proofs.Devices.{below_shown, made_so, may_tell, not_acting, refused_so, told_board, told_shown}
+use Rattle.board_core.proofs.Devices.{below_shown, made_so, may_tell, not_acting, others_still, refused_so, told_board}
+use Rattle.board_core.proofs.Devices.{told_shown}
 use Rattle.board_core.proofs.Devices.{world_told}
 use Rattle.board_core.specs.PartsOf.{parts_of}
 use Rattle.board_core.proofs.PartsOf.{are_parts}
@@ -25,15 +27,18 @@ pub invariant_of-self : goal.invariant_of-self
 invariant_of-self c =
     let b = c.self.inside in
     let none = idle c in
-    subst (λ (h : Homes). IsBoard (record b { machine = record b.machine { home = h; drivers = c.act.new.self } })) (sym none.1)
-    (subst (λ (d : Drivers). IsBoard (record b { machine = record b.machine { drivers = d } })) (sym none.2) c.self.invariant)
+    subst (λ (h : Homes). IsBoard (record b { machine = record b.machine { home = h; drivers = c.act.new.self } }))
+    (sym none.1)
+    (subst (λ (d : Drivers). IsBoard (record b { machine = record b.machine { drivers = d } })) (sym none.2)
+    c.self.invariant)
 
 pub returns-in_default : goal.returns-in_default
 returns-in_default c =
     let b = c.self.inside in
     let none = idle (goal.at.returns-in_default c).In_default in
     refused_so (world_of b) _ c.args.self.now (Device c.args.device) c.args.emit.now
-    (ap₂ (λ (h : Homes) (d : Drivers). world_of (record b { machine = record b.machine { home = h; drivers = d } })) none.1 none.2) c.self.view_is
+    (ap₂ (λ (h : Homes) (d : Drivers). world_of (record b { machine = record b.machine { home = h; drivers = d } }))
+    none.1 none.2) c.self.view_is
     (not_acting (world_of b) c.args.device none.0)
 
 -- it told a process something
@@ -45,6 +50,14 @@ told c =
     subst (λ (o : Result Answer NotReady). Acted (parts_of b) c.args.device o c.act.new.printed.items c.act.new.home
     c.act.new.self) c.in-Ok.is (c.act.ensures (parts_of b) (are_parts b c.self.invariant))
 
+pub note-requires-clause-others : goal.note-requires-clause-others
+note-requires-clause-others c =
+    let b = c.self.inside in
+    subst (λ (now : ℕ). OthersTell c.in-Ok.answer.to.slot now b.machine.moment.time b.alarms c.act.new.home.owns)
+    (sym c.tick.ensures)
+    (others_still b c.args.device c.in-Ok.answer.to.slot c.act.new.printed.items c.act.new.home c.act.new.self
+    (told (goal.at.note-requires-clause-others c).In-Ok) c.self.invariant)
+
 pub look_ahead-self-inside-requires-clause-free : goal.look_ahead-self-inside-requires-clause-free
 look_ahead-self-inside-requires-clause-free c =
     (told (goal.at.look_ahead-self-inside-requires-clause-free c).In-Ok).serves.uart.free
@@ -53,8 +66,10 @@ pub invariant_of-self-2 : goal.invariant_of-self-2
 invariant_of-self-2 c =
     told_board c.self.inside c.args.device c.in-Ok.answer.to.slot c.act.new.printed.items c.act.new.home c.act.new.self
     (told (goal.at.invariant_of-self-2 c).In-Ok) c.self.invariant
-    c.look_ahead-self-inside.result (below_shown c.self.inside c.args.self.now c.self.view_is c.requires.limit)
-    c.look_ahead-self-inside.ensures.calm
+    c.look_ahead-self-inside.result c.note.new.self (below_shown c.self.inside c.args.self.now c.self.view_is
+    c.requires.limit)
+    (subst (λ (now : ℕ). AllTell now c.self.inside.machine.moment.time c.note.new.self c.act.new.home.owns)
+    c.tick.ensures c.note.ensures) c.look_ahead-self-inside.ensures.calm
 
 pub returns : goal.returns
 returns c =

@@ -2,7 +2,8 @@ use Rattle.std.proofs.Common.{ℕ, subst}
 use Rattle.tk_base.specs.declared.process.Dev.TheVariants.{Alarm, Uart, Receive, Random, Store}
 use Rattle.alarm_capsule.specs.Answers as alarm_capsule
 use Rattle.driver_model.specs.Commands.{Writes, Reads, Randoms, Stores}
-use Rattle.board_drivers.proofs.Serving.{first_may_be_told, acted_by, acts_alarmed, acts_drawn, acts_received, acts_sent}
+use Rattle.board_drivers.proofs.Serving.{first_may_be_told, acted_by, acts_alarmed, acts_drawn, acts_received}
+use Rattle.board_drivers.proofs.Serving.{acts_sent}
 use Rattle.board_drivers.proofs.Serving.{acts_stored}
 use Rattle.board_drivers.proofs.drivers.Drivers.act.Goals as goal
 use Rattle.board_drivers.specs.Parts.{BoardParts}
@@ -30,7 +31,11 @@ answer-requires-in-Store-clause-told c =
 
 pub returns-in-Alarm : goal.returns-in-Alarm
 returns-in-Alarm c b h =
-    let here : BoardParts = record b { moment = c.args.moment.now; home = c.args.home.now; drivers = c.args.self.now } in
+    let here : BoardParts = record b {
+      moment = c.args.moment.now;
+      home = c.args.home.now;
+      drivers = c.args.self.now;
+    } in
     acted_by here _ Alarm _ _ _ _ c.in-Alarm.is
     (acts_alarmed here h c.answer.result c.answer.new.home c.lines_follow_answers.ensures
     c.a_due_slot_is_there.ensures
@@ -39,7 +44,11 @@ returns-in-Alarm c b h =
 
 pub returns-in-Uart : goal.returns-in-Uart
 returns-in-Uart c b h =
-    let here : BoardParts = record b { moment = c.args.moment.now; home = c.args.home.now; drivers = c.args.self.now } in
+    let here : BoardParts = record b {
+      moment = c.args.moment.now;
+      home = c.args.home.now;
+      drivers = c.args.self.now;
+    } in
     let does = c.transmit.ensures in
     acted_by here _ Uart _ _ _ _ c.in-Uart.is
     (acts_sent here h c.transmit.result c.transmit.new.home c.transmit.new.self c.transmit.new.uart
@@ -50,7 +59,11 @@ returns-in-Uart c b h =
 
 pub returns-in-Receive : goal.returns-in-Receive
 returns-in-Receive c b h =
-    let here : BoardParts = record b { moment = c.args.moment.now; home = c.args.home.now; drivers = c.args.self.now } in
+    let here : BoardParts = record b {
+      moment = c.args.moment.now;
+      home = c.args.home.now;
+      drivers = c.args.self.now;
+    } in
     let does = c.receive.ensures in
     acted_by here _ Receive _ _ _ _ c.in-Receive.is
     (acts_received here h c.receive.result c.receive.new.home c.receive.new.self c.receive.new.uart
@@ -59,7 +72,11 @@ returns-in-Receive c b h =
 
 pub returns-in-Random : goal.returns-in-Random
 returns-in-Random c b h =
-    let here : BoardParts = record b { moment = c.args.moment.now; home = c.args.home.now; drivers = c.args.self.now } in
+    let here : BoardParts = record b {
+      moment = c.args.moment.now;
+      home = c.args.home.now;
+      drivers = c.args.self.now;
+    } in
     let does = c.answer-in-Random.ensures in
     acted_by here _ Random _ _ _ _ c.in-Random.is
     (acts_drawn here h c.answer-in-Random.result c.answer-in-Random.new.home c.answer-in-Random.new.self
@@ -69,7 +86,11 @@ returns-in-Random c b h =
 
 pub returns-in-Store : goal.returns-in-Store
 returns-in-Store c b h =
-    let here : BoardParts = record b { moment = c.args.moment.now; home = c.args.home.now; drivers = c.args.self.now } in
+    let here : BoardParts = record b {
+      moment = c.args.moment.now;
+      home = c.args.home.now;
+      drivers = c.args.self.now;
+    } in
     let does = c.answer-in-Store.ensures in
     acted_by here _ Store _ _ _ _ c.in-Store.is
     (acts_stored here h c.answer-in-Store.result c.answer-in-Store.new.home c.answer-in-Store.new.self

@@ -34,17 +34,20 @@ known c = living_id c.args.slot c.args.slot c.args.self.now.home.owns c.in-Some.
 
 -- what its driver answered
 answered : (c : After-give_reply)
-    → Came c.args.self.now.moment c.args.slot c.args.self.now.home c.command-reply.new.home (order c) c.command-reply.result
+    → Came c.args.self.now.moment c.args.slot c.args.self.now.home c.command-reply.new.home (order c)
+    c.command-reply.result
     c.args.self.now.drivers c.command-reply.new.self (taker c).0
 answered c =
-    came c.args.self.now.moment c.args.slot c.args.self.now.home c.command-reply.new.home (order c) c.command-reply.result
+    came c.args.self.now.moment c.args.slot c.args.self.now.home c.command-reply.new.home (order c)
+    c.command-reply.result
     c.args.self.now.drivers c.command-reply.new.self c.in-Some.id c.tick-tick.result (taker c).0 (taker c).1
     (known c) c.tick-tick.ensures c.requires.may c.command-reply.ensures.comes
 
 pub returns-clause-serves : goal.returns-clause-serves
 returns-clause-serves c =
     let a = (goal.at.returns-clause-serves c).After-give_reply in
-    finishes c.args.self.now.moment c.args.slot c.args.self.now.home c.command-reply.new.home (order a) c.command-reply.result
+    finishes c.args.self.now.moment c.args.slot c.args.self.now.home c.command-reply.new.home (order a)
+    c.command-reply.result
     c.args.self.now.drivers c.command-reply.new.self c.args.process.now c.give_reply.new.process c.args.call.now
     c.give_reply.result (taker a).0 (taker a).1
     c.in-Command.is c.requires.left (answered a) (ap (λ (p : Process). p.object) c.give_reply.ensures.stays)
@@ -57,7 +60,8 @@ returns-clause-leaves c =
     record {
       seated = stays_seated home.flash (c.args.self.now.moment.steps + 1) c.args.process.now c.give_reply.new.process
           (own_of home c.args.slot) (own_of c.command-reply.new.home c.args.slot)
-          (came_in_place c.args.self.now.moment c.args.slot home c.command-reply.new.home (order a) c.command-reply.result
+          (came_in_place c.args.self.now.moment c.args.slot home c.command-reply.new.home (order a)
+          c.command-reply.result
           c.args.self.now.drivers c.command-reply.new.self (taker a).0 (taker a).1 c.commands_stay_in_place.ensures
           (answered a)) c.give_reply.ensures.stays c.requires.turn.seated;
       rest = subst (λ (id : ProcessId). ChangesOnly id.slot home c.command-reply.new.home) (known a)

@@ -12,7 +12,8 @@ returns-in-Went-clause-turns c =
     let x = c.args.self.now in
     subst (λ (s : Shown). TurnsOn c.args.slot x (record x { home = i.new.home; guard = i.new.guard }) c.args.process.now
     i.new.process s) (sym c.requires.quiet)
-    (went x.moment c.args.slot x.home i.new.home c.args.process.now i.new.process i.ensures.made i.ensures.rest x.drivers
+    (went x.moment c.args.slot x.home i.new.home c.args.process.now i.new.process i.ensures.made i.ensures.rest
+    x.drivers
     c.requires.runs (sym i.ensures.end ∙ c.in-Went.is))
 
 pub returns-in-Went-clause-leaves : goal.returns-in-Went-clause-leaves
@@ -20,7 +21,8 @@ returns-in-Went-clause-leaves c =
     let i = c.make_instruction-end in
     let x = c.args.self.now in
     record {
-      left = all_left x.moment c.args.slot x.home i.new.home c.args.process.now i.new.process i.ensures.made i.ensures.rest
+      left = all_left x.moment c.args.slot x.home i.new.home c.args.process.now i.new.process i.ensures.made
+          i.ensures.rest
           i.ensures.turn;
       guard = guards_only c.args.slot i.new.guard i.new.home i.ensures.guard;
       moment = refl;
@@ -31,7 +33,8 @@ pub serve_call-shown-requires-clause-may : goal.serve_call-shown-requires-clause
 serve_call-shown-requires-clause-may c =
     let i = c.make_instruction-end in
     let x = c.args.self.now in
-    may_serve_still x.moment c.args.slot x.home i.new.home c.args.process.now i.new.process i.ensures.made i.ensures.rest
+    may_serve_still x.moment c.args.slot x.home i.new.home c.args.process.now i.new.process i.ensures.made
+    i.ensures.rest
     x.drivers c.requires.may
 
 pub returns-in-Call-clause-turns : goal.returns-in-Call-clause-turns

@@ -7,7 +7,8 @@ use Rattle.board_drivers.specs.Residents.{id_of}
 use Rattle.board_turns.proofs.Commands.{finishes_as, finishes_left, is_served, served_itself}
 use Rattle.board_drivers.proofs.Orders.{drives_nothing}
 use Rattle.board_turns.proofs.machine.Machine.serve.Goals as goal
-use Rattle.board_turns.proofs.machine.Machine.serve.Goals.{in-ToDriver, in_default+then-is_gone, in_default+else-is_gone}
+use Rattle.board_turns.proofs.machine.Machine.serve.Goals.{in-ToDriver, in_default+then-is_gone}
+use Rattle.board_turns.proofs.machine.Machine.serve.Goals.{in_default+else-is_gone}
 
 pub returns-clause-serves : goal.returns-clause-serves
 returns-clause-serves c =
@@ -18,12 +19,14 @@ returns-clause-serves c =
     let id = id_of c.args.slot (own_of home c.args.slot) in
     elim c.match-kernel_call.branch [
       | in-ToDriver w ↦
-          finishes_as m c.args.slot home process call _ _ _ _ _ _ c.args.self.now.drivers _ _ (ap (λ (y : Machine). y.home) w.self-is)
+          finishes_as m c.args.slot home process call _ _ _ _ _ _ c.args.self.now.drivers _ _
+          (ap (λ (y : Machine). y.home) w.self-is)
           w.process-is w.outcome-is (ap (λ (y : Machine). y.drivers) w.self-is)
           (finishes_left m c.args.slot home c.kernel_call.new.home _ process c.kernel_call.new.process _ call _
           c.args.self.now.drivers _ w.in-ToDriver.ensures.serves w.command_driver-outcome.ensures.serves)
       | in_default+then-is_gone w ↦
-          finishes_as m c.args.slot home process call _ _ _ _ _ _ c.args.self.now.drivers _ _ (ap (λ (y : Machine). y.home) w.self-is)
+          finishes_as m c.args.slot home process call _ _ _ _ _ _ c.args.self.now.drivers _ _
+          (ap (λ (y : Machine). y.home) w.self-is)
           w.process-is w.outcome-is (ap (λ (y : Machine). y.drivers) w.self-is)
           (served_itself m c.args.slot home _ process _ call _ c.args.self.now.drivers _
           (is_served m.settings.strict c.args.slot home _ process _ call c.kernel_call.result
@@ -31,7 +34,8 @@ returns-clause-serves c =
           (subst (λ (acts : List BoardRequest). Drives id acts c.args.self.now.drivers w.gone.new.self)
           (sym (w.is_gone.ensures.gone w.if-is_gone.true)) (w.gone.ensures id.life)))
       | in_default+else-is_gone w ↦
-          finishes_as m c.args.slot home process call _ _ _ _ _ _ c.args.self.now.drivers _ _ (ap (λ (y : Machine). y.home) w.self-is)
+          finishes_as m c.args.slot home process call _ _ _ _ _ _ c.args.self.now.drivers _ _
+          (ap (λ (y : Machine). y.home) w.self-is)
           w.process-is w.outcome-is (ap (λ (y : Machine). y.drivers) w.self-is)
           (served_itself m c.args.slot home _ process _ call _ c.args.self.now.drivers _
           (is_served m.settings.strict c.args.slot home _ process _ call c.kernel_call.result

@@ -3,7 +3,7 @@ use Rattle.std.specs.List.{range_with_len}
 use Rattle.tk_base.specs.declared.limits.TheConstants.{SLOT_COUNT}
 use Rattle.driver_model.specs.Alarm.{ticks_left_in, nearer, nearer_with}
 use Rattle.alarm_capsule.proofs.Slots.{all_folded, folded}
-use Rattle.alarm_capsule.proofs.next.next_due.Goals as goal
+use Rattle.alarm_capsule.proofs.times.AlarmTimes.next_due.Goals as goal
 
 pub loop-slot-preserved : goal.loop-slot-preserved
 loop-slot-preserved c =

@@ -2,7 +2,7 @@ use Rattle.std.proofs.Common.{◌≡◌, ◌-◌, fold}
 use Rattle.std.specs.List.{range_with_len}
 use Rattle.tk_base.specs.declared.limits.TheConstants.{SLOT_COUNT}
 use Rattle.driver_model.specs.Alarm.{nearer_with, next_left}
-use Rattle.alarm_capsule.proofs.next.next_due.Given as goal
+use Rattle.alarm_capsule.proofs.times.AlarmTimes.next_due.Given as goal
 
 -- the slots that are left, folded in, lead to the least of all
 abbrev pub invariant-loop-slot : goal.invariant-loop-slot

@@ -1,0 +1,33 @@
+-- What kept times tell of alarms. Only proofs use this.
+use Rattle.std.specs.Prelude.{◌≡◌, ◌≢◌, ◌<◌, ℕ, ◌-◌, ◌^◌, true, List, Option, None, Some, slice_get, slice_index_or}
+use Rattle.std.specs.Prelude.{option_and_then}
+use Rattle.grant_values.specs.declared.alarm.Armed.{Armed}
+use Rattle.process_model.specs.Own.{Own}
+use Rattle.driver_model.specs.Alarm.{alarm_in, ticks_left, ticks_left_of}
+
+-- a process lives, and has armed an alarm that becomes due at a time that lies ahead; the clock shows `now` at this one
+pub record BecomesDue (now time at : ℕ) (o : Option Own) : Type 0 where
+  pub own : Own
+  pub there : o ≡ Some own
+  pub lives : own.lives ≡ true
+  pub alarm : Armed
+  pub armed : alarm_in own ≡ Some alarm
+  pub reference : alarm.reference < 2 ^ 32
+  pub delta : alarm.delta < 2 ^ 32
+  pub left : ticks_left now alarm ≡ at - time
+
+-- A time that is kept of the process in a slot, if there is one, tells of its alarm: where it lies ahead, the alarm
+-- becomes due then; none kept says that none is armed; a time that has come says nothing.
+abbrev pub Tells : ℕ → ℕ → Option ℕ → Option Own → Type 0
+Tells now time None o = option_and_then (ticks_left_of now) o ≡ None
+Tells now time (Some at) o = time < at → BecomesDue now time at o
+
+-- so do those of all slots but one
+abbrev pub OthersTell : ℕ → ℕ → ℕ → List (Option ℕ) → List Own → Type 0
+OthersTell slot now time times owns = (other : ℕ) → other ≢ slot
+    → Tells now time (slice_index_or times other None) (slice_get owns other)
+
+-- so does that of each slot
+abbrev pub AllTell : ℕ → ℕ → List (Option ℕ) → List Own → Type 0
+AllTell now time times owns =
+    (slot : ℕ) → Tells now time (slice_index_or times slot None) (slice_get owns slot)

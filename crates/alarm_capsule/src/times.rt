@@ -1,0 +1,133 @@
+//! When the alarms become due.
+ghost use Rattle.std.specs.Prelude.{◌≡◌, ◌+◌, ◌≤◌, ◌^◌, None, length, replicate};
+ghost use Rattle.std.specs.Prelude.{slice_get, slice_index_or};
+ghost use Rattle.tk_base.specs.declared.limits.TheConstants.{SLOT_COUNT};
+ghost use Rattle.grant_enter.specs.Homes.{own_of};
+ghost use Rattle.driver_requests.specs.Asking.{IsPresent};
+ghost use Rattle.driver_model.specs.Alarm.{alarm_in, nearer, next_left, ticks_left, ticks_left_in};
+ghost use Rattle.alarm_capsule.specs.Times.{AllTell, OthersTell, Tells};
+
+use crate::visits::alarms;
+use grant_enter::Home;
+use grant_values::{Alarm, Armed};
+use std::marker::Model;
+use tk_base::{ProcessId, SLOT_COUNT, Slot};
+
+/// How many ticks are left until an alarm becomes due: 0 where it is due.
+fn ticks_left(alarm: &Armed, now: u32) -> u32
+    ensures { result ≡ ticks_left now alarm.now }
+{
+    alarm
+        .delta
+        .saturating_sub(now.wrapping_sub(alarm.reference))
+}
+
+/// The alarm that a process has armed, if it has.
+fn alarm_of(home: &Home, id: &ProcessId) -> Option<Armed>
+    requires { IsPresent home.now id.now }
+    ensures { result ≡ alarm_in (own_of home.now id.now.slot) }
+{
+    match alarms().peek(home, *id) {
+        Ok(Some(Alarm { armed })) => armed,
+        _ => None,
+    }
+}
+
+/// The ticks that are left of the alarm of the process that lives in a slot. None exactly where
+/// none lives there, or it has none armed.
+fn left_in(home: &Home, slot: Slot, now: u32) -> Option<u32>
+    ensures { result ≡ ticks_left_in now home.now.owns slot }
+{
+    let id = home.id(slot)?;
+    let alarm = alarm_of(home, &id)?;
+    Some(ticks_left(&alarm, now))
+}
+
+/// The time at which the alarm of the process in a slot becomes due, looked for at a time at which
+/// the clock shows `now`.
+fn due_time(home: &Home, slot: Slot, now: u32, time: u64) -> Option<u64>
+    requires { time + 2 ^ 32 ≤ 2 ^ 64 }
+    ensures { Tells now time result (slice_get home.now.owns slot) }
+{
+    let id = home.id(slot)?;
+    let alarm = alarm_of(home, &id)?;
+    Some(time + u64::from(ticks_left(&alarm, now)))
+}
+
+/// The lesser of two numbers of ticks, where there are two; the one that there is, where there is
+/// one.
+fn nearer(ticks: Option<u32>, other: Option<u32>) -> Option<u32>
+    ensures { result ≡ nearer ticks other }
+{
+    match (ticks, other) {
+        (Some(ticks), Some(other)) => Some(ticks.min(other)),
+        (Some(ticks), None) => Some(ticks),
+        (None, other) => other,
+    }
+}
+
+/// When the alarm of the process in each slot becomes due, as it was looked for last: a time that
+/// lies ahead is that of the alarm that the process has armed, and none kept says that it has none
+/// armed. A time that has come says nothing, so the process is asked then.
+#[derive(Drop)]
+pub struct AlarmTimes {
+    times: [Option<u64>; SLOT_COUNT],
+}
+
+impl Model for AlarmTimes {
+    ghost use Rattle.std.specs.Prelude.{ℕ, List, Option};
+
+    ghost Value = { List (Option ℕ) };
+
+    ghost view = { λ t. t.times };
+}
+
+impl AlarmTimes {
+    /// No process has an alarm armed.
+    pub fn new() -> AlarmTimes
+        ensures { result ≡ replicate SLOT_COUNT None }
+    {
+        AlarmTimes {
+            times: [None; SLOT_COUNT],
+        }
+    }
+
+    /// Looks for the time of the alarm of the process in a slot again, at a time at which the clock
+    /// shows `now`. It is asked for after each step in which that process may have armed or stopped
+    /// its alarm, ended or started again. It asks that the times that are kept tell of all others.
+    pub fn note(&mut self, home: &Home, slot: Slot, now: u32, time: u64)
+        requires time { time + 2 ^ 32 ≤ 2 ^ 64 }
+        requires others { OthersTell slot now time self.old home.now.owns }
+        ensures { AllTell now time self.new home.now.owns }
+    {
+        self.times[slot.index()] = due_time(home, slot, now, time);
+    }
+
+    /// The ticks that are left of the alarm of the process in a slot.
+    fn left_in(&self, home: &Home, slot: Slot, now: u32, time: u64) -> Option<u32>
+        requires { Tells now time (slice_index_or self.now slot None)
+            (slice_get home.now.owns slot) }
+        ensures { result ≡ ticks_left_in now home.now.owns slot }
+    {
+        match self.times[slot.index()] {
+            None => None,
+            Some(at) if time < at => Some((at - time) as u32),
+            Some(_) => left_in(home, slot, now),
+        }
+    }
+
+    /// How many ticks from `now` on, which the clock shows at a time, the next alarm of a process
+    /// that lives becomes due: 0 where one is due then. None exactly where no process that lives
+    /// has an alarm armed. It asks that the times that are kept tell of all alarms.
+    #[tactic(auto, unfolding(driver_model::specs::Alarm::next_left))]
+    pub fn next_due(&self, home: &Home, now: u32, time: u64) -> Option<u32>
+        requires { AllTell now time self.now home.now.owns }
+        ensures { result ≡ next_left now home.now.owns }
+    {
+        let mut least = None;
+        for slot in 0..SLOT_COUNT {
+            least = nearer(least, self.left_in(home, Slot::new(slot), now, time));
+        }
+        least
+    }
+}

@@ -1,0 +1,7 @@
+mod Rotation
+mod Found
+mod Passing
+mod Made
+mod Remaining
+mod Ticks
+mod Worked
