@@ -132,6 +132,23 @@ static inline bool yield_no_wait(void)
     return has_run;
 }
 
+// The arguments of an upcall that was waited for alone.
+typedef struct {
+    uint32_t data0, data1, data2;
+} yield_waitfor_return_t;
+
+// Yield-wait-for: returns with the arguments of the upcall of a driver and a number, once it comes, or with those of the
+// first that is pending. No function of it runs, so it need not be subscribed; upcalls of other numbers stay pending.
+static inline yield_waitfor_return_t yield_wait_for(uint32_t driver, uint32_t number)
+{
+    register uint32_t a0 __asm__("a0") = 2;
+    register uint32_t a1 __asm__("a1") = driver;
+    register uint32_t a2 __asm__("a2") = number;
+    register uint32_t a4 __asm__("a4") = TOCK_CLASS_YIELD;
+    __asm__ volatile("ecall" : "+r"(a0), "+r"(a1), "+r"(a2) : "r"(a4) : "memory");
+    return (yield_waitfor_return_t){a0, a1, a2};
+}
+
 // Waits until an upcall has made the condition true.
 static inline void yield_for(const bool *condition)
 {

@@ -129,6 +129,11 @@ def yields(number):
     return li(A4, 0) + li(A0, number) + ecall
 
 
+def waits_for(driver, number):
+    """The system call yield, for the upcall of a driver and a number alone."""
+    return li(A4, 0) + li(A0, 2) + li(A1, driver) + li(A2, number) + ecall
+
+
 def counts_down(rounds):
     """One turn, and two more a round."""
     return [li(T0, rounds), "again", addi(T0, T0, -1), bne(T0, ZERO, "again")]
@@ -415,7 +420,7 @@ YIELDS = [
     """),
     tells("yield-at-once", "where no upcall waits the flag is 0, and the process goes on", 0,
           li(T0, 5), sb(T0, A1), yields(0), lbu(A1, A1)),
-    tells("yield-leaves-a0", "a yield has no reply", 2, yields(2), mv(A1, A0)),
+    tells("yield-leaves-a0", "a yield has no reply", 3, yields(3), mv(A1, A0)),
     tells("flag-at-the-last-byte", "the flag may lie below the break", 0,
           addi(A1, A3, -1), li(T0, 5), sb(T0, A1), yields(0), lbu(A1, A1)),
     tells("flag-above-the-break", "elsewhere no flag is written", 7, mv(A1, A3), yields(0), li(A1, 7)),
@@ -606,6 +611,53 @@ CHANGES_ITS_BUFFER = app(mv(S0, A0), *hands(READ_ONLY, CONSOLE, 1, "first", 100)
 # Asks for 4 bytes into a buffer of 8, and exits with the first two.
 READS_4 = app(mv(S0, A0), mv(S1, A1), lends(READ_WRITE, CONSOLE, 1, 8), *hands(SUBSCRIBE, CONSOLE, 2, "came"),
               li(A4, 2), li(A0, CONSOLE), li(A1, 2), li(A2, 4), ecall, yields(1), "came", lhu(A1, S1), exits())
+
+# Arms the alarm and waits for its upcall alone, without a function for it; exits with its first argument.
+AWAITS = app(command(ALARM, 5, 20), waits_for(ALARM, 0), mv(A1, A0), exits())
+
+WAITS = [
+    boot("wait-for-one-upcall", "the arguments come in a0 to a2, though no function was subscribed", AWAITS, """
+        ==
+        slot 0 - terminated 25 turns 16 restarts 0
+        leds 0000
+        end done steps 18 time 30
+    """),
+    boot("wait-for-one-upcall-given", "once it came the process is ready", AWAITS, turns=13, text="""
+        ==
+        slot 0 - awaited turns 11 restarts 0
+        leds 0000
+        end turns steps 13 time 25
+    """),
+    boot("wait-for-what-never-comes", "the report tells for what it waits", app(waits_for(CONSOLE, 2)), """
+        ==
+        slot 0 - waiting 00000001 2 turns 5 restarts 0
+        leds 0000
+        end done steps 5 time 5
+    """),
+    boot("wait-for-another-upcall", "an upcall of another driver is queued, and does not wake it",
+         app(mv(S0, A0), *hands(SUBSCRIBE, ALARM, 0, "rings"), command(ALARM, 5, 20), waits_for(CONSOLE, 1),
+             "rings", exits()), """
+        ==
+        slot 0 - waiting 00000001 1 turns 18 restarts 0
+        leds 0000
+        end done steps 20 time 32
+    """),
+    boot("wait-for-what-is-pending", "the first of that driver and number is taken out, and its function does not run",
+         app(mv(S0, A0), *hands(SUBSCRIBE, ALARM, 0, "rings"), command(ALARM, 5, 1), waits_for(ALARM, 0), mv(A1, A0),
+             exits(), "rings", li(A1, 99), exits()), """
+        ==
+        slot 0 - terminated 13 turns 22 restarts 0
+        leds 0000
+        end done steps 23 time 22
+    """),
+    boot("wait-for-one-upcall-keeps-the-rest", "the other registers stay",
+         app(command(ALARM, 5, 20), li(A3, 7), li(RA, 3), waits_for(ALARM, 0), add(A1, A3, RA), exits()), """
+        ==
+        slot 0 - terminated 10 turns 18 restarts 0
+        leds 0000
+        end done steps 20 time 30
+    """),
+]
 
 CONSOLES = [
     boot("write-of-70-bytes", "the UART takes 64 bytes at most, and a byte takes a tick", prints(b"p" * 70), """
@@ -1588,6 +1640,15 @@ APPLICATIONS = [
         leds 0000
         end done steps 162 time 161
     """),
+    kept("doze", "an alarm and a write are waited for alone each, without a function for an upcall", "doze", "empty", """
+        awake
+        awake
+        awake
+        ==
+        slot 0 doze terminated 0 turns 129 restarts 0
+        leds 0000
+        end done steps 141 time 405
+    """),
     kept("logger", "what is in storage outlives a restart: an application counts its starts there",
          "logger", "empty", """
         start 1
@@ -1663,7 +1724,7 @@ end done steps 2429 time 2645
 ]
 
 # What examples/tour runs, in its order.
-TOUR = ["greet", "echo-in-c", "blink", "clock", "logger", "random-in-c", "trespass", "applications-in-c", "permissions",
+TOUR = ["greet", "echo-in-c", "blink", "clock", "doze", "logger", "random-in-c", "trespass", "applications-in-c", "permissions",
         "crash", "victim", "spied"]
 
 # What the tool writes of an image is what the builder of objects makes of the changed object.
@@ -1743,5 +1804,5 @@ COMMAND_LINES = [
                "boot", "flash", "script", "--turns", b"\xff"),
 ]
 
-CASES = RUNS + DENIALS + INSTRUCTIONS + CALLS + SWAPS + YIELDS + ALARMS + READABLES + CONSOLES + LEDS + RANDOMS + STORAGES + SEVERAL + IMAGES + SCRIPTS + BAD_SCRIPTS + FILES + TRACES + SOAKS
+CASES = RUNS + DENIALS + INSTRUCTIONS + CALLS + SWAPS + YIELDS + ALARMS + WAITS + READABLES + CONSOLES + LEDS + RANDOMS + STORAGES + SEVERAL + IMAGES + SCRIPTS + BAD_SCRIPTS + FILES + TRACES + SOAKS
 CASES += MADE + README + APPLICATIONS + COMMAND_LINES

@@ -13,7 +13,7 @@ SECTIONS = [
         "tock_cli/Served", "tock_cli/Refusals", "tock_cli/Causes", "tock_cli/Comes", "tk_outside"]),
     ("The command line", ["tock_cli/Words", "decimal_number"]),
     ("The text of a run", [
-        "tock_cli/RunText", "board_report", "kernel_model/Shown", "process_record/Name", "process_record/Emit",
+        "board_runs/RunText", "board_report", "kernel_model/Shown", "process_record/Name", "process_record/Emit",
         "process_record/Summary"]),
     ("What holds of the run", [
         "tock_cli/Accounts", "board_opening/Certified", "board_opening/Alone", "kernel_model/Accounts",

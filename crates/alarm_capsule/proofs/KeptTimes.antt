@@ -1,9 +1,10 @@
 -- Kept times, as they are looked for, as time passes, and as processes change.
 use Rattle.std.proofs.Common.{◌≡◌, ◌≢◌, ℕ, zero, suc, ◌+◌, ◌-◌, ◌%◌, ◌^◌, ◌<◌, ◌≤◌, ◌==◌, Bool, true, false, cond, List}
 use Rattle.std.proofs.Common.{[], ◌∷◌}
-use Rattle.std.proofs.Common.{replicate, slice_get, slice_set, slice_index_or, option_and_then, option_map, Option, None}
+use Rattle.std.proofs.Common.{length, replicate, slice_get, slice_set, slice_index_or, option_and_then, option_map, Option, None}
 use Rattle.std.proofs.Common.{Some, refl, sym, ap, ap₂, subst, ◌∙◌, arith, eqb-true, eq-eqb}
 use Rattle.std.proofs.lemmas.Bool.{false≢true}
+use Rattle.std.proofs.lemmas.List.{get_or-set_same, get_or-set_other}
 use Rattle.tk_base.specs.declared.limits.TheConstants.{SLOT_COUNT}
 use Rattle.tk_base.specs.declared.process.ProcessId.{ProcessId}
 use Rattle.grant_values.specs.declared.alarm.Armed.{Armed}
@@ -154,6 +155,24 @@ pub others_tell : (now time slot : ℕ) (times : List (Option ℕ)) (owns : List
     → AllTell now time times owns → OthersTell slot now time times (slice_set owns slot o)
 others_tell now time slot times owns o tell other ne =
     subst (Tells now time (slice_index_or times other None)) (sym (set_other owns slot other o ne)) (tell other)
+
+-- where the time of the process in one slot is looked for again, what is told of all is true
+pub noted_tell : (now time slot : ℕ) (times : List (Option ℕ)) (owns : List Own) (kept : Option ℕ) → slot < length times
+    → Tells now time kept (slice_get owns slot) → OthersTell slot now time times owns
+    → AllTell now time (slice_set times slot kept) owns
+noted_tell now time slot times owns kept within tells others other = by_slot (other == slot) refl
+  where
+    by_slot : (b : Bool) → (other == slot) ≡ b
+        → Tells now time (slice_index_or (slice_set times slot kept) other None) (slice_get owns other)
+    by_slot true e =
+        let same : slot ≡ other = sym (eqb-true other slot e) in
+        subst (λ (n : ℕ). Tells now time (slice_index_or (slice_set times slot kept) n None) (slice_get owns n)) same
+        (subst (λ (k : Option ℕ). Tells now time k (slice_get owns slot))
+        (sym (get_or-set_same times slot kept None within)) tells)
+    by_slot false e =
+        let apart : other ≢ slot = λ same. false≢true (sym e ∙ eq-eqb other slot same) in
+        subst (λ (k : Option ℕ). Tells now time k (slice_get owns other))
+        (sym (get_or-set_other times slot other kept None apart)) (others other apart)
 
 -- and of all, where it keeps the same for the alarm
 pub kept_tell : (now time slot : ℕ) (times : List (Option ℕ)) (owns : List Own) (own o : Own)

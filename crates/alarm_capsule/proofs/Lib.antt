@@ -1,4 +1,5 @@
 mod Firing
+mod Nearest
 mod Showing
 mod Slots
 pub mod KeptTimes

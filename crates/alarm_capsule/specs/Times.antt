@@ -1,9 +1,11 @@
 -- What kept times tell of alarms. Only proofs use this.
 use Rattle.std.specs.Prelude.{◌≡◌, ◌≢◌, ◌<◌, ℕ, ◌-◌, ◌^◌, true, List, Option, None, Some, slice_get, slice_index_or}
-use Rattle.std.specs.Prelude.{option_and_then}
+use Rattle.std.specs.Prelude.{fold, option_and_then}
+use Rattle.std.specs.List.{range_with_len}
+use Rattle.tk_base.specs.declared.limits.TheConstants.{SLOT_COUNT}
 use Rattle.grant_values.specs.declared.alarm.Armed.{Armed}
 use Rattle.process_model.specs.Own.{Own}
-use Rattle.driver_model.specs.Alarm.{alarm_in, ticks_left, ticks_left_of}
+use Rattle.driver_model.specs.Alarm.{alarm_in, nearer, ticks_left, ticks_left_of}
 
 -- a process lives, and has armed an alarm that becomes due at a time that lies ahead; the clock shows `now` at this one
 pub record BecomesDue (now time at : ℕ) (o : Option Own) : Type 0 where
@@ -31,3 +33,11 @@ OthersTell slot now time times owns = (other : ℕ) → other ≢ slot
 abbrev pub AllTell : ℕ → ℕ → List (Option ℕ) → List Own → Type 0
 AllTell now time times owns =
     (slot : ℕ) → Tells now time (slice_index_or times slot None) (slice_get owns slot)
+
+-- the nearest time so far, and then with that which is kept of one slot more
+abbrev pub nearer_kept : List (Option ℕ) → Option ℕ → ℕ → Option ℕ
+nearer_kept times nearest slot = nearer nearest (slice_index_or times slot None)
+
+-- the nearest of the times that are kept of all slots
+unfoldable pub nearest_kept : List (Option ℕ) → Option ℕ
+nearest_kept times = fold (nearer_kept times) None (range_with_len 0 SLOT_COUNT)

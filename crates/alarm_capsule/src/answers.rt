@@ -68,6 +68,14 @@ fn first_due(home: &Home, now: u32) -> Option<Due>
     None
 }
 
+/// Whether an alarm is due at a tick.
+#[inline(never)]
+pub(crate) fn is_any_due(home: &Home, now: u32) -> bool
+    ensures { result ≡ is_some (due_slot now home.now.owns) }
+{
+    first_due(home, now).is_some()
+}
+
 /// Fires an alarm that is due.
 fn fire(home: &mut Home, due: &Due, now: u32)
     requires due { AlarmIsDue now due.now.id.slot home.old due.now }

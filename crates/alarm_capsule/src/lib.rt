@@ -9,4 +9,4 @@ mod times;
 mod visits;
 
 pub use capsule::AlarmCapsule;
-pub use times::AlarmTimes;
+pub use times::{AlarmTimes, nearer_time};

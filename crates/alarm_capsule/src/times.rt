@@ -1,13 +1,16 @@
 //! When the alarms become due.
-ghost use Rattle.std.specs.Prelude.{◌≡◌, ◌+◌, ◌≤◌, ◌^◌, None, length, replicate};
-ghost use Rattle.std.specs.Prelude.{slice_get, slice_index_or};
+ghost use Rattle.std.specs.Prelude.{◌≡◌, ◌+◌, ◌≤◌, ◌^◌, None, is_some, length, replicate};
+ghost use Rattle.std.specs.Prelude.{slice_get, slice_index_or, slice_set, option_map};
 ghost use Rattle.tk_base.specs.declared.limits.TheConstants.{SLOT_COUNT};
 ghost use Rattle.grant_enter.specs.Homes.{own_of};
 ghost use Rattle.driver_requests.specs.Asking.{IsPresent};
-ghost use Rattle.driver_model.specs.Alarm.{alarm_in, nearer, next_left, ticks_left, ticks_left_in};
-ghost use Rattle.alarm_capsule.specs.Times.{AllTell, OthersTell, Tells};
+ghost use Rattle.driver_model.specs.Alarm.{alarm_in, due_slot, nearer, next_left, ticks_left};
+ghost use Rattle.driver_model.specs.Alarm.{ticks_left_in};
+ghost use Rattle.alarm_capsule.specs.Times.{AllTell, OthersTell, Tells, nearest_kept};
 
+use crate::answers::is_any_due;
 use crate::visits::alarms;
+use driver_model::an_alarm_is_due_where_no_ticks_are_left;
 use grant_enter::Home;
 use grant_values::{Alarm, Armed};
 use std::marker::Model;
@@ -47,7 +50,9 @@ fn left_in(home: &Home, slot: Slot, now: u32) -> Option<u32>
 /// the clock shows `now`.
 fn due_time(home: &Home, slot: Slot, now: u32, time: u64) -> Option<u64>
     requires { time + 2 ^ 32 ≤ 2 ^ 64 }
-    ensures { Tells now time result (slice_get home.now.owns slot) }
+    ensures is { result
+        ≡ option_map (λ left. time + left) (ticks_left_in now home.now.owns slot) }
+    ensures tells { Tells now time result (slice_get home.now.owns slot) }
 {
     let id = home.id(slot)?;
     let alarm = alarm_of(home, &id)?;
@@ -66,20 +71,48 @@ fn nearer(ticks: Option<u32>, other: Option<u32>) -> Option<u32>
     }
 }
 
+/// The nearer of two times, where there are two; the one that there is, where there is one.
+pub fn nearer_time(time: Option<u64>, other: Option<u64>) -> Option<u64>
+    ensures { result ≡ nearer time other }
+{
+    match (time, other) {
+        (Some(time), Some(other)) => Some(time.min(other)),
+        (Some(time), None) => Some(time),
+        (None, other) => other,
+    }
+}
+
+/// The nearest of the times that are kept of all slots.
+#[tactic(auto, unfolding(crate::specs::Times::nearest_kept))]
+fn nearest_of(times: &[Option<u64>; SLOT_COUNT]) -> Option<u64>
+    ensures { result ≡ nearest_kept times.now }
+{
+    let mut nearest = None;
+    for slot in 0..SLOT_COUNT {
+        nearest = nearer_time(nearest, times[slot]);
+    }
+    nearest
+}
+
 /// When the alarm of the process in each slot becomes due, as it was looked for last: a time that
 /// lies ahead is that of the alarm that the process has armed, and none kept says that it has none
 /// armed. A time that has come says nothing, so the process is asked then.
 #[derive(Drop)]
 pub struct AlarmTimes {
     times: [Option<u64>; SLOT_COUNT],
+    /// The least of them.
+    nearest: Option<u64>,
 }
 
 impl Model for AlarmTimes {
-    ghost use Rattle.std.specs.Prelude.{ℕ, List, Option};
+    ghost use Rattle.std.specs.Prelude.{◌≡◌, ℕ, List, Option};
+    ghost use Rattle.alarm_capsule.specs.Times.{nearest_kept};
 
     ghost Value = { List (Option ℕ) };
 
     ghost view = { λ t. t.times };
+
+    ghost invariant = { λ t. t.nearest ≡ nearest_kept t.times };
 }
 
 impl AlarmTimes {
@@ -89,6 +122,7 @@ impl AlarmTimes {
     {
         AlarmTimes {
             times: [None; SLOT_COUNT],
+            nearest: None,
         }
     }
 
@@ -98,9 +132,29 @@ impl AlarmTimes {
     pub fn note(&mut self, home: &Home, slot: Slot, now: u32, time: u64)
         requires time { time + 2 ^ 32 ≤ 2 ^ 64 }
         requires others { OthersTell slot now time self.old home.now.owns }
-        ensures { AllTell now time self.new home.now.owns }
+        ensures kept { self.new
+            ≡ slice_set self.old slot
+            (option_map (λ left. time + left) (ticks_left_in now home.now.owns slot)) }
+        ensures tell { AllTell now time self.new home.now.owns }
     {
-        self.times[slot.index()] = due_time(home, slot, now, time);
+        let due = due_time(home, slot, now, time);
+        if due != self.times[slot.index()] {
+            self.times[slot.index()] = due;
+            self.nearest = nearest_of(&self.times);
+        }
+    }
+
+    /// Whether the alarm of a process that lives is due at a time at which the clock shows `now`. It
+    /// asks that the times that are kept tell of all alarms.
+    pub fn is_due(&self, home: &Home, now: u32, time: u64) -> bool
+        requires { AllTell now time self.now home.now.owns }
+        ensures { result ≡ is_some (due_slot now home.now.owns) }
+    {
+        an_alarm_is_due_where_no_ticks_are_left();
+        match self.nearest {
+            Some(at) if at <= time => is_any_due(home, now),
+            Some(_) | None => false,
+        }
     }
 
     /// The ticks that are left of the alarm of the process in a slot.
@@ -119,8 +173,21 @@ impl AlarmTimes {
     /// How many ticks from `now` on, which the clock shows at a time, the next alarm of a process
     /// that lives becomes due: 0 where one is due then. None exactly where no process that lives
     /// has an alarm armed. It asks that the times that are kept tell of all alarms.
-    #[tactic(auto, unfolding(driver_model::specs::Alarm::next_left))]
     pub fn next_due(&self, home: &Home, now: u32, time: u64) -> Option<u32>
+        requires { AllTell now time self.now home.now.owns }
+        ensures { result ≡ next_left now home.now.owns }
+    {
+        let at = self.nearest?;
+        if at <= time {
+            return self.next_of_all(home, now, time);
+        }
+        Some((at - time) as u32)
+    }
+
+    /// The same, by a look at each slot.
+    #[inline(never)]
+    #[tactic(auto, unfolding(driver_model::specs::Alarm::next_left))]
+    fn next_of_all(&self, home: &Home, now: u32, time: u64) -> Option<u32>
         requires { AllTell now time self.now home.now.owns }
         ensures { result ≡ next_left now home.now.owns }
     {

@@ -12,6 +12,7 @@ use Rattle.arrayvec.specs.ArrayVec.{ArrayVec}
 use Rattle.tk_base.specs.declared.limits.TheConstants.{SLOT_COUNT, STEP_LIMIT}
 use Rattle.tk_base.specs.declared.process.Choice.TheVariants.{Run, Device, Pass}
 use Rattle.tk_base.specs.declared.process.Choice.{Choice}
+use Rattle.tk_base.specs.declared.upcall.Wait.{Wait}
 use Rattle.turn_scheduler.specs.Situation.{Situation}
 use Rattle.turn_scheduler.specs.RoundRobin.{LiesAhead, choice, place_is_ready, ready_device, slot_in}
 use Rattle.process_model.specs.Handed.{HoldsInPlace}
@@ -107,27 +108,29 @@ summary_shown b lines unplaced leds board e f lit =
     ∙ ap₂ (λ (xs : List Unplaced) (bits : ℕ). record s { unplaced = record { items = xs }; leds = bits }) f lit
 
 -- the line that was made of a slot
-pub line_is : (home : Homes) (ps : List Process) (p : Process) (slot known : ℕ) (flash name : List ℕ) (dropped : ℕ)
-    → p ≡ slice_index_or ps slot p → name ≡ name_of (object_in flash p.object) → flash ≡ home.flash → known ≡ slot
-    → dropped ≡ (own_of home known).inbox.dropped
+pub line_is : (home : Homes) (ps : List Process) (p : Process) (slot known : ℕ) (flash name : List ℕ) (wait : Wait)
+    (dropped : ℕ) → p ≡ slice_index_or ps slot p → name ≡ name_of (object_in flash p.object) → flash ≡ home.flash
+    → known ≡ slot → wait ≡ (own_of home known).inbox.wait → dropped ≡ (own_of home known).inbox.dropped
     → record {
       name = record { items = name };
       state = p.state;
+      wait = wait;
       denial = p.denial;
       turns = p.turns;
-      restarts =
-          p.restarts;
+      restarts = p.restarts;
       dropped = dropped;
     }
     ≡ line_in home.flash (slice_index_or ps slot p, slice_index_or home.owns slot nobody)
-line_is home ps p slot known flash name dropped at named here is count =
+line_is home ps p slot known flash name wait dropped at named here is waits count =
     let title : name ≡ name_of (object_in home.flash p.object) =
     named ∙ ap (λ (f : List ℕ). name_of (object_in f p.object)) here in
+    let waited : wait ≡ (slice_index_or home.owns slot nobody).inbox.wait =
+    waits ∙ ap (λ (k : ℕ). (own_of home k).inbox.wait) is in
     let counted : dropped ≡ (slice_index_or home.owns slot nobody).inbox.dropped =
     count ∙ ap (λ (k : ℕ). (own_of home k).inbox.dropped) is in
     let line = line_in home.flash (p, slice_index_or home.owns slot nobody) in
-    ap (λ (n : List ℕ). record line { name = record { items = n }; dropped = dropped }) title
-    ∙ ap (λ (d : ℕ). record line { dropped = d }) counted
+    ap (λ (n : List ℕ). record line { name = record { items = n }; wait = wait; dropped = dropped }) title
+    ∙ ap₂ (λ (v : Wait) (d : ℕ). record line { wait = v; dropped = d }) waited counted
     ∙ ap (λ (q : Process). line_in home.flash (q, slice_index_or home.owns slot nobody)) at
 
 -- whether the process of a slot can have a turn, by its place
@@ -231,6 +234,12 @@ ready_within b slot board e =
         → slot < length (residents b)
     resident None f h = cc
     resident (Some s) f h = slice_get_within (residents b) slot s f
+
+-- where it is calm there is no device step that is ready first
+pub none_in_calm : (w : World) → ready_devices w ≡ false ∷ false ∷ false ∷ false ∷ false ∷ false ∷ []
+    → ready_device (ready_devices w) ≡ None
+unfolding ready_device
+none_in_calm w calm = ap ready_device calm
 
 -- where no device step is ready, the slot that has the next turn is the next choice
 pub next_in_calm : (w : World) (o : Option ℕ)

@@ -48,6 +48,7 @@ use Rattle.board_core.proofs.Devices.{lost_where, still_lost_on}
 use Rattle.board_drivers.proofs.Lines.{line_after}
 use Rattle.board_drivers.proofs.Pairs.{get-firsts}
 use Rattle.board_drivers.proofs.Records.{reads_shown}
+use Rattle.board_core.proofs.Boards.{next_in_calm}
 use Rattle.board_core.proofs.Ready.{calm_ready, devices_shown, next_shown, owns_in_world}
 use Rattle.board_turns.proofs.Quiet.{own_after, none_more, kept_own}
 use Rattle.board_turns.specs.declared.machine.Machine.{Machine}
@@ -325,6 +326,34 @@ module _ (b : Inside) (board : IsBoard b) where
           law world_then slot after there.0 after_there after_runs (omega (arith, there.1, u)) in
           let is : ◌≡◌ {A = Option ℕ} (Some slot) (Some other) = sym stays ∙ chosen_slot world_then other g in
           cc
+
+      -- and it is the next choice, where no turns were made, or no device step is ready
+      stays_next : PresentStaysOn → (n : ℕ) → n ≡ k → (0 < k → first + k < b.slice)
+          → (0 < k → ready_devices world_then ≡ false ∷ false ∷ false ∷ false ∷ false ∷ false ∷ [])
+          → Some (Run slot) ≡ next world_then
+      stays_next law zero e u calm =
+          let there = none (sym e) in sym f ∙ ap next (sym (none_left (sym e) there.0 there.1))
+      stays_next law (suc n) e u calm =
+          let more : 0 < k = omega (arith, e) in
+          let there = some more in
+          next_in_calm world_then (Some slot) (calm more)
+          (sym (law world_then slot after there.0 after_there after_runs (omega (arith, there.1, u more))))
+
+      pub next_stays : PresentStaysOn → (ticks left : ℕ) → ticks ≡ k → k ≤ left → (left ≤ k → left ≡ 0)
+          → first + left ≤ b.slice
+          → (k < left → ready_devices (world_after_ticks ticks) ≡ false ∷ false ∷ false ∷ false ∷ false ∷ false ∷ [])
+          → Some (Run slot) ≡ next (world_after_ticks ticks)
+      next_stays law ticks left is made ends last calm =
+          subst (λ (n : ℕ). Some (Run slot) ≡ next (world_after_ticks n)) (sym is)
+          (stays_next law k refl (λ more. omega (arith, last, fewer more))
+          (λ more. subst (λ (n : ℕ). ready_devices (world_after_ticks n)
+          ≡ false ∷ false ∷ false ∷ false ∷ false ∷ false ∷ []) is (calm (fewer more))))
+        where
+          not_all : 0 < k → left ≤ k → ⊥
+          not_all more h = omega (arith, more, made, ends h)
+
+          fewer : 0 < k → k < left
+          fewer more = omega (arith, not_all more)
 
       -- where the turns are fewer than were left, the stretch does not go on
       stops_there : PresentStaysOn → first + most ≤ b.slice → k < most → GoesOn world_then → ⊥

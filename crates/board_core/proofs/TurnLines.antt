@@ -24,7 +24,8 @@ use Rattle.kernel_model.specs.Laws.{DropsAtMostOne, KeepsLines, TurnsActAtCalls,
 use Rattle.kernel_model.specs.Record.{Record}
 use Rattle.tk_base.specs.declared.process.Choice.TheVariants.{Run}
 use Rattle.kernel_model.specs.World.{is_ready}
-use Rattle.kernel_model.specs.Turn.{Turned, has_turn, is_pending, turned}
+use Rattle.upcall_queue.specs.Pending.{due}
+use Rattle.kernel_model.specs.Turn.{Turned, has_turn, turned}
 use Rattle.process_record.specs.declared.process.State.{State}
 use Rattle.process_record.specs.declared.process.State.TheVariants.{Running, Yielded, Faulted, Terminated}
 use Rattle.std.proofs.lemmas.Bool.{false≢true}
@@ -175,7 +176,7 @@ module _ (b : Inside) (slot : ℕ) (x : Machine) (processes : List Process) (sho
       t.at.own_was)) ∙ can in
       seat.own.lives ∙ by_state t.at.before.0.state may
     where
-      by_state : (s : State) → has_turn s (is_pending t.at.before.1.inbox.pending) ≡ true → is_alive s ≡ true
+      by_state : (s : State) → has_turn s (due t.at.before.1.inbox) ≡ true → is_alive s ≡ true
       by_state Running e = refl
       by_state Yielded e = refl
       by_state Faulted e = absurd (false≢true e)

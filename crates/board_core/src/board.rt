@@ -53,7 +53,7 @@ use tk_base::{
     SLOT_COUNT, STEP_LIMIT, Slot,
 };
 use tk_outside::NoMemory;
-use turn_scheduler::{Situated, Status, next_choice_in, next_slot, used_after};
+use turn_scheduler::{Situated, Status, next_choice_in, next_in_calm, used_after};
 
 /// A board with its processes. Contracts see the world that it shows.
 #[derive(Drop)]
@@ -169,7 +169,7 @@ fn settings_of(script: &Script) -> Settings
 
 /// Whether a turn showed a call or a denial.
 fn has_shown(emit: &Emit) -> bool
-    ensures { result ≡ false → told_in_emit emit.now ≡ nothing_shown }
+    ensures { (result ≡ false) ↔ (told_in_emit emit.now ≡ nothing_shown) }
 {
     emit.made.is_some() || emit.denial.is_some()
 }
@@ -256,14 +256,16 @@ fn slot_lines(home: &Home, processes: &[Process]) -> ArrayVec<SlotLine, SLOT_COU
     ensures { result.items ≡ map (line_in home.now.flash) (zip processes.now home.now.owns) }
 {
     let mut lines = ArrayVec::new();
-    for (slot, process) in processes.iter().enumerate() {
+    for (place, process) in processes.iter().enumerate() {
+        let slot = Slot::new(place);
         lines.push(SlotLine {
             name: name_in(home.flash(), &process.object),
             state: process.state,
+            wait: home.wait(slot),
             denial: process.denial,
             turns: process.turns,
             restarts: process.restarts,
-            dropped: home.dropped(Slot::new(slot)),
+            dropped: home.dropped(slot),
         });
     }
     lines
@@ -288,6 +290,10 @@ impl Situated for Board {
 
     fn slot_is_ready(&self, slot: Slot) -> bool {
         can_run(&self.machine.home, &self.processes, slot)
+    }
+
+    fn slots(&self) -> usize {
+        self.processes.len()
     }
 
     fn next(&self) -> Option<u64> {
@@ -577,18 +583,6 @@ impl Board {
         status
     }
 
-    /// The slot that has the next turn of a process, where no device step is ready for a while.
-    /// None says nothing.
-    #[inline(always)]
-    fn next_in_calm(&self) -> Option<Slot>
-        ensures { IfSome result (λ slot. Some (Run slot) ≡ next self.now) }
-    {
-        if self.machine.moment.time >= self.calm {
-            return None;
-        }
-        next_slot(self)
-    }
-
     /// The next choice of the round robin; None exactly where no process can have a turn, no device
     /// has anything to do, no input is still to come in, no write waits and no alarm is armed. It
     /// may be made while fewer than 4,000,000,000 steps were made.
@@ -601,8 +595,8 @@ impl Board {
     {
         next_is_ready();
         // What comes most often needs no look at the devices.
-        if let Some(slot) = self.next_in_calm() {
-            return Some(Choice::Run(slot));
+        if self.machine.moment.time < self.calm {
+            return next_in_calm(self);
         }
         next_choice_in(self)
     }

@@ -10,6 +10,7 @@ mod stretch;
 pub use board::Board;
 pub use driver_requests::Waiting;
 pub use play::PlayEnd;
+pub use stretch::QuietTurns;
 pub use tk_base::NotReady;
 pub use tk_outside::NoMemory;
 

@@ -1,6 +1,6 @@
 //! A quiet stretch: turns of processes, one after another, that only execute an instruction.
 ghost use Rattle.std.specs.Prelude.{◌≡◌, ◌+◌, ◌-◌, ◌≤◌, ◌<◌, ◌^◌, true, false, ℕ, Some, IfSome};
-ghost use Rattle.std.specs.Prelude.{IfNone, slice_get};
+ghost use Rattle.std.specs.Prelude.{IfNone, IsTrue, slice_get};
 ghost use Rattle.tk_base.specs.declared.limits.TheConstants.{SENDING_LIMIT, STEP_LIMIT};
 ghost use Rattle.turn_scheduler.specs.RoundRobin.{used_after};
 ghost use Rattle.tk_base.specs.declared.process.Choice.TheVariants.{Run};
@@ -9,6 +9,7 @@ ghost use Rattle.kernel_model.specs.Choices.{Throughout};
 ghost use Rattle.kernel_model.specs.Replay.{chosen};
 ghost use Rattle.kernel_model.specs.Run.{next};
 ghost use Rattle.kernel_model.specs.Stretch.{GoesOn, IsStretch};
+ghost use Rattle.kernel_model.specs.World.{is_ready};
 ghost use Rattle.board_drivers.specs.Calm.{AlarmsTell, HasCome, IsCalm};
 ghost use Rattle.board_drivers.specs.Calm.{ServesNobody, work_in};
 ghost use Rattle.board_core.specs.Stretches.{EndsStretch, slot_runs};
@@ -24,11 +25,21 @@ use kernel_model::next_is_ready;
 use process_record::{Process, State};
 use tk_base::{Choice, STEP_LIMIT, Slot};
 
-/// A part of a stretch: how many turns were made, and whether the stretch ends with them.
+/// A part of a stretch: how many turns were made, whether the stretch ends with them, and the round
+/// robin's next choice, where it does.
 #[derive(Clone, Copy)]
 pub struct Part {
     pub made: u32,
     pub is_over: bool,
+    pub next_choice: Option<Choice>,
+}
+
+/// A quiet stretch: how many turns were made, and the round robin's next choice after them
+/// ([`Board::next_choice`]).
+#[derive(Clone, Copy)]
+pub struct QuietTurns {
+    pub made: u32,
+    pub next_choice: Option<Choice>,
 }
 
 /// Whether the process in a slot runs.
@@ -129,18 +140,18 @@ fn present_after(
     (Some(slot), before + made)
 }
 
-impl Board {
-    /// The slot that has the next turn of a process. None exactly where the next choice is no turn.
-    fn next_turn(&self) -> Option<Slot>
-        ensures some { IfSome result (λ slot. next self.now ≡ Some (Run slot)) }
-        ensures none { IfNone result ((slot : ℕ) → next self.now ≡ Some (Run slot) → ⊥) }
-    {
-        match self.next_choice()? {
-            Choice::Run(slot) => Some(slot),
-            Choice::Device(_) | Choice::Pass(_) => None,
-        }
+/// The slot that has the turn of a choice. None where the choice is no turn.
+fn turn_in(choice: &Option<Choice>) -> Option<Slot>
+    ensures some { IfSome result (λ slot. choice.now ≡ Some (Run slot)) }
+    ensures none { IfNone result ((slot : ℕ) → choice.now ≡ Some (Run slot) → ⊥) }
+{
+    match *choice {
+        Some(Choice::Run(slot)) => Some(slot),
+        Some(Choice::Device(_) | Choice::Pass(_)) | None => None,
     }
+}
 
+impl Board {
     /// A part of a stretch: turns of one process in its slice, at most so many, up to when a device
     /// step may be ready.
     fn run_part(&mut self, most: u32) -> Part
@@ -149,19 +160,25 @@ impl Board {
         ensures stretch { IsStretch result.made self.old self.new }
         ensures ends { EndsStretch most result self.new }
         ensures more { result.is_over ≡ false → 0 < result.made }
+        ensures next { result.is_over ≡ true → result.next_choice ≡ next self.new }
     {
         round_is_stretch();
         next_is_ready();
         time_brings_an_alarm_nearer();
-        let ends = Part {
-            made: 0,
-            is_over: true,
-        };
-        let Some(slot) = self.next_turn() else {
-            return ends;
+        let next_choice = self.next_choice();
+        let Some(slot) = turn_in(&next_choice) else {
+            return Part {
+                made: 0,
+                is_over: true,
+                next_choice,
+            };
         };
         if !runs(&self.processes, slot) {
-            return ends;
+            return Part {
+                made: 0,
+                is_over: true,
+                next_choice,
+            };
         }
         self.calm = calm_ahead(
             self.calm,
@@ -171,7 +188,11 @@ impl Board {
             &self.machine.drivers,
         );
         if self.calm <= self.machine.moment.time {
-            return ends;
+            return Part {
+                made: 0,
+                is_over: true,
+                next_choice,
+            };
         }
         let before = used_before(self.present, self.used, self.slice, slot);
         let left = turns_left(before, self.slice, &self.machine.moment, self.calm, most);
@@ -185,30 +206,42 @@ impl Board {
         Part {
             made,
             is_over: is_over(made, left),
+            next_choice,
         }
     }
 
     /// Makes as many of the round robin's next steps as are turns that only execute an instruction,
-    /// one after another, at most `most`, and answers how many. None of these steps makes a system
-    /// call, is denied or prints, and each byte of a process that one of them changes has its cause
-    /// among its labels: a store that the process may make. Where it answers less than `most`, the
-    /// next step is not such a turn.
-    pub fn run_quietly(&mut self, most: u32) -> u32
-        ensures most { result ≤ most }
-        ensures stretch { IsStretch result self.old self.new }
-        ensures accounted { Throughout IsAccountedFor self.old (chosen result self.old) }
-        ensures ends { result < most → GoesOn self.new → ⊥ }
+    /// one after another, at most `most`, and answers how many, and which step is next then. None
+    /// of these steps makes a system call, is denied or prints, and each byte of a process that one
+    /// of them changes has its cause among its labels: a store that the process may make. Where
+    /// fewer than `most` were made, the next step is not such a turn. It may be made while fewer
+    /// than 4,000,000,000 steps were made.
+    pub fn run_quietly(&mut self, most: u32) -> QuietTurns
+        ensures most { result.made ≤ most }
+        ensures stretch { IsStretch result.made self.old self.new }
+        ensures accounted { Throughout IsAccountedFor self.old (chosen result.made self.old) }
+        ensures ends { result.made < most → GoesOn self.new → ⊥ }
+        ensures next { result.next_choice ≡ next self.new }
+        ensures ready { IfSome result.next_choice
+            (λ choice. self.new.clock.steps < STEP_LIMIT → IsTrue (is_ready self.new choice)) }
     {
         steps_are_accounted_for();
         round_is_stretch();
+        next_is_ready();
         let mut made = 0;
         while made < most {
             let part = self.run_part(most - made);
             made += part.made;
             if part.is_over {
-                return made;
+                return QuietTurns {
+                    made,
+                    next_choice: part.next_choice,
+                };
             }
         }
-        made
+        QuietTurns {
+            made,
+            next_choice: self.next_choice(),
+        }
     }
 }

@@ -144,7 +144,7 @@ fn go_on(board: &mut Board) -> (Option<Slot>, Option<Denial>) {
 fn stretches(board: &mut Board) -> [u32; 3] {
     let ten = board.run_quietly(10);
     let rest = board.run_quietly(1000);
-    [ten, rest, board.run_quietly(10)]
+    [ten.made, rest.made, board.run_quietly(10).made]
 }
 
 /// Whether the second application's store is denied, and the first one goes on.

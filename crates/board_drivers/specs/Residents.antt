@@ -9,7 +9,8 @@ use Rattle.process_record.specs.declared.process.Process.{Process}
 use Rattle.process_record.specs.declared.summary.SlotLine.{SlotLine}
 use Rattle.grant_enter.specs.Homes.{Homes, own_of}
 use Rattle.kernel_model.specs.Record.{Record}
-use Rattle.kernel_model.specs.Turn.{has_turn, is_pending}
+use Rattle.upcall_queue.specs.Pending.{due}
+use Rattle.kernel_model.specs.Turn.{has_turn}
 use Rattle.process_model.specs.Flash.{object_in}
 use Rattle.kernel_calls.specs.Own.{IsOwn, record_in}
 use Rattle.tk_base.specs.declared.process.ProcessId.{ProcessId}
@@ -49,7 +50,7 @@ HasLost steps own = own.inbox.dropped ≤ steps
 
 -- whether a process can have a turn, and whether that in a slot can, if there is one
 abbrev pub resident_turns : Resident → Bool
-resident_turns r = has_turn r.0.state (is_pending r.1.inbox.pending)
+resident_turns r = has_turn r.0.state (due r.1.inbox)
 
 abbrev pub can_turn_in : Option Resident → Bool
 can_turn_in None = false
@@ -60,6 +61,7 @@ abbrev pub line_in : List ℕ → Resident → SlotLine
 line_in flash r = record {
   name = record { items = name_of (object_in flash r.0.object) };
   state = r.0.state;
+  wait = r.1.inbox.wait;
   denial = r.0.denial;
   turns = r.0.turns;
   restarts = r.0.restarts;

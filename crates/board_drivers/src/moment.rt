@@ -5,15 +5,14 @@ ghost use Rattle.std.specs.Option.{option_map};
 ghost use Rattle.tk_base.specs.declared.limits.TheConstants.{SENDING_LIMIT};
 ghost use Rattle.board_devices.specs.Arriving.{first_arrival_time};
 ghost use Rattle.board_devices.specs.Clock.{clock_at};
-ghost use Rattle.driver_model.specs.Alarm.{nearer, next_left};
 ghost use Rattle.board_drivers.specs.Calm.{AlarmsTell, HasCome, IsCalm, ServesNobody};
 ghost use Rattle.board_drivers.specs.Calm.{work_in};
 ghost use Rattle.board_drivers.specs.Driven.{devices_of};
 
 use crate::drivers::Drivers;
-use alarm_capsule::AlarmTimes;
+use alarm_capsule::{AlarmTimes, nearer_time};
 use board_devices::Clock;
-use driver_model::{an_alarm_is_due_where_no_ticks_are_left, no_alarm_is_due_before_the_next};
+use driver_model::no_alarm_is_due_before_the_next;
 use grant_enter::Home;
 use kernel_model::Settings;
 use tk_base::Dev;
@@ -28,13 +27,6 @@ pub struct Moment {
     pub steps: u64,
 }
 
-/// Whether no ticks are left.
-fn is_now(left: Option<u32>) -> bool
-    ensures { IsTrue result ↔ (left ≡ Some 0) }
-{
-    matches!(left, Some(0))
-}
-
 /// Whether there is a time that has come.
 fn has_come(at: Option<u64>, time: u64) -> bool
     ensures { result ≡ unwrap_or (option_map (λ at. nat_le at time) at) false }
@@ -42,17 +34,6 @@ fn has_come(at: Option<u64>, time: u64) -> bool
     match at {
         Some(at) => at <= time,
         None => false,
-    }
-}
-
-/// The nearer of two times, where there are two.
-fn nearer(time: Option<u64>, other: Option<u64>) -> Option<u64>
-    ensures { result ≡ nearer time other }
-{
-    match (time, other) {
-        (Some(time), Some(other)) => Some(time.min(other)),
-        (Some(time), None) => Some(time),
-        (None, other) => other,
     }
 }
 
@@ -71,10 +52,9 @@ impl Moment {
         requires { AlarmsTell self.now alarms.now home.now.owns }
         ensures { result ≡ (work_in self.now home.now.owns drivers.now).ready device }
     {
-        an_alarm_is_due_where_no_ticks_are_left();
         match device {
             Dev::Event => drivers.arrivals.is_time(self.time),
-            Dev::Alarm => is_now(alarms.next_due(home, self.tick(), self.time)),
+            Dev::Alarm => alarms.is_due(home, self.tick(), self.time),
             Dev::Uart => has_come(drivers.sending_time(), self.time),
             Dev::Receive => !drivers.console.reads.is_empty() && drivers.uart.held() > 0,
             Dev::Random => !drivers.random.waiting.is_empty(),
@@ -114,9 +94,9 @@ impl Moment {
         ensures near { IfSome result (λ at. at - self.now.time < 2 ^ 32) }
     {
         let alarm = self.after(alarms.next_due(home, self.tick(), self.time));
-        nearer(
+        nearer_time(
             drivers.arrival_time(),
-            nearer(alarm, drivers.sending_time()),
+            nearer_time(alarm, drivers.sending_time()),
         )
     }
 

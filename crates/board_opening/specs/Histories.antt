@@ -3,6 +3,7 @@
 use Rattle.std.specs.Prelude.{◌≤◌, ℕ, List, slice_get, IfSome}
 use Rattle.script_text.specs.Settings.{ScriptSettings as Script}
 use Rattle.kernel_histories.specs.Deliveries.{DeliversTheLast}
+use Rattle.kernel_histories.specs.Waits.{GivesTheFirst}
 use Rattle.kernel_laws.specs.Fairness.{IsFair}
 use Rattle.kernel_model.specs.Histories.{GivesBackTheLast, HandedNothing}
 use Rattle.board_opening.specs.Opening.{opening}
@@ -21,6 +22,11 @@ SwapsFromBootGiveBackTheLast =
 abbrev pub DeliveriesFromBootAreOfTheLast : Type 0
 DeliveriesFromBootAreOfTheLast =
     (script : Script) (flash : List ℕ) (slot : ℕ) → DeliversTheLast (opening script flash) slot
+
+-- and a process that waits for one upcall alone gets the arguments of the first scheduling of it from then on
+abbrev pub WaitsFromBootGetTheFirst : Type 0
+WaitsFromBootGetTheFirst =
+    (script : Script) (flash : List ℕ) (slot : ℕ) → GivesTheFirst (opening script flash) slot
 
 -- the run by round robin from there is fair, where a slice has some turns
 abbrev pub RunsFromBootAreFair : Type 0

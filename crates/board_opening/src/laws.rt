@@ -3,8 +3,9 @@ ghost use Rattle.board_opening.specs.Alone.{OpeningsAreAlone, RunsAreAlone, Same
 ghost use Rattle.board_opening.specs.Histories.{DeliveriesFromBootAreOfTheLast};
 ghost use Rattle.board_opening.specs.Histories.{OpensWithNothingHanded, RunsFromBootAreFair};
 ghost use Rattle.board_opening.specs.Histories.{SwapsFromBootGiveBackTheLast};
+ghost use Rattle.board_opening.specs.Histories.{WaitsFromBootGetTheFirst};
 
-use kernel_histories::{deliveries_are_of_the_last, swaps_give_back_the_last};
+use kernel_histories::{deliveries_are_of_the_last, swaps_give_back_the_last, waits_get_the_first};
 use kernel_laws::ready_processes_have_turns;
 use kernel_model::a_record_is_the_replay_of_its_events;
 
@@ -21,12 +22,16 @@ pub fn swaps_from_boot_give_back_the_last()
 
 /// Whatever choices are made after a boot, each delivery to a process is of the upcall that it has
 /// subscribed at that moment, and was scheduled since it subscribed it, in the process's present
-/// life (TRD 104, "Subscribe", "Yield", "Exit").
+/// life. One that asks for the upcall of a driver and a number alone gets the arguments of the first
+/// that waits then; where none waits, of the first that is scheduled from then on (TRD 104,
+/// "Subscribe", "Yield", "Exit").
 pub fn deliveries_from_boot_are_of_the_last()
-    ensures { DeliveriesFromBootAreOfTheLast }
+    ensures last { DeliveriesFromBootAreOfTheLast }
+    ensures waits { WaitsFromBootGetTheFirst }
 {
     swaps_from_boot_give_back_the_last();
     deliveries_are_of_the_last();
+    waits_get_the_first();
 }
 
 /// No process that is ready waits for good after a boot: in the run by round robin, every window of

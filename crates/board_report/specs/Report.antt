@@ -3,6 +3,8 @@ use Rattle.std.specs.Prelude.{ℕ, ◌+◌, ◌/◌, ◌%◌, ◌^◌, ◌==◌,
 use Rattle.std.specs.Prelude.{Option, None, Some}
 use Rattle.std.specs.List.{flat_map, range_with_len}
 use Rattle.tk_base.specs.declared.access.Denial.{Denial}
+use Rattle.tk_base.specs.declared.upcall.Wait.{Wait}
+use Rattle.tk_base.specs.declared.upcall.Wait.TheVariants.{No, For, Given}
 use Rattle.tk_outside.specs.Text.{hex_digits}
 use Rattle.process_record.specs.declared.process.State.{State}
 use Rattle.process_record.specs.declared.process.State.TheVariants.{Running, Yielded, Faulted, Terminated}
@@ -19,12 +21,20 @@ denial_text None = []
 denial_text (Some d) =
     codes " " ++ (access_text d.access ++ (codes " " ++ (hex_digits 8 d.address ++ (codes " " ++ rule_text d.rule))))
 
--- the state of a process: of one that faulted with its last denial, of one that ended with its code
-abbrev pub state_text : State → Option Denial → List ℕ
-state_text Running denial = codes "running"
-state_text Yielded denial = codes "yielded"
-state_text Faulted denial = codes "faulted" ++ denial_text denial
-state_text (Terminated code) denial = codes "terminated " ++ decimal code
+-- what a process that has yielded waits for: any upcall; that of a driver and a number alone; nothing any more, since
+-- that one came
+abbrev pub wait_text : Wait → List ℕ
+wait_text No = codes "yielded"
+wait_text (For driver number) = codes "waiting " ++ (hex_digits 8 driver ++ (codes " " ++ decimal number))
+wait_text (Given arguments) = codes "awaited"
+
+-- the state of a process: of one that has yielded with what it waits for, of one that faulted with its last denial, of
+-- one that ended with its code
+abbrev pub state_text : State → Wait → Option Denial → List ℕ
+state_text Running wait denial = codes "running"
+state_text Yielded wait denial = wait_text wait
+state_text Faulted wait denial = codes "faulted" ++ denial_text denial
+state_text (Terminated code) wait denial = codes "terminated " ++ decimal code
 
 -- how many upcalls were dropped, where any was
 abbrev pub dropped_text : ℕ → List ℕ
@@ -41,7 +51,7 @@ turns_text line = codes " turns " ++ (decimal line.turns ++ (codes " restarts " 
 -- the line of a slot
 unfoldable pub slot_text : ℕ → SlotLine → List ℕ
 slot_text slot line =
-    slot_head slot line ++ (state_text line.state line.denial
+    slot_head slot line ++ (state_text line.state line.wait line.denial
     ++ (turns_text line ++ (dropped_text line.dropped ++ newline)))
 
 -- the lines of the slots from one on

@@ -1,5 +1,5 @@
-//! What a board tells as text: the lines of a step, the report of a run, and the list of what its flash
-//! holds.
+//! What a board tells as text: the lines of a step, the report of a run, and the list of what its
+//! flash holds.
 #![tactic(auto)]
 
 mod list;

@@ -2,7 +2,8 @@
 ghost use Rattle.std.specs.Prelude.{◌≡◌, ◌≤◌, length, All};
 ghost use Rattle.tk_outside.specs.Writes.{Writes};
 ghost use Rattle.flash_walk.specs.Image.{objects, IsObject};
-ghost use Rattle.board_report.specs.FlashList.{bad_text, verdict_text, object_text, object_texts, count_text, list_text};
+ghost use Rattle.board_report.specs.FlashList.{bad_text, verdict_text, object_text, object_texts};
+ghost use Rattle.board_report.specs.FlashList.{count_text, list_text};
 
 use crate::words::shown_name;
 use flash_walk::{Found, Verdict, objects_are_found};
@@ -12,8 +13,8 @@ use tbf_headers::{HeaderFault, object_at};
 use tk_base::FLASH_LIMIT;
 use tk_outside::{Failed, Sink, put_pieces, writes_compose};
 
-/// The word of an object whose header has a fault. A walk lists none that is too short or of another
-/// version.
+/// The word of an object whose header has a fault. A walk lists none that is too short or of
+/// another version.
 fn bad_word(fault: HeaderFault) -> &'static [u8]
     ensures { result.now ≡ bad_text fault }
 {
@@ -87,8 +88,9 @@ fn write_count<K: Sink>(out: &mut K, count: usize) -> Result<(), Failed>
     put_pieces(out, &[b"objects ", digits.format(count).as_bytes(), b"\n"])
 }
 
-/// Writes the list of the objects of a flash image of at most [`FLASH_LIMIT`] bytes, in flash order: for
-/// each `object OFFSET SIZE VERDICT NAME`, where offset and size are in bytes, and then `objects N`.
+/// Writes the list of the objects of a flash image of at most [`FLASH_LIMIT`] bytes, in flash
+/// order: for each `object OFFSET SIZE VERDICT NAME`, where offset and size are in bytes, and then
+/// `objects N`.
 ///
 /// The verdict is `app`, `padding`, `disabled`, `bad-entry`, `wrong-flash`, or for a header with a
 /// fault `bad-sizes`, `bad-checksum` or `bad-tlv`. The name is the package's (Tock Binary Format,

@@ -1,14 +1,19 @@
 //! The report of a board: a line for each slot, for each application that was not placed, for the
 //! LEDs and for the end of the run.
 ghost use Rattle.std.specs.Prelude.{◌≡◌, ◌++◌, codes, decimal};
+ghost use Rattle.tk_base.specs.declared.upcall.Wait.TheVariants.{For};
 ghost use Rattle.tk_outside.specs.Writes.{Writes};
 ghost use Rattle.board_report.specs.Words.{newline};
-ghost use Rattle.board_report.specs.Report.{denial_text, state_text, dropped_text, slot_head, turns_text, slot_text, slot_texts, unplaced_text, unplaced_texts, led_text, led_texts, led_list, leds_text, end_words, end_line, report_text};
+ghost use Rattle.board_report.specs.Report.{denial_text, wait_text, state_text, dropped_text};
+ghost use Rattle.board_report.specs.Report.{slot_head};
+ghost use Rattle.board_report.specs.Report.{turns_text, slot_text, slot_texts, unplaced_text};
+ghost use Rattle.board_report.specs.Report.{unplaced_texts, led_text, led_texts, led_list};
+ghost use Rattle.board_report.specs.Report.{leds_text, end_words, end_line, report_text};
 
 use crate::words::{access_word, fault_word, rule_word, shown_name};
 use itoa::Buffer;
 use process_record::{SlotLine, State, Summary};
-use tk_base::{Denial, PlaceFault};
+use tk_base::{Denial, PlaceFault, Wait};
 use tk_outside::{Failed, Sink, hex_text, put_all, put_number, put_pieces, writes_compose};
 
 /// How a run ended.
@@ -58,15 +63,43 @@ fn write_faulted<K: Sink>(out: &mut K, denial: &Option<Denial>) -> Result<(), Fa
     write_denial(out, denial)
 }
 
-/// Writes the state of a process.
-fn write_state<K: Sink>(out: &mut K, state: State, denial: &Option<Denial>) -> Result<(), Failed>
-    ensures { Writes K.tells out.old out.new (state_text state denial.now) result }
+/// Writes that a process waits for the upcall of a driver and a number alone.
+fn write_waiting<K: Sink>(out: &mut K, driver: u32, number: u32) -> Result<(), Failed>
+    ensures { Writes K.tells out.old out.new (wait_text (For driver number)) result }
 {
-    match state {
+    let mut digits = Buffer::new();
+    put_pieces(
+        out,
+        &[
+            b"waiting ",
+            &hex_text(driver),
+            b" ",
+            digits.format(number).as_bytes(),
+        ],
+    )
+}
+
+/// Writes what a process waits for that has yielded.
+fn write_wait<K: Sink>(out: &mut K, wait: &Wait) -> Result<(), Failed>
+    ensures { Writes K.tells out.old out.new (wait_text wait.now) result }
+{
+    match *wait {
+        Wait::No => put_all(out, b"yielded"),
+        Wait::For(driver, number) => write_waiting(out, driver, number),
+        Wait::Given(_) => put_all(out, b"awaited"),
+    }
+}
+
+/// Writes the state of a process.
+fn write_state<K: Sink>(out: &mut K, line: &SlotLine) -> Result<(), Failed>
+    ensures { Writes K.tells out.old out.new
+        (state_text line.now.state line.now.wait line.now.denial) result }
+{
+    match line.state {
         State::Running => put_all(out, b"running"),
-        State::Yielded => put_all(out, b"yielded"),
+        State::Yielded => write_wait(out, &line.wait),
         State::Terminated(code) => write_terminated(out, code),
-        State::Faulted => write_faulted(out, denial),
+        State::Faulted => write_faulted(out, &line.denial),
     }
 }
 
@@ -120,7 +153,7 @@ fn write_slot<K: Sink>(out: &mut K, slot: usize, line: &SlotLine) -> Result<(), 
 {
     writes_compose::<K>();
     write_head(out, slot, line)?;
-    write_state(out, line.state, &line.denial)?;
+    write_state(out, line)?;
     write_turns(out, line)?;
     write_dropped(out, line.dropped)
 }
@@ -239,9 +272,9 @@ fn write_end<K: Sink>(out: &mut K, end: End, steps: u64, time: u64) -> Result<()
     )
 }
 
-/// Writes the report: a line for each slot that has a process, slot 0 first; one for each application
-/// that was not placed, in flash order; the LEDs; and the end. After a [`Failed`], which comes only
-/// where the sink's count of faults rose, a part of it was written.
+/// Writes the report: a line for each slot that has a process, slot 0 first; one for each
+/// application that was not placed, in flash order; the LEDs; and the end. After a [`Failed`],
+/// which comes only where the sink's count of faults rose, a part of it was written.
 #[tactic(auto, unfolding(crate::specs::Report::report_text))]
 pub fn write_report<K: Sink>(summary: &Summary, end: End, out: &mut K) -> Result<(), Failed>
     ensures { Writes K.tells out.old out.new (report_text summary.now end) result }

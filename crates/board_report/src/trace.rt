@@ -2,7 +2,10 @@
 ghost use Rattle.std.specs.Prelude.{◌++◌, Some};
 ghost use Rattle.tk_outside.specs.Writes.{Writes};
 ghost use Rattle.board_report.specs.Words.{newline};
-ghost use Rattle.board_report.specs.Trace.{line_head, register_text, registers_text, reply_text, refusal_text, call_line, denial_line, bytes_text, out_line, call_text, denied_text, out_text, lines_of_step, trace_text};
+ghost use Rattle.board_report.specs.Trace.{line_head, register_text, registers_text, reply_text};
+ghost use Rattle.board_report.specs.Trace.{refusal_text, call_line, denial_line, bytes_text};
+ghost use Rattle.board_report.specs.Trace.{out_line, call_text, denied_text, out_text};
+ghost use Rattle.board_report.specs.Trace.{lines_of_step, trace_text};
 
 use crate::report::write_denial;
 use crate::words::call_rule_word;
@@ -166,15 +169,15 @@ fn write_lines<K: Sink>(out: &mut K, time: u64, slot: Slot, step: &Emit) -> Resu
     write_out(out, time, slot, step)
 }
 
-/// Writes the lines of the trace that tell a step which began at a time, in ticks: for each system call
-/// `@TIME SLOT call CLASS A0 A1 A2 A3`, where a reply was put into the registers ` = R0 R1 R2 R3` after
-/// it, and where it was refused the word of the rule that it broke (TRD 104, "System Call API"); for a
-/// denial `@TIME SLOT denied ACCESS ADDRESS RULE`; for bytes that were printed `@TIME SLOT out HEX`.
-/// Class, time and slot are decimal; registers and addresses have eight digits of base 16, a byte has
-/// two. A step that shows none of these, or that was no slot's, has no line.
+/// Writes the lines of the trace that tell a step which began at a time, in ticks: for each system
+/// call `@TIME SLOT call CLASS A0 A1 A2 A3`, where a reply was put into the registers ` = R0 R1 R2
+/// R3` after it, and where it was refused the word of the rule that it broke (TRD 104, "System Call
+/// API"); for a denial `@TIME SLOT denied ACCESS ADDRESS RULE`; for bytes that were printed `@TIME
+/// SLOT out HEX`. Class, time and slot are decimal; registers and addresses have eight digits of
+/// base 16, a byte has two. A step that shows none of these, or that was no slot's, has no line.
 ///
-/// [`Failed`] comes only where the sink's count of faults rose; a part of the lines was written then
-/// that lacks at least one byte. No memory is taken.
+/// [`Failed`] comes only where the sink's count of faults rose; a part of the lines was written
+/// then that lacks at least one byte. No memory is taken.
 #[tactic(auto, unfolding(crate::specs::Trace::trace_text))]
 pub fn write_trace<K: Sink>(time: u64, step: &Emit, out: &mut K) -> Result<(), Failed>
     ensures { Writes K.tells out.old out.new (trace_text time step.now) result }

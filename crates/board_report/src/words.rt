@@ -1,7 +1,8 @@
 //! The words of the report and of the trace.
 ghost use Rattle.std.specs.Prelude.{◌≡◌, ◌≤◌, length};
 ghost use Rattle.board_report.specs.OwnWords.{RulesHaveWordsOfTheirOwn};
-ghost use Rattle.board_report.specs.Words.{access_text, rule_text, call_rule_text, fault_text, glyph, name_text};
+ghost use Rattle.board_report.specs.Words.{access_text, rule_text, call_rule_text, fault_text};
+ghost use Rattle.board_report.specs.Words.{glyph, name_text};
 
 use arrayvec::ArrayVec;
 use tk_base::{Access, CallRule, PlaceFault, Rule};
@@ -92,8 +93,8 @@ pub fn shown_name(name: &[u8]) -> ArrayVec<u8, 32>
     text
 }
 
-/// No two rules by which calls are refused share a word, and no two by which accesses are denied: so a trace tells which
-/// one was broken.
+/// No two rules by which calls are refused share a word, and no two by which accesses are denied:
+/// so a trace tells which one was broken.
 pub fn rules_have_words_of_their_own()
     ensures { RulesHaveWordsOfTheirOwn }
 {}

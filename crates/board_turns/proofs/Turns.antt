@@ -1,10 +1,8 @@
 -- The turn of a process.
-use Rattle.std.proofs.Common.{◌≡◌, ◌≤◌, ℕ, ◌+◌, ◌==◌, ◌⊎◌, inl, inr, Bool, true, false, not, List, [], ◌∷◌, length}
-use Rattle.std.proofs.Common.{Option, None, Some, Result, Ok, Err, refl, sym, ap, subst, ◌∙◌, arith}
-use Rattle.std.proofs.lemmas.Bool.{eqb-true}
+use Rattle.std.proofs.Common.{◌≡◌, ◌≤◌, ℕ, ◌+◌, ◌==◌, ◌⊎◌, inl, inr, true, false, List, [], length}
+use Rattle.std.proofs.Common.{Option, None, Some, is_some, Result, Ok, Err, refl, sym, ap, subst, ◌∙◌, arith}
 use Rattle.std.proofs.lemmas.List.{length-set, set-set}
 use Rattle.tk_base.specs.declared.access.Denial.{Denial}
-use Rattle.tk_base.specs.declared.upcall.Upcall.{Upcall}
 use Rattle.tbf_headers.specs.declared.fault.HeaderFault.{HeaderFault}
 use Rattle.tbf_headers.specs.declared.program.Main.{Main}
 use Rattle.tbf_headers.specs.Meaning.{Meaning, header_reading}
@@ -22,8 +20,11 @@ use Rattle.process_model.specs.Flash.{object_in}
 use Rattle.kernel_calls.specs.Own.{IsOwn, IsApplication, HasStart, record_in}
 use Rattle.kernel_model.specs.Lives.{is_alive}
 use Rattle.kernel_model.specs.Record.{Record, with_process}
-use Rattle.kernel_model.specs.Calls.{deliver, deliver_by, restart, restarted_by, restarted_main}
-use Rattle.kernel_model.specs.Turn.{Turned, turn_counted, delivery, at_turn_end, idle, is_pending, turn_in, turned}
+use Rattle.upcall_queue.specs.declared.inbox.Delivery.{Delivery}
+use Rattle.upcall_queue.specs.Pending.{due}
+use Rattle.kernel_calls.specs.Outcomes.{deliver_due}
+use Rattle.kernel_model.specs.Calls.{restart, restarted_by, restarted_main}
+use Rattle.kernel_model.specs.Turn.{Turned, turn_counted, delivery, at_turn_end, idle, turn_in, turned}
 use Rattle.driver_model.specs.Commands.{leaving_all}
 use Rattle.board_drivers.specs.declared.drivers.Drivers.{Drivers}
 use Rattle.board_turns.specs.declared.guard.ActivePmp.{ActivePmp}
@@ -213,19 +214,15 @@ starts_again flash process own storage denial h =
     sym (restarted_same (record_in flash process own storage) denial own.layout process.object.address
     (header_reading (object_in flash process.object)) refl h.object.application)
 
--- the turn of a process that waits
-by_pending : (r : Record) (pending : List Upcall) → is_pending pending ≡ true
-    → delivery r pending ≡ idle (deliver_by (turn_counted r) pending)
-by_pending r [] e = absurd (cc)
-by_pending r (u ∷ us) e = refl
+-- the turn of a process that has yielded
+by_due : (r : Record) (next : Option Delivery) → is_some next ≡ true
+    → delivery r next ≡ idle (deliver_due (turn_counted r) next)
+by_due r None e = absurd (cc)
+by_due r (Some next) e = refl
 
-none_pending : (r : Record) (pending : List Upcall) → is_pending pending ≡ false → delivery r pending ≡ idle r
-none_pending r [] e = refl
-none_pending r (u ∷ us) e = absurd (some (length (u ∷ us) == 0) refl e)
-  where
-    some : (b : Bool) → (length (u ∷ us) == 0) ≡ b → not b ≡ false → ⊥
-    some true zero_is f = let none_is : length (u ∷ us) ≡ 0 = eqb-true (length (u ∷ us)) 0 zero_is in omega arith
-    some false zero_is f = absurd (cc)
+none_due : (r : Record) (next : Option Delivery) → is_some next ≡ false → delivery r next ≡ idle r
+none_due r None e = refl
+none_due r (Some next) e = absurd (cc)
 
 module _ (m : Moment) (slot : ℕ) (flash : List ℕ) where
   -- a turn in which a process may be changed, and no more
@@ -237,24 +234,25 @@ module _ (m : Moment) (slot : ℕ) (flash : List ℕ) where
       as_known slot flash old new nothing_shown d d storage _ _ (t storage)
       (refl, record { call = refl; denial = refl }, drives_nothing (id_of slot old.1) d)
 
-  -- where an upcall is pending it is delivered
-  pub woken : (old new : Resident) (d : Drivers) → old.0.state ≡ Yielded → is_pending old.1.inbox.pending ≡ true
+  -- what is due to it is delivered
+  pub woken : (old new : Resident) (d : Drivers) → old.0.state ≡ Yielded → is_some (due old.1.inbox) ≡ true
       → ((storage : List ℕ)
-      → record_in flash new.0 new.1 storage ≡ deliver (record_in flash (after_turn old.0) old.1 storage))
+      → record_in flash new.0 new.1 storage
+      ≡ deliver_due (record_in flash (after_turn old.0) old.1 storage) (due old.1.inbox))
       → Turns m slot flash old new nothing_shown d d
   unfolding turned
   woken old new d waits some delivers = is_quiet old new d (λ storage.
       let r = record_in flash old.0 old.1 storage in
-      ap (λ (s : State). turn_in m.settings m.time s r) waits ∙ by_pending r old.1.inbox.pending some
+      ap (λ (s : State). turn_in m.settings m.time s r) waits ∙ by_due r (due old.1.inbox) some
       ∙ ap idle (sym (delivers storage)))
 
-  -- where none is pending nothing happens
-  pub waits_on : (r : Resident) (d : Drivers) → r.0.state ≡ Yielded → is_pending r.1.inbox.pending ≡ false
+  -- where nothing is nothing happens
+  pub waits_on : (r : Resident) (d : Drivers) → r.0.state ≡ Yielded → is_some (due r.1.inbox) ≡ false
       → Turns m slot flash r r nothing_shown d d
   unfolding turned
   waits_on r d waits none = is_quiet r r d (λ storage.
       ap (λ (s : State). turn_in m.settings m.time s (record_in flash r.0 r.1 storage)) waits
-      ∙ none_pending (record_in flash r.0 r.1 storage) r.1.inbox.pending none)
+      ∙ none_due (record_in flash r.0 r.1 storage) (due r.1.inbox) none)
 
   -- a process that ended has no turn
   pub rests : (r : Resident) (d : Drivers) → (r.0.state ≡ Faulted) ⊎ ((code : ℕ) × (r.0.state ≡ Terminated code))

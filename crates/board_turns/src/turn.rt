@@ -79,14 +79,15 @@ fn call_shown(before: &Regs, outcome: Outcome) -> CallMade
     }
 }
 
-/// Whether the process in a slot can have a turn: it runs, or it waits and an upcall is pending.
+/// Whether the process in a slot can have a turn: it runs, or it has yielded and something is due to
+/// it.
 pub fn can_turn(home: &Home, process: &Process, slot: Slot) -> bool
     requires { slot < length home.now.owns }
     ensures { result ≡ resident_turns (resident home.now slot process.now) }
 {
     match process.state {
         State::Running => true,
-        State::Yielded => home.has_pending(slot),
+        State::Yielded => home.is_due(slot),
         State::Faulted | State::Terminated(_) => false,
     }
 }
@@ -308,8 +309,8 @@ impl Machine {
         }
     }
 
-    /// The turn of a process that waits: the first of its pending upcalls is delivered, if there is
-    /// one. The registers are set for it, since it is the next to run. It shows nothing.
+    /// The turn of a process that has yielded: what is due to it is delivered, if anything is. The
+    /// registers are set for it, since it is the next to run. It shows nothing.
     fn wake(&mut self, process: &mut Process, slot: Slot)
         requires turn { MayTurnOn 1 slot self.old process.old }
         requires waits { process.old.state ≡ Yielded }
@@ -317,7 +318,7 @@ impl Machine {
         ensures leaves { LeavesOn 1 slot self.old self.new process.new }
     {
         self.guard.switch_to(&self.home, slot);
-        if self.home.has_pending(slot) {
+        if self.home.is_due(slot) {
             process.count_turn();
             deliver(&mut self.home, process, slot);
         }

@@ -185,7 +185,8 @@ receives ring own = by_waiting (waiting_in console_reads own) refl
         then_told _ console_reads None
         (scheduling console.console 2 (console.read_status own ∷ length (bytes read) ∷ 0 ∷ [])
         (with_written ReadWrite console.console 1 0 (bytes read) own)) own
-        (put_beside own _ (serves _ _ _ _ own (written_size ReadWrite refl console.console 1 0 (bytes read) own)) Reads read None refl
+        (put_beside own _ (serves _ _ _ _ own (written_size ReadWrite refl console.console 1 0 (bytes read) own)) Reads
+        read None refl
         (asks console_reads own read is))
 
 -- a step of a request for random bytes
@@ -198,7 +199,8 @@ serves_drawing : (left : ℕ) (request : RandomRequest) (own : Own) (word : Opti
     → Serves own (own_after (random.drawing left request own word).step)
 serves_drawing left request own None = serves _ _ _ own.ram own (as_before own)
 serves_drawing left request own (Some word) =
-    serves_if own (nat_le left 4) _ _ (serves _ _ _ _ own (written_size ReadWrite refl random.random 0 request.written _ own))
+    serves_if own (nat_le left 4) _ _ (serves _ _ _ _ own
+    (written_size ReadWrite refl random.random 0 request.written _ own))
     (serves_silently _ own (written_size ReadWrite refl random.random 0 request.written _ own))
 
 pub serves_progress : (word : Option ℕ) (request : RandomRequest) (own : Own)

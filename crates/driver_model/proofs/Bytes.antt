@@ -27,7 +27,8 @@ use Rattle.driver_model.specs.Storage as storage
 use Rattle.driver_model.specs.Storage.{storages}
 use Rattle.driver_model.specs.Requests.{RequestKind, keeping_request, waiting_in, with_request}
 use Rattle.driver_model.specs.Steps.{DriverStep, own_after, silently}
-use Rattle.driver_model.specs.Bytes.{AnswersWriteInBuffers, CommandsWriteInBuffers, ShowsClock, clock_buffer, input_buffer, shows_clock}
+use Rattle.driver_model.specs.Bytes.{AnswersWriteInBuffers, CommandsWriteInBuffers, ShowsClock, clock_buffer}
+use Rattle.driver_model.specs.Bytes.{input_buffer, shows_clock}
 use Rattle.driver_model.specs.Bytes.{stored_buffer, word_buffer}
 use Rattle.driver_model.specs.Commands.{Commanded}
 use Rattle.driver_model.specs.Drivers.{CommandContext}
@@ -190,7 +191,8 @@ module _ (law : OnlyWritesChangeBytes) where
       let count = min request.length (stored_buffer own).1 in
       let copied = slice_range bytes request.offset (request.offset + count) in
       then_scheduled (IsInside (stored_buffer own)) storage.storage 0 (count ∷ 0 ∷ 0 ∷ []) own
-      (with_written ReadWrite storage.storage 0 0 copied own) (law.written ReadWrite storage.storage 0 0 copied own refl whole)
+      (with_written ReadWrite storage.storage 0 0 copied own)
+      (law.written ReadWrite storage.storage 0 0 copied own refl whole)
   moving Write flash bytes request own whole =
       stays_scheduled (IsInside (stored_buffer own)) storage.storage 1
       (min request.length (held ReadOnly storage.storage 0 own).1 ∷ 0 ∷ 0 ∷ []) own
@@ -212,7 +214,8 @@ module _ (law : OnlyWritesChangeBytes) where
         (λ at before after. refl) (λ write at before after. refl);
     write_done = λ own. if_waits (λ (s : DriverStep). KeepsBytes own (own_after s)) (console.write_completing own)
         (silently own) (waiting_in console_writes own)
-        (λ at before after. refl) (λ write. told_kept console.console 1 (write.taken ∷ 0 ∷ 0 ∷ []) console.console _ own);
+        (λ at before after. refl) (λ write. told_kept console.console 1 (write.taken ∷ 0 ∷ 0 ∷ []) console.console _
+        own);
     input = λ bytes own whole.
         if_waits (λ (s : DriverStep). ChangesAt (IsInside (input_buffer own)) own (own_after s))
         (console.reading_in bytes own)

@@ -40,24 +40,25 @@ begun request_kind request own = record {
 }
 
 -- what holds of each thing that may come of a command to a driver
-pub record OfEachOutcome (driver number : ℕ) (around : CommandContext) (own : Own) (P : Commanded → Type 0) : Type 0 where
-  pub refuses : (rule : CallRule) → P (refusing rule own)
-  pub replies : (reply : Reply) → P (accepting reply own)
-  pub lights : (led : ℕ) (switch : Switch)
-      → P (record { answer = Ok Success; step = silently own; acts = Lights led switch ∷ [] })
-  pub shows : shows_clock driver number ≡ true → P (accepting (SuccessU32 around.now) (showing around.now own))
-  pub arms : (alarm : Armed) → has_place alarm_driver own ≡ true
-      → P (accepting (SuccessU32 (expiration alarm)) (with_alarm (Some alarm) (own_entering alarm_driver own)))
-  pub stops : P (accepting Success (with_alarm None own))
-  pub cancels : P (record { answer = Ok Success; step = dropping_read own; acts = Leaves Reads ∷ [] })
-  pub writes : (request : WaitingWrite) → has_place console_writes.driver own ≡ true
-      → request_in console_writes own ≡ None → P (begun console_writes request own)
-  pub reads : (request : WaitingRead) → has_place console_reads.driver own ≡ true → request_in console_reads own ≡ None
-      → P (begun console_reads request own)
-  pub draws : (request : RandomRequest) → has_place randoms.driver own ≡ true → request_in randoms own ≡ None
-      → P (begun randoms request own)
-  pub stores : (request : StorageRequest) → request.offset + request.length ≤ around.storage
-      → has_place storages.driver own ≡ true → request_in storages own ≡ None → P (begun storages request own)
+pub record OfEachOutcome (driver number : ℕ) (around : CommandContext) (own : Own) (P : Commanded → Type 0) : Type 0
+  where
+    pub refuses : (rule : CallRule) → P (refusing rule own)
+    pub replies : (reply : Reply) → P (accepting reply own)
+    pub lights : (led : ℕ) (switch : Switch)
+        → P (record { answer = Ok Success; step = silently own; acts = Lights led switch ∷ [] })
+    pub shows : shows_clock driver number ≡ true → P (accepting (SuccessU32 around.now) (showing around.now own))
+    pub arms : (alarm : Armed) → has_place alarm_driver own ≡ true
+        → P (accepting (SuccessU32 (expiration alarm)) (with_alarm (Some alarm) (own_entering alarm_driver own)))
+    pub stops : P (accepting Success (with_alarm None own))
+    pub cancels : P (record { answer = Ok Success; step = dropping_read own; acts = Leaves Reads ∷ [] })
+    pub writes : (request : WaitingWrite) → has_place console_writes.driver own ≡ true
+        → request_in console_writes own ≡ None → P (begun console_writes request own)
+    pub reads : (request : WaitingRead) → has_place console_reads.driver own ≡ true → request_in console_reads own ≡ None
+        → P (begun console_reads request own)
+    pub draws : (request : RandomRequest) → has_place randoms.driver own ≡ true → request_in randoms own ≡ None
+        → P (begun randoms request own)
+    pub stores : (request : StorageRequest) → request.offset + request.length ≤ around.storage
+        → has_place storages.driver own ≡ true → request_in storages own ≡ None → P (begun storages request own)
 
 by_test : (P : Commanded → Type 0) (b : Bool) (c d : Commanded) → (b ≡ true → P c) → P d → P (cond b c d)
 by_test P true c d p q = p refl

@@ -1,33 +1,26 @@
 -- What an upcall that is scheduled changes of a process.
 use Rattle.std.proofs.Common.{◌≡◌, ◌≤◌, ◌<◌, nat_lt, length, ℕ, ◌+◌, ◌==◌, Bool, true, false, cond, List, [], ◌∷◌, ◌++◌}
-use Rattle.std.proofs.Common.{refl, ap, sym, subst, ◌∙◌, arith, eq-eqb}
+use Rattle.std.proofs.Common.{None, Some, refl, ap, sym, subst, ◌∙◌, arith}
 use Rattle.std.proofs.lemmas.Bool.{false≢true}
 use Rattle.std.proofs.lemmas.Bool.Decides.{nat_tests}
-use Rattle.std.proofs.lemmas.List.{append-nil, length-append}
-use Rattle.std.proofs.lemmas.List.Elements.{All-nil, All-cons}
+use Rattle.std.proofs.lemmas.List.{length-append}
 use Rattle.tk_base.specs.declared.limits.TheConstants.{PENDING_LIMIT}
 use Rattle.tk_base.specs.declared.upcall.Upcall.{Upcall}
-use Rattle.upcall_queue.specs.Pending.{has_room}
-use Rattle.process_model.specs.Own.{Own, kernel_break_of}
-use Rattle.process_model.specs.Handed.{held}
-use Rattle.process_model.specs.Served.{queueing, own_scheduled, upcall_of}
+use Rattle.tk_base.specs.declared.upcall.Wait.TheVariants.{Given}
+use Rattle.upcall_queue.specs.Pending.{awaits, has_room, scheduled}
+use Rattle.process_model.specs.Own.{Own, kernel_break_of, with_inbox}
+use Rattle.process_model.specs.Served.{own_scheduled, upcall_of}
 use Rattle.process_model.specs.Changes.{IsWhole}
-use Rattle.tk_base.specs.declared.kinds.PairKind.TheVariants.{Upcall as Upcalls}
 use Rattle.driver_model.specs.Laws.{IsAtMostOneMore}
 use Rattle.driver_model.specs.Keeping.{KeepsLimit}
-use Rattle.driver_model.specs.Upcalls.{IsHeld, SchedulesHeld}
+use Rattle.driver_model.specs.Upcalls.{SchedulesHeld}
 
 pub none_more : (dropped : ℕ) → IsAtMostOneMore dropped dropped
 none_more dropped = record { not_less = omega arith; not_more = omega arith }
 
--- nothing was scheduled where the same waits
-pub schedules_none : (own o : Own) → o.inbox.pending ≡ own.inbox.pending → SchedulesHeld own o
-schedules_none own o same = record {
-  more = [];
-  pending = same ∙ sym (append-nil own.inbox.pending);
-  one = omega arith;
-  each = All-nil (IsHeld own);
-}
+-- nothing was scheduled where the same is
+pub schedules_none : (own o : Own) → o.inbox ≡ own.inbox → SchedulesHeld own o
+schedules_none own o same = record { upcall = None; inbox = same; held = tt }
 
 -- where the same waits and is dropped
 pub same_limit : (own : Own) → KeepsLimit own own
@@ -39,59 +32,53 @@ more_fits n h = grind (arith, nat_tests)
 is_less : (n m : ℕ) → n < m → nat_lt n m ≡ true
 is_less n m h = grind (arith, nat_tests)
 
--- what waits to be delivered, and one more that is dropped
+-- at most as many wait as may, and one more is dropped at most
+record Counted (own o : Own) : Type 0 where
+  limit : KeepsLimit own o
+  dropped : IsAtMostOneMore own.inbox.dropped o.inbox.dropped
+
+counted : (upcall : Upcall) (own : Own) → Counted own (with_inbox (scheduled upcall) own)
+counted upcall own =
+    by_test (awaits own.inbox.wait upcall) (upcall.function == 0) (has_room own.inbox.pending) refl
+  where
+    by_test : (awaited null room : Bool) → has_room own.inbox.pending ≡ room
+        → Counted own (record own {
+          inbox = cond awaited (record own.inbox { wait = Given upcall.args }) (cond null own.inbox
+              (cond room (record own.inbox { pending = own.inbox.pending ++ upcall ∷ [] })
+              (record own.inbox { dropped = own.inbox.dropped + 1 })));
+        })
+    by_test true null room h =
+        record { limit = record { limit = λ few. few; room = λ few. refl }; dropped = none_more own.inbox.dropped }
+    by_test false true room h = record { limit = same_limit own; dropped = none_more own.inbox.dropped }
+    by_test false false true h = record {
+      limit = record { limit = λ few. rw length-append (more_fits (length own.inbox.pending) h); room = λ few. refl };
+      dropped = none_more own.inbox.dropped;
+    }
+    by_test false false false h = record {
+      limit = record {
+        limit = λ few. few;
+        room = λ few. absurd (false≢true (sym h ∙ is_less (length own.inbox.pending) PENDING_LIMIT few));
+      };
+      dropped = record { not_less = omega arith; not_more = omega arith };
+    }
+
+-- what is scheduled, and one upcall more
 pub record Queues (own o : Own) : Type 0 where
   pub limit : KeepsLimit own o
   pub rest : o ≡ record own { inbox = o.inbox }
   pub dropped : IsAtMostOneMore own.inbox.dropped o.inbox.dropped
   pub upcalls : SchedulesHeld own o
 
-queues : (upcall : Upcall) (own : Own) → held Upcalls upcall.driver upcall.number own ≡ (upcall.function, upcall.app)
-    → Queues own (queueing upcall own)
-queues upcall own is = by_function (upcall.function == 0) (has_room own.inbox.pending) refl refl
-  where
-    by_function : (null room : Bool) → (upcall.function == 0) ≡ null → has_room own.inbox.pending ≡ room
-        → Queues own (record own {
-          inbox = cond null own.inbox
-              (cond room (record own.inbox { pending = own.inbox.pending ++ upcall ∷ [] })
-              (record own.inbox { dropped = own.inbox.dropped + 1 }));
-        })
-    by_function true room e h =
-        record {
-          limit = same_limit own;
-          rest = refl;
-          dropped = none_more own.inbox.dropped;
-          upcalls =
-              schedules_none own _ refl;
-        }
-    by_function false true e h = record {
-      limit = record { limit = λ few. rw length-append (more_fits (length own.inbox.pending) h); room = λ few. refl };
-      rest = refl;
-      dropped = none_more own.inbox.dropped;
-      upcalls = record {
-        more = upcall ∷ [];
-        pending = refl;
-        one = omega arith;
-        each = All-cons (IsHeld own) upcall [] (is, λ null. false≢true (sym e ∙ eq-eqb upcall.function 0 null))
-            (All-nil (IsHeld own));
-      };
-    }
-    by_function false false e h =
-        record {
-          limit =
-              record {
-                limit = λ few. few;
-                room =
-                    λ few. absurd (false≢true (sym h ∙ is_less (length own.inbox.pending) PENDING_LIMIT few));
-              };
-          rest = refl;
-          dropped =
-              record { not_less = omega arith; not_more = omega arith };
-          upcalls = schedules_none own _ refl;
-        }
-
 pub schedules : (driver number : ℕ) (args : List ℕ) (own : Own) → Queues own (own_scheduled driver number args own)
-schedules driver number args own = queues (upcall_of driver number args own) own refl
+schedules driver number args own =
+    let upcall = upcall_of driver number args own in
+    let c = counted upcall own in
+    record {
+      limit = c.limit;
+      rest = refl;
+      dropped = c.dropped;
+      upcalls = record { upcall = Some upcall; inbox = refl; held = refl };
+    }
 
 -- there are as many bytes as before, where what is a process's own is whole, and its break not above its kernel break
 abbrev pub AsMany : Own → List ℕ → Type 0
@@ -119,13 +106,7 @@ serves driver number args ram own size =
       rest = subst (λ (o : Own). o ≡ record own { ram = o.ram; inbox = o.inbox }) (sym q.rest)
           refl;
       dropped = q.dropped;
-      upcalls = record {
-        more = q.upcalls.more;
-        pending = q.upcalls.pending;
-        one = q.upcalls.one;
-        each =
-            q.upcalls.each;
-      };
+      upcalls = record { upcall = q.upcalls.upcall; inbox = q.upcalls.inbox; held = q.upcalls.held };
     }
 
 -- it has bytes written, or not

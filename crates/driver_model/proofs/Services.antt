@@ -1,5 +1,6 @@
 -- The one walk over all that drivers do to a process.
-use Rattle.std.proofs.Common.{◌≡◌, true, ℕ, List, [], ◌∷◌, length, Option, None, Some, option_map, unwrap_or, refl, subst}
+use Rattle.std.proofs.Common.{◌≡◌, true, ℕ, List, [], ◌∷◌, length, Option, None, Some, option_map, unwrap_or, refl}
+use Rattle.std.proofs.Common.{subst}
 use Rattle.tk_base.specs.declared.kinds.PairKind.TheVariants.{ReadWrite}
 use Rattle.grant_values.specs.declared.alarm.Armed.{Armed}
 use Rattle.grant_values.specs.Values.{KeptValue}

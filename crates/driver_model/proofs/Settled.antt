@@ -15,7 +15,8 @@ use Rattle.tk_base.proofs.Ranks.{same_kind}
 use Rattle.process_layout.specs.Bounds.{Bounds}
 use Rattle.process_layout.specs.Interval.{lies_within}
 use Rattle.process_model.specs.Own.{Own, kernel_break_of}
-use Rattle.process_model.specs.Handed.{own_entering, handing, has_place, held, lies_in_ram, marked, may_keep, may_share, raised}
+use Rattle.process_model.specs.Handed.{own_entering, handing, has_place, held, lies_in_ram, marked, may_keep, may_share}
+use Rattle.process_model.specs.Handed.{raised}
 use Rattle.process_model.specs.Served.{with_kept}
 use Rattle.process_model.specs.Changes.{IsWhole}
 use Rattle.process_model.specs.Pairs.{HandsOne, HandsTheSame, OnlyHandingChangesPairs}

@@ -71,13 +71,15 @@ in_block ram bytes start from size offset brk place low = by_room (cases_lt offs
     by_room (inl room) (inr none) = absurd (omega (arith, room, none))
     by_room (inr full) placed = let short = length-take (size - offset) bytes in inr (omega (arith, full, short))
 
-pub written_size : (kind : PairKind) → IsTrue (is_writable kind) → (driver number offset : ℕ) (bytes : List ℕ) (own : Own)
+pub written_size : (kind : PairKind) → IsTrue (is_writable kind) → (driver number offset : ℕ) (bytes : List ℕ)
+    (own : Own)
     → AsMany own (with_written kind driver number offset bytes own).ram
 written_size kind can driver number offset bytes own whole low =
     let buffer = held kind driver number own in
     over_size own.ram _ _
     (in_block own.ram bytes own.layout.start buffer.0 buffer.1 offset own.layout.brk
-    (lies_in own.layout buffer (keeps_in_ram kind own.layout buffer can (whole.buffers.each kind driver number))) (omega (arith, whole.bytes, low)))
+    (lies_in own.layout buffer (keeps_in_ram kind own.layout buffer can (whole.buffers.each kind driver number)))
+    (omega (arith, whole.bytes, low)))
 
 -- to show the clock leaves as many bytes
 pub showing_size : (now : ℕ) (own : Own) → AsMany own (showing now own).ram

@@ -10,12 +10,7 @@ drivers_schedule_held =
       same = λ own. schedules_none own own refl;
       keeps = λ driver value own. schedules_none own _ refl;
       enters = λ driver value own room. schedules_none own _ refl;
-      serves = λ driver value own o s. record {
-        more = s.upcalls.more;
-        pending = s.upcalls.pending;
-        one =
-            s.upcalls.one;
-        each = s.upcalls.each;
-      };
+      serves = λ driver value own o s.
+          record { upcall = s.upcalls.upcall; inbox = s.upcalls.inbox; held = s.upcalls.held };
       shows = λ own ram size. schedules_none own _ refl;
     })

@@ -1,5 +1,6 @@
 -- The alarm (Tock's driver 0x0): a process arms one alarm by a reference and a delta, in ticks of a clock of 32 bits.
--- The clock that it shows in a buffer which the process reads (Tock's userspace-readable allow) is this board's own rule.
+-- The clock that it shows in a buffer which the process reads (Tock's userspace-readable allow) is this board's own
+-- rule.
 use Rattle.std.specs.Prelude.{ℕ, ◌+◌, ◌-◌, ◌%◌, ◌^◌, min, nat_le, Bool, if◌then◌else◌, List, [], ◌∷◌, find, fold}
 use Rattle.std.specs.Prelude.{slice_get, Option, None, Some, is_some, option_and_then, option_map}
 use Rattle.std.specs.Int.{w32, to_le_bytes}

@@ -1,4 +1,5 @@
-//! What a driver does for a process: what comes of its commands, and what its device's answers change.
+//! What a driver does for a process: what comes of its commands, and what its device's answers
+//! change.
 #![tactic(auto)]
 
 mod drivers;

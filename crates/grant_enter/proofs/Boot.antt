@@ -11,6 +11,7 @@ use Rattle.board_memory.specs.Memory.{MemoryBytes}
 use Rattle.grant_model.specs.Grants.{Grant}
 use Rattle.grant_model.specs.Encoding.{decode_grants}
 use Rattle.grant_model.specs.Laws.{IsReadBack}
+use Rattle.upcall_queue.specs.Pending.{empty}
 use Rattle.process_model.specs.declared.place.Footprint.{Footprint}
 use Rattle.process_model.specs.Own.{Own, opened}
 use Rattle.grant_enter.specs.declared.seat.Seat.{Seat}
@@ -105,7 +106,7 @@ module _ (law : IsReadBack) (flash : List ℕ) (ram : ℕ) (fs : List Footprint)
         layout = bounds_of e;
         ram = a;
         grants = gs;
-        inbox = record { pending = []; dropped = 0 };
+        inbox = empty;
         life = 0;
         lives = true;
       })

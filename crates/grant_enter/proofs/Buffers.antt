@@ -63,7 +63,8 @@ module _ (m : MemoryBytes) (seat : Seat) (t : SitsIn m seat) (kind : PairKind) (
       lies_by kind (bounds_of seat.layout) n (grant_of driver gs)
       (λ g is. all_of (Holds (bounds_of seat.layout)) driver g gs t.seated.kept.held is)
 
-  pub below_held : IsTrue (is_writable kind) → LiesBelowMark (bounds_of seat.layout) (held kind driver n (own_in m.ram seat))
+  pub below_held : IsTrue (is_writable kind) → LiesBelowMark (bounds_of seat.layout)
+      (held kind driver n (own_in m.ram seat))
   below_held can = below_mark kind (bounds_of seat.layout) (held kind driver n (own_in m.ram seat)) can lies_held
 
 -- where a buffer lies, it may be allowed
@@ -162,7 +163,8 @@ module _ (m : MemoryBytes) (seat : Seat) (s : FitsMemory (length m.flash) (lengt
       which false true f g h = g refl
       which false false f g h = absurd (cc)
 
-  read_by : (buffer : ℕ × ℕ) (a b : Bool) → buffer.1 == 0 ≡ a → lies_in_ram (bounds_of seat.layout) buffer.0 buffer.1 ≡ b
+  read_by : (buffer : ℕ × ℕ) (a b : Bool) → buffer.1 == 0 ≡ a → lies_in_ram (bounds_of seat.layout) buffer.0 buffer.1
+      ≡ b
       → MayBeRead (bounds_of seat.layout) buffer
       → cond a [] (cond b (ram_between m.ram buffer.0 (buffer.0 + buffer.1))
       (slice_range m.flash (buffer.0 - FLASH_START) (buffer.0 + buffer.1 - FLASH_START)))
@@ -181,7 +183,8 @@ module _ (m : MemoryBytes) (seat : Seat) (s : FitsMemory (length m.flash) (lengt
   -- what is lent to be read
   pub read_is : (buffer : ℕ × ℕ) → MayBeRead (bounds_of seat.layout) buffer
       → buffer_bytes m seat.layout buffer ≡ bytes_at (flash_byte m.flash) (own_in m.ram seat) buffer
-  read_is buffer may = read_by buffer (buffer.1 == 0) (lies_in_ram (bounds_of seat.layout) buffer.0 buffer.1) refl refl may
+  read_is buffer may = read_by buffer (buffer.1 == 0) (lies_in_ram (bounds_of seat.layout) buffer.0 buffer.1) refl refl
+      may
 
   -- where a buffer that may be written lies in memory, which has no bytes where its size is 0
   pub record EndsAt (buffer : ℕ × ℕ) (from to : ℕ) : Type 0 where
@@ -216,7 +219,8 @@ module _ (m : MemoryBytes) (seat : Seat) (s : FitsMemory (length m.flash) (lengt
       → EndsAt buffer (buffer_start seat.layout buffer) (last_of seat.layout buffer)
   ends_at buffer lies = ends_by buffer (buffer.1 == 0) refl lies
 
-  pub small : (buffer : ℕ × ℕ) → LiesBelowMark (bounds_of seat.layout) buffer → buffer.0 < 2 ^ 32 → buffer.0 + buffer.1 < 2 ^ 32
+  pub small : (buffer : ℕ × ℕ) → LiesBelowMark (bounds_of seat.layout) buffer → buffer.0 < 2 ^ 32
+      → buffer.0 + buffer.1 < 2 ^ 32
   small buffer lies fits = by_size (buffer.1 == 0) refl
     where
       by_size : (a : Bool) → buffer.1 == 0 ≡ a → buffer.0 + buffer.1 < 2 ^ 32

@@ -1,7 +1,6 @@
 -- A seat once its process has handed a pair to a driver.
 use Rattle.std.proofs.Common.{◌≡◌, ℕ, ◌<◌, IsTrue, List, sym, ap, ap₂, subst, ◌∙◌}
 use Rattle.std.specs.List.{AllByRecursion}
-use Rattle.tk_base.specs.declared.upcall.Upcall.{Upcall}
 use Rattle.process_layout.specs.LayoutView.{LayoutView}
 use Rattle.process_layout.specs.Bounds.{Bounds, bounds_of}
 use Rattle.board_memory.specs.Memory.{MemoryBytes}
@@ -34,28 +33,28 @@ module _ (m : MemoryBytes) (seat : Seat) (t : SitsIn m seat) (h : Handover) (m' 
       sym (only_mark h.kind h.pair (bounds_of f))
       ∙ ap (marked h.kind h.pair) (same_bounds h.driver m seat t f sw.layout)
 
-  pub own_handed : inbox.pending ≡ still_pending h.kind h.driver h.number seat.inbox.pending
-      → inbox.dropped ≡ seat.inbox.dropped
+  abbrev inbox_handed : Inbox
+  inbox_handed =
+      record seat.inbox { pending = still_pending h.kind h.driver h.number seat.inbox.pending }
+
+  pub own_handed : inbox ≡ inbox_handed
       → own_in m'.ram (record seat { layout = now; inbox = inbox })
       ≡ handing h.kind h.driver h.number h.pair (own_in m.ram seat)
-  own_handed queue dropped =
+  own_handed left =
       let gs = swapped h (decode_grants (kernel_in m.ram seat.layout)) in
-      let made : Bounds → List ℕ → List Grant → List Upcall → ℕ
-      → Own = λ e a gs q d.
-      record {
+      let made : Bounds → List ℕ → List Grant → Inbox → Own = λ e a gs i. record {
         object = seat.object;
         layout = e;
         ram = a;
         grants = gs;
-        inbox = record { pending = q; dropped = d };
+        inbox = i;
         life = seat.life;
         lives = seat.lives;
       } in
-      ap₂ (λ (a : List ℕ) (gs : List Grant). made (bounds_of now) a gs inbox.pending inbox.dropped)
+      ap₂ (λ (a : List ℕ) (gs : List Grant). made (bounds_of now) a gs inbox)
       (sw.grants.app ∙ still_own h.driver m seat t f sw.layout) sw.grants.tells.grants
-      ∙ ap₂ (made (bounds_of now) (own_entering h.driver (own_in m.ram seat)).ram gs) queue dropped
-      ∙ ap (λ (e : Bounds). made e (own_entering h.driver (own_in m.ram seat)).ram gs
-      (still_pending h.kind h.driver h.number seat.inbox.pending) seat.inbox.dropped) bounds_now
+      ∙ ap (made (bounds_of now) (own_entering h.driver (own_in m.ram seat)).ram gs) left
+      ∙ ap (λ (e : Bounds). made e (own_entering h.driver (own_in m.ram seat)).ram gs inbox_handed) bounds_now
 
   -- it is a seat as before
   pub hand_reseats : PairsStandByKind → CanHand h → IsTrue (may_share h.kind (bounds_of seat.layout) h.pair)
@@ -63,7 +62,8 @@ module _ (m : MemoryBytes) (seat : Seat) (t : SitsIn m seat) (h : Handover) (m' 
   hand_reseats law can may =
       let before = decode_grants (kernel_in m.ram seat.layout) in
       let small : h.number < count_of h.kind (shape_of h.driver) =
-      subst (λ (c : Counts). h.number < count_of h.kind c) (sym (shape_is h.driver h.counts can.counts_are)) can.below in
+      subst (λ (c : Counts). h.number < count_of h.kind c) (sym (shape_is h.driver h.counts can.counts_are))
+      can.below in
       let held : AllByRecursion (Holds (noted h.kind h.pair (bounds_of f))) (swapped h before) =
       subst (λ (b : Bounds). AllByRecursion (Holds (noted h.kind h.pair b)) (swapped h before))
       (sym (same_bounds h.driver m seat t f sw.layout))

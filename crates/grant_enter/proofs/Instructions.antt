@@ -29,7 +29,8 @@ use Rattle.grant_enter.specs.Seats.{IsKept, Reseats, SitsIn, owned, kernel_in, o
 use Rattle.grant_enter.proofs.Windows.{length_window, windows_same, put_outside, put_window, widened}
 use Rattle.grant_enter.proofs.Sight.{same_turn, store_lies, stores_in_ram}
 use Rattle.grant_enter.proofs.Blocks.{break_is}
-use Rattle.grant_enter.proofs.Moves.{Reads, layout_before, own_layout, own_before, ram_reseats, same_memory, sits_before}
+use Rattle.grant_enter.proofs.Moves.{Reads, layout_before, own_layout, own_before, ram_reseats, same_memory}
+use Rattle.grant_enter.proofs.Moves.{sits_before}
 use Rattle.grant_enter.proofs.Moves.{still_shows}
 
 -- as much RAM as before
@@ -55,7 +56,8 @@ pub record Writes (m : MemoryBytes) (s : Seat) (w : Option Write) : Type 0 where
   pub own : own_in (ram_after RAM_START w m.ram) s
       ≡ record (own_in m.ram s) { ram = ram_after s.layout.start w (own_in m.ram s).ram }
 
-pub writes_own : AStoreIsPut → (m : MemoryBytes) (pmp : List Entry) (s : Seat) → SitsIn m s → Protect pmp (bounds_of s.layout)
+pub writes_own : AStoreIsPut → (m : MemoryBytes) (pmp : List Entry) (s : Seat) → SitsIn m s
+    → Protect pmp (bounds_of s.layout)
     → (w : Option Write) → IfSome w (λ x. denied_by_registers pmp Store x.address x.width ≡ None) → Writes m s w
 unfolding ram_after
 writes_own law m pmp s sits p None d = record { reseats = same_memory m s s refl refl sits; own = refl }
@@ -81,7 +83,11 @@ writes_own law m pmp s sits p (Some w) d =
           ram_reseats m s s ram (widened m.ram ram at (at + width_bytes w.width) (s.layout.start - RAM_START)
           (s.layout.end - RAM_START) outside (omega (arith, l.0))
           (omega (arith, l.0, l.1, t.from, t.ordered.grants, t.ordered.end))) refl refl t
-          (record { object = sits.seated.object; kept = subst (IsKept (bounds_of s.layout)) (sym kernel) sits.seated.kept });
+          (record {
+            object = sits.seated.object;
+            kept = subst (IsKept (bounds_of s.layout)) (sym kernel)
+                sits.seated.kept;
+          });
       own = ap₂ (owned s) app kernel;
     }
   where

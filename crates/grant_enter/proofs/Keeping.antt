@@ -129,7 +129,11 @@ module _ (driver : ℕ) (counts : Counts) (m : MemoryBytes) (seat : Seat) (l : I
       (ram_reseats m seat seat ys elsewhere refl refl s (record {
         object = l.sits.seated.object;
         kept = subst (IsKept (bounds_of seat.layout)) (sym kernel_is)
-            (record { laid = tells.laid; held = subst (AllByRecursion (Holds (bounds_of seat.layout))) (sym tells.grants) held });
+            (record {
+              laid = tells.laid;
+              held = subst (AllByRecursion (Holds (bounds_of seat.layout)))
+                  (sym tells.grants) held;
+            });
       }))
 
 -- a value stands where it stood once its driver has served the process

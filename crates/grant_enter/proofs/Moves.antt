@@ -8,7 +8,8 @@ use Rattle.std.specs.Vec.{with_item}
 use Rattle.std.proofs.lemmas.Bool.Decides.{nat_tests}
 use Rattle.std.proofs.lemmas.List.{get_or-set_same, length-map, set-get_or}
 use Rattle.tk_base.specs.Numbers.{rounded_up}
-use Rattle.tk_base.specs.declared.upcall.Upcall.{Upcall}
+use Rattle.upcall_queue.specs.declared.inbox.Inbox.{Inbox}
+use Rattle.upcall_queue.specs.Pending.{cleared}
 use Rattle.grant_model.specs.Grants.{Grant}
 use Rattle.tk_base.specs.declared.access.TheConstants.{RAM_START}
 use Rattle.process_layout.specs.LayoutView.{LayoutView, with_break}
@@ -67,7 +68,8 @@ pub record Reads (h : Inside) (old : Homes) (slot index : ℕ) (seat : Seat) : T
 -- the seat of a slot, and that it is read
 abbrev pub seat_of : Inside → ℕ → Seat
 seat_of h slot =
-    slice_index_or h.seats.items slot (first_seat (record { object = nobody.object; layout = layout_within nobody.layout 0 }))
+    slice_index_or h.seats.items slot (first_seat
+    (record { object = nobody.object; layout = layout_within nobody.layout 0 }))
 
 pub reads_seat : (h : Inside) (old : Homes) (slot : ℕ) → IsHome h → homes_of h ≡ old → slot < length old.owns
     → Reads h old slot slot (seat_of h slot)
@@ -413,19 +415,16 @@ break_reseats m seat new e false t permits was kept =
     subst (λ (x : LayoutView). Reseats m seat m (record seat { layout = x })) (sym kept)
     (same_memory m seat seat refl refl t)
 
--- so do other pending upcalls, and whether the process lives
-pub requeued : (m : MemoryBytes) (seat : Seat) (queue : List Upcall) (lives : Bool) → SitsIn m seat
-    → Reseats m seat m (record seat { inbox = record seat.inbox { pending = queue }; lives = lives })
-requeued m seat queue lives t =
-    same_memory m seat (record seat { inbox = record seat.inbox { pending = queue }; lives = lives }) refl refl
+-- so does what is scheduled, and whether the process lives
+pub requeued : (m : MemoryBytes) (seat : Seat) (inbox : Inbox) (lives : Bool) → SitsIn m seat
+    → Reseats m seat m (record seat { inbox = inbox; lives = lives })
+requeued m seat inbox lives t =
+    same_memory m seat (record seat { inbox = inbox; lives = lives }) refl refl
     (record { settled = t.settled; seated = record { object = t.seated.object; kept = t.seated.kept } })
 
-pub ended_own : (ram : List ℕ) (seat : Seat) (queue : List Upcall) → queue ≡ []
-    → own_in ram (record seat { inbox = record seat.inbox { pending = queue }; lives = false })
-    ≡ own_ended (own_in ram seat)
-ended_own ram seat queue none =
-    ap (λ (q : List Upcall). own_in ram (record seat { inbox = record seat.inbox { pending = q }; lives = false }))
-    none
+pub ended_own : (ram : List ℕ) (seat : Seat) (inbox : Inbox) → inbox ≡ cleared seat.inbox
+    → own_in ram (record seat { inbox = inbox; lives = false }) ≡ own_ended (own_in ram seat)
+ended_own ram seat inbox none = ap (λ (i : Inbox). own_in ram (record seat { inbox = i; lives = false })) none
 
 -- an empty part has no grants
 pub no_bytes : (xs : List ℕ) (a : ℕ) → slice_range xs a a ≡ []
@@ -495,7 +494,7 @@ module _ {h : Inside} {old : Homes} {slot index : ℕ} {seat : Seat} (r : Reads 
   abbrev seat_again : Seat
   seat_again = record seat {
     layout = with_break brk seat.layout;
-    inbox = record seat.inbox { pending = [] };
+    inbox = cleared seat.inbox;
     life =
         seat.life + 1;
     lives = true;
@@ -516,7 +515,8 @@ module _ {h : Inside} {old : Homes} {slot index : ℕ} {seat : Seat} (r : Reads 
           accessible_to =
               object.accessible_to;
         };
-        kept = subst (IsKept (bounds_of (with_break brk seat.layout))) (sym (no_bytes cleared_ram (seat.layout.end - RAM_START)))
+        kept = subst (IsKept (bounds_of (with_break brk seat.layout)))
+            (sym (no_bytes cleared_ram (seat.layout.end - RAM_START)))
             (none_kept law (bounds_of (with_break brk seat.layout)));
       })
 
@@ -533,23 +533,22 @@ module _ {h : Inside} {old : Homes} {slot index : ℕ} {seat : Seat} (r : Reads 
         layout = bounds_of (with_break brk seat.layout);
         ram = a;
         grants = gs;
-        inbox = record { pending = []; dropped = seat.inbox.dropped };
+        inbox = cleared seat.inbox;
         life = seat.life + 1;
         lives = true;
       }) whole none
 
   -- as the code leaves memory and the seat
-  pub restarts : IsReadBack → (m : MemoryBytes) (f : LayoutView) (queue : List Upcall) → f ≡ with_break brk seat.layout
-      → queue ≡ [] → m ≡ block_cleared f h.memory
-      → Restarts h.memory seat brk m (record seat
-      { layout = f; inbox = record seat.inbox { pending = queue }; life = seat.life + 1; lives = true })
-  restarts law m f queue at none left =
+  pub restarts : IsReadBack → (m : MemoryBytes) (f : LayoutView) (inbox : Inbox) → f ≡ with_break brk seat.layout
+      → inbox ≡ cleared seat.inbox → m ≡ block_cleared f h.memory
+      → Restarts h.memory seat brk m (record seat { layout = f; inbox = inbox; life = seat.life + 1; lives = true })
+  restarts law m f inbox at none left =
       let same : m ≡ block_cleared (with_break brk seat.layout) h.memory =
       left ∙ ap (λ (x : LayoutView). block_cleared x h.memory) at in
       subst (λ (x : MemoryBytes). Restarts h.memory seat brk x
-      (record seat_again { layout = f; inbox = record seat.inbox { pending = queue } })) (sym same)
+      (record seat_again { layout = f; inbox = inbox })) (sym same)
       (subst (λ (x : LayoutView). Restarts h.memory seat brk (block_cleared (with_break brk seat.layout) h.memory)
-      (record seat_again { layout = x; inbox = record seat.inbox { pending = queue } })) (sym at)
-      (subst (λ (q : List Upcall). Restarts h.memory seat brk (block_cleared (with_break brk seat.layout) h.memory)
-      (record seat_again { inbox = record seat.inbox { pending = q } })) (sym none)
+      (record seat_again { layout = x; inbox = inbox })) (sym at)
+      (subst (λ (i : Inbox). Restarts h.memory seat brk (block_cleared (with_break brk seat.layout) h.memory)
+      (record seat_again { inbox = i })) (sym none)
       (record { reseats = again_reseats law; own = again_own law })))

@@ -58,7 +58,8 @@ all_below e (Some g) holds =
 
 -- an address outside of a layout's own part lies in none of them
 outside : (e : LayoutView) (a : ℕ) (buffers : List (ℕ × ℕ)) → e.mark ≤ e.kernel_break
-    → (a < e.start) ⊎ (e.kernel_break ≤ a) → AllByRecursion (LiesBelowMark (bounds_of e)) buffers → LiesOutside a buffers
+    → (a < e.start) ⊎ (e.kernel_break ≤ a) → AllByRecursion (LiesBelowMark (bounds_of e)) buffers
+    → LiesOutside a buffers
 outside e a [] mark side all = tt
 outside e a (b ∷ bs) mark side all = (one (b.1 == 0) refl side, outside e a bs mark side all.1)
   where
@@ -127,7 +128,8 @@ module _ (driver : ℕ) (counts : Counts) (m : MemoryBytes) (seat : Seat) (l : I
 
   seated_with : (inbox : Inbox) → IsSeated (length m'.flash) m'.ram (record seat { inbox = inbox })
   seated_with inbox = record {
-    object = subst (λ (n : ℕ). HasObject n seat.object (bounds_of seat.layout)) (sym (ap length v.flash)) l.sits.seated.object;
+    object = subst (λ (n : ℕ). HasObject n seat.object (bounds_of seat.layout)) (sym (ap length v.flash))
+        l.sits.seated.object;
     kept = subst (IsKept (bounds_of seat.layout)) (sym kernel_same) l.sits.seated.kept;
   }
 

@@ -76,7 +76,8 @@ store_lies pmp e at width p none =
     (lies_within e.start e.brk at (width_bytes width)) (sym (p.deny Store at width) ∙ none))
 
 -- so it lies in RAM
-pub stores_in_ram : (flash ram : ℕ) (pmp : List Entry) (e : LayoutView) → FitsMemory flash ram e → Protect pmp (bounds_of e)
+pub stores_in_ram : (flash ram : ℕ) (pmp : List Entry) (e : LayoutView) → FitsMemory flash ram e
+    → Protect pmp (bounds_of e)
     → StoresLieIn ram pmp
 stores_in_ram flash ram pmp e s p = record {
   stores = λ at width none.

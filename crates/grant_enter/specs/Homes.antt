@@ -8,6 +8,7 @@ use Rattle.tk_base.specs.declared.process.ProcessId.{ProcessId}
 use Rattle.tk_base.specs.Regs.{Registers}
 use Rattle.rv32_model.specs.declared.turn_end.TurnEnd.{TurnEnd}
 use Rattle.rv32_model.specs.declared.turn_end.TurnEnd.TheVariants.{Went}
+use Rattle.upcall_queue.specs.Pending.{empty}
 use Rattle.process_layout.specs.LayoutView.{LayoutView}
 use Rattle.process_layout.specs.Bounds.{bounds_of}
 use Rattle.process_layout.specs.Ordered.{IsOrdered}
@@ -29,7 +30,7 @@ nobody = record {
   layout = record { flash_start = 0; flash_end = 0; start = 0; end = 0; brk = 0; mark = 0 };
   ram = [];
   grants = [];
-  inbox = record { pending = []; dropped = 0 };
+  inbox = empty;
   life = 0;
   lives = false;
 }

@@ -5,6 +5,7 @@ use Rattle.std.specs.Prelude.{◌++◌, length, map, take, drop, slice_range, Al
 use Rattle.std.specs.List.{AllByRecursion}
 use Rattle.tk_base.specs.declared.access.TheConstants.{FLASH_START, RAM_START}
 use Rattle.tk_base.specs.declared.limits.TheConstants.{FLASH_LIMIT}
+use Rattle.upcall_queue.specs.Pending.{empty}
 use Rattle.process_layout.specs.LayoutView.{LayoutView}
 use Rattle.process_layout.specs.Bounds.{Bounds, bounds_of}
 use Rattle.process_layout.specs.Interval.{lies_within}
@@ -32,7 +33,7 @@ abbrev pub first_seat : Footprint → Seat
 first_seat f = record {
   object = f.object;
   layout = f.layout;
-  inbox = record { pending = []; dropped = 0 };
+  inbox = empty;
   life = 0;
   lives = true;
 }

@@ -8,7 +8,7 @@ ghost use Rattle.board_memory.specs.Memory.{ram_between};
 ghost use Rattle.tk_base.specs.declared.kinds.PairKind.TheVariants.{ReadOnly, ReadWrite, Readable};
 ghost use Rattle.tk_base.specs.Kinds.{count_of, is_writable};
 ghost use Rattle.process_model.specs.Handed.{held};
-ghost use Rattle.upcall_queue.specs.Pending.{is_queued};
+ghost use Rattle.upcall_queue.specs.Pending.{is_taken};
 ghost use Rattle.process_model.specs.Flash.{flash_byte};
 ghost use Rattle.process_model.specs.Served.{bytes_at, ram_at, own_scheduled, upcall_of};
 ghost use Rattle.process_model.specs.Served.{with_written};
@@ -177,14 +177,15 @@ impl Entered<'_> {
     }
 
     /// Schedules the upcall of a number with three arguments (TRD 104, "Subscribe", "Yield"), and
-    /// says whether it waits now. The null upcall is not scheduled, and not counted; one that finds
-    /// no room is dropped and counted.
+    /// says whether the process gets it. One that the process waits for alone gives it these
+    /// arguments; else the null upcall is not scheduled, and not counted, and one that finds no
+    /// room is dropped and counted.
     pub fn schedule(&mut self, n: u32, args: [u32; 3]) -> bool
         requires lent { IsLent self.old }
         requires number { n < (seen self.old).counts.upcalls }
         requires dropped { (own_entered self.old).inbox.dropped + 1 < 2 ^ 32 }
         ensures answer { result
-            ≡ is_queued (upcall_of (seen self.old).driver n args (own_entered self.old))
+            ≡ is_taken (upcall_of (seen self.old).driver n args (own_entered self.old))
             (own_entered self.old).inbox }
         ensures own { own_entered self.new
             ≡ own_scheduled (seen self.old).driver n args (own_entered self.old) }

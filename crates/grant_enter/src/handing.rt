@@ -2,7 +2,8 @@
 ghost use Rattle.std.specs.Prelude.{◌≡◌, IsTrue, is_ok, IfOk, OnOk, OnErr};
 ghost use Rattle.grant_region.specs.Region.{parts_of};
 ghost use Rattle.swap_tables.specs.Swaps.{CanHand, CanSwap, SwapOutcome};
-ghost use Rattle.process_model.specs.Handed.{handing, has_place as has_place_in, held, marked, may_share, raised, still_pending};
+ghost use Rattle.process_model.specs.Handed.{handing, has_place as has_place_in, held, marked};
+ghost use Rattle.process_model.specs.Handed.{may_share, raised, still_pending};
 ghost use Rattle.process_layout.specs.Bounds.{bounds_of};
 ghost use Rattle.process_layout.specs.Ordered.{IsOrdered};
 ghost use Rattle.grant_enter.specs.Seats.{HasBlock, Reseats, SitsIn, SwapsIn, fits_in, own_in};
@@ -85,9 +86,9 @@ fn note_handed(layout: &mut Layout, inbox: &mut Inbox, handover: Handover)
     ensures layout { layout.new ≡ record layout.old {
       mark = (marked handover.kind handover.pair (bounds_of layout.old)).mark;
     } }
-    ensures pending { inbox.new.pending
-        ≡ still_pending handover.kind handover.driver handover.number inbox.old.pending }
-    ensures dropped { inbox.new.dropped ≡ inbox.old.dropped }
+    ensures inbox { inbox.new ≡ record inbox.old {
+      pending = still_pending handover.kind handover.driver handover.number inbox.old.pending;
+    } }
 {
     match handover.kind {
         PairKind::Upcall => inbox.pending.drop_of(handover.driver, handover.number),

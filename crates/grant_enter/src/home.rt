@@ -1,12 +1,16 @@
 //! The memory of all processes.
-ghost use Rattle.std.specs.Prelude.{◌≡◌, ◌==◌, ◌≤◌, ◌<◌, ◌+◌, ◌%◌, ◌^◌, ℕ, nat_lt, not, slice_get};
+ghost use Rattle.std.specs.Prelude.{◌≡◌, ◌≤◌, ◌<◌, ◌+◌, ◌%◌, ◌^◌, ℕ, nat_lt, slice_get};
 ghost use Rattle.std.specs.Prelude.{All, AllPairs, IsTrue, length, map, option_map, is_ok, IfOk};
-ghost use Rattle.std.specs.Prelude.{OnOk, OnErr, vec_len};
+ghost use Rattle.std.specs.Prelude.{OnOk, OnErr, OnSome, IfNone, is_some, vec_len};
 ghost use Rattle.std.specs.Bool.{OnTrue, OnFalse};
 ghost use Rattle.tk_base.specs.declared.limits.TheConstants.{FLASH_LIMIT};
 ghost use Rattle.process_layout.specs.Bounds.{permits_break};
 ghost use Rattle.board_memory.specs.Registers.{process_registers, Protect};
-ghost use Rattle.process_model.specs.Own.{block_of, kernel_break_of, layout_of, opened, with_moved_break, own_restarted, own_ended, without_first};
+ghost use Rattle.process_model.specs.Own.{block_of, kernel_break_of, layout_of, opened};
+ghost use Rattle.process_model.specs.Own.{with_moved_break, own_restarted, own_ended};
+ghost use Rattle.process_model.specs.Own.{with_inbox};
+ghost use Rattle.tk_base.specs.declared.upcall.Wait.TheVariants.{For};
+ghost use Rattle.upcall_queue.specs.Pending.{due, left_after, place_of, taken_at};
 ghost use Rattle.process_model.specs.Flag.{with_flag};
 ghost use Rattle.process_model.specs.Handed.{HoldsInPlace, own_entering, handing, has_place, held};
 ghost use Rattle.process_model.specs.Handed.{may_share};
@@ -30,7 +34,10 @@ use rv32_model::{TurnEnd, sees_only_permitted, writes_are_permitted};
 use std::alloc::Global;
 use std::marker::Model;
 use swap_tables::Handover;
-use tk_base::{Addr, Counts, NoMemory, PairKind, ProcessId, Regs, Slot, Upcall, a_store_is_put};
+use tk_base::{
+    Addr, Counts, NoMemory, PairKind, ProcessId, Regs, Slot, Upcall, Wait, a_store_is_put,
+};
+use upcall_queue::Delivery;
 
 /// The memory of the processes, and what the kernel keeps of each beside its registers: where its
 /// memory lies, which life it is in, whether it lives, how many upcalls it missed (Levy et al.,
@@ -116,6 +123,14 @@ impl Home {
         self.seats[slot.index()].inbox.dropped
     }
 
+    /// What the process in a slot waits for, where it has yielded.
+    pub fn wait(&self, slot: Slot) -> Wait
+        requires { slot < length self.now.owns }
+        ensures { result ≡ (own_of self.now slot).inbox.wait }
+    {
+        self.seats[slot.index()].inbox.wait
+    }
+
     /// Sets the protection registers for the process in a slot (the privileged RISC-V manual,
     /// "Physical Memory Protection"): the first two entries for its accessible flash, two for its
     /// accessible RAM, the others off. So they deny what its layout denies, and permit it to store
@@ -144,8 +159,8 @@ impl Home {
     }
 
     /// Starts the process in a slot again, with its first break (TRD 104, "Exit"): every byte of
-    /// its block is 0, it has no grants and no pending upcalls, its next life begins, and it lives.
-    /// How many upcalls were dropped stays. Nothing of another slot changes.
+    /// its block is 0, it has no grants, nothing is scheduled for it, its next life begins, and it
+    /// lives. How many upcalls were dropped stays. Nothing of another slot changes.
     pub fn restart(&mut self, slot: Slot, brk: Addr)
         requires slot { slot < length self.old.owns }
         requires from { (own_of self.old slot).layout.start ≤ brk }
@@ -158,13 +173,13 @@ impl Home {
         what_is_laid_is_read_back();
         let seat = &mut self.seats[slot.index()];
         seat.layout.restart(brk);
-        seat.inbox.pending.clear();
+        seat.inbox.clear();
         seat.life += 1;
         seat.lives = true;
         self.memory.clear_block(&seat.layout);
     }
 
-    /// Ends the process in a slot: it lives no more, and its pending upcalls are gone. Its memory
+    /// Ends the process in a slot: it lives no more, and nothing is scheduled for it. Its memory
     /// stays as it is, and nothing of another slot changes. Where no process was placed in the slot
     /// nothing changes.
     pub fn end(&mut self, slot: Slot)
@@ -175,7 +190,7 @@ impl Home {
             return;
         }
         let seat = &mut self.seats[slot.index()];
-        seat.inbox.pending.clear();
+        seat.inbox.clear();
         seat.lives = false;
     }
 
@@ -237,12 +252,13 @@ impl Home {
         })
     }
 
-    /// Whether an upcall waits to be delivered to the process in a slot.
-    pub fn has_pending(&self, slot: Slot) -> bool
+    /// Whether there is anything to deliver to the process in a slot, once it has yielded (TRD 104,
+    /// "Yield").
+    pub fn is_due(&self, slot: Slot) -> bool
         requires { slot < length self.now.owns }
-        ensures { result ≡ not (length (own_of self.now slot).inbox.pending == 0) }
+        ensures { result ≡ is_some (due (own_of self.now slot).inbox) }
     {
-        !self.seats[slot.index()].inbox.pending.is_empty()
+        self.seats[slot.index()].inbox.is_due()
     }
 
     /// Takes out the first upcall that waits for the process in a slot, for its delivery (TRD 104,
@@ -251,10 +267,42 @@ impl Home {
     pub fn take_pending(&mut self, slot: Slot) -> Option<Upcall>
         requires { slot < length self.old.owns }
         ensures first { result ≡ slice_get (own_of self.old slot).inbox.pending 0 }
-        ensures own { own_of self.new slot ≡ without_first (own_of self.old slot) }
+        ensures own { own_of self.new slot ≡ with_inbox (taken_at 0) (own_of self.old slot) }
         ensures rest { ChangesOnly slot self.old self.new }
     {
         self.seats[slot.index()].inbox.pending.pop()
+    }
+
+    /// Takes out what is to be delivered to the process in a slot, once it has yielded (TRD 104,
+    /// "Yield"): the first upcall that waits for it, or the arguments of the upcall that it waited
+    /// for alone. None exactly where there is nothing. Nothing else of the process changes, and
+    /// nothing of another slot.
+    pub fn take_due(&mut self, slot: Slot) -> Option<Delivery>
+        requires { slot < length self.old.owns }
+        ensures delivery { result ≡ due (own_of self.old slot).inbox }
+        ensures own { own_of self.new slot
+            ≡ with_inbox (left_after (due (own_of self.old slot).inbox)) (own_of self.old slot) }
+        ensures rest { ChangesOnly slot self.old self.new }
+    {
+        self.seats[slot.index()].inbox.take_due()
+    }
+
+    /// Takes out the first upcall of a driver and number that waits for the process in a slot (TRD
+    /// 104, "Yield"); where none waits, the process waits for that upcall alone from now on.
+    /// Nothing else of the process changes, and nothing of another slot.
+    pub fn wait_for(&mut self, slot: Slot, driver: u32, number: u32) -> Option<Upcall>
+        requires { slot < length self.old.owns }
+        ensures first { result ≡ slice_get (own_of self.old slot).inbox.pending
+            (place_of driver number (own_of self.old slot).inbox.pending) }
+        ensures found { OnSome result (own_of self.new slot
+            ≡ with_inbox (taken_at (place_of driver number (own_of self.old slot).inbox.pending))
+            (own_of self.old slot)) }
+        ensures waits { IfNone result (own_of self.new slot
+            ≡ with_inbox (λ inbox. record inbox { wait = For driver number })
+            (own_of self.old slot)) }
+        ensures rest { ChangesOnly slot self.old self.new }
+    {
+        self.seats[slot.index()].inbox.wait_for(driver, number)
     }
 
     /// Writes the byte by which a yield of the process in a slot tells whether an upcall was

@@ -1,21 +1,20 @@
 -- A process that starts again, and records that keep their object.
-use Rattle.std.proofs.Common.{◌≡◌, ◌≢◌, ℕ, ◌-◌, List, Option, Some, Result, Ok, ap, ap₂, sym, ◌∙◌, arith}
+use Rattle.std.proofs.Common.{◌≡◌, ◌≢◌, ℕ, ◌-◌, List, Result, ap, ap₂, sym, ◌∙◌, arith}
 use Rattle.std.proofs.lemmas.Bool.Decides.{nat_tests}
 use Rattle.tk_base.specs.declared.call.CallRule.{CallRule}
 use Rattle.tk_base.specs.declared.call.CallRule.TheVariants.{NoOperation}
-use Rattle.tbf_headers.specs.declared.program.Main.{Main}
-use Rattle.tbf_headers.specs.Meaning.{Meaning, header_reading}
+use Rattle.tbf_headers.specs.declared.app.AppStart.{AppStart}
 use Rattle.process_layout.specs.LayoutView.{LayoutView, first_break}
 use Rattle.process_model.specs.Own.{Own, layout_of, own_restarted}
 use Rattle.syscall_abi.specs.declared.reply.Reply.{Reply}
 use Rattle.process_model.specs.declared.place.Object.{Object}
 use Rattle.process_record.specs.declared.outcome.Outcome.{Outcome}
 use Rattle.process_record.specs.declared.process.Process.{Process}
-use Rattle.process_record.specs.Process.{restarted}
+use Rattle.process_record.specs.Process.{regs_from, restarted, restarted_with_regs}
 use Rattle.kernel_model.specs.Record.{Record, with_process}
 use Rattle.kernel_model.specs.Calls.{driver_answered, refused, exit, restart, restarted_by, restarted_main}
 use Rattle.process_model.specs.Flash.{object_in}
-use Rattle.kernel_calls.specs.Own.{record_in}
+use Rattle.kernel_calls.specs.Own.{StartsAs, record_in}
 use Rattle.kernel_calls.specs.Outcomes.{acts_for, ServingComesTo}
 
 -- a record that keeps its object
@@ -38,34 +37,32 @@ pub no_exit : (r : Record) (kind code : ℕ) → kind ≢ 0 → kind ≢ 1 → e
 unfolding exit
 no_exit r kind code zeroth first = grind (arith, nat_tests)
 
--- the start by a header that was read
-pub starts_again : (flash read_from : List ℕ) (p q : Process) (own own_after : Own) (storage : List ℕ) (h g : Meaning)
-    (m : Main) (main : Option Main) (e : LayoutView) (brk : ℕ)
-    → read_from ≡ flash → header_reading (object_in read_from p.object) ≡ Ok h → h.main ≡ Some m → g ≡ h
-    → e ≡ layout_of own → brk ≡ first_break e.start m.minimum_ram
-    → q ≡ restarted p g m e.start (e.end - e.start) brk → own_after ≡ own_restarted brk own → q.object ≡ p.object
+-- a process starts as the header of its object says
+pub starts_again : (flash : List ℕ) (p q : Process) (own own_after : Own) (storage : List ℕ) (s : AppStart)
+    (e : LayoutView) (brk : ℕ) → StartsAs (object_in flash p.object) p.object.address s → e ≡ layout_of own
+    → brk ≡ first_break e.start s.minimum_ram
+    → q ≡ restarted_with_regs p (regs_from s.entry s.after_protected e.start (e.end - e.start) brk)
+    → own_after ≡ own_restarted brk own
     → record_in flash q own_after storage ≡ restart (record_in flash p own storage)
 unfolding restart
-starts_again flash read_from p q own own_after storage h g m main e brk whole read has same place at is left object =
+starts_again flash p q own own_after storage s e brk k place at is left =
     let r = record_in flash p own storage in
-    let reads : header_reading r.object ≡ Ok h =
-    ap (λ (f : List ℕ). header_reading (object_in f p.object)) (sym whole) ∙ read in
-    let brk_is : brk ≡ first_break own.layout.start m.minimum_ram =
-    at ∙ ap (λ (x : LayoutView). first_break x.start m.minimum_ram) place in
-    let process : q
-    ≡ restarted p h m own.layout.start (own.layout.end - own.layout.start)
-    (first_break own.layout.start m.minimum_ram)
-    = is ∙ ap (λ (x : Meaning). restarted p x m e.start (e.end - e.start) brk) same
-    ∙ ap (λ (x : LayoutView). restarted p h m x.start (x.end - x.start) brk) place
-    ∙ ap (restarted p h m own.layout.start (own.layout.end - own.layout.start)) brk_is in
-    let own_is : own_after ≡ own_restarted (first_break own.layout.start m.minimum_ram) own =
-    left ∙ ap (λ (n : ℕ). own_restarted n own) brk_is in
-    ap (λ (o : Object). record { process = q; object = object_in flash o; own = own_after; storage = storage }) object
+    let first = first_break own.layout.start k.m.minimum_ram in
+    let brk_is : brk ≡ first =
+    at ∙ ap (λ (x : AppStart). first_break e.start x.minimum_ram) k.is
+    ∙ ap (λ (x : LayoutView). first_break x.start k.m.minimum_ram) place in
+    let process : q ≡ restarted p k.h k.m own.layout.start (own.layout.end - own.layout.start) first
+    = is ∙ ap (λ (x : AppStart). restarted_with_regs p (regs_from x.entry x.after_protected e.start (e.end - e.start)
+    brk)) k.is
+    ∙ ap (λ (x : LayoutView). restarted p k.h k.m x.start (x.end - x.start) brk) place
+    ∙ ap (restarted p k.h k.m own.layout.start (own.layout.end - own.layout.start)) brk_is in
+    let own_is : own_after ≡ own_restarted first own = left ∙ ap (λ (n : ℕ). own_restarted n own) brk_is in
+    ap (λ (o : Object). record { process = q; object = object_in flash o; own = own_after; storage = storage })
+    (ap (λ (x : Process). x.object) is)
     ∙ ap₂ (λ (x : Process) (o : Own). record {
       process = x;
       object = object_in flash p.object;
       own = o;
-      storage =
-          storage;
+      storage = storage;
     }) process own_is
-    ∙ sym (ap (restarted_by r) reads ∙ ap (restarted_main r h) has)
+    ∙ sym (ap (restarted_by r) k.read ∙ ap (restarted_main r k.h) k.main)

@@ -15,6 +15,10 @@ use Rattle.driver_model.specs.Commands.{BoardRequest, leaving_all}
 use Rattle.driver_model.specs.Drivers.{CommandContext, takes_commands}
 use Rattle.grant_enter.specs.Homes.{ChangesOnly, Homes, own_of}
 use Rattle.kernel_model.specs.Record.{Record}
+use Rattle.tk_base.specs.declared.upcall.Upcall.{Upcall}
+use Rattle.upcall_queue.specs.declared.inbox.Delivery.{Delivery}
+use Rattle.upcall_queue.specs.declared.inbox.Delivery.TheVariants.{Function}
+use Rattle.upcall_queue.specs.Pending.{due, left_by, taken_at}
 use Rattle.kernel_model.specs.Calls.{Served, deliver, object_permits, served}
 use Rattle.process_model.specs.Flash.{object_in}
 use Rattle.kernel_calls.specs.Own.{IsOwn, record_in}
@@ -127,8 +131,19 @@ ComesAt slot home process served home_after process_after outcome =
     ServingComesTo (served (record_of_slot home slot process storage))
     (record_of_slot home_after slot process_after storage) outcome
 
+-- a pending upcall of a process is delivered, if there is one
+abbrev pub first_delivered : Record → Option Upcall → Record
+first_delivered r None = r
+first_delivered r (Some upcall) = deliver r (Function upcall) (taken_at 0)
+
+-- what is due to a process is delivered; where nothing is, nothing changes
+abbrev pub deliver_due : Record → Option Delivery → Record
+deliver_due r None = r
+deliver_due r (Some delivery) = deliver r delivery (left_by delivery)
+
 -- what a delivery leaves of the process in a slot, whatever its storage is
 abbrev pub DeliversAt : ℕ → Homes → Process → Homes → Process → Type 0
 DeliversAt slot home process home_after process_after =
-    (storage : List ℕ)
-    → record_of_slot home_after slot process_after storage ≡ deliver (record_of_slot home slot process storage)
+    (storage : List ℕ) →
+    record_of_slot home_after slot process_after storage
+    ≡ deliver_due (record_of_slot home slot process storage) (due (own_of home slot).inbox)

@@ -3,9 +3,10 @@ use Rattle.std.specs.Prelude.{◌≡◌, ℕ, ◌+◌, ◌^◌, ◌<◌, ◌≤�
 use Rattle.std.specs.Prelude.{Result, Ok, Err, IsOk}
 use Rattle.tk_base.specs.declared.access.TheConstants.{FLASH_START}
 use Rattle.tbf_headers.specs.declared.fault.HeaderFault.{HeaderFault}
+use Rattle.tbf_headers.specs.declared.app.AppStart.{AppStart}
 use Rattle.tbf_headers.specs.declared.program.Main.{Main}
 use Rattle.tbf_headers.specs.Meaning.{Meaning, header_reading}
-use Rattle.tbf_headers.specs.Addresses.{after_protected, entry_of}
+use Rattle.tbf_headers.specs.Addresses.{after_protected, entry_of, start_by}
 use Rattle.process_layout.specs.LayoutView.{first_break}
 use Rattle.process_layout.specs.Bounds.{Bounds}
 use Rattle.process_model.specs.Own.{Own}
@@ -45,6 +46,14 @@ pub record HasHeader (flash : List ℕ) (object : Object) : Type 0 where
   pub from : FLASH_START ≤ object.address
   pub to : object.address + object.size ≤ FLASH_START + length flash
   pub read : IsOk (header_reading (object_in flash object))
+
+-- where the application starts whose object has these bytes and stands at an address, as its header says
+pub record StartsAs (bytes : List ℕ) (at : ℕ) (start : AppStart) : Type 0 where
+  pub h : Meaning
+  pub m : Main
+  pub read : header_reading bytes ≡ Ok h
+  pub main : h.main ≡ Some m
+  pub is : start ≡ start_by at h m
 
 -- the object lies in flash, holds the accessible flash, and is an application that can start
 pub record IsOwnObject (flash : List ℕ) (object : Object) (e : Bounds) : Type 0 where

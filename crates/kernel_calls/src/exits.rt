@@ -6,7 +6,7 @@ ghost use Rattle.kernel_calls.specs.Own.{IsOwn};
 ghost use Rattle.kernel_calls.specs.Outcomes.{record_of_slot, ComesAt, IsOfSlot, KeepsSlot};
 ghost use Rattle.kernel_calls.specs.Outcomes.{LivesOn, KeepsObject};
 
-use crate::headers::header_of;
+use crate::headers::start_of;
 use crate::replies::give;
 use grant_enter::Home;
 use process_record::{Outcome, Process};
@@ -25,13 +25,10 @@ pub fn restart_process(home: &mut Home, process: &mut Process, slot: Slot)
     ensures lives_on { LivesOn (own_of home.old slot) (own_of home.new slot) }
     ensures rest { ChangesOnly slot home.old home.new }
 {
-    let header = header_of(home.flash(), &process.object);
-    let Some(main) = header.main else {
-        unreachable!()
-    };
+    let start = start_of(home.flash(), &process.object);
     let layout = home.layout(slot);
-    let brk = layout.first_break(main.minimum_ram);
-    process.restart(&header, layout.start, layout.end - layout.start, brk);
+    let brk = layout.first_break(start.minimum_ram);
+    process.restart(start, layout.start, layout.end - layout.start, brk);
     home.restart(slot, brk);
 }
 

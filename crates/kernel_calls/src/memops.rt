@@ -8,7 +8,7 @@ ghost use Rattle.kernel_model.specs.Calls.{region_end, memop};
 ghost use Rattle.kernel_calls.specs.Own.{record_in, HasHeader, IsOwn};
 ghost use Rattle.kernel_calls.specs.Outcomes.{as_address, record_of_slot, MovesBreak};
 
-use crate::headers::header_of;
+use crate::headers::{region_count_of, region_of};
 use grant_enter::Home;
 use process_record::Process;
 use syscall_abi::Reply;
@@ -48,8 +48,7 @@ fn region_start_of(flash: &[u8], process: &Process, n: u32) -> Result<Reply, Cal
         → let r = record_in flash.now process.now own storage in
         driver_answered r result ≡ region_end r (λ region. region.0) (region r n) }
 {
-    let header = header_of(flash, &process.object);
-    let (offset, _) = header.region(n).ok_or(CallRule::Index)?;
+    let (offset, _) = region_of(flash, &process.object, n).ok_or(CallRule::Index)?;
     let start = process.object.address.wrapping_add(offset);
     Ok(Reply::SuccessU32(start))
 }
@@ -61,8 +60,7 @@ fn region_end_of(flash: &[u8], process: &Process, n: u32) -> Result<Reply, CallR
         → let r = record_in flash.now process.now own storage in
         driver_answered r result ≡ region_end r (λ region. region.0 + region.1) (region r n) }
 {
-    let header = header_of(flash, &process.object);
-    let (offset, size) = header.region(n).ok_or(CallRule::Index)?;
+    let (offset, size) = region_of(flash, &process.object, n).ok_or(CallRule::Index)?;
     let start = process.object.address.wrapping_add(offset);
     Ok(Reply::SuccessU32(start.wrapping_add(size)))
 }
@@ -98,7 +96,7 @@ pub fn memop_call(
         4 => Ok(Reply::SuccessU32(object.address)),
         5 => Ok(Reply::SuccessU32(object.address + object.size)),
         6 => Ok(Reply::SuccessU32(layout.kernel_break)),
-        7 => Ok(Reply::SuccessU32(header_of(home.flash(), object).region_count())),
+        7 => Ok(Reply::SuccessU32(region_count_of(home.flash(), object))),
         8 => region_start_of(home.flash(), process, argument),
         9 => region_end_of(home.flash(), process, argument),
         10 | 11 => Ok(Reply::Success),

@@ -61,7 +61,7 @@ fn serve(home: &mut Home, process: &mut Process, slot: Slot, form: &CallForm) ->
     ensures keeps { KeepsSlot slot home.old process.old home.new process.new }
 {
     match *form {
-        CallForm::Yield { number, a1, .. } => yield_call(home, process, slot, number, a1),
+        CallForm::Yield { number, a1, a2 } => yield_call(home, process, slot, number, a1, a2),
         CallForm::Swap(swap) => serve_swap(home, process, slot, swap),
         CallForm::Command { .. } => give(process, Err(CallRule::NoDriver)),
         CallForm::Memop {
@@ -87,8 +87,9 @@ fn serve(home: &mut Home, process: &mut Process, slot: Slot, form: &CallForm) ->
 /// every other call comes to rests on no driver, clock or device, and asks nothing of the board.
 ///
 /// Yield 0 (TRD 104, "Yield") delivers the first pending upcall, or goes on where there is none,
-/// and tells by the byte at a1 which of the two it did; yield 1 waits for an upcall; another number
-/// goes on.
+/// and tells by the byte at a1 which of the two it did; yield 1 waits for an upcall. Yield 2 goes
+/// on with the arguments of the first pending upcall of the driver at a1 and the number at a2, or
+/// waits for that one alone where none is pending. Another number goes on.
 ///
 /// Subscribe and the allows (TRD 104, "Subscribe", "Read-Only Allow", "Read-Write Allow") give the
 /// former pair back. They are refused, the first cause first, with `NoDriver` where there is no

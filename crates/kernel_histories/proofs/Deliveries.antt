@@ -1,12 +1,16 @@
 -- What a process's turn, and what a device's answer, leaves of the upcalls that wait for it.
 use Rattle.std.proofs.Math.Bool.{and-false, and-true}
+use Rattle.std.proofs.Common.{◌+◌, suc, take, slice_get, slice_index_or, inl, inr, ◌⊎◌}
 use Rattle.std.proofs.Common.{◌≡◌, ◌||◌, ap₂, ne_eqb, ◌≢◌, ◌<◌, ◌≤◌, ℕ, ◌==◌, ◌-◌, Bool, true, false, not, cond, List}
-use Rattle.std.proofs.Common.{[], ◌∷◌, ◌++◌, ◌&&◌, drop, filter, length, map, slice_set, Option, None, Some, is_some}
+use Rattle.std.proofs.Common.{[], ◌∷◌, ◌++◌, ◌&&◌, drop, filter, length, slice_set, Option, None, Some, is_some}
 use Rattle.std.proofs.Common.{Result, Ok, Err, refl, sym, ap, subst, ◌∙◌, arith, eqb-true, eq-eqb}
-use Rattle.std.specs.Prelude.{All, slice_index}
+use Rattle.std.specs.Prelude.{All, IfSome, remove}
+use Rattle.std.specs.Option.{option_map}
 use Rattle.std.proofs.lemmas.Bool.{false≢true}
-use Rattle.std.proofs.lemmas.List.{append-nil, drop-map}
-use Rattle.std.proofs.lemmas.List.Elements.{All-nil, All-append, All-drop, All-filter, All-same, All-weaker}
+use Rattle.std.proofs.lemmas.List.{append-nil, drop-map, map-append, take-map}
+use Rattle.std.proofs.lemmas.Option.{slice_get_cases}
+use Rattle.std.proofs.lemmas.List.Elements.{All-nil, All-append, All-cons, All-drop, All-filter, All-same, All-take}
+use Rattle.std.proofs.lemmas.List.Elements.{All-weaker}
 use Rattle.std.proofs.lemmas.List.Elements.{filter_agree, filter_passes}
 use Rattle.tk_base.specs.declared.access.Denial.{Denial}
 use Rattle.tk_base.specs.declared.call.CallRule.{CallRule}
@@ -28,7 +32,12 @@ use Rattle.syscall_abi.specs.declared.form.CallForm.{CallForm}
 use Rattle.syscall_abi.specs.declared.form.Swap.{Swap}
 use Rattle.syscall_abi.specs.declared.reply.Reply.{Reply}
 use Rattle.syscall_abi.specs.Call.{call_of, class, form_of, a0, a1, a2, a3}
-use Rattle.upcall_queue.specs.Pending.{is_of}
+use Rattle.tk_base.specs.declared.upcall.Wait.{Wait}
+use Rattle.tk_base.specs.declared.upcall.Wait.TheVariants.{No, For, Given}
+use Rattle.upcall_queue.specs.declared.inbox.Delivery.TheVariants.{Function}
+use Rattle.upcall_queue.specs.declared.inbox.Inbox.{Inbox}
+use Rattle.upcall_queue.specs.Pending.{awaits, due_by, has_room, is_of, place_of, scheduled}
+use Rattle.upcall_queue.proofs.Places.{none_taken}
 use Rattle.process_model.specs.Own.{Own, own_ended as ended_own}
 use Rattle.process_model.specs.Flag.{with_flag}
 use Rattle.process_model.specs.Handed.{lies_in_ram, still_pending}
@@ -37,7 +46,7 @@ use Rattle.driver_model.specs.Steps.{own_after}
 use Rattle.driver_model.specs.Commands.{Commanded}
 use Rattle.driver_model.specs.Drivers.{CommandContext, CommandHandler, handler_of}
 use Rattle.driver_model.specs.Pairs.{DriversLeavePairs}
-use Rattle.driver_model.specs.Upcalls.{DriversScheduleHeld, IsHeld, SchedulesHeld}
+use Rattle.driver_model.specs.Upcalls.{DriversScheduleHeld, IsHeld, SchedulesHeld, scheduled_if}
 use Rattle.process_record.specs.declared.emit.CallMade.{CallMade}
 use Rattle.process_record.specs.declared.outcome.Outcome.{Outcome}
 use Rattle.process_record.specs.declared.outcome.Outcome.TheVariants.{GoesOn, Replied, Waits}
@@ -50,11 +59,13 @@ use Rattle.kernel_model.specs.declared.settings.Settings.{Settings}
 use Rattle.kernel_model.specs.Calls.{failed_swap, Served, driver_answered, by_form, exit, failure_of, memop}
 use Rattle.kernel_model.specs.Calls.{object_permits, own_swapped}
 use Rattle.kernel_model.specs.Calls.{refused_with, restart, restarted_with, served, swap_by, swap_refusal, swapped}
-use Rattle.kernel_model.specs.Calls.{taken_by, yield_now, yielding}
+use Rattle.kernel_model.specs.Calls.{comes_to, taken_by, yield_for, yield_now, yielding}
 use Rattle.kernel_model.specs.Turn.{TurnTrace, Turned, calls, turn_counted, delivery, at_turn_end, faulted, idle}
 use Rattle.kernel_model.specs.Turn.{instructed, made, settled, surroundings, turned, turn_in, unknown_call}
 use Rattle.kernel_model.specs.Laws.{CanStartAgain}
-use Rattle.kernel_histories.specs.Deliveries.{Scheduling, is_yielded, subscription_key, left_by_turn, takes_away}
+use Rattle.kernel_histories.specs.Deliveries.{First, FirstOf, IsSubscribed, Nothing, Scheduling, left_by_turn, place_taken}
+use Rattle.kernel_histories.specs.Deliveries.{removed, subscription_key, taken_by_yield, takes_away, upcalls, wait_in}
+use Rattle.kernel_histories.specs.Deliveries.{wait_of}
 use Rattle.kernel_model.specs.Histories.{class_of}
 use Rattle.kernel_model.proofs.Classes.{command_in, exit_in, memop_in, of_registers, swap_in, yield_in}
 use Rattle.kernel_model.proofs.Comes.{plain}
@@ -72,10 +83,7 @@ pub record Promise : Type 0 where
 -- each upcall that waits is the one that is held
 pub record Sound (own : Own) : Type 0 where
   pub shape : HasShape own
-  pub held : All (IsHeld own) own.inbox.pending
-
-abbrev pub upcalls : List Scheduling → List Scheduled
-upcalls waiting = map (λ s. s.upcall) waiting
+  pub held : All (IsSubscribed own) own.inbox.pending
 
 -- What a turn or an answer leaves of a process: its object; what waits is what is left of it, and one upcall more at
 -- most; and each is still the one that is held.
@@ -87,31 +95,93 @@ pub record Leaves (r s : Record) (left : List Scheduling → List Scheduling) : 
   pub one : length more ≤ 1
   pub sound : Sound r.own → Sound s.own
 
+-- what waits then: what waited before, and one upcall more at most, which is one that is held
+record Adds (own : Own) (now : List Scheduled) : Type 0 where
+  more : List Scheduled
+  pending : now ≡ own.inbox.pending ++ more
+  one : length more ≤ 1
+  each : All (IsSubscribed own) more
+
+adds_none : (own : Own) → Adds own own.inbox.pending
+adds_none own = record {
+  more = [];
+  pending = sym (append-nil own.inbox.pending);
+  one = omega arith;
+  each = All-nil (IsSubscribed own);
+}
+
+adds_one : (own : Own) (u : Scheduled) → IsHeld own u → Adds own (scheduled u own.inbox).pending
+adds_one own u held = by_test (awaits own.inbox.wait u) (u.function == 0) (has_room own.inbox.pending) refl
+  where
+    by_test : (awaited null room : Bool) → (u.function == 0) ≡ null
+        → Adds own (cond awaited (record own.inbox { wait = Given u.args }) (cond null own.inbox
+        (cond room (record own.inbox { pending = own.inbox.pending ++ u ∷ [] })
+        (record own.inbox { dropped = own.inbox.dropped + 1 })))).pending
+    by_test true null room e = adds_none own
+    by_test false true room e = adds_none own
+    by_test false false true e = record {
+      more = u ∷ [];
+      pending = refl;
+      one = omega arith;
+      each = All-cons (IsSubscribed own) u [] (held, λ null. false≢true (sym e ∙ eq-eqb u.function 0 null))
+          (All-nil (IsSubscribed own));
+    }
+    by_test false false false e = adds_none own
+
+adds_if : (own : Own) (o : Option Scheduled) → IfSome o (IsHeld own) → Adds own (scheduled_if o own.inbox).pending
+adds_if own None held = adds_none own
+adds_if own (Some u) held = adds_one own u held
+
+-- an upcall taken out of what waits, by its scheduling
+map_remove : (waiting : List Scheduling) (place : ℕ) → remove (upcalls waiting) place ≡ upcalls (remove waiting place)
+map_remove waiting place =
+    ap₂ ◌++◌ (take-map (λ (s : Scheduling). s.upcall) place waiting)
+    (drop-map (λ (s : Scheduling). s.upcall) (suc place) waiting)
+    ∙ sym (map-append (λ (s : Scheduling). s.upcall) (take place waiting) (drop (suc place) waiting))
+
+pub all_but : {X : Type 0} (P : X → Type 0) (place : ℕ) (xs : List X) → All P xs → All P (remove xs place)
+all_but P place xs all =
+    All-append P (take place xs) (drop (suc place) xs) (All-take P place xs all) (All-drop P (suc place) xs all)
+
+-- where none is at a place, none is taken out there
+none_there : {X : Type 0} (xs : List X) (place : ℕ) → slice_get xs place ≡ None → remove xs place ≡ xs
+none_there xs place none = none_taken xs place (past_all (slice_get_cases xs place).1)
+  where
+    past_all : ((x : _) × (place < length xs) × (slice_get xs place ≡ Some x) × (slice_index_or xs place x ≡ x))
+        ⊎ ((length xs ≤ place) × (slice_get xs place ≡ None)) → length xs ≤ place
+    past_all (inl there) = let some = sym none ∙ there.2 in absurd (cc)
+    past_all (inr past) = past.0
+
 module _ (law : OnlyHandingChangesPairs) where
-  still_held : (own o : Own) → HandsTheSame own o → (u : Scheduled) → IsHeld own u → IsHeld o u
+  still_held : (own o : Own) → HandsTheSame own o → (u : Scheduled) → IsSubscribed own u → IsSubscribed o u
   still_held own o same u h = (law.held own o same Upcall u.driver u.number ∙ h.0, h.1)
 
   -- what waits is as before, and then what was scheduled
   pub schedules : (r s : Record) (left : List Scheduling → List Scheduling) → s.object ≡ r.object
       → HandsTheSame r.own s.own → SchedulesHeld r.own s.own → ((waiting : List Scheduling) → left waiting ≡ waiting)
       → Leaves r s left
-  schedules r s left object same sched all = record {
-    object = object;
-    more = sched.more;
-    pending = λ waiting is. sched.pending
-        ∙ ap (λ (us : List Scheduled). us ++ sched.more) (sym is ∙ ap upcalls (sym (all waiting)));
-    one = sched.one;
-    sound = λ sound. record {
-      shape = law.shape r.own s.own same sound.shape;
-      held = All-same (IsHeld s.own) s.own.inbox.pending (r.own.inbox.pending ++ sched.more) sched.pending
-          (All-weaker (IsHeld r.own) (IsHeld s.own) (still_held r.own s.own same) (r.own.inbox.pending ++ sched.more)
-          (All-append (IsHeld r.own) r.own.inbox.pending sched.more sound.held sched.each));
-    };
-  }
+  schedules r s left object same sched all =
+      let a = adds_if r.own sched.upcall sched.held in
+      let pending = ap (λ (i : Inbox). i.pending) sched.inbox ∙ a.pending in
+      let both = r.own.inbox.pending ++ a.more in
+      record {
+        object = object;
+        more = a.more;
+        pending = λ waiting is. pending
+            ∙ ap (λ (us : List Scheduled). us ++ a.more) (sym is ∙ ap upcalls (sym (all waiting)));
+        one = a.one;
+        sound = λ sound. record {
+          shape = law.shape r.own s.own same sound.shape;
+          held = All-same (IsSubscribed s.own) s.own.inbox.pending both pending
+              (All-weaker (IsSubscribed r.own) (IsSubscribed s.own) (still_held r.own s.own same) both
+              (All-append (IsSubscribed r.own) r.own.inbox.pending a.more sound.held a.each));
+        };
+      }
 
   -- what waits is some of what waited before
   leaves_some : (r s : Record) (left : List Scheduling → List Scheduling) → s.object ≡ r.object
-      → ((waiting : List Scheduling) → upcalls waiting ≡ r.own.inbox.pending → s.own.inbox.pending ≡ upcalls (left waiting))
+      → ((waiting : List Scheduling) → upcalls waiting ≡ r.own.inbox.pending
+      → s.own.inbox.pending ≡ upcalls (left waiting))
       → (Sound r.own → Sound s.own) → Leaves r s left
   leaves_some r s left object pending sound = record {
     object = object;
@@ -126,38 +196,41 @@ module _ (law : OnlyHandingChangesPairs) where
       → s.own.inbox.pending ≡ r.own.inbox.pending → HandsTheSame r.own s.own
       → ((waiting : List Scheduling) → left waiting ≡ waiting) → Leaves r s left
   leaves_all r s left object pending same all =
-      schedules r s left object same (record {
-        more = [];
-        pending = pending ∙ sym (append-nil r.own.inbox.pending);
-        one =
-            omega arith;
-        each = All-nil (IsHeld r.own);
-      }) all
-
-  -- all but the first
-  leaves_rest : (r s : Record) (left : List Scheduling → List Scheduling) → s.object ≡ r.object
-      → s.own.inbox.pending ≡ drop 1 r.own.inbox.pending → HandsTheSame r.own s.own
-      → ((waiting : List Scheduling) → left waiting ≡ drop 1 waiting) → Leaves r s left
-  leaves_rest r s left object pending same rest =
-      leaves_some r s left object
-      (λ waiting is. pending ∙ ap (drop 1) (sym is) ∙ drop-map (λ (x : Scheduling). x.upcall) 1 waiting
-      ∙ ap upcalls (sym (rest waiting)))
+      leaves_some r s left object (λ waiting is. pending ∙ sym is ∙ ap upcalls (sym (all waiting)))
       (λ sound. record {
         shape = law.shape r.own s.own same sound.shape;
-        held = All-same (IsHeld s.own) s.own.inbox.pending (drop 1 r.own.inbox.pending) pending
-            (All-weaker (IsHeld r.own) (IsHeld s.own) (still_held r.own s.own same) (drop 1 r.own.inbox.pending)
-            (All-drop (IsHeld r.own) 1 r.own.inbox.pending sound.held));
+        held = All-same (IsSubscribed s.own) s.own.inbox.pending r.own.inbox.pending pending
+            (All-weaker (IsSubscribed r.own) (IsSubscribed s.own) (still_held r.own s.own same) r.own.inbox.pending
+            sound.held);
+      })
+
+  -- all but the one at a place
+  leaves_rest : (r s : Record) (left : List Scheduling → List Scheduling) (place : ℕ) → s.object ≡ r.object
+      → s.own.inbox.pending ≡ remove r.own.inbox.pending place → HandsTheSame r.own s.own
+      → ((waiting : List Scheduling) → upcalls waiting ≡ r.own.inbox.pending → left waiting ≡ remove waiting place)
+      → Leaves r s left
+  leaves_rest r s left place object pending same rest =
+      leaves_some r s left object
+      (λ waiting is. pending ∙ ap (λ (us : List Scheduled). remove us place) (sym is) ∙ map_remove waiting place
+      ∙ ap upcalls (sym (rest waiting is)))
+      (λ sound. record {
+        shape = law.shape r.own s.own same sound.shape;
+        held = All-same (IsSubscribed s.own) s.own.inbox.pending (remove r.own.inbox.pending place) pending
+            (All-weaker (IsSubscribed r.own) (IsSubscribed s.own) (still_held r.own s.own same)
+            (remove r.own.inbox.pending place)
+            (all_but (IsSubscribed r.own) place r.own.inbox.pending sound.held));
       })
 
   -- nothing
-  leaves_none : (r s : Record) (left : List Scheduling → List Scheduling) → s.object ≡ r.object → s.own.inbox.pending ≡ []
+  leaves_none : (r s : Record) (left : List Scheduling → List Scheduling) → s.object ≡ r.object
+      → s.own.inbox.pending ≡ []
       → (HasShape r.own → HasShape s.own) → ((waiting : List Scheduling) → left waiting ≡ []) → Leaves r s left
   leaves_none r s left object pending shape none =
       leaves_some r s left object (λ waiting is. pending ∙ ap upcalls (sym (none waiting)))
       (λ sound. record {
         shape = shape sound.shape;
         held =
-            All-same (IsHeld s.own) s.own.inbox.pending [] pending (All-nil (IsHeld s.own));
+            All-same (IsSubscribed s.own) s.own.inbox.pending [] pending (All-nil (IsSubscribed s.own));
       })
 
 -- a filter that passes all, or none; one of upcalls, by their schedulings
@@ -216,12 +289,12 @@ tells regs class outcome =
 
 -- a refused call leaves all
 refused_leaves : (regs : Registers) (n : ℕ) (reply : Reply) (rule : CallRule) (waiting : List Scheduling)
-    → left_by_turn false (tells regs n (Replied reply (Some rule))) waiting ≡ waiting
+    → left_by_turn None (tells regs n (Replied reply (Some rule))) waiting ≡ waiting
 refused_leaves regs n reply rule waiting =
     let told = tells regs n (Replied reply (Some rule)) in
     let m : CallMade = record (made regs (Replied reply (Some rule))) { class = n } in
     ap (λ (b : Bool). filter (λ (s : Scheduling). not (takes_away told s.upcall))
-    (cond (b && slice_index m.args 0 == 0) (drop 1 waiting) waiting)) (and-false (n == 0))
+    (removed (place_taken (cond b (taken_by_yield m.args) Nothing) (upcalls waiting)) waiting)) (and-false (n == 0))
     ∙ filter_agree (λ (s : Scheduling). not (takes_away told s.upcall)) (λ s. true)
     (λ s. ap₂ (λ (a : Bool) (o : Option (ℕ × ℕ)). not (a || is_some o)) (and-false (n == 6))
     (refused_hands_nothing m rule refl (subscription_key s.upcall))) waiting
@@ -229,15 +302,15 @@ refused_leaves regs n reply rule waiting =
 
 -- what the call of a class leaves of a process that makes it
 unfoldable LeavesByCall : Record → ℕ → Served → Type 0
-LeavesByCall r class s = Leaves r s.after (left_by_turn false (tells r.process.regs class s.outcome))
+LeavesByCall r class s = Leaves r s.after (left_by_turn None (tells r.process.regs class s.outcome))
 
 by_leaves : (r : Record) (class : ℕ) (s : Served)
-    → Leaves r s.after (left_by_turn false (tells r.process.regs class s.outcome)) → LeavesByCall r class s
+    → Leaves r s.after (left_by_turn None (tells r.process.regs class s.outcome)) → LeavesByCall r class s
 unfolding LeavesByCall
 by_leaves r class s leaves = leaves
 
 leaves_by : (r : Record) (class : ℕ) (s : Served) → LeavesByCall r class s
-    → Leaves r s.after (left_by_turn false (tells r.process.regs class s.outcome))
+    → Leaves r s.after (left_by_turn None (tells r.process.regs class s.outcome))
 unfolding LeavesByCall
 leaves_by r class s leaves = leaves
 
@@ -261,55 +334,105 @@ module _ (promise : Promise) (around : CommandContext) (r : Record) where
       by_place true = refl
       by_place false = refl
 
-  of_yield_now : (at : ℕ) (pending : List Scheduled) → r.own.inbox.pending ≡ pending
-      → Leaves r (yield_now r at pending).after (λ waiting. filter (λ s. true) (drop 1 waiting))
-  of_yield_now at [] is =
-      leaves_rest law r _ _ refl (flag_pending at 0 ∙ is ∙ ap (drop 1) (sym is)) (law.flag at 0 r.own)
-      (λ waiting. passes_all (drop 1 waiting))
-  of_yield_now at (upcall ∷ more) is =
+  of_yield_now : (at : ℕ) (first : Option Scheduled) → slice_get r.own.inbox.pending 0 ≡ first
+      → Leaves r (yield_now r at first).after (λ waiting. filter (λ s. true) (remove waiting 0))
+  of_yield_now at None is =
+      leaves_rest law r _ _ 0 refl (flag_pending at 0 ∙ sym (none_there r.own.inbox.pending 0 is)) (law.flag at 0 r.own)
+      (λ waiting e. passes_all (remove waiting 0))
+  of_yield_now at (Some upcall) is =
       let same = law.flag at 1 r.own in
-      leaves_rest law r _ _ refl (ap (drop 1) (flag_pending at 1)) (record { pairs = same.pairs })
-      (λ waiting. passes_all (drop 1 waiting))
+      leaves_rest law r _ _ 0 refl (ap (λ (us : List Scheduled). remove us 0) (flag_pending at 1))
+      (record { pairs = same.pairs }) (λ waiting e. passes_all (remove waiting 0))
 
-  of_yield : LeavesByCall r 0 (yielding r (a0 r.process.regs) (a1 r.process.regs))
+  of_yield_for : (driver number : ℕ) (first : Option Scheduled)
+      → slice_get r.own.inbox.pending (place_of driver number r.own.inbox.pending) ≡ first
+      → Leaves r (yield_for r driver number first).after
+      (λ waiting. filter (λ s. true) (remove waiting (place_of driver number (upcalls waiting))))
+  of_yield_for driver number first is = by_first first is
+    where
+      place : ℕ
+      place = place_of driver number r.own.inbox.pending
+
+      rest : (waiting : List Scheduling) → upcalls waiting ≡ r.own.inbox.pending
+          → filter (λ s. true) (remove waiting (place_of driver number (upcalls waiting))) ≡ remove waiting place
+      rest waiting e =
+          passes_all (remove waiting (place_of driver number (upcalls waiting)))
+          ∙ ap (λ (us : List Scheduled). remove waiting (place_of driver number us)) e
+
+      by_first : (first : Option Scheduled) → slice_get r.own.inbox.pending place ≡ first
+          → Leaves r (yield_for r driver number first).after
+          (λ waiting. filter (λ s. true) (remove waiting (place_of driver number (upcalls waiting))))
+      by_first None none =
+          leaves_rest law r _ _ place refl (sym (none_there r.own.inbox.pending place none))
+          (law.grants r.own _ refl) rest
+      by_first (Some upcall) some = leaves_rest law r _ _ place refl refl (law.grants r.own _ refl) rest
+
+  of_yield : LeavesByCall r 0 (yielding r (a0 r.process.regs) (a1 r.process.regs) (a2 r.process.regs))
   unfolding yielding
-  of_yield = by_number (number == 0) refl
+  of_yield = by_zero (number == 0) refl
     where
       number : ℕ
       number = a0 r.process.regs
 
-      at : ℕ
-      at = a1 r.process.regs
+      one : ℕ
+      one = a1 r.process.regs
+
+      two : ℕ
+      two = a2 r.process.regs
+
+      pending : List Scheduled
+      pending = r.own.inbox.pending
 
       waits : Served
-      waits = cond (number == 1) (record { after = with_process r (waiting r.process); outcome = Waits; acts = [] })
-          (record { after = with_process r (after_call r.process); outcome = GoesOn; acts = [] })
+      waits = comes_to (with_process r (waiting r.process)) Waits
 
-      -- by whether the number is 0, as the registers tell it
-      told_so : (b : Bool) (s : Record) → (number == 0) ≡ b
-          → Leaves r s (λ waiting. filter (λ x. true) (cond b (drop 1 waiting) waiting))
-          → Leaves r s (λ waiting. filter (λ x. true) (cond (number == 0) (drop 1 waiting) waiting))
-      told_so b s e leaves =
-          subst (λ (c : Bool). Leaves r s (λ waiting. filter (λ x. true) (cond c (drop 1 waiting) waiting))) (sym e)
-          leaves
+      goes_on : Served
+      goes_on = comes_to (with_process r (after_call r.process)) GoesOn
+
+      asks : Served
+      asks = yield_for r one two (slice_get pending (place_of one two pending))
+
+      -- by whether the number is 0, and whether it is 2, as the registers tell it
+      Leaving : Record → Bool → Bool → Type 0
+      Leaving s zero for_one = Leaves r s (λ waiting. filter (λ x. true)
+          (removed (place_taken (cond zero First (cond for_one (FirstOf one two) Nothing)) (upcalls waiting)) waiting))
+
+      told_so : (zero for_one : Bool) (s : Record) → (number == 0) ≡ zero → (number == 2) ≡ for_one
+          → Leaving s zero for_one → Leaving s (number == 0) (number == 2)
+      told_so zero for_one s e f leaves =
+          subst (λ (c : Bool). Leaving s c (number == 2)) (sym e)
+          (subst (λ (c : Bool). Leaving s zero c) (sym f) leaves)
 
       goes : (process : Process) → Leaves r (with_process r process) (λ waiting. filter (λ x. true) waiting)
       goes process = leaves_all law r _ _ refl refl (law.grants r.own r.own refl) passes_all
 
-      by_pending : (number == 0) ≡ true → (pending : List Scheduled) → r.own.inbox.pending ≡ pending
-          → LeavesByCall r 0 (yield_now r at pending)
-      by_pending e [] is = by_leaves r 0 _ (told_so true _ e (of_yield_now at [] is))
-      by_pending e (upcall ∷ more) is = by_leaves r 0 _ (told_so true _ e (of_yield_now at (upcall ∷ more) is))
+      by_first : (number == 0) ≡ true → (first : Option Scheduled) → slice_get pending 0 ≡ first
+          → LeavesByCall r 0 (yield_now r one first)
+      by_first e None is = by_leaves r 0 _ (told_so true (number == 2) _ e refl (of_yield_now one None is))
+      by_first e (Some upcall) is =
+          by_leaves r 0 _ (told_so true (number == 2) _ e refl (of_yield_now one (Some upcall) is))
 
-      by_one : (number == 0) ≡ false → (b : Bool)
-          → LeavesByCall r 0 (cond b (record { after = with_process r (waiting r.process); outcome = Waits; acts = [] })
-          (record { after = with_process r (after_call r.process); outcome = GoesOn; acts = [] }))
-      by_one e true = by_leaves r 0 _ (told_so false _ e (goes (waiting r.process)))
-      by_one e false = by_leaves r 0 _ (told_so false _ e (goes (after_call r.process)))
+      by_found : (number == 0) ≡ false → (number == 2) ≡ true → (first : Option Scheduled)
+          → slice_get pending (place_of one two pending) ≡ first → LeavesByCall r 0 (yield_for r one two first)
+      by_found e f None is = by_leaves r 0 _ (told_so false true _ e f (of_yield_for one two None is))
+      by_found e f (Some upcall) is = by_leaves r 0 _ (told_so false true _ e f (of_yield_for one two (Some upcall) is))
 
-      by_number : (b : Bool) → (number == 0) ≡ b → LeavesByCall r 0 (cond b (yield_now r at r.own.inbox.pending) waits)
-      by_number true e = by_pending e r.own.inbox.pending refl
-      by_number false e = by_one e (number == 1)
+      by_two : (number == 0) ≡ false → (b : Bool) → (number == 2) ≡ b → LeavesByCall r 0 (cond b asks goes_on)
+      by_two e true f = by_found e f (slice_get pending (place_of one two pending)) refl
+      by_two e false f = by_leaves r 0 _ (told_so false false _ e f (goes (after_call r.process)))
+
+      by_one : (number == 0) ≡ false → (b : Bool) → (number == 1) ≡ b
+          → LeavesByCall r 0 (cond b waits (cond (number == 2) asks goes_on))
+      by_one e true f =
+          by_leaves r 0 _ (told_so false false _ e (ap (λ (n : ℕ). n == 2) (eqb-true number 1 f))
+          (goes (waiting r.process)))
+      by_one e false f = by_two e (number == 2) refl
+
+      by_zero : (b : Bool) → (number == 0) ≡ b
+          → LeavesByCall r 0 (cond b (yield_now r one (slice_get pending 0))
+          (cond (number == 1) waits (cond (number == 2) asks goes_on)))
+      by_zero true e = by_first e (slice_get pending 0) refl
+      by_zero false e = by_one e (number == 1) refl
 
   -- a subscribe that the registers make
   of_subscribed : (left : List Scheduling → List Scheduling) → let swap = swap_in Upcall r.process.regs in
@@ -327,7 +450,7 @@ module _ (promise : Promise) (around : CommandContext) (r : Record) where
       let one = law.handing Upcall swap.driver swap.number swap.pair r.own sound.shape lt in
       record {
         shape = one.shape;
-        held = each_passing (IsHeld r.own) (IsHeld o) (λ u. not (is_of swap.driver swap.number u)) r.own.inbox.pending
+        held = each_passing (IsSubscribed r.own) (IsSubscribed o) (λ u. not (is_of swap.driver swap.number u)) r.own.inbox.pending
             (λ u h apart. (
               one.others Upcall u.driver u.number
                   (λ k d n. not_both (u.driver == swap.driver) (u.number == swap.number) apart
@@ -343,15 +466,17 @@ module _ (promise : Promise) (around : CommandContext) (r : Record) where
       → swap.number < count_of swap.kind (shape_of swap.driver)
       → Leaves r (swap_by r swap None).after (λ waiting. filter (λ s. true) waiting)
   of_allowed swap apart still lt =
-      leaves_some law r _ _ refl (λ waiting is. still r.own.inbox.pending ∙ sym is ∙ ap upcalls (sym (passes_all waiting)))
+      leaves_some law r _ _ refl (λ waiting is. still r.own.inbox.pending ∙ sym is
+      ∙ ap upcalls (sym (passes_all waiting)))
       (λ sound.
       let one = law.handing swap.kind swap.driver swap.number swap.pair r.own sound.shape lt in
       let o = own_swapped swap r.own in
       record {
         shape = one.shape;
-        held = All-same (IsHeld o) o.inbox.pending r.own.inbox.pending (still r.own.inbox.pending)
-            (All-weaker (IsHeld r.own) (IsHeld o)
-            (λ u h. (one.others Upcall u.driver u.number (λ k d n. apart k) ∙ h.0, h.1)) r.own.inbox.pending sound.held);
+        held = All-same (IsSubscribed o) o.inbox.pending r.own.inbox.pending (still r.own.inbox.pending)
+            (All-weaker (IsSubscribed r.own) (IsSubscribed o)
+            (λ u h. (one.others Upcall u.driver u.number (λ k d n. apart k) ∙ h.0, h.1)) r.own.inbox.pending
+            sound.held);
       })
 
   -- a swap, which is refused or of a number that its driver has
@@ -434,12 +559,12 @@ module _ (promise : Promise) (around : CommandContext) (r : Record) where
 
 -- the same of a turn
 abbrev pub LeavesByTurn : Record → Turned → Type 0
-LeavesByTurn r t = Leaves r t.after (left_by_turn (is_yielded r.process.state) t.told)
+LeavesByTurn r t = Leaves r t.after (left_by_turn (wait_of r) t.told)
 
 -- by the end of an instruction, of a process that ran
 module _ (promise : Promise) (settings : Settings) (time : ℕ) where
   of_fault : (r : Record) (denial : Denial) → CanStartAgain r
-      → Leaves r (faulted settings r denial).after (left_by_turn false (faulted settings r denial).told)
+      → Leaves r (faulted settings r denial).after (left_by_turn None (faulted settings r denial).told)
   of_fault r denial can = by_action (decision settings.policy r.process.restarts)
     where
       around : CommandContext
@@ -463,7 +588,7 @@ module _ (promise : Promise) (settings : Settings) (time : ℕ) where
 
   -- a call of each class, or none
   of_calls : (r : Record) (accesses : List MemoryAccess) → CanStartAgain r
-      → let t = calls settings time r accesses (call_of r.process.regs) in Leaves r t.after (left_by_turn false t.told)
+      → let t = calls settings time r accesses (call_of r.process.regs) in Leaves r t.after (left_by_turn None t.told)
   unfolding by_form
   of_calls r accesses can =
       of_registers Leaving regs (λ is. on 0 (yield_in regs) is (of_yield promise around r))
@@ -482,7 +607,7 @@ module _ (promise : Promise) (settings : Settings) (time : ℕ) where
 
       Leaving : Option SystemCall → Type 0
       Leaving call = Leaves r (calls settings time r accesses call).after
-          (left_by_turn false (calls settings time r accesses call).told)
+          (left_by_turn None (calls settings time r accesses call).told)
 
       on : (n : ℕ) (call : SystemCall) → class regs ≡ n → LeavesByCall r n (by_form around r (form_of call))
           → Leaving (Some call)
@@ -493,7 +618,7 @@ module _ (promise : Promise) (settings : Settings) (time : ℕ) where
 
   of_ended : (r : Record) (accesses : List MemoryAccess) (end : TurnEnd) → CanStartAgain r
       → Leaves r (at_turn_end settings time r accesses end).after
-      (left_by_turn false (at_turn_end settings time r accesses end).told)
+      (left_by_turn None (at_turn_end settings time r accesses end).told)
   of_ended r accesses ends.Went can =
       leaves_all promise.pairs r _ _ refl refl (promise.pairs.grants r.own r.own refl) passes_all
   of_ended r accesses ends.Call can = of_calls r accesses can
@@ -501,7 +626,7 @@ module _ (promise : Promise) (settings : Settings) (time : ℕ) where
 
   -- the instruction itself leaves all that waits
   of_instruction : (r : Record) → CanStartAgain r → let t = instructed settings time r in
-      Leaves r t.after (left_by_turn false t.told)
+      Leaves r t.after (left_by_turn None t.told)
   of_instruction r can =
       let t = instruction r in
       let s = with_effect (turn_counted r) t in
@@ -519,22 +644,30 @@ module _ (promise : Promise) (settings : Settings) (time : ℕ) where
             });
       }
 
-  of_idle : (r : Record) → Leaves r (idle r).after (left_by_turn false (idle r).told)
+  of_idle : (r : Record) → Leaves r (idle r).after (left_by_turn None (idle r).told)
   of_idle r = leaves_all promise.pairs r _ _ refl refl (promise.pairs.grants r.own r.own refl) passes_all
 
-  of_delivery : (r : Record) (pending : List Scheduled) → r.own.inbox.pending ≡ pending → let t = delivery r pending in
-      Leaves r t.after (left_by_turn true t.told)
-  of_delivery r [] is =
-      leaves_rest promise.pairs r _ _ refl (is ∙ ap (drop 1) (sym is)) (promise.pairs.grants r.own r.own refl)
-      (λ waiting. passes_all (drop 1 waiting))
-  of_delivery r (upcall ∷ more) is =
-      leaves_rest promise.pairs r _ _ refl refl (promise.pairs.grants r.own _ refl)
-      (λ waiting. passes_all (drop 1 waiting))
+  of_delivery : (r : Record) (wait : Wait) → let t = delivery r (due_by wait r.own.inbox.pending) in
+      Leaves r t.after (left_by_turn (Some wait) t.told)
+  of_delivery r No = by_first (slice_get r.own.inbox.pending 0) refl
+    where
+      by_first : (first : Option Scheduled) → slice_get r.own.inbox.pending 0 ≡ first
+          → let t = delivery r (option_map Function first) in Leaves r t.after (left_by_turn (Some No) t.told)
+      by_first None is =
+          leaves_rest promise.pairs r _ _ 0 refl (sym (none_there r.own.inbox.pending 0 is))
+          (promise.pairs.grants r.own r.own refl) (λ waiting e. passes_all (remove waiting 0))
+      by_first (Some upcall) is =
+          leaves_rest promise.pairs r _ _ 0 refl refl (promise.pairs.grants r.own _ refl)
+          (λ waiting e. passes_all (remove waiting 0))
+  of_delivery r (For driver number) =
+      leaves_all promise.pairs r _ _ refl refl (promise.pairs.grants r.own r.own refl) passes_all
+  of_delivery r (Given args) =
+      leaves_all promise.pairs r _ _ refl refl (promise.pairs.grants r.own _ refl) passes_all
 
   of_state : (state : State) (r : Record) → CanStartAgain r → let t = turn_in settings time state r in
-      Leaves r t.after (left_by_turn (is_yielded state) t.told)
+      Leaves r t.after (left_by_turn (wait_in state r.own.inbox.wait) t.told)
   of_state Running r can = of_instruction r can
-  of_state Yielded r can = of_delivery r r.own.inbox.pending refl
+  of_state Yielded r can = of_delivery r r.own.inbox.wait
   of_state Faulted r can = of_idle r
   of_state (Terminated code) r can = of_idle r
 

@@ -1,5 +1,7 @@
 mod Swaps
 mod Histories
 mod Deliveries
+mod Takings
 mod Delivered
 mod Schedulings
+mod Waits

@@ -1,20 +1,23 @@
 -- What waits after a run, step by step: it is what was scheduled, and neither delivered nor taken away.
-use Rattle.std.proofs.Common.{◌≡◌, ◌<◌, ◌≤◌, ℕ, ◌+◌, Bool, true, false, not, cond, List, [], ◌∷◌, ◌++◌, drop, length}
+use Rattle.std.proofs.Common.{◌≡◌, ◌<◌, ◌≤◌, ℕ, ◌+◌, Bool, true, false, not, List, [], ◌∷◌, ◌++◌, drop, length}
 use Rattle.std.proofs.Common.{slice_get, slice_index_or, Option, None, Some, IfSome, is_some, refl, sym, ap, subst, ◌∙◌}
 use Rattle.std.proofs.Common.{arith}
 use Rattle.std.specs.Prelude.{All}
 use Rattle.std.proofs.lemmas.Bool.{false≢true}
 use Rattle.std.proofs.lemmas.List.{append-nil, length-append, length-map, map-append}
-use Rattle.std.proofs.lemmas.List.Elements.{All-nil, All-cons, All-head, All-append, All-drop, All-filter, All-map}
+use Rattle.std.proofs.lemmas.List.Elements.{All-nil, All-cons, All-append, All-filter, All-map}
 use Rattle.std.proofs.lemmas.List.Elements.{All-same, All-weaker, filter_passes}
+use Rattle.std.proofs.lemmas.Option.{get_or_from_slice_get, slice_get-map, slice_get_within}
+use Rattle.std.specs.Prelude.{option_and_then}
+use Rattle.std.specs.Option.{option_map}
 use Rattle.std.proofs.Math.Seq.{drop-append_seam}
 use Rattle.tk_base.specs.declared.process.Choice.{Choice}
 use Rattle.tk_base.specs.declared.upcall.Upcall.{Upcall as Scheduled}
+use Rattle.tk_base.specs.declared.upcall.Wait.{Wait}
 use Rattle.tbf_headers.specs.Meaning.{header_reading}
 use Rattle.rv32_model.specs.Laws.{CallsAreOfEcall}
 use Rattle.process_model.specs.Pairs.{HandsTheSame}
-use Rattle.process_record.specs.Process.{delivered}
-use Rattle.driver_model.specs.Upcalls.{IsHeld, SchedulesHeld}
+use Rattle.driver_model.specs.Upcalls.{SchedulesHeld}
 use Rattle.kernel_model.specs.Record.{Record}
 use Rattle.kernel_model.specs.declared.settings.Settings.{Settings}
 use Rattle.kernel_model.specs.Turn.{Event, TurnTrace, apply, turned}
@@ -22,12 +25,13 @@ use Rattle.kernel_model.specs.Laws.{CanStartAgain, main_by}
 use Rattle.kernel_model.specs.World.{World, after}
 use Rattle.kernel_model.specs.Replay.{after_all}
 use Rattle.kernel_model.specs.Histories.{HandedNothing}
-use Rattle.kernel_histories.specs.Deliveries.{DeliveriesAreOfTheLast, IsDelivered, before_delivery, IsOfTheLast, Scheduling}
-use Rattle.kernel_histories.specs.Deliveries.{delivers, is_yielded, schedulings_left_by, left_by_turn, schedulings_left_in}
-use Rattle.kernel_histories.specs.Deliveries.{pending_in, pending_of, scheduled_in, schedulings, schedulings_from}
-use Rattle.kernel_histories.specs.Deliveries.{takes_away, told_in, schedulings_after, yielded_of}
-use Rattle.kernel_histories.proofs.Delivered.{step_delivers}
-use Rattle.kernel_histories.proofs.Deliveries.{Leaves, Promise, Sound, of_turn, schedules, upcalls}
+use Rattle.kernel_histories.specs.Deliveries.{DeliveriesAreOfTheLast, DeliversAt, IsDelivered, IsOfTheLast, IsSubscribed, Scheduling}
+use Rattle.kernel_histories.specs.Deliveries.{Takes, left_by_turn, pending_in, pending_of}
+use Rattle.kernel_histories.specs.Deliveries.{place_taken, removed, scheduled_in, schedulings, schedulings_after}
+use Rattle.kernel_histories.specs.Deliveries.{schedulings_from, schedulings_left_by, schedulings_left_in, takes}
+use Rattle.kernel_histories.specs.Deliveries.{takes_away, told_in, upcalls, wait_in_slot, wait_of}
+use Rattle.kernel_histories.proofs.Delivered.{LeavesTaken, step_delivers}
+use Rattle.kernel_histories.proofs.Deliveries.{Leaves, Promise, Sound, all_but, of_turn, schedules}
 use Rattle.kernel_model.proofs.Steps.{IsAnswer, answer_changes, of_answer, of_step}
 
 -- a process that can start again, and of which each upcall that waits is the one that is held
@@ -46,7 +50,7 @@ still_good r o left leaves good = record {
 record Follows (before : Option Record) (tolds : List TurnTrace) (o : Option Record) : Type 0 where
   more : List Scheduled
   pending : (waiting : List Scheduling) → upcalls waiting ≡ pending_of before
-      → pending_of o ≡ upcalls (schedulings_left_by (yielded_of before) tolds waiting) ++ more
+      → pending_of o ≡ upcalls (schedulings_left_by (option_and_then wait_of before) tolds waiting) ++ more
   one : length more ≤ 1
   good : IfSome o IsGood
 
@@ -63,7 +67,7 @@ follows_none o good =
 -- the record changes
 follows_some : (before : Option Record) (tolds : List TurnTrace) (r o : Record)
     (left : List Scheduling → List Scheduling) → before ≡ Some r → Leaves r o left
-    → ((waiting : List Scheduling) → schedulings_left_by (is_yielded r.process.state) tolds waiting ≡ left waiting)
+    → ((waiting : List Scheduling) → schedulings_left_by (wait_of r) tolds waiting ≡ left waiting)
     → IsGood r → Follows before tolds (Some o)
 follows_some before tolds r o left is leaves same good =
     subst (λ (x : Option Record). Follows x tolds (Some o)) (sym is)
@@ -93,7 +97,7 @@ module _ (promise : Promise) where
         turn = λ r is.
             let g = good_at r is in
             follows_some (slice_get w.records slot) _ r _
-            (left_by_turn (is_yielded r.process.state) (turned w.settings w.clock.time r).told) is
+            (left_by_turn (wait_of r) (turned w.settings w.clock.time r).told) is
             (of_turn promise w.settings w.clock.time r g.can) (λ waiting. refl) g;
         answer = λ r is event answers.
             follows_some (slice_get w.records slot) [] r _ (λ waiting. waiting) is
@@ -161,7 +165,7 @@ begins_good promise (Some r) nothing = record {
   sound = record {
     shape = (promise.pairs.none r.own nothing.grants).shape;
     held =
-        All-same (IsHeld r.own) r.own.inbox.pending [] nothing.pending (All-nil (IsHeld r.own));
+        All-same (IsSubscribed r.own) r.own.inbox.pending [] nothing.pending (All-nil (IsSubscribed r.own));
   };
 }
 
@@ -170,16 +174,22 @@ begins_empty None nothing = refl
 begins_empty (Some r) nothing = sym nothing.pending
 
 -- what turns leave are some of those before, so what holds of each still does
-left_keeps : (P : Scheduling → Type 0) (yielded : Bool) (tolds : List TurnTrace) (waiting : List Scheduling)
-    → All P waiting → All P (schedulings_left_by yielded tolds waiting)
-left_keeps P yielded [] waiting all = all
-left_keeps P yielded (told ∷ rest) waiting all =
-    left_keeps P yielded rest (left_by_turn yielded told waiting)
-    (All-filter (λ s. not (takes_away told s.upcall)) P _ (by_delivery (delivers yielded told.call)))
+left_keeps : (P : Scheduling → Type 0) (wait : Option Wait) (tolds : List TurnTrace) (waiting : List Scheduling)
+    → All P waiting → All P (schedulings_left_by wait tolds waiting)
+left_keeps P wait [] waiting all = all
+left_keeps P wait (told ∷ rest) waiting all =
+    left_keeps P wait rest (left_by_turn wait told waiting)
+    (All-filter (λ s. not (takes_away told s.upcall)) P _
+    (by_place (place_taken (takes wait told.call) (upcalls waiting))))
   where
-    by_delivery : (b : Bool) → All P (cond b (drop 1 waiting) waiting)
-    by_delivery true = All-drop P 1 waiting all
-    by_delivery false = all
+    by_place : (o : Option ℕ) → All P (removed o waiting)
+    by_place None = all
+    by_place (Some place) = all_but P place waiting all
+
+-- what holds of each holds of the one that is got
+each_got : {X : Type 0} (P : X → Type 0) (xs : List X) (i : ℕ) (x : X) → slice_get xs i ≡ Some x → All P xs → P x
+each_got P xs i x is all =
+    subst P (get_or_from_slice_get xs i x x is) (all i x (slice_get_within xs i x is))
 
 -- what holds of whatever element; and what follows from two facts of each
 every : {X : Type 0} (P : X → Type 0) (xs : List X) → ((x : X) → P x) → All P xs
@@ -196,17 +206,17 @@ not_true false e = refl
 abbrev StaysAfter : Scheduling → TurnTrace → Type 0
 StaysAfter s told = takes_away told s.upcall ≡ false
 
-left_stays : (yielded : Bool) (tolds : List TurnTrace) (waiting : List Scheduling)
-    → All (λ s. All (StaysAfter s) tolds) (schedulings_left_by yielded tolds waiting)
-left_stays yielded [] waiting = every (λ s. All (StaysAfter s) []) waiting (λ s. All-nil (StaysAfter s))
-left_stays yielded (told ∷ rest) waiting =
-    let first = left_by_turn yielded told waiting in
+left_stays : (wait : Option Wait) (tolds : List TurnTrace) (waiting : List Scheduling)
+    → All (λ s. All (StaysAfter s) tolds) (schedulings_left_by wait tolds waiting)
+left_stays wait [] waiting = every (λ s. All (StaysAfter s) []) waiting (λ s. All-nil (StaysAfter s))
+left_stays wait (told ∷ rest) waiting =
+    let first = left_by_turn wait told waiting in
     let stay = All-weaker (λ s. not (takes_away told s.upcall) ≡ true) (λ s. StaysAfter s told)
     (λ s. not_true (takes_away told s.upcall)) first (filter_passes (λ s. not (takes_away told s.upcall)) _) in
     both (λ s. StaysAfter s told) (λ s. All (StaysAfter s) rest) (λ s. All (StaysAfter s) (told ∷ rest))
-    (schedulings_left_by yielded rest first)
+    (schedulings_left_by wait rest first)
     (λ s here there. All-cons (StaysAfter s) told rest here there)
-    (left_keeps (λ s. StaysAfter s told) yielded rest first stay) (left_stays yielded rest first)
+    (left_keeps (λ s. StaysAfter s told) wait rest first stay) (left_stays wait rest first)
 
 -- what holds of each that was scheduled before a step holds of those that still wait later
 scheduled_later : (Q : Scheduling → Type 0) (m step : ℕ) (us : List Scheduled) → m ≤ step
@@ -224,7 +234,7 @@ module _ (slot : ℕ) where
       let P : Scheduling → Type 0 = λ s. s.step < m → Q s in
       carried Q m choices (step + 1) (after w choice) (schedulings_after slot step w choice waiting) (omega (arith, le))
       (All-append P (schedulings_left_in slot w choice waiting) _
-      (left_keeps P (yielded_of (slice_get w.records slot)) (told_in slot w choice) waiting all)
+      (left_keeps P (wait_in_slot slot w) (told_in slot w choice) waiting all)
       (scheduled_later Q m step _ le))
 
   -- no step since the one that scheduled an upcall took it away, of steps from a number on
@@ -256,7 +266,7 @@ module _ (slot : ℕ) where
   last_from [] step w waiting all =
       every (IsOfTheLastFrom step w []) waiting (λ s early late choice e below. absurd (no_split early late choice e))
   last_from (c ∷ cs) step w waiting all =
-      let yielded = yielded_of (slice_get w.records slot) in
+      let yielded = wait_in_slot slot w in
       let left = schedulings_left_in slot w c waiting in
       let next = schedulings_after slot step w c waiting in
       let Q : Scheduling → Type 0 = λ s. All (StaysAfter s) (told_in slot w c) in
@@ -283,10 +293,16 @@ deliveries_are_of_the_last promise of_ecall w slot nothing = record {
       (good_after_all promise slot choices w good) (history choices);
   last = last;
   delivered = λ choices choice r s is after_it.
-      let held_there : All (IsHeld r.own) r.own.inbox.pending =
-      subst (λ (o : Option Record). IfSome o (λ r. All (IsHeld r.own) r.own.inbox.pending)) is (held choices) in
+      let held_there : All (IsSubscribed r.own) r.own.inbox.pending =
+      subst (λ (o : Option Record). IfSome o (λ r. All (IsSubscribed r.own) r.own.inbox.pending)) is (held choices) in
       let waits : upcalls (schedulings slot w choices) ≡ r.own.inbox.pending = history choices ∙ ap pending_of is in
-      first_delivered choices choice r s is after_it (schedulings slot w choices) waits held_there (last choices);
+      All-weaker (λ told. LeavesTaken (takes (wait_of r) told.call) r s)
+      (λ told. let taking = takes (wait_of r) told.call in
+      DeliversAt slot w choices r s taking (place_taken taking r.own.inbox.pending))
+      (λ told leaves. delivers_it choices r s (takes (wait_of r) told.call) (schedulings slot w choices) waits held_there
+      (last choices) (place_taken (takes (wait_of r) told.call) r.own.inbox.pending) refl leaves)
+      (told_in slot (after_all w choices) choice)
+      (step_delivers of_ecall (after_all w choices) slot choice r s is after_it);
 }
   where
     good : GoodIn slot w
@@ -295,12 +311,12 @@ deliveries_are_of_the_last promise of_ecall w slot nothing = record {
     history : (choices : List Choice) → upcalls (schedulings slot w choices) ≡ pending_in slot (after_all w choices)
     history choices = history_from promise slot choices 0 w [] good (begins_empty (slice_get w.records slot) nothing)
 
-    all_held : (o : Option Record) → IfSome o IsGood → IfSome o (λ r. All (IsHeld r.own) r.own.inbox.pending)
+    all_held : (o : Option Record) → IfSome o IsGood → IfSome o (λ r. All (IsSubscribed r.own) r.own.inbox.pending)
     all_held None h = tt
     all_held (Some r) h = h.sound.held
 
     held : (choices : List Choice)
-        → IfSome (slice_get (after_all w choices).records slot) (λ r. All (IsHeld r.own) r.own.inbox.pending)
+        → IfSome (slice_get (after_all w choices).records slot) (λ r. All (IsSubscribed r.own) r.own.inbox.pending)
     held choices = all_held (slice_get (after_all w choices).records slot) (good_after_all promise slot choices w good)
 
     last : (choices : List Choice) → All (IsOfTheLast slot w choices) (schedulings slot w choices)
@@ -309,27 +325,27 @@ deliveries_are_of_the_last promise of_ecall w slot nothing = record {
         (λ s h early late choice e below. h early late choice e (omega (arith, below)))
         (schedulings slot w choices) (last_from slot choices 0 w [] (All-nil (λ s. s.step < 0)))
 
-    -- what a turn delivers is the first of what waits
-    DeliversFirst : List Choice → Record → Record → List Scheduling → TurnTrace → Type 0
-    DeliversFirst choices r s waiting told = delivers (is_yielded r.process.state) told.call ≡ true
-        → IfSome (slice_get waiting 0) (IsDelivered slot w choices r s)
-
-    first_delivered : (choices : List Choice) (choice : Choice) (r s : Record)
-        → slice_get (after_all w choices).records slot ≡ Some r
-        → slice_get (after (after_all w choices) choice).records slot ≡ Some s
-        → (waiting : List Scheduling) → upcalls waiting ≡ r.own.inbox.pending → All (IsHeld r.own) r.own.inbox.pending
-        → All (IsOfTheLast slot w choices) waiting
-        → All (DeliversFirst choices r s waiting) (told_in slot (after_all w choices) choice)
-    first_delivered choices choice r s is after_it [] waits held lasts =
-        every (DeliversFirst choices r s []) (told_in slot (after_all w choices) choice) (λ told e. tt)
-    first_delivered choices choice r s is after_it (first ∷ rest) waits held lasts =
-        All-weaker (λ told. delivers (is_yielded r.process.state) told.call ≡ true
-        → s.process ≡ delivered first.upcall (before_delivery r.process)) (DeliversFirst choices r s (first ∷ rest))
-        (λ told delivers_it e. record {
-          process = delivers_it e;
-          held = All-head (IsHeld r.own) first.upcall (upcalls rest) (subst (All (IsHeld r.own)) (sym waits) held);
-          last = All-head (IsOfTheLast slot w choices) first rest lasts;
-        })
-        (told_in slot (after_all w choices) choice)
-        (step_delivers of_ecall (after_all w choices) slot choice r s first.upcall (upcalls rest) is after_it
-        (sym waits))
+    -- what a turn delivers is the one at the place that it takes
+    delivers_it : (choices : List Choice) (r s : Record) (taking : Takes) (waiting : List Scheduling)
+        → upcalls waiting ≡ r.own.inbox.pending → All (IsSubscribed r.own) r.own.inbox.pending
+        → All (IsOfTheLast slot w choices) waiting → (o : Option ℕ) → place_taken taking r.own.inbox.pending ≡ o
+        → LeavesTaken taking r s
+        → IfSome (option_and_then (slice_get waiting) o) (IsDelivered slot w choices r s taking)
+    delivers_it choices r s taking waiting waits held lasts None is leaves = tt
+    delivers_it choices r s taking waiting waits held lasts (Some place) is leaves =
+        by_scheduling (slice_get waiting place) refl
+      where
+        by_scheduling : (o : Option Scheduling) → slice_get waiting place ≡ o
+            → IfSome o (IsDelivered slot w choices r s taking)
+        by_scheduling None there = tt
+        by_scheduling (Some scheduling) there =
+            let u = scheduling.upcall in
+            let pending : slice_get r.own.inbox.pending place ≡ Some u =
+            ap (λ (us : List Scheduled). slice_get us place) (sym waits)
+            ∙ slice_get-map (λ (x : Scheduling). x.upcall) waiting place
+            ∙ ap (option_map (λ (x : Scheduling). x.upcall)) there in
+            record {
+              process = leaves place u is pending;
+              held = each_got (IsSubscribed r.own) r.own.inbox.pending place u pending held;
+              last = each_got (IsOfTheLast slot w choices) waiting place scheduling there lasts;
+            }

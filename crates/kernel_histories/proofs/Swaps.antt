@@ -1,6 +1,6 @@
 -- What each turn does to the pairs that its process has handed, and what a swap in it gives back.
 use Rattle.std.proofs.Common.{◌≡◌, ◌≢◌, ◌<◌, ◌≤◌, ℕ, ◌==◌, ◌&&◌, nat_lt, Bool, true, false, cond, List, [], ◌∷◌}
-use Rattle.std.proofs.Common.{length, slice_set, Option, None, Some, is_none, is_some, unwrap_or, Result, Ok, Err, refl}
+use Rattle.std.proofs.Common.{length, slice_get, slice_set, Option, None, Some, is_none, is_some, unwrap_or, Result, Ok, Err, refl}
 use Rattle.std.proofs.Common.{ap, sym, subst, ◌∙◌, arith, eqb-true, eq-eqb, ne_eqb, ◌||◌}
 use Rattle.std.specs.Prelude.{slice_index}
 use Rattle.std.proofs.Math.Bool.{and-false}
@@ -41,15 +41,17 @@ use Rattle.syscall_abi.specs.declared.reply.Reply.{Reply}
 use Rattle.syscall_abi.specs.declared.reply.Reply.TheVariants.{Failure, FailureU32U32, SuccessU32U32}
 use Rattle.process_record.specs.declared.emit.CallMade.{CallMade}
 use Rattle.process_record.specs.declared.outcome.Outcome.{Outcome}
-use Rattle.process_record.specs.declared.outcome.Outcome.TheVariants.{Replied, Ended, Again}
+use Rattle.process_record.specs.declared.outcome.Outcome.TheVariants.{GoesOn, Replied, Waits, Ended, Again}
 use Rattle.process_record.specs.declared.process.State.{State}
 use Rattle.process_record.specs.declared.process.State.TheVariants.{Running, Yielded, Faulted, Terminated}
-use Rattle.process_record.specs.Process.{after_exit, after_fault}
+use Rattle.process_record.specs.Process.{after_call, after_exit, after_fault, waiting}
 use Rattle.kernel_model.specs.Record.{Record, instruction, with_effect, with_process, record_with_step}
 use Rattle.kernel_model.specs.declared.settings.Settings.{Settings}
 use Rattle.kernel_model.specs.Calls.{Served, driver_answered, by_form, exit, failure_of, memop, object_permits}
 use Rattle.kernel_model.specs.Calls.{refused_with, restart, served, swap_by, swap_refusal, swapped, taken_by}
-use Rattle.kernel_model.specs.Calls.{yield_now, yielding}
+use Rattle.kernel_model.specs.Calls.{comes_to, yield_for, yield_now, yielding}
+use Rattle.upcall_queue.specs.declared.inbox.Delivery.{Delivery}
+use Rattle.upcall_queue.specs.Pending.{due, place_of}
 use Rattle.kernel_model.specs.Turn.{TurnTrace, Turned, arguments, called, calls, turn_counted, delivery, at_turn_end}
 use Rattle.kernel_model.specs.Turn.{faulted, yield_flag_of, idle, instructed, made, settled, surroundings, turned}
 use Rattle.kernel_model.specs.Turn.{turn_in, unknown_call}
@@ -286,16 +288,41 @@ module _ (law : OnlyHandingChangesPairs) (drivers : DriversLeavePairs) where
         memop_gives (λ s. Keeps r s.after) r operation argument (λ rule. same_kept r _ refl refl)
         (λ reply. same_kept r _ refl refl) (λ new reply. same_kept r _ refl refl)
 
-    keeps_yield_now : (at : ℕ) (pending : List Scheduled) → Keeps r (yield_now r at pending).after
-    keeps_yield_now at [] = record { pairs = law.flag at 0 r.own; object = refl }
-    keeps_yield_now at (upcall ∷ more) =
+    keeps_yield_now : (at : ℕ) (first : Option Scheduled) → Keeps r (yield_now r at first).after
+    keeps_yield_now at None = record { pairs = law.flag at 0 r.own; object = refl }
+    keeps_yield_now at (Some upcall) =
         record { pairs = record { pairs = (law.flag at 1 r.own).pairs }; object = refl }
 
-    keeps_yield : (number at : ℕ) → Keeps r (yielding r number at).after
+    keeps_yield_for : (driver number : ℕ) (first : Option Scheduled) → Keeps r (yield_for r driver number first).after
+    keeps_yield_for driver number None = same_kept r _ refl refl
+    keeps_yield_for driver number (Some upcall) = same_kept r _ refl refl
+
+    keeps_yield : (number a1 a2 : ℕ) → Keeps r (yielding r number a1 a2).after
     unfolding yielding
-    keeps_yield number at =
-        by_test (λ s. Keeps r s.after) (number == 0) _ _ (keeps_yield_now at r.own.inbox.pending)
-        (by_test (λ s. Keeps r s.after) (number == 1) _ _ (same_kept r _ refl refl) (same_kept r _ refl refl))
+    keeps_yield number a1 a2 =
+        by_test Leaves (number == 0) now (cond (number == 1) waits (cond (number == 2) asks goes_on))
+        (keeps_yield_now a1 (slice_get pending 0))
+        (by_test Leaves (number == 1) waits (cond (number == 2) asks goes_on) (same_kept r waits.after refl refl)
+        (by_test Leaves (number == 2) asks goes_on
+        (keeps_yield_for a1 a2 (slice_get pending (place_of a1 a2 pending))) (same_kept r goes_on.after refl refl)))
+      where
+        Leaves : Served → Type 0
+        Leaves s = Keeps r s.after
+
+        pending : List Scheduled
+        pending = r.own.inbox.pending
+
+        now : Served
+        now = yield_now r a1 (slice_get pending 0)
+
+        asks : Served
+        asks = yield_for r a1 a2 (slice_get pending (place_of a1 a2 pending))
+
+        waits : Served
+        waits = comes_to (with_process r (waiting r.process)) Waits
+
+        goes_on : Served
+        goes_on = comes_to (with_process r (after_call r.process)) GoesOn
 
     keeps_answered : (c : Commanded) (answer : Result Reply CallRule) → HandsTheSame r.own (own_after c.step)
         → Keeps r (driver_answered (record_with_step r c.step) answer).after
@@ -493,7 +520,7 @@ module _ (law : OnlyHandingChangesPairs) (drivers : DriversLeavePairs) where
   asks past settings time r accesses k =
       of_registers (λ call. Follows past (calls settings time r accesses call)) regs
       (λ is. on (yield_in regs) (of_other past r k accesses (yield_in regs) 0 _ is refl refl
-      (keeps_yield r (a0 regs) (a1 regs))))
+      (keeps_yield r (a0 regs) (a1 regs) (a2 regs))))
       (λ kind call is swaps. on call
       (subst (λ (form : CallForm). Follows past (called r accesses call (by_form around r form))) (sym swaps)
       (swap_follows past r k accesses call kind is)))
@@ -535,10 +562,10 @@ module _ (law : OnlyHandingChangesPairs) (drivers : DriversLeavePairs) where
         pairs = λ key. k.pairs key;
       })
 
-  follows_delivery : (past : List TurnTrace) (r : Record) (pending : List Scheduled) → Knows past r
-      → Follows past (delivery r pending)
-  follows_delivery past r [] k = quiet past [] r r k refl refl
-  follows_delivery past r (upcall ∷ more) k = quiet past [] r _ k refl refl
+  follows_delivery : (past : List TurnTrace) (r : Record) (next : Option Delivery) → Knows past r
+      → Follows past (delivery r next)
+  follows_delivery past r None k = quiet past [] r r k refl refl
+  follows_delivery past r (Some next) k = quiet past [] r _ k refl refl
 
   follows_over : (past : List TurnTrace) (r : Record) → is_over r.process.state ≡ true → Follows past (idle r)
   follows_over past r over = record {
@@ -551,7 +578,7 @@ module _ (law : OnlyHandingChangesPairs) (drivers : DriversLeavePairs) where
   follows_state past settings time Running r is remembers =
       follows_instructed past settings time r (remembers (ap is_over is))
   follows_state past settings time Yielded r is remembers =
-      follows_delivery past r r.own.inbox.pending (remembers (ap is_over is))
+      follows_delivery past r (due r.own.inbox) (remembers (ap is_over is))
   follows_state past settings time Faulted r is remembers = follows_over past r (ap is_over is)
   follows_state past settings time (Terminated code) r is remembers = follows_over past r (ap is_over is)
 

@@ -1,21 +1,33 @@
 //! The law of deliveries.
 ghost use Rattle.kernel_histories.specs.Deliveries.{DeliveriesAreOfTheLast};
+ghost use Rattle.kernel_histories.specs.Waits.{WaitsGetTheFirst};
 
 use driver_model::{drivers_leave_pairs, drivers_schedule_what_is_held};
 use process_model::only_handing_changes_pairs;
 use rv32_model::denials_are_due;
 
-/// In every run from a world in which a process has handed nothing yet, each upcall that waits for it is the one
-/// that it then holds of its driver and number, and not the null upcall; so each delivery is of the upcall that is
-/// subscribed at that moment. What a turn delivers is the upcall of the first scheduling that waits: it stands in the
-/// registers then. What waits is what was scheduled and neither delivered nor taken away since: by a
-/// subscribe of the same driver and number, or by the end of that life of the process (TRD 104, "Subscribe",
-/// "Yield", "Exit").
+/// In every run from a world in which a process has handed nothing yet, each upcall that waits for
+/// it is the one that it then holds of its driver and number, and not the null upcall; so each
+/// delivery is of the upcall that is subscribed at that moment. What a turn delivers is the upcall
+/// of the first scheduling that waits, or of the first of the driver and number for which it asks:
+/// it stands in the registers then. What waits is what was scheduled and neither delivered nor
+/// taken away since: by a subscribe of the same driver and number, or by the end of that life of
+/// the process (TRD 104, "Subscribe", "Yield", "Exit").
 pub fn deliveries_are_of_the_last()
     ensures { DeliveriesAreOfTheLast }
 {
     only_handing_changes_pairs();
     drivers_leave_pairs();
     drivers_schedule_what_is_held();
+    denials_are_due();
+}
+
+/// In every run a process whose yield asks for the upcall of a driver and a number alone, of which
+/// none waits, gets in its next turn the arguments of the first one that is scheduled from then on,
+/// null or not and with however many that wait; until then it waits, whatever else is scheduled
+/// for it (TRD 104, "Yield").
+pub fn waits_get_the_first()
+    ensures { WaitsGetTheFirst }
+{
     denials_are_due();
 }

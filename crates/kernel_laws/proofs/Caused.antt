@@ -1,7 +1,8 @@
 -- The cause of each change that a step makes of a process's bytes, among its labels.
 use Rattle.std.proofs.Common.{slice_set, ◌≡◌, ◌⊎◌, inl, inr, ℕ, zero, suc, ◌++◌, ◌==◌, Bool, true, false, List, []}
 use Rattle.std.proofs.Common.{◌∷◌, slice_get}
-use Rattle.std.proofs.Common.{slice_index, Option, None, Some, IfSome, is_some, refl, sym, ap, subst, ◌∙◌, arith, eqb-true}
+use Rattle.std.proofs.Common.{slice_index, Option, None, Some, IfSome, is_some, refl, sym, ap, subst, ◌∙◌, arith}
+use Rattle.std.proofs.Common.{eqb-true}
 use Rattle.std.proofs.Common.{eq-eqb}
 use Rattle.std.proofs.Math.Logic.{⊎_map}
 use Rattle.std.specs.List.{Any}
@@ -224,7 +225,8 @@ steps_have_causes turns answers = record {
         caused_turn slot w.clock.time r (turned w.settings w.clock.time r)
         (turns w.settings w.clock.time r (λ calls. whole))
 
-    -- the turn of another slot leaves the record, so what it asks of its own process is asked where it is that of the slot
+    -- the turn of another slot leaves the record, so what it asks of its own process is asked where it is that of the
+    -- slot
     at_slot : (w : World) (other slot : ℕ) (r : Record) → slice_get w.records slot ≡ Some r
         → IfSome (slice_get w.records other) (λ x. IsWhole x.own) → (other == slot) ≡ true → IsWhole r.own
     at_slot w other slot r is whole same =

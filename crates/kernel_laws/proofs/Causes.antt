@@ -1,12 +1,14 @@
 -- The cause of each change of a process's bytes: by its turn, by the end of its instruction and by its call.
-use Rattle.std.proofs.Common.{◌≡◌, ◌⊎◌, inl, inr, ℕ, ◌+◌, ◌==◌, Bool, true, false, cond, ◌&&◌, List, [], ◌∷◌, Option}
-use Rattle.std.proofs.Common.{None, Some, Result, Ok, Err, is_ok, is_some, refl, ap, sym, subst, ◌∙◌}
+use Rattle.std.proofs.Common.{◌≡◌, ◌⊎◌, inl, inr, ℕ, ◌+◌, ◌==◌, Bool, true, false, cond, ◌&&◌, List, Option}
+use Rattle.std.proofs.Common.{None, Some, Result, Ok, Err, is_ok, is_some, slice_get, refl, ap, sym, subst, ◌∙◌}
 use Rattle.std.specs.Prelude.{IsTrue}
 use Rattle.std.specs.List.{list_any}
 use Rattle.std.specs.Option.{option_map}
 use Rattle.tk_base.specs.declared.access.Denial.{Denial}
 use Rattle.tk_base.specs.declared.call.CallRule.{CallRule}
 use Rattle.tk_base.specs.declared.upcall.Upcall.{Upcall as Scheduled}
+use Rattle.upcall_queue.specs.declared.inbox.Delivery.{Delivery}
+use Rattle.upcall_queue.specs.Pending.{due, place_of}
 use Rattle.fault_policy.specs.declared.Action.{Action}
 use Rattle.fault_policy.specs.declared.Action.TheVariants.{Stop, Restart}
 use Rattle.fault_policy.specs.Policy.{decision}
@@ -39,7 +41,7 @@ use Rattle.kernel_model.specs.Record.{Record, byte_at, instruction, with_effect,
 use Rattle.kernel_model.specs.declared.settings.Settings.{Settings}
 use Rattle.kernel_model.specs.Calls.{Served, driver_answered, by_form, exit, memop, object_permits, restart}
 use Rattle.kernel_model.specs.Calls.{restarted_by, restarted_main, served, swap_by, swap_refusal, taken_by, yield_now}
-use Rattle.kernel_model.specs.Calls.{yielding}
+use Rattle.kernel_model.specs.Calls.{comes_to, yield_for, yielding}
 use Rattle.kernel_model.specs.Turn.{Turned, calls, turn_counted, delivery, at_turn_end, faulted, yield_flag_of, idle}
 use Rattle.kernel_model.specs.Turn.{instructed, made, settled, surroundings, turned, turn_in, unknown_call}
 use Rattle.kernel_model.specs.Histories.{ends_life, is_exit}
@@ -136,27 +138,45 @@ at_flag (inl same) = inl same
 at_flag (inr flag) = inr (inl flag)
 
 module _ (law : OnlyWritesChangeBytes) (commands : CommandsWriteInBuffers) (around : CommandContext) (r : Record) where
-  of_yield_now : (at : ℕ) (pending : List Scheduled) → Leaves r (flag_place at r.own) (yield_now r at pending)
-  of_yield_now at [] = record { own = λ a before after. at_flag (law.flag at 0 r.own a before after); storage = refl }
-  of_yield_now at (upcall ∷ more) =
+  of_yield_now : (at : ℕ) (first : Option Scheduled) → Leaves r (flag_place at r.own) (yield_now r at first)
+  of_yield_now at None = record { own = λ a before after. at_flag (law.flag at 0 r.own a before after); storage = refl }
+  of_yield_now at (Some upcall) =
       record { own = λ a before after. at_flag (law.flag at 1 r.own a before after); storage = refl }
 
-  of_yield : (number at : ℕ) → Leaves r (cond (number == 0) (flag_place at r.own) None) (yielding r number at)
+  of_yield_for : (driver number : ℕ) (first : Option Scheduled) → Leaves r None (yield_for r driver number first)
+  of_yield_for driver number None = record { own = λ a before after. inl refl; storage = refl }
+  of_yield_for driver number (Some upcall) = record { own = λ a before after. inl refl; storage = refl }
+
+  of_yield : (number a1 a2 : ℕ) → Leaves r (cond (number == 0) (flag_place a1 r.own) None) (yielding r number a1 a2)
   unfolding yielding
-  of_yield number at = by_number (number == 0)
+  of_yield number a1 a2 = by_number (number == 0)
     where
+      waits : Served
+      waits = comes_to (with_process r (waiting r.process)) Waits
+
+      goes_on : Served
+      goes_on = comes_to (with_process r (after_call r.process)) GoesOn
+
+      first : ℕ → Option Scheduled
+      first place = slice_get r.own.inbox.pending place
+
+      place : ℕ
+      place = place_of a1 a2 r.own.inbox.pending
+
+      by_two : (two : Bool) → Leaves r None (cond two (yield_for r a1 a2 (first place)) goes_on)
+      by_two true = of_yield_for a1 a2 (first place)
+      by_two false = same_own r None (after_call r.process)
+
       by_one : (one : Bool)
-          → Leaves r None (cond one (record { after = with_process r (waiting r.process); outcome = Waits; acts = [] })
-          (record { after = with_process r (after_call r.process); outcome = GoesOn; acts = [] }))
+          → Leaves r None (cond one waits (cond (number == 2) (yield_for r a1 a2 (first place)) goes_on))
       by_one true = same_own r None (waiting r.process)
-      by_one false = same_own r None (after_call r.process)
+      by_one false = by_two (number == 2)
 
       by_number : (b : Bool)
-          → Leaves r (cond b (flag_place at r.own) None)
-          (cond b (yield_now r at r.own.inbox.pending)
-          (cond (number == 1) (record { after = with_process r (waiting r.process); outcome = Waits; acts = [] })
-          (record { after = with_process r (after_call r.process); outcome = GoesOn; acts = [] })))
-      by_number true = of_yield_now at r.own.inbox.pending
+          → Leaves r (cond b (flag_place a1 r.own) None)
+          (cond b (yield_now r a1 (first 0))
+          (cond (number == 1) waits (cond (number == 2) (yield_for r a1 a2 (first place)) goes_on)))
+      by_number true = of_yield_now a1 (first 0)
       by_number false = by_one (number == 1)
 
   of_swap : (swap : Swap) (o : Option CallRule) → Leaves r None (swap_by r swap o)
@@ -207,7 +227,7 @@ module _ (law : OnlyWritesChangeBytes) (commands : CommandsWriteInBuffers) (arou
   of_form : (form : CallForm) → form_in r.process.regs ≡ Some form → (asked_in r.process.regs ≡ true → IsWhole r.own)
       → Leaves r (yield_flag_of r form) (by_form around r form)
   unfolding by_form
-  of_form (forms.Yield number a1 a2) is whole = of_yield number a1
+  of_form (forms.Yield number a1 a2) is whole = of_yield number a1 a2
   of_form (forms.Swap swap) is whole = of_swap swap (swap_refusal swap r.own)
   of_form (forms.Command driver number a2 a3) is whole =
       of_taken driver number a2 a3 (handler_of driver) refl (command_class r.process.regs driver number a2 a3 is) whole
@@ -302,14 +322,14 @@ module _ (law : OnlyWritesChangeBytes) (commands : CommandsWriteInBuffers) (of_e
   of_idle : (r : Record) → TurnHasCauses r r (idle r).told
   of_idle r = record { own = λ at before after. inl refl; storage = refl }
 
-  of_delivery : (r : Record) (pending : List Scheduled) → let t = delivery r pending in TurnHasCauses r t.after t.told
-  of_delivery r [] = of_idle r
-  of_delivery r (upcall ∷ more) = record { own = λ at before after. inl refl; storage = refl }
+  of_delivery : (r : Record) (next : Option Delivery) → let t = delivery r next in TurnHasCauses r t.after t.told
+  of_delivery r None = of_idle r
+  of_delivery r (Some next) = record { own = λ at before after. inl refl; storage = refl }
 
   of_state : (state : State) (r : Record) → let t = turn_in settings time state r in
       (asks_clock t.told.call ≡ true → IsWhole r.own) → TurnHasCauses r t.after t.told
   of_state Running r whole = of_instruction r whole
-  of_state Yielded r whole = of_delivery r r.own.inbox.pending
+  of_state Yielded r whole = of_delivery r (due r.own.inbox)
   of_state Faulted r whole = of_idle r
   of_state (Terminated code) r whole = of_idle r
 

@@ -1,9 +1,12 @@
 -- What a turn changes of a process, by the end of its instruction: what it drops, and what drivers keep.
-use Rattle.std.proofs.Common.{◌≡◌, ◌<◌, length, IfSome, ◌∙◌, ℕ, List, [], ◌∷◌, true, Option, None, Some, refl, subst}
+use Rattle.std.proofs.Common.{◌≡◌, ◌<◌, length, IfSome, ◌∙◌, ℕ, List, [], true, Option, None, Some, refl, subst}
 use Rattle.std.proofs.Common.{sym}
 use Rattle.tk_base.specs.declared.access.Denial.{Denial}
 use Rattle.tk_base.specs.declared.limits.TheConstants.{PENDING_LIMIT}
-use Rattle.tk_base.specs.declared.upcall.Upcall.{Upcall as Scheduled}
+use Rattle.upcall_queue.specs.declared.inbox.Delivery.{Delivery}
+use Rattle.upcall_queue.specs.declared.inbox.Delivery.TheVariants.{Function, Arguments}
+use Rattle.upcall_queue.specs.declared.inbox.Inbox.{Inbox}
+use Rattle.upcall_queue.specs.Pending.{due, left_by}
 use Rattle.fault_policy.specs.declared.Action.{Action}
 use Rattle.fault_policy.specs.declared.Action.TheVariants.{Stop, Restart}
 use Rattle.fault_policy.specs.Policy.{decision}
@@ -113,15 +116,20 @@ leaves_instructed promise settings time r =
         → KeepsLines settings.storage r.own after acts
     same_lines k = record { lines = k.lines; once = k.once; life = k.life; within = k.within }
 
-leaves_delivery : (settings : Settings) (r : Record) (pending : List Scheduled) → Leaves settings r (delivery r pending)
-leaves_delivery settings r [] = leaves_idle settings r
-leaves_delivery settings r (upcall ∷ more) =
-    leaves_same settings r _ (record { grants = refl; lives = refl; life = refl; dropped = refl }) refl
+next_dropped : (next : Delivery) (inbox : Inbox) → (left_by next inbox).dropped ≡ inbox.dropped
+next_dropped (Function upcall) inbox = refl
+next_dropped (Arguments args) inbox = refl
+
+leaves_delivery : (settings : Settings) (r : Record) (next : Option Delivery) → Leaves settings r (delivery r next)
+leaves_delivery settings r None = leaves_idle settings r
+leaves_delivery settings r (Some next) =
+    leaves_same settings r _
+    (record { grants = refl; lives = refl; life = refl; dropped = next_dropped next r.own.inbox }) refl
 
 leaves_turn : (promise : DriversPromise) (settings : Settings) (time : ℕ) (state : State) (r : Record)
     → Leaves settings r (turn_in settings time state r)
 leaves_turn promise settings time Running r = leaves_instructed promise settings time r
-leaves_turn promise settings time Yielded r = leaves_delivery settings r r.own.inbox.pending
+leaves_turn promise settings time Yielded r = leaves_delivery settings r (due r.own.inbox)
 leaves_turn promise settings time Faulted r = leaves_idle settings r
 leaves_turn promise settings time (Terminated code) r = leaves_idle settings r
 
@@ -130,7 +138,8 @@ unfolding turned
 drops_at_most_one promise settings time r = (leaves_turn promise settings time r.process.state r).dropped
 
 pub drops_with_room : DriversPromise → (settings : Settings) (time : ℕ) (r : Record)
-    → length r.own.inbox.pending < PENDING_LIMIT → (turned settings time r).after.own.inbox.dropped ≡ r.own.inbox.dropped
+    → length r.own.inbox.pending < PENDING_LIMIT → (turned settings time r).after.own.inbox.dropped
+    ≡ r.own.inbox.dropped
 unfolding turned
 drops_with_room promise settings time r = (leaves_turn promise settings time r.process.state r).room
 
@@ -143,7 +152,8 @@ drops_only_where_full promise w choices choice slot before now is later few =
     subst (λ (o : Option Record). IfSome o (λ x. x.own.inbox.dropped ≡ before.own.inbox.dropped)) later
     (of_step v slot (λ tolds o. IfSome o (λ x. x.own.inbox.dropped ≡ before.own.inbox.dropped))
     (record {
-      stays = subst (λ (o : Option Record). IfSome o (λ x. x.own.inbox.dropped ≡ before.own.inbox.dropped)) (sym is) refl;
+      stays = subst (λ (o : Option Record). IfSome o (λ x. x.own.inbox.dropped ≡ before.own.inbox.dropped)) (sym is)
+          refl;
       turn = λ r at.
           subst (λ (x : Record). (turned v.settings v.clock.time x).after.own.inbox.dropped ≡ before.own.inbox.dropped)
           (same_some before r (sym is ∙ at)) (drops_with_room promise v.settings v.clock.time before few);
@@ -183,14 +193,14 @@ quiet_ended settings time r accesses ends.Call call denial =
     quiet_calls settings time r accesses (call_of r.process.regs) call denial
 quiet_ended settings time r accesses (ends.Trap why) call denial = absurd (no_denial why denial)
 
-quiet_delivery : (r : Record) (pending : List Scheduled) → IsQuiet r (delivery r pending)
-quiet_delivery r [] call denial = (refl, refl, refl)
-quiet_delivery r (upcall ∷ more) call denial = (refl, refl, refl)
+quiet_delivery : (r : Record) (next : Option Delivery) → IsQuiet r (delivery r next)
+quiet_delivery r None call denial = (refl, refl, refl)
+quiet_delivery r (Some next) call denial = (refl, refl, refl)
 
 quiet_turn : (settings : Settings) (time : ℕ) (state : State) (r : Record) → IsQuiet r (turn_in settings time state r)
 quiet_turn settings time Running r call denial = let t = instruction r in
     quiet_ended settings time (with_effect (turn_counted r) t) t.accesses t.end call denial
-quiet_turn settings time Yielded r call denial = quiet_delivery r r.own.inbox.pending call denial
+quiet_turn settings time Yielded r call denial = quiet_delivery r (due r.own.inbox) call denial
 quiet_turn settings time Faulted r call denial = (refl, refl, refl)
 quiet_turn settings time (Terminated code) r call denial = (refl, refl, refl)
 

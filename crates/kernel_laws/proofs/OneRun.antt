@@ -196,7 +196,8 @@ none_folded now owns (slot ∷ slots) none =
 
 unarmed : (now : ℕ) (own : Own) → ticks_left_of now own ≡ None → own.lives ≡ true → alarm_in own ≡ None
 unarmed now own e lives =
-    by_alarm (alarm_in own) (sym (ap (λ (b : Bool). cond b (option_map (ticks_left now) (alarm_in own)) None) lives) ∙ e)
+    by_alarm (alarm_in own) (sym (ap (λ (b : Bool). cond b (option_map (ticks_left now) (alarm_in own)) None) lives)
+    ∙ e)
   where
     by_alarm : (o : Option _) → option_map (ticks_left now) o ≡ None → o ≡ None
     by_alarm None f = refl
@@ -205,7 +206,8 @@ unarmed now own e lives =
 none_left : (now : ℕ) (own : Own) → (own.lives ≡ true → alarm_in own ≡ None) → ticks_left_of now own ≡ None
 none_left now own none = by_lives own.lives none
   where
-    by_lives : (b : Bool) → (b ≡ true → alarm_in own ≡ None) → cond b (option_map (ticks_left now) (alarm_in own)) None ≡ None
+    by_lives : (b : Bool) → (b ≡ true → alarm_in own ≡ None) → cond b (option_map (ticks_left now) (alarm_in own)) None
+        ≡ None
     by_lives true none = ap (option_map (ticks_left now)) (none refl)
     by_lives false none = refl
 

@@ -1,11 +1,12 @@
 -- What a refused call leaves of its process and of the world, by the end of its instruction.
-use Rattle.std.proofs.Common.{◌≡◌, ℕ, List, [], ◌∷◌, Option, None, Some, slice_get, refl, sym, ap, ap₂, subst}
+use Rattle.std.proofs.Common.{◌≡◌, ℕ, List, [], Option, None, Some, slice_get, refl, sym, ap, ap₂, subst}
 use Rattle.std.specs.Prelude.{All}
 use Rattle.std.proofs.lemmas.List.Elements.{All-nil, All-cons}
 use Rattle.tk_base.specs.declared.call.CallRule.{CallRule}
 use Rattle.tk_base.specs.declared.process.Choice.{Choice}
 use Rattle.tk_base.specs.declared.process.Choice.TheVariants.{Run, Device, Pass}
-use Rattle.tk_base.specs.declared.upcall.Upcall.{Upcall as Scheduled}
+use Rattle.upcall_queue.specs.declared.inbox.Delivery.{Delivery}
+use Rattle.upcall_queue.specs.Pending.{due}
 use Rattle.tk_base.specs.Regs.{Registers}
 use Rattle.rv32_model.specs.declared.turn_end.TurnEnd.{TurnEnd}
 use Rattle.rv32_model.specs.declared.turn_end.TurnEnd.TheVariants as ends
@@ -64,9 +65,9 @@ module _ (law : RefusedChangesNothingElse) (of_ecall : CallsAreOfEcall) (setting
       (of_calls r accesses (call_of r.process.regs) refl) rule e
   of_end r s accesses (ends.Trap denial) same rule e = absurd (no_rule rule e)
 
-  of_delivery : (r : Record) (pending : List Scheduled) → Refuses r (delivery r pending)
-  of_delivery r [] rule e = absurd (no_rule rule e)
-  of_delivery r (upcall ∷ more) rule e = absurd (no_rule rule e)
+  of_delivery : (r : Record) (next : Option Delivery) → Refuses r (delivery r next)
+  of_delivery r None rule e = absurd (no_rule rule e)
+  of_delivery r (Some next) rule e = absurd (no_rule rule e)
 
   of_state : (state : State) (r : Record) → Refuses r (turn_in settings time state r)
   of_state Running r rule e =
@@ -74,7 +75,7 @@ module _ (law : RefusedChangesNothingElse) (of_ecall : CallsAreOfEcall) (setting
       of_end r (with_effect (turn_counted r) t) t.accesses t.end
       (λ calls. let is = of_ecall (denied r.own.layout) (byte_at r) r.process.regs calls in only_counts r t is.1 is.2)
       rule e
-  of_state Yielded r rule e = of_delivery r r.own.inbox.pending rule e
+  of_state Yielded r rule e = of_delivery r (due r.own.inbox) rule e
   of_state Faulted r rule e = absurd (no_rule rule e)
   of_state (Terminated code) r rule e = absurd (no_rule rule e)
 

@@ -19,7 +19,8 @@ use Rattle.turn_scheduler.specs.RoundRobin.{choice, place_is_ready as is_ready_a
 use Rattle.turn_scheduler.specs.RoundRobin.{used_after}
 use Rattle.kernel_model.specs.declared.settings.Settings.{Settings}
 use Rattle.kernel_model.specs.Record.{Record, instruction}
-use Rattle.kernel_model.specs.Turn.{TurnTrace, Turned, at_turn_end, has_turn, is_pending, may_turn, turn_in, turned}
+use Rattle.kernel_model.specs.Turn.{TurnTrace, Turned, at_turn_end, has_turn, may_turn, turn_in, turned}
+use Rattle.upcall_queue.specs.Pending.{due}
 use Rattle.kernel_model.specs.World.{World, Label, Stepped, after_turn_of, can_run, carried_out, is_ready, ran}
 use Rattle.kernel_model.specs.World.{stepped, turn_label}
 use Rattle.kernel_model.specs.Run.{Ran, next, next_time, on_choice, printed, ready_devices, ready_slots, round, stays}
@@ -61,8 +62,8 @@ stays_on w slot r p at runs u =
     (ap (λ (g : Bool). if g then Some slot else find (is_ready_at (ready_slots w)) (slots_after (Some slot)))
     (ap (λ (b : Bool). b && nat_lt w.present.used w.pace.slice) ready ∙ left))
   where
-    may : (state : State) → state ≡ Running → has_turn state (is_pending r.own.inbox.pending) ≡ true
-    may state e = ap (λ (s : State). has_turn s (is_pending r.own.inbox.pending)) e
+    may : (state : State) → state ≡ Running → has_turn state (due r.own.inbox) ≡ true
+    may state e = ap (λ (s : State). has_turn s (due r.own.inbox)) e
 
     ready : is_ready_at (ready_slots w) slot ≡ true
     ready = get_or_from_slice_get (ready_slots w) slot true false
@@ -75,7 +76,8 @@ stays_on w slot r p at runs u =
 runs_ready : (w : World) (slot : ℕ) (r : Record) → slice_get w.records slot ≡ Some r → r.process.state ≡ Running
     → w.clock.steps < STEP_LIMIT → is_ready w (Run slot) ≡ true
 runs_ready w slot r at runs below =
-    run_ready w slot (ap can_run at ∙ ap (λ (state : State). has_turn state (is_pending r.own.inbox.pending)) runs) below
+    run_ready w slot (ap can_run at ∙ ap (λ (state : State). has_turn state (due r.own.inbox)) runs)
+    below
 
 module _ (w : World) (slot : ℕ) (r : Record) (p : w.present.slot ≡ Some slot) (at : slice_get w.records slot ≡ Some r)
     (runs : r.process.state ≡ Running) where

@@ -1,5 +1,5 @@
-//! Laws of the abstract kernel's steps and of its runs by round robin, each the contract of a function that does
-//! nothing: what a turn keeps, asks and changes, quiet stretches, who has turns.
+//! Laws of the abstract kernel's steps and of its runs by round robin, each the contract of a
+//! function that does nothing: what a turn keeps, asks and changes, quiet stretches, who has turns.
 #![tactic(auto)]
 
 mod bytes;

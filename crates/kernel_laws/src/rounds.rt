@@ -1,14 +1,15 @@
 //! Laws of runs by round robin.
-ghost use Rattle.kernel_model.specs.Stretch.{NoneIsStretch, PresentIsNextOnTheWay, PresentStaysOn, RoundIsStretch, RoundsJoin, StretchesJoin};
+ghost use Rattle.kernel_model.specs.Stretch.{NoneIsStretch, PresentIsNextOnTheWay, PresentStaysOn};
+ghost use Rattle.kernel_model.specs.Stretch.{RoundIsStretch, RoundsJoin, StretchesJoin};
 ghost use Rattle.kernel_laws.specs.Fairness.{ReadyProcessesHaveTurns};
 ghost use Rattle.kernel_laws.specs.OneRun.{ChosenAreReady, IsDoneWhereNothingIsLeft, OneRun};
 
 use driver_model::an_alarm_is_due_where_no_ticks_are_left;
 use turn_scheduler::ready_has_turn;
 
-/// As long as a slot is the next choice, a run makes the instructions of its process, those that go, one after another,
-/// up to the end of its slice; and the round robin chooses the present slot as long as no device step is ready. Such a
-/// stretch may be followed by another.
+/// As long as a slot is the next choice, a run makes the instructions of its process, those that
+/// go, one after another, up to the end of its slice; and the round robin chooses the present slot
+/// as long as no device step is ready. Such a stretch may be followed by another.
 #[tactic(auto, using(crate::proofs::Stretch::round_is_stretch, crate::proofs::Stretch::present_is_next_on_the_way, crate::proofs::Stretch::none_is_stretch, crate::proofs::Stretch::stays_on))]
 pub fn round_is_stretch()
     ensures round { RoundIsStretch }
@@ -25,17 +26,19 @@ pub fn rounds_join()
 {}
 
 /// No process that is ready waits for good: in every run by the round robin, on a board of no more
-/// processes than slots, every window of as many turns of processes as all slots have in a slice each, in which a
-/// process is ready throughout, has a turn of that process. Device steps and passes of time may come between the turns.
+/// processes than slots, every window of as many turns of processes as all slots have in a slice
+/// each, in which a process is ready throughout, has a turn of that process. Device steps and
+/// passes of time may come between the turns.
 pub fn ready_processes_have_turns()
     ensures { ReadyProcessesHaveTurns }
 {
     ready_has_turn();
 }
 
-/// A run by the round robin is one run: it leads where its choices lead, and tells what their steps tell. Each of its
-/// choices is ready in its turn. On a board of no more processes than slots it is done exactly where no process and no
-/// device is ready, no bytes are still to come in, no process that lives has an alarm armed, and no write waits.
+/// A run by the round robin is one run: it leads where its choices lead, and tells what their steps
+/// tell. Each of its choices is ready in its turn. On a board of no more processes than slots it is
+/// done exactly where no process and no device is ready, no bytes are still to come in, no process
+/// that lives has an alarm armed, and no write waits.
 pub fn a_run_is_one_run()
     ensures one { OneRun }
     ensures ready { ChosenAreReady }

@@ -1,5 +1,7 @@
-//! Laws of steps: what a turn keeps, what a refused call leaves, which words are drawn; and of tables.
-ghost use Rattle.kernel_model.specs.Laws.{DropsAtMostOne, GrantsChangeAtCalls, TurnsActAtCalls, TurnsKeepLines};
+//! Laws of steps: what a turn keeps, what a refused call leaves, which words are drawn; and of
+//! tables.
+ghost use Rattle.kernel_model.specs.Laws.{DropsAtMostOne, GrantsChangeAtCalls, TurnsActAtCalls};
+ghost use Rattle.kernel_model.specs.Laws.{TurnsKeepLines};
 ghost use Rattle.kernel_model.specs.Refused.{RefusalsChangeLittle};
 ghost use Rattle.kernel_laws.specs.Tables.{EachRowFitsAWord, SameDrivers};
 ghost use Rattle.kernel_laws.specs.Words.{WordsAreDrawnInOrder};
@@ -8,8 +10,9 @@ use driver_model::events_tell_steps;
 use kernel_model::{drivers_promise, refused_changes_nothing_else};
 use rv32_model::denials_are_due;
 
-/// So a step in which a call is refused changes of the world that process, the time, the count of steps, the present slot
-/// and its used turns, and nothing else; of the process also the count of its turns (TRD 104, "Return Values").
+/// So a step in which a call is refused changes of the world that process, the time, the count of
+/// steps, the present slot and its used turns, and nothing else; of the process also the count of
+/// its turns (TRD 104, "Return Values").
 pub fn refusals_change_little()
     ensures { RefusalsChangeLittle }
 {
@@ -17,9 +20,9 @@ pub fn refusals_change_little()
     denials_are_due();
 }
 
-/// What drivers keep of a process changes at its own calls, at a fault, and by what a driver answers it. A
-/// turn without a call or a denial leaves its grants, and no turn drops more than one upcall (Levy et al., SOSP
-/// 2017).
+/// What drivers keep of a process changes at its own calls, at a fault, and by what a driver
+/// answers it. A turn without a call or a denial leaves its grants, and no turn drops more than one
+/// upcall (Levy et al., SOSP 2017).
 #[tactic(auto, using(crate::proofs::Kept::grants_change_at_calls))]
 pub fn grants_change_at_calls()
     ensures grants { GrantsChangeAtCalls }
@@ -28,11 +31,12 @@ pub fn grants_change_at_calls()
     drivers_promise();
 }
 
-/// After a turn a process that lives keeps a request for a device exactly where it waits for that device after
-/// what the turn asked of the board, if it did so before; and where it keeps one it is in the same life. It begins to
-/// wait only where it does not wait already. A request for storage lies in the bytes that a slot has, where one that
-/// was kept before did. The process's object is that of an application, as it is of every process that was placed. A
-/// turn without a call or a denial asks nothing of the board.
+/// After a turn a process that lives keeps a request for a device exactly where it waits for that
+/// device after what the turn asked of the board, if it did so before; and where it keeps one it is
+/// in the same life. It begins to wait only where it does not wait already. A request for storage
+/// lies in the bytes that a slot has, where one that was kept before did. The process's object is
+/// that of an application, as it is of every process that was placed. A turn without a call or a
+/// denial asks nothing of the board.
 #[tactic(auto, using(crate::proofs::Kept::turns_act_at_calls))]
 pub fn turns_keep_lines()
     ensures lines { TurnsKeepLines }
@@ -41,14 +45,16 @@ pub fn turns_keep_lines()
     drivers_promise();
 }
 
-/// The drivers that take commands are those that have grants. Each row of the instruction table fits a word.
+/// The drivers that take commands are those that have grants. Each row of the instruction table
+/// fits a word.
 pub fn tables_name_the_same_drivers()
     ensures drivers { SameDrivers }
     ensures rows { EachRowFitsAWord }
 {}
 
-/// Whatever choices are made: the random words that were left before them are those that processes were told, in that
-/// order, and then those that are left. No word is drawn twice, and none is passed over.
+/// Whatever choices are made: the random words that were left before them are those that processes
+/// were told, in that order, and then those that are left. No word is drawn twice, and none is
+/// passed over.
 pub fn words_are_drawn_in_order()
     ensures { WordsAreDrawnInOrder }
 {

@@ -1,7 +1,10 @@
 -- What holds of a process after each thing that may happen to it: the one walk over turns and answers, and then over
 -- any choices. Before a turn I holds of the process, and then J.
-use Rattle.std.proofs.Common.{◌≡◌, ℕ, ◌+◌, ◌%◌, ◌^◌, ◌==◌, Bool, true, false, cond, List, [], ◌∷◌, find, slice_get}
-use Rattle.std.proofs.Common.{Option, None, Some, IfSome, Result, Ok, Err, refl, sym, ap, subst}
+use Rattle.std.proofs.Common.{◌≡◌, ◌≤◌, ℕ, suc, ◌+◌, ◌%◌, ◌^◌, ◌==◌, Bool, true, false, cond, List, [], ◌∷◌, find}
+use Rattle.std.proofs.Common.{drop, length, slice_get, take, Option, None, Some, IfSome, is_some, Result, Ok, Err, refl}
+use Rattle.std.proofs.Common.{sym, ap, subst, arith}
+use Rattle.std.specs.Prelude.{remove}
+use Rattle.std.proofs.lemmas.List.{length-append, length-drop, length-take}
 use Rattle.tk_base.specs.declared.access.Denial.{Denial}
 use Rattle.tk_base.specs.declared.call.CallRule.{CallRule}
 use Rattle.tk_base.specs.declared.call.CallRule.TheVariants.{Break, Index, NoDriver, NoOperation, Permission}
@@ -12,7 +15,12 @@ use Rattle.fault_policy.specs.declared.Action.{Action}
 use Rattle.fault_policy.specs.declared.Action.TheVariants.{Stop, Restart}
 use Rattle.fault_policy.specs.Policy.{decision}
 use Rattle.process_layout.specs.Bounds.{permits_break}
-use Rattle.process_model.specs.Own.{Own, kernel_break_of, own_ended as ended_own}
+use Rattle.tk_base.specs.declared.upcall.Wait.TheVariants.{For}
+use Rattle.upcall_queue.specs.declared.inbox.Delivery.{Delivery}
+use Rattle.upcall_queue.specs.declared.inbox.Delivery.TheVariants.{Function, Arguments}
+use Rattle.upcall_queue.specs.declared.inbox.Inbox.{Inbox}
+use Rattle.upcall_queue.specs.Pending.{due, left_by, place_of, taken_at}
+use Rattle.process_model.specs.Own.{Own, kernel_break_of, own_ended as ended_own, with_inbox}
 use Rattle.process_model.specs.Flag.{with_flag}
 use Rattle.driver_model.specs.Steps.{own_after}
 use Rattle.driver_model.specs.Commands.{Commanded}
@@ -35,17 +43,17 @@ use Rattle.process_record.specs.declared.process.RecordedRefusal.{RecordedRefusa
 use Rattle.process_record.specs.declared.process.State.{State}
 use Rattle.process_record.specs.declared.process.State.TheVariants.{Running, Yielded, Faulted, Terminated}
 use Rattle.process_record.specs.Process.{after_call as after_call_of, after_exit, after_fault, after_refusal}
-use Rattle.process_record.specs.Process.{after_reply, past_call, waiting}
+use Rattle.process_record.specs.Process.{after_reply, delivered, past_call, waiting}
 use Rattle.kernel_model.specs.Record.{Record, instruction, with_effect, record_with_own, record_with_step, with_process}
 use Rattle.kernel_model.specs.declared.settings.Settings.{Settings}
 use Rattle.kernel_model.proofs.Memops.{or_refused}
-use Rattle.kernel_model.specs.Calls.{Served, driver_answered, break_moved, by_form, deliver_by, exit, failure_of}
+use Rattle.kernel_model.specs.Calls.{Served, driver_answered, break_moved, by_form, deliver, exit, failure_of}
 use Rattle.kernel_model.specs.Calls.{flag_written, former_pair, memop, memops, moved_by, object_permits}
 use Rattle.kernel_model.specs.Calls.{own_swapped, refused, refused_with, region, region_end, regions_named, replied}
 use Rattle.kernel_model.specs.Calls.{restart, served, swap_by, swap_refusal}
-use Rattle.kernel_model.specs.Calls.{taken_by, with_break_at, yield_now, yielding}
+use Rattle.kernel_model.specs.Calls.{taken_by, with_break_at, yield_for, yield_now, yielding}
 use Rattle.kernel_model.specs.Turn.{Event, apply, calls, turn_counted, delivery, at_turn_end, faulted, has_turn}
-use Rattle.kernel_model.specs.Turn.{is_pending, settled, surroundings, turned, turn_in}
+use Rattle.kernel_model.specs.Turn.{settled, surroundings, turned, turn_in}
 use Rattle.kernel_model.specs.World.{World, after}
 use Rattle.kernel_model.specs.Replay.{after_all}
 use Rattle.kernel_model.specs.Lives.{is_alive}
@@ -54,6 +62,25 @@ use Rattle.kernel_model.proofs.Steps.{IsAnswer, answer_changes, of_answer, of_st
 -- other registers, and another recorded refusal
 abbrev pub with_regs : Record → Registers → Option RecordedRefusal → Record
 with_regs r regs refusal = record r { process = record r.process { regs = regs; refusal = refusal } }
+
+-- no upcall more is pending, and as many were dropped
+pub record Takes (before now : Inbox) : Type 0 where
+  pub not_more : length now.pending ≤ length before.pending
+  pub dropped : now.dropped ≡ before.dropped
+
+-- so it is where one is taken out
+takes_at : (place : ℕ) (inbox : Inbox) → Takes inbox (taken_at place inbox)
+takes_at place inbox =
+    let xs = inbox.pending in
+    let whole : length (remove xs place) ≡ length (take place xs) + length (drop (suc place) xs) =
+    length-append (take place xs) (drop (suc place) xs) in
+    let front = length-take place xs in
+    let rest = length-drop (suc place) xs in
+    record { not_more = omega (arith, whole, front, rest); dropped = refl }
+
+takes_next : (next : Delivery) (inbox : Inbox) → Takes inbox (left_by next inbox)
+takes_next (Function upcall) inbox = takes_at 0 inbox
+takes_next (Arguments args) inbox = record { not_more = omega arith; dropped = refl }
 
 -- what each of these leaves
 pub record IsKept (R : Own → Own → Type 0) (I J : Record → Type 0) : Type 0 where
@@ -66,8 +93,10 @@ pub record IsKept (R : Own → Own → Type 0) (I J : Record → Type 0) : Type 
   pub moves : (r : Record) (new : ℕ) → permits_break r.own.layout (kernel_break_of r.own) new ≡ true → I r
       → I (with_break_at r new)
   pub flags : (r : Record) (at byte : ℕ) → I r → I (record_with_own r (with_flag at byte r.own))
-  pub delivers : (r : Record) (upcall : Scheduled) (more : List Scheduled) → is_alive r.process.state ≡ true → I r
-      → I (deliver_by r (upcall ∷ more))
+  pub inboxes : (r : Record) (change : Inbox → Inbox) → Takes r.own.inbox (change r.own.inbox) → I r
+      → I (record_with_own r (with_inbox change r.own))
+  pub delivers : (r : Record) (next : Delivery) → is_alive r.process.state ≡ true → I r
+      → I (with_process r (delivered next r.process))
   pub exits : (r : Record) (code : ℕ) → I r
       → J (record r { process = after_exit r.process code; own = ended_own r.own })
   pub again : (r : Record) → is_alive r.process.state ≡ true → I r → J (restart r)
@@ -170,20 +199,39 @@ module _ (R : Own → Own → Type 0) (services : OfEachService R) (I J : Record
       by_test (kind == 0) _ _ (λ ends. k.exits r code h)
       (λ goes. by_test (kind == 1) _ _ (λ again. k.again r alive h) (λ none. by_plain r h NoOperation))
 
-  by_yield_now : (r : Record) → is_alive r.process.state ≡ true → I r → (at : ℕ) (pending : List Scheduled)
-      → Q (yield_now r at pending)
-  unfolding Q
-  by_yield_now r alive h at [] = by_past (record_with_own r (with_flag at 0 r.own)) (k.flags r at 0 h)
-  by_yield_now r alive h at (upcall ∷ more) =
-      let s = record_with_own r (with_flag at 1 r.own) in
-      k.done _ (k.delivers (flag_written r at 1) upcall more alive
-      (k.regs s (past_call s.process.regs) s.process.refusal (k.flags r at 1 h)))
+  by_delivery : (r : Record) (next : Delivery) (change : Inbox → Inbox) → is_alive r.process.state ≡ true
+      → Takes r.own.inbox (change r.own.inbox) → I r → J (deliver r next change)
+  by_delivery r next change alive takes h =
+      k.done _ (k.delivers (record_with_own r (with_inbox change r.own)) next alive (k.inboxes r change takes h))
 
-  by_yield : (r : Record) → is_alive r.process.state ≡ true → I r → (number at : ℕ) → Q (yielding r number at)
+  by_yield_now : (r : Record) → is_alive r.process.state ≡ true → I r → (at : ℕ) (first : Option Scheduled)
+      → Q (yield_now r at first)
+  unfolding Q
+  by_yield_now r alive h at None = by_past (record_with_own r (with_flag at 0 r.own)) (k.flags r at 0 h)
+  by_yield_now r alive h at (Some upcall) =
+      let s = record_with_own r (with_flag at 1 r.own) in
+      by_delivery (flag_written r at 1) (Function upcall) (taken_at 0) alive (takes_at 0 s.own.inbox)
+      (k.regs s (past_call s.process.regs) s.process.refusal (k.flags r at 1 h))
+
+  by_yield_for : (r : Record) → is_alive r.process.state ≡ true → I r → (driver number : ℕ) (first : Option Scheduled)
+      → Q (yield_for r driver number first)
+  unfolding Q
+  by_yield_for r alive h driver number None =
+      let change : Inbox → Inbox = λ inbox. record inbox { wait = For driver number } in
+      k.done _ (k.waits (record_with_own r (with_inbox change r.own)) alive
+      (k.inboxes r change (record { not_more = omega arith; dropped = refl }) h))
+  by_yield_for r alive h driver number (Some upcall) =
+      let place = place_of driver number r.own.inbox.pending in
+      by_delivery (with_process r (after_call_of r.process)) (Arguments upcall.args) (taken_at place) alive
+      (takes_at place r.own.inbox) (k.regs r (past_call r.process.regs) r.process.refusal h)
+
+  by_yield : (r : Record) → is_alive r.process.state ≡ true → I r → (number a1 a2 : ℕ) → Q (yielding r number a1 a2)
   unfolding Q yielding
-  by_yield r alive h number at =
-      by_test (number == 0) _ _ (λ now. by_yield_now r alive h at r.own.inbox.pending)
-      (λ later. by_test (number == 1) _ _ (λ waits. k.done _ (k.waits r alive h)) (λ on. by_past r h))
+  by_yield r alive h number a1 a2 =
+      by_test (number == 0) _ _ (λ now. by_yield_now r alive h a1 (slice_get r.own.inbox.pending 0))
+      (λ later. by_test (number == 1) _ _ (λ waits. k.done _ (k.waits r alive h))
+      (λ other. by_test (number == 2) _ _ (λ one. by_yield_for r alive h a1 a2
+      (slice_get r.own.inbox.pending (place_of a1 a2 r.own.inbox.pending))) (λ on. by_past r h)))
 
   by_swap : (r : Record) → I r → (swap : Swap) (o : Option CallRule) → swap_refusal swap r.own ≡ o
       → Q (swap_by r swap o)
@@ -212,7 +260,7 @@ module _ (R : Own → Own → Type 0) (services : OfEachService R) (I J : Record
   of_form : (around : CommandContext) (r : Record) → is_alive r.process.state ≡ true → I r → (form : CallForm)
       → Q (by_form around r form)
   unfolding by_form
-  of_form around r alive h (forms.Yield number a1 a2) = by_yield r alive h number a1
+  of_form around r alive h (forms.Yield number a1 a2) = by_yield r alive h number a1 a2
   of_form around r alive h (forms.Swap swap) = by_swap r h swap _ refl
   of_form around r alive h (forms.Command driver number a2 a3) =
       by_command around r h driver number a2 a3 (handler_of driver) refl
@@ -250,22 +298,23 @@ module _ (R : Own → Own → Type 0) (services : OfEachService R) (I J : Record
   -- after a turn: where it had none, as it was; else by what stands once the turn was counted, and its instruction has
   -- had its effect
   pub after_turn : (settings : Settings) (time : ℕ) (r : Record)
-      → (has_turn r.process.state (is_pending r.own.inbox.pending) ≡ false → J r) → I (turn_counted r)
+      → (has_turn r.process.state (due r.own.inbox) ≡ false → J r) → I (turn_counted r)
       → I (with_effect (turn_counted r) (instruction r)) → J (turned settings time r).after
   unfolding turned
   after_turn settings time r none waited went = by_state r.process.state refl none
     where
-      by_pending : (pending : List Scheduled) → r.process.state ≡ Yielded → (is_pending pending ≡ false → J r)
-          → J (delivery r pending).after
-      by_pending [] is none = none refl
-      by_pending (upcall ∷ more) is none = k.done _ (k.delivers (turn_counted r) upcall more (ap is_alive is) waited)
+      by_due : (next : Option Delivery) → r.process.state ≡ Yielded → (is_some next ≡ false → J r)
+          → J (delivery r next).after
+      by_due None is none = none refl
+      by_due (Some next) is none =
+          by_delivery (turn_counted r) next (left_by next) (ap is_alive is) (takes_next next r.own.inbox) waited
 
-      by_state : (state : State) → r.process.state ≡ state → (has_turn state (is_pending r.own.inbox.pending) ≡ false → J r)
+      by_state : (state : State) → r.process.state ≡ state → (has_turn state (due r.own.inbox) ≡ false → J r)
           → J (turn_in settings time state r).after
       by_state Running is none =
           after_end settings time (with_effect (turn_counted r) (instruction r)) (ap is_alive is) went
           (instruction r).accesses (instruction r).end
-      by_state Yielded is none = by_pending r.own.inbox.pending is none
+      by_state Yielded is none = by_due (due r.own.inbox) is none
       by_state Faulted is none = none refl
       by_state (Terminated code) is none = none refl
 

@@ -1,6 +1,6 @@
 -- When a process lives, and what stays of it, by the one walk over what may happen to it.
 use Rattle.std.proofs.Common.{◌≡◌, ◌≤◌, ℕ, ◌+◌, ◌-◌, Bool, true, false, cond, not, ◌&&◌, nat_le, List, []}
-use Rattle.std.proofs.Common.{◌∷◌, drop, filter, length, slice_get, slice_set, unwrap_or, option_map, Option}
+use Rattle.std.proofs.Common.{◌∷◌, filter, length, slice_get, slice_set, unwrap_or, option_map, Option}
 use Rattle.std.proofs.Common.{None, Some, IfSome, Result, Ok, Err, refl, sym, ap, subst, ◌∙◌, arith}
 use Rattle.std.proofs.lemmas.Bool.{false≢true, leb-true}
 use Rattle.tk_base.specs.Numbers.{rounded_up}
@@ -110,7 +110,8 @@ lives_kept = record {
             ap (λ (x : Own). x.life) (flag_rest at byte r.own) ∙ h.life;
         application = h.application;
       };
-  delivers = λ r upcall more alive h. record { lives = h.lives ∙ alive; life = h.life; application = h.application };
+  inboxes = λ r change takes h. record { lives = h.lives; life = h.life; application = h.application };
+  delivers = λ r next alive h. record { lives = h.lives ∙ alive; life = h.life; application = h.application };
   exits = λ r code h. record { lives = refl; life = h.life; application = h.application };
   again = λ r alive h.
       restarts LivesAsItRuns r h.application
@@ -243,7 +244,8 @@ lies_kept law first = record {
   flags = λ r at byte h.
       lies_own first r _ r.storage h (ap (λ (x : Own). x.object) (flag_rest at byte r.own))
       r.own.layout.mark r.own.layout.brk (ap (λ (x : Own). x.layout) (flag_rest at byte r.own));
-  delivers = λ r upcall more alive h. lies_on first r _ h refl refl refl refl refl refl refl;
+  inboxes = λ r change takes h. lies_on first r _ h refl refl refl refl refl refl refl;
+  delivers = λ r next alive h. lies_on first r _ h refl refl refl refl refl refl refl;
   exits = λ r code h. lies_on first r _ h refl refl refl refl refl refl refl;
   again = λ r alive h. lies_again first r h;
   faults = λ r denial h. lies_on first r _ h refl refl refl refl refl refl refl;
@@ -378,7 +380,8 @@ order_kept law = record {
       let f = flag_rest at byte r.own in
       order_on r _ h refl (ap (λ (x : Own). x.layout.start) f) (ap (λ (x : Own). x.layout.end) f)
       (order_same r.own _ (ap (λ (x : Own). x.layout) f) (ap (λ (x : Own). x.grants) f) h.places);
-  delivers = λ r upcall more alive h. order_on r _ h refl refl refl (order_same r.own _ refl refl h.places);
+  inboxes = λ r change takes h. order_on r _ h refl refl refl (order_same r.own _ refl refl h.places);
+  delivers = λ r next alive h. record { places = h.places; least = h.least };
   exits = λ r code h. order_on r _ h refl refl refl (order_same r.own _ refl refl h.places);
   again = λ r alive h. order_again r h;
   faults = λ r denial h. order_on r _ h refl refl refl (order_same r.own _ refl refl h.places);
@@ -400,10 +403,6 @@ filtered {X} p (x ∷ xs) = by_test (p x) (filtered p xs)
     by_test true h = omega (arith, h)
     by_test false h = omega (arith, h)
 
-without_one : {X : Type 0} (xs : List X) → length (drop 1 xs) ≤ length xs
-without_one [] = omega arith
-without_one (x ∷ xs) = omega arith
-
 fewer : (kind : PairKind) (driver number : ℕ) (pending : List Scheduled)
     → length (still_pending kind driver number pending) ≤ length pending
 fewer kind driver number pending = by_test (is_buffer kind)
@@ -424,7 +423,8 @@ pending_kept = record {
   hands = λ r swap may h. omega (arith, h, fewer swap.kind swap.driver swap.number r.own.inbox.pending);
   moves = λ r new may h. h;
   flags = λ r at byte h. subst (λ (o : Own). length o.inbox.pending ≤ PENDING_LIMIT) (sym (flag_rest at byte r.own)) h;
-  delivers = λ r upcall more alive h. omega (arith, h, without_one r.own.inbox.pending);
+  inboxes = λ r change takes h. omega (arith, h, takes.not_more);
+  delivers = λ r next alive h. h;
   exits = λ r code h. omega arith;
   again = λ r alive h. pending_again r h;
   faults = λ r denial h. omega arith;

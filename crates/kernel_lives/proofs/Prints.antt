@@ -1,9 +1,9 @@
 -- What a step prints, it prints of a buffer.
-use Rattle.std.proofs.Common.{◌≡◌, ◌<◌, ℕ, ◌+◌, ◌==◌, Bool, true, false, cond, List, [], ◌∷◌, drop, length, slice_get}
-use Rattle.std.proofs.Common.{slice_index, unwrap_or, option_map, Option, None, Some, IfSome, is_some, refl, sym, ap, subst}
+use Rattle.std.proofs.Common.{◌≡◌, ◌<◌, ℕ, ◌+◌, ◌==◌, Bool, true, false, cond, [], ◌∷◌, drop, length, slice_get}
+use Rattle.std.proofs.Common.{slice_index, unwrap_or, option_map, Option, None, Some, IfSome, is_some, refl, sym, ap}
+use Rattle.std.proofs.Common.{subst}
 use Rattle.std.proofs.Common.{◌∙◌, arith}
 use Rattle.std.specs.Prelude.{All}
-use Rattle.std.proofs.lemmas.Bool.{false≢true}
 use Rattle.std.proofs.lemmas.List.{get_or-drop, get_or-take, length-take}
 use Rattle.std.proofs.lemmas.List.Elements.{All-nil, All-cons}
 use Rattle.tk_base.specs.declared.process.Choice.{Choice}

@@ -17,6 +17,7 @@ use Rattle.kernel_model.specs.Replay.{after_all}
 use Rattle.kernel_model.specs.Lives.{IsAsAtFirst, IsAtFirst, LiesAs, RestartsAsOpened}
 use Rattle.kernel_lives.proofs.Changes.{IsKept, after_answer, after_turn}
 use Rattle.kernel_lives.proofs.Lives.{lies_kept, lies_on, places_stay, restart_by, same_some}
+use Rattle.upcall_queue.specs.Pending.{cleared}
 use Rattle.kernel_model.proofs.Steps.{of_step}
 
 -- what a start makes of a process that lies where another does, is what it makes of that, but for the counts and the
@@ -61,7 +62,7 @@ starts_as first r h m l = λ i. record {
     };
     ram = replicate (l.end i - l.start i) 0;
     grants = [];
-    inbox = record { pending = []; dropped = r.own.inbox.dropped };
+    inbox = cleared r.own.inbox;
     life = r.own.life + 1;
     lives = true;
   };
@@ -106,7 +107,8 @@ module _ (law : DriversKeep) (first : Record) (at : IsAtFirst first) where
         hands = λ r swap may h. (k.hands r swap may h.0, h.1);
         moves = λ r new may h. (k.moves r new may h.0, h.1);
         flags = λ r at byte h. (k.flags r at byte h.0, h.1);
-        delivers = λ r upcall more alive h. (k.delivers r upcall more alive h.0, h.1);
+        inboxes = λ r change takes h. (k.inboxes r change takes h.0, h.1);
+        delivers = λ r next alive h. (k.delivers r next alive h.0, h.1);
         exits = λ r code h ne. absurd (ne h.1);
         again = λ r alive h. started n r h.0 h.1;
         faults = λ r denial h ne. absurd (ne h.1);

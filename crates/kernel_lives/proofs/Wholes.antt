@@ -142,7 +142,8 @@ module _ (law : DriversKeep) (pairs : OnlyHandingChangesPairs) (settled : Driver
               k.flags r at byte h.0,
               settled_on r.own (with_flag at byte r.own) same.0 same.1 (flag_size at byte r.own) h.1,
             );
-        delivers = λ r upcall more alive h. (k.delivers r upcall more alive h.0, settled_on r.own _ refl refl refl h.1);
+        inboxes = λ r change takes h. (k.inboxes r change takes h.0, settled_on r.own _ refl refl refl h.1);
+        delivers = λ r next alive h. (k.delivers r next alive h.0, h.1);
         exits = λ r code h. (k.exits r code h.0, settled_on r.own _ refl refl refl h.1);
         again = λ r alive h. settled_again r h;
         faults = λ r denial h. (k.faults r denial h.0, settled_on r.own _ refl refl refl h.1);

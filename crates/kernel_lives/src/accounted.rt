@@ -5,8 +5,9 @@ use crate::certified::prints_are_of_buffers;
 use kernel_laws::{refusals_change_little, steps_have_causes};
 use kernel_model::each_access_is_permitted;
 
-/// What each step answers for: the cause of each byte that it changes, that its accesses were permitted and its denials
-/// due, that a refused call changes little, and that what it prints was in the buffer that its process then held.
+/// What each step answers for: the cause of each byte that it changes, that its accesses were
+/// permitted and its denials due, that a refused call changes little, and that what it prints was
+/// in the buffer that its process then held.
 pub fn steps_are_accounted_for()
     ensures { StepsAreAccountedFor }
 {

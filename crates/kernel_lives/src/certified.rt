@@ -1,7 +1,10 @@
 //! Laws that a certifier asks for, each the contract of a function that does nothing.
 ghost use Rattle.kernel_lives.specs.Counts.{CountsAddUp};
 ghost use Rattle.kernel_lives.specs.Lists.{ListsStay};
-ghost use Rattle.kernel_model.specs.Lives.{AsManyStay, BlocksStayApart, DropsOnlyWhereFull, EndedStays, HasOrder, HasPendingWithinLimit, LivesAsItRuns, PlacesStay, RestartsAsOpened, HoldsThroughout};
+ghost use Rattle.kernel_model.specs.Lives.{AsManyStay, BlocksStayApart, DropsOnlyWhereFull};
+ghost use Rattle.kernel_model.specs.Lives.{EndedStays, HasOrder, HasPendingWithinLimit};
+ghost use Rattle.kernel_model.specs.Lives.{LivesAsItRuns, PlacesStay, RestartsAsOpened};
+ghost use Rattle.kernel_model.specs.Lives.{HoldsThroughout};
 ghost use Rattle.kernel_model.specs.Prints.{PrintsAreOfBuffers, PrintsCouldBeLoaded};
 ghost use Rattle.kernel_model.specs.Wholes.{ChoicesHaveCauses, HasWholeOwn, OwnsStayWhole};
 
@@ -13,8 +16,9 @@ use kernel_laws::{steps_have_causes, turns_keep_lines};
 use kernel_model::drivers_promise;
 use process_model::only_handing_changes_pairs;
 
-/// Whatever choices are made: a process lives exactly while it is Running or Yielded, and its life is the number of its
-/// restarts, where that was so before; and the record of one that has ended changes no more.
+/// Whatever choices are made: a process lives exactly while it is Running or Yielded, and its life
+/// is the number of its restarts, where that was so before; and the record of one that has ended
+/// changes no more.
 pub fn processes_live_as_they_run()
     ensures lives { HoldsThroughout LivesAsItRuns }
     ensures ended { EndedStays }
@@ -22,10 +26,11 @@ pub fn processes_live_as_they_run()
     drivers_keep_places_and_order();
 }
 
-/// Whatever choices are made, where a process lies never changes: its object, its accessible flash and its block; so
-/// blocks that were apart stay so. Its memory stays in order: the block's start, the mark, the break, the kernel break,
-/// which is the block's end less what the drivers cost that it has entered (Levy et al., SOSP 2017). At most
-/// [`tk_base::PENDING_LIMIT`] upcalls wait, and one is dropped only where as many do. No process comes or goes.
+/// Whatever choices are made, where a process lies never changes: its object, its accessible flash
+/// and its block; so blocks that were apart stay so. Its memory stays in order: the block's start,
+/// the mark, the break, the kernel break, which is the block's end less what the drivers cost that
+/// it has entered (Levy et al., SOSP 2017). At most [`tk_base::PENDING_LIMIT`] upcalls wait, and
+/// one is dropped only where as many do. No process comes or goes.
 pub fn places_never_change()
     ensures places { PlacesStay }
     ensures apart { BlocksStayApart }
@@ -38,26 +43,28 @@ pub fn places_never_change()
     drivers_keep_places_and_order();
 }
 
-/// After choices that are each ready in its turn, from a world in which those that wait are slots of the board: time is
-/// later by the turns made and the ticks passed, the steps are more by the choices made, and the turns of all processes
-/// together are more by the turns made.
+/// After choices that are each ready in its turn, from a world in which those that wait are slots
+/// of the board: time is later by the turns made and the ticks passed, the steps are more by the
+/// choices made, and the turns of all processes together are more by the turns made.
 pub fn time_steps_and_turns_add_up()
     ensures { CountsAddUp }
 {
     a_due_slot_is_there();
 }
 
-/// Whatever choices are made: a step that starts a process again leaves it as it was opened, but for its turns, its
-/// restarts and its life, its dropped upcalls, its last denial, its last refusal and its storage (TRD 104, "Exit").
+/// Whatever choices are made: a step that starts a process again leaves it as it was opened, but
+/// for its turns, its restarts and its life, its dropped upcalls, its last denial, its last refusal
+/// and its storage (TRD 104, "Exit").
 pub fn restarts_are_as_opened()
     ensures { RestartsAsOpened }
 {
     drivers_keep_places_and_order();
 }
 
-/// Whatever choices are made, what a step prints is of the read-only buffer 1 that a process holds of the console before
-/// the step, one that lives and has a write waiting: byte k is the byte at the offset that was taken so far, and k
-/// (TRD 104, "Read-Only Allow"). And where what is the processes' own was whole, it could load each of them there.
+/// Whatever choices are made, what a step prints is of the read-only buffer 1 that a process holds
+/// of the console before the step, one that lives and has a write waiting: byte k is the byte at
+/// the offset that was taken so far, and k (TRD 104, "Read-Only Allow"). And where what is the
+/// processes' own was whole, it could load each of them there.
 pub fn prints_are_of_buffers()
     ensures prints { PrintsAreOfBuffers }
     ensures loads { PrintsCouldBeLoaded }
@@ -65,8 +72,9 @@ pub fn prints_are_of_buffers()
     owns_stay_whole();
 }
 
-/// Whatever choices are made: a slot stands in a waiting list once where its process lives and keeps that request, and
-/// else not at all, where that was so before, and processes lived as they run.
+/// Whatever choices are made: a slot stands in a waiting list once where its process lives and
+/// keeps that request, and else not at all, where that was so before, and processes lived as they
+/// run.
 pub fn lists_are_of_requests()
     ensures { ListsStay }
 {
@@ -76,10 +84,11 @@ pub fn lists_are_of_requests()
     processes_live_as_they_run();
 }
 
-/// Whatever choices are made: where a process's memory is in order, its bytes end at the kernel break, where its grants
-/// begin, and each buffer that it has allowed lies in accessible flash, or in its RAM below the mark, so it stays. What
-/// is its own is then whole in every world, and no step changes a byte of a process without a cause among its labels
-/// (Levy et al., SOSP 2017; TRD 104, "Read-Only Allow", "Read-Write Allow").
+/// Whatever choices are made: where a process's memory is in order, its bytes end at the kernel
+/// break, where its grants begin, and each buffer that it has allowed lies in accessible flash, or
+/// in its RAM below the mark, so it stays. What is its own is then whole in every world, and no
+/// step changes a byte of a process without a cause among its labels (Levy et al., SOSP 2017; TRD
+/// 104, "Read-Only Allow", "Read-Write Allow").
 pub fn owns_stay_whole()
     ensures stays { HoldsThroughout HasWholeOwn }
     ensures whole { OwnsStayWhole }

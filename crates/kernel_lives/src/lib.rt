@@ -1,5 +1,6 @@
-//! Laws of what holds of processes after any choices, each the contract of a function that does nothing: how they live,
-//! where they lie, what is whole, counts, lists; and what each step answers for.
+//! Laws of what holds of processes after any choices, each the contract of a function that does
+//! nothing: how they live, where they lie, what is whole, counts, lists; and what each step answers
+//! for.
 #![tactic(auto)]
 
 mod accounted;

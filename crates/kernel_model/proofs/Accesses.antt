@@ -1,5 +1,5 @@
 -- Each access of a turn, and what it is denied for, is of its instruction; and no other label tells any.
-use Rattle.std.proofs.Common.{◌≡◌, inl, inr, sym, ap, ◌∙◌, arith, ℕ, zero, suc, ◌<◌, ◌==◌, List, [], ◌∷◌, find}
+use Rattle.std.proofs.Common.{◌≡◌, inl, inr, sym, ap, ◌∙◌, arith, ℕ, zero, suc, ◌<◌, ◌==◌, List, [], find}
 use Rattle.std.proofs.Common.{slice_get, Option, None, Some, refl}
 use Rattle.std.specs.Prelude.{All, IfSome}
 use Rattle.std.specs.Option.{option_map}
@@ -10,7 +10,8 @@ use Rattle.tk_base.specs.declared.access.Rule.TheVariants.{UnknownClass}
 use Rattle.tk_base.specs.Regs.{Registers}
 use Rattle.tk_base.specs.declared.process.Choice.{Choice}
 use Rattle.tk_base.specs.declared.process.Choice.TheVariants.{Run, Device, Pass}
-use Rattle.tk_base.specs.declared.upcall.Upcall.{Upcall as Scheduled}
+use Rattle.upcall_queue.specs.declared.inbox.Delivery.{Delivery}
+use Rattle.upcall_queue.specs.Pending.{due}
 use Rattle.rv32_model.specs.declared.turn_end.TurnEnd.{TurnEnd}
 use Rattle.rv32_model.specs.declared.turn_end.TurnEnd.TheVariants as ends
 use Rattle.rv32_model.specs.declared.instr.Instr.TheVariants.{Ecall}
@@ -44,15 +45,15 @@ module _ (P : MemoryAccess → Type 0) where
   by_end settings time r accesses ends.Call each = by_call settings time r accesses (call_of r.process.regs) each
   by_end settings time r accesses (ends.Trap denial) each = All-nil P
 
-  by_delivery : (r : Record) (pending : List Scheduled) → All P (delivery r pending).told.accesses
-  by_delivery r [] = All-nil P
-  by_delivery r (upcall ∷ more) = All-nil P
+  by_delivery : (r : Record) (next : Option Delivery) → All P (delivery r next).told.accesses
+  by_delivery r None = All-nil P
+  by_delivery r (Some next) = All-nil P
 
   by_state : (settings : Settings) (time : ℕ) (state : State) (r : Record) → All P (instruction r).accesses
       → All P (turn_in settings time state r).told.accesses
   by_state settings time Running r each = let t = instruction r in
       by_end settings time (with_effect (turn_counted r) t) t.accesses t.end each
-  by_state settings time Yielded r each = by_delivery r r.own.inbox.pending
+  by_state settings time Yielded r each = by_delivery r (due r.own.inbox)
   by_state settings time Faulted r each = All-nil P
   by_state settings time (Terminated code) r each = All-nil P
 
@@ -70,10 +71,10 @@ unfolding turned
 turn_permitted permitted aligned settings time r =
     by_state (IsPermitted r.own) settings time r.process.state r (instruction_permitted permitted aligned r)
 
--- a class for which there is no call is above 6
+-- a class for which there is no call is above 7
 above_all : (regs : Registers) (n : ℕ)
     → option_map (λ (row : ℕ × SystemCall). row.1) (find (λ (row : ℕ × SystemCall). row.0 == n) (class_table regs))
-    ≡ None → 6 < n
+    ≡ None → 7 < n
 unfolding class_table
 above_all regs zero e = absurd (cc)
 above_all regs (suc zero) e = absurd (cc)
@@ -82,9 +83,10 @@ above_all regs (suc (suc (suc zero))) e = absurd (cc)
 above_all regs (suc (suc (suc (suc zero)))) e = absurd (cc)
 above_all regs (suc (suc (suc (suc (suc zero))))) e = absurd (cc)
 above_all regs (suc (suc (suc (suc (suc (suc zero)))))) e = absurd (cc)
-above_all regs (suc (suc (suc (suc (suc (suc (suc n))))))) e = omega arith
+above_all regs (suc (suc (suc (suc (suc (suc (suc zero))))))) e = absurd (cc)
+above_all regs (suc (suc (suc (suc (suc (suc (suc (suc n)))))))) e = omega arith
 
-unknown_class : (regs : Registers) → call_of regs ≡ None → 6 < class regs
+unknown_class : (regs : Registers) → call_of regs ≡ None → 7 < class regs
 unfolding call_of
 unknown_class regs e = above_all regs (class regs) e
 
@@ -112,9 +114,9 @@ module _ (law : DenialsAreDue) (of_ecall : CallsAreOfEcall) (settings : Settings
       call_due r s accesses (call_of s.process.regs) refl is.1 is.0
   end_due r s accesses (ends.Trap denial) due ecall = due denial refl
 
-  delivery_due : (r : Record) (pending : List Scheduled) → IfSome (delivery r pending).told.denial (DenialIsDue r)
-  delivery_due r [] = tt
-  delivery_due r (upcall ∷ more) = tt
+  delivery_due : (r : Record) (next : Option Delivery) → IfSome (delivery r next).told.denial (DenialIsDue r)
+  delivery_due r None = tt
+  delivery_due r (Some next) = tt
 
   state_due : (state : State) (r : Record) → IfSome (turn_in settings time state r).told.denial (DenialIsDue r)
   state_due Running r =
@@ -122,7 +124,7 @@ module _ (law : DenialsAreDue) (of_ecall : CallsAreOfEcall) (settings : Settings
       end_due r (with_effect (turn_counted r) t) t.accesses t.end
       (λ d trapped. inl (law (denied r.own.layout) (byte_at r) r.process.regs d trapped))
       (λ calls. let is = of_ecall (denied r.own.layout) (byte_at r) r.process.regs calls in (is.0, is.1))
-  state_due Yielded r = delivery_due r r.own.inbox.pending
+  state_due Yielded r = delivery_due r (due r.own.inbox)
   state_due Faulted r = tt
   state_due (Terminated code) r = tt
 

@@ -1,16 +1,19 @@
 -- What every call comes to, by cases on the call: it is refused, and changes nothing but the reply registers, pc and
 -- the recorded refusal; or it is served.
-use Rattle.std.proofs.Common.{◌≡◌, ◌≢◌, ◌<◌, length, ℕ, ◌-◌, ◌==◌, Bool, true, false, cond, List, [], ◌∷◌, slice_set}
-use Rattle.std.proofs.Common.{Option, None, Some, Result, Ok, Err, refl, ap, sym, subst, arith}
+use Rattle.std.proofs.Common.{◌≡◌, ◌≢◌, ◌<◌, length, ℕ, ◌-◌, ◌==◌, Bool, true, false, cond, [], slice_set}
+use Rattle.std.proofs.Common.{slice_get, Option, None, Some, Result, Ok, Err, refl, ap, sym, subst, ◌∙◌, arith}
 use Rattle.tk_base.specs.declared.call.CallRule.{CallRule}
 use Rattle.tk_base.specs.declared.call.CallRule.TheVariants.{NoDriver, NoOperation, Permission}
 use Rattle.tk_base.specs.declared.limits.TheConstants.{PENDING_LIMIT}
 use Rattle.tk_base.specs.declared.upcall.Upcall.{Upcall as Scheduled}
+use Rattle.tk_base.specs.declared.upcall.Wait.TheVariants.{For}
 use Rattle.tk_base.specs.Call.{error_of}
 use Rattle.tbf_headers.specs.declared.fault.HeaderFault.{HeaderFault}
 use Rattle.tbf_headers.specs.declared.program.Main.{Main}
 use Rattle.tbf_headers.specs.Meaning.{Meaning, header_reading}
-use Rattle.process_model.specs.Own.{Own, without_first}
+use Rattle.upcall_queue.specs.declared.inbox.Inbox.{Inbox}
+use Rattle.upcall_queue.specs.Pending.{place_of, taken_at}
+use Rattle.process_model.specs.Own.{Own, with_inbox}
 use Rattle.process_model.specs.Flag.{with_flag}
 use Rattle.process_model.specs.Handed.{lies_in_ram}
 use Rattle.driver_model.specs.Steps.{own_after}
@@ -24,13 +27,15 @@ use Rattle.syscall_abi.specs.declared.form.Swap.{Swap}
 use Rattle.syscall_abi.specs.Call.{form_of}
 use Rattle.syscall_abi.specs.declared.reply.Reply.{Reply}
 use Rattle.syscall_abi.specs.declared.reply.Reply.TheVariants.{Failure}
+use Rattle.process_record.specs.declared.outcome.Outcome.TheVariants as outcomes
 use Rattle.process_record.specs.declared.outcome.Outcome.TheVariants.{ToDriver}
-use Rattle.kernel_model.specs.Record.{Record, record_with_step}
+use Rattle.process_record.specs.Process.{after_call, waiting}
+use Rattle.kernel_model.specs.Record.{Record, record_with_step, with_process}
 use Rattle.kernel_model.specs.Turn.{rule_shown}
-use Rattle.kernel_model.specs.Calls.{Served, driver_answered, by_form, commanded, exit, failed_swap, failure_of}
+use Rattle.kernel_model.specs.Calls.{Served, comes_to, driver_answered, by_form, commanded, exit, failed_swap, failure_of}
 use Rattle.kernel_model.specs.Calls.{memop}
 use Rattle.kernel_model.specs.Calls.{object_permits, refused_with, replied, restart, restarted_by, restarted_main}
-use Rattle.kernel_model.specs.Calls.{served, swap_by, swap_refusal, taken_by, yield_now, yielding}
+use Rattle.kernel_model.specs.Calls.{served, swap_by, swap_refusal, taken_by, yield_for, yield_now, yielding}
 use Rattle.kernel_model.specs.Laws.{CanStartAgain, DriversPromise, KeepsLines}
 use Rattle.kernel_model.proofs.Lines.{SameKept, keeps_commanded, keeps_ended, keeps_handed, keeps_restarted, keeps_same}
 use Rattle.kernel_model.proofs.Memops.{by_test, memop_gives}
@@ -125,22 +130,43 @@ flag_keeps at byte own = by_place (lies_in_ram own.layout at 1)
     by_place true = record { grants = refl; lives = refl; life = refl; dropped = refl }
     by_place false = all_same own
 
-first_keeps : (own o : Own) → SameKept own o → SameKept own (without_first o)
-first_keeps own o same = record { grants = same.grants; lives = same.lives; life = same.life; dropped = same.dropped }
+inbox_keeps : (own o : Own) (change : Inbox → Inbox) → (change o.inbox).dropped ≡ o.inbox.dropped → SameKept own o
+    → SameKept own (with_inbox change o)
+inbox_keeps own o change none same =
+    record { grants = same.grants; lives = same.lives; life = same.life; dropped = none ∙ same.dropped }
 
-of_yield_now : (P : Served → Type 0) (around : CommandContext) (r : Record) (at : ℕ) (pending : List Scheduled)
-    → OfBoth P around r plain → P (yield_now r at pending)
-of_yield_now P around r at [] both = both.served _ (served_so around r _ refl (flag_keeps at 0 r.own) (λ e. cc) refl)
-of_yield_now P around r at (upcall ∷ more) both =
-    both.served _ (served_so around r _ refl (first_keeps r.own _ (flag_keeps at 1 r.own)) (λ e. cc) refl)
+of_yield_now : (P : Served → Type 0) (around : CommandContext) (r : Record) (at : ℕ) (first : Option Scheduled)
+    → OfBoth P around r plain → P (yield_now r at first)
+of_yield_now P around r at None both = both.served _ (served_so around r _ refl (flag_keeps at 0 r.own) (λ e. cc) refl)
+of_yield_now P around r at (Some upcall) both =
+    both.served _ (served_so around r _ refl
+    (inbox_keeps r.own (with_flag at 1 r.own) (taken_at 0) refl (flag_keeps at 1 r.own)) (λ e. cc) refl)
 
-of_yield : (P : Served → Type 0) (around : CommandContext) (r : Record) (number at : ℕ) → OfBoth P around r plain
-    → P (yielding r number at)
+of_yield_for : (P : Served → Type 0) (around : CommandContext) (r : Record) (driver number : ℕ)
+    (first : Option Scheduled) → OfBoth P around r plain → P (yield_for r driver number first)
+of_yield_for P around r driver number None both =
+    both.served _ (served_so around r _ refl
+    (inbox_keeps r.own r.own (λ inbox. record inbox { wait = For driver number }) refl (all_same r.own)) (λ e. cc) refl)
+of_yield_for P around r driver number (Some upcall) both =
+    let place = place_of driver number r.own.inbox.pending in
+    both.served _ (served_so around r _ refl (inbox_keeps r.own r.own (taken_at place) refl (all_same r.own)) (λ e. cc)
+    refl)
+
+of_yield : (P : Served → Type 0) (around : CommandContext) (r : Record) (number a1 a2 : ℕ) → OfBoth P around r plain
+    → P (yielding r number a1 a2)
 unfolding yielding
-of_yield P around r number at both =
-    by_test P (number == 0) _ _ (of_yield_now P around r at r.own.inbox.pending both)
-    (by_test P (number == 1) _ _ (both.served _ (served_so around r _ refl (all_same r.own) (λ e. cc) refl))
-    (both.served _ (served_so around r _ refl (all_same r.own) (λ e. cc) refl)))
+of_yield P around r number a1 a2 both =
+    by_test P (number == 0) _ _ (of_yield_now P around r a1 (slice_get r.own.inbox.pending 0) both)
+    (by_test P (number == 1) waits _ (both.served waits (served_so around r waits refl (all_same r.own) (λ e. cc) refl))
+    (by_test P (number == 2) _ goes_on (of_yield_for P around r a1 a2
+    (slice_get r.own.inbox.pending (place_of a1 a2 r.own.inbox.pending)) both)
+    (both.served goes_on (served_so around r goes_on refl (all_same r.own) (λ e. cc) refl))))
+  where
+    waits : Served
+    waits = comes_to (with_process r (waiting r.process)) outcomes.Waits
+
+    goes_on : Served
+    goes_on = comes_to (with_process r (after_call r.process)) outcomes.GoesOn
 
 of_swap : (P : Served → Type 0) (promise : DriversPromise) (around : CommandContext) (r : Record) (swap : Swap)
     (o : Option CallRule) → OfBoth P around r (failed_swap swap.pair) → P (swap_by r swap o)
@@ -186,7 +212,7 @@ of_taken P promise around driver number a2 a3 r (Some taker) is both =
 of_form : (P : Served → Type 0) (promise : DriversPromise) (around : CommandContext) (r : Record) (form : CallForm)
     → OfBoth P around r (failure_of form) → P (by_form around r form)
 unfolding by_form
-of_form P promise around r (forms.Yield number a1 a2) both = of_yield P around r number a1 both
+of_form P promise around r (forms.Yield number a1 a2) both = of_yield P around r number a1 a2 both
 of_form P promise around r (forms.Swap swap) both = of_swap P promise around r swap (swap_refusal swap r.own) both
 of_form P promise around r (forms.Command driver number a2 a3) both =
     of_taken P promise around driver number a2 a3 r (handler_of driver) refl both

@@ -1,11 +1,11 @@
 -- The labels of a device's step: that of the one answer in it, or none. What labels show that was printed.
-use Rattle.std.proofs.Common.{◌≡◌, ◌==◌, ◌||◌, not, ℕ, Bool, true, false, cond, List, [], ◌∷◌, ◌++◌, length, Some, slice_get}
+use Rattle.std.proofs.Common.{◌≡◌, ◌==◌, ◌||◌, not, ℕ, Bool, true, false, cond, List, [], ◌∷◌, ◌++◌, length, Some}
+use Rattle.std.proofs.Common.{slice_get}
 use Rattle.std.proofs.Common.{refl, sym, ap, ◌∙◌, arith, eqb-true}
 use Rattle.std.specs.Prelude.{All}
 use Rattle.std.proofs.lemmas.List.Elements.{All-nil, All-cons}
 use Rattle.tk_base.specs.declared.process.Dev.{Dev}
 use Rattle.kernel_model.specs.Record.{Record}
-use Rattle.process_record.specs.declared.emit.Emit.{Emit}
 use Rattle.kernel_model.specs.Run.{printed}
 use Rattle.kernel_model.specs.Shown.{shown_by}
 use Rattle.kernel_model.specs.Turn.{is_turn}
@@ -24,7 +24,8 @@ device_labels P w answered device =
 -- nothing is in a list without elements
 pub none_in : {X : Type 0} (xs : List X) → (length xs == 0) ≡ true → xs ≡ []
 none_in [] e = refl
-none_in (x ∷ xs) e = let zero_is : length (x ∷ xs) ≡ 0 = eqb-true (length (x ∷ xs)) 0 e in absurd (omega (arith, zero_is))
+none_in (x ∷ xs) e = let zero_is : length (x ∷ xs) ≡ 0 = eqb-true (length (x ∷ xs)) 0 e in absurd
+    (omega (arith, zero_is))
 
 -- what a step shows that it printed
 pub shown_by-printed : (ls : List Label) → (shown_by ls).printed.items ≡ printed ls

@@ -1,6 +1,7 @@
 -- What holds of every answer that memop may give, whatever the operation: it is refused, or replied to with the break
 -- as it is or moved.
-use Rattle.std.proofs.Common.{ℕ, ◌+◌, ◌==◌, Bool, true, false, cond, List, [], ◌∷◌, find, Option, None, Some, option_map, unwrap_or}
+use Rattle.std.proofs.Common.{ℕ, ◌+◌, ◌==◌, Bool, true, false, cond, List, [], ◌∷◌, find, Option, None, Some}
+use Rattle.std.proofs.Common.{option_map, unwrap_or}
 use Rattle.tk_base.specs.declared.call.CallRule.{CallRule}
 use Rattle.tk_base.specs.declared.call.CallRule.TheVariants.{Break, Index, NoOperation}
 use Rattle.process_layout.specs.Bounds.{permits_break}

@@ -1,4 +1,5 @@
--- Worked cases of the definitions, computed from them alone. The numbers were put together by hand from TRD 104, "System
+-- Worked cases of the definitions, computed from them alone. The numbers were put together by hand from TRD 104,
+-- "System
 -- Call API", "Memop" and "Return Values".
 use Rattle.std.proofs.Common.{◌≡◌, ◌+◌, ◌-◌, ◌^◌, [], ◌∷◌, None, Some, map, replicate, reverse, slice_get, refl}
 use Rattle.std.specs.Option.{option_and_then}

@@ -25,7 +25,7 @@ pub record IsPermitted (own : Own) (t : MemoryAccess) : Type 0 where
 -- a call of a class that is unknown, by the ECALL at pc; it is denied as the fetch of that
 pub record IsUnknownCall (r : Record) (d : Denial) : Type 0 where
   pub instruction : IsInstrAt (denied r.own.layout) (byte_at r) r.process.regs.pc (Some Ecall)
-  pub class : 6 < class r.process.regs
+  pub class : 7 < class r.process.regs
   pub denial : d ≡ denied_at Fetch r.process.regs.pc UnknownClass
 
 -- A denial that is due, by what the process may access: of a parcel that it may not fetch, of what the instruction at

@@ -1,7 +1,9 @@
 -- The system calls: TRD 104, "Yield", "Subscribe", "Command", "Read-Only Allow", "Read-Write Allow", "Memop" and
 -- "Exit".
 use Rattle.std.specs.Prelude.{ℕ, ◌+◌, ◌-◌, ◌%◌, ◌^◌, ◌==◌, Bool, not, nat_le, nat_lt, if◌then◌else◌, List, []}
-use Rattle.std.specs.Prelude.{◌∷◌, find, Option, None, Some, is_none, option_and_then, option_map, unwrap_or, Result, Ok, Err}
+use Rattle.std.specs.Prelude.{◌∷◌, find, Option, None, Some, is_none, option_and_then, option_map, unwrap_or, slice_get}
+use Rattle.std.specs.Prelude.{Result, Ok, Err}
+use Rattle.std.specs.Result.{result_ok}
 use Rattle.tk_base.specs.declared.call.CallRule.{CallRule}
 use Rattle.tk_base.specs.declared.call.CallRule.TheVariants.{Break, Index, NoDriver, NoNumber, NoOperation, NoRoom}
 use Rattle.tk_base.specs.declared.call.CallRule.TheVariants.{Outside, Permission}
@@ -13,6 +15,11 @@ use Rattle.syscall_filter.specs.Permission.{permitted}
 use Rattle.process_layout.specs.LayoutView.{first_break}
 use Rattle.process_layout.specs.Bounds.{permits_break}
 use Rattle.tk_base.specs.declared.upcall.Upcall.{Upcall as Scheduled}
+use Rattle.tk_base.specs.declared.upcall.Wait.TheVariants.{For}
+use Rattle.upcall_queue.specs.declared.inbox.Delivery.{Delivery}
+use Rattle.upcall_queue.specs.declared.inbox.Delivery.TheVariants.{Function, Arguments}
+use Rattle.upcall_queue.specs.declared.inbox.Inbox.{Inbox}
+use Rattle.upcall_queue.specs.Pending.{place_of, taken_at}
 use Rattle.grant_values.specs.Drivers.{counts_of}
 use Rattle.tk_base.specs.Kinds.{count_of}
 use Rattle.grant_model.specs.Grants.{shape_of}
@@ -42,21 +49,17 @@ pub record Served : Type 0 where
   pub outcome : Outcome
   pub acts : List BoardRequest
 
--- a call that is answered, and asks nothing of the board
+-- a call that asks nothing of the board
+abbrev pub comes_to : Record → Outcome → Served
+comes_to r outcome = record { after = r; outcome = outcome; acts = [] }
+
+-- a call that is answered
 abbrev pub replied : Record → Reply → Served
-replied r reply = record {
-  after = with_process r (after_reply r.process reply);
-  outcome = Replied reply None;
-  acts = [];
-}
+replied r reply = comes_to (with_process r (after_reply r.process reply)) (Replied reply None)
 
 -- a refused call changes the reply registers, pc and the recorded refusal alone
 abbrev pub refused_with : Record → CallRule → Reply → Served
-refused_with r rule reply = record {
-  after = with_process r (after_refusal r.process rule reply);
-  outcome = Replied reply (Some rule);
-  acts = [];
-}
+refused_with r rule reply = comes_to (with_process r (after_refusal r.process rule reply)) (Replied reply (Some rule))
 
 -- a call that is refused by a rule, with the rule's error as its reply
 abbrev pub refused : Record → CallRule → Served
@@ -95,13 +98,9 @@ swap_by r swap (Some rule) = refused_with r rule (failed_swap swap.pair rule)
 abbrev pub swapped : Record → Swap → Served
 swapped r swap = swap_by r swap (swap_refusal swap r.own)
 
--- the first pending upcall of a process is delivered; where none is pending nothing changes
-abbrev pub deliver_by : Record → List Scheduled → Record
-deliver_by r [] = r
-deliver_by r (upcall ∷ more) = record r { process = delivered upcall r.process; own = own.without_first r.own }
-
-abbrev pub deliver : Record → Record
-deliver r = deliver_by r r.own.inbox.pending
+-- a process goes on with what is delivered to it, and what is scheduled for it changes
+abbrev pub deliver : Record → Delivery → (Inbox → Inbox) → Record
+deliver r delivery change = record r { process = delivered delivery r.process; own = own.with_inbox change r.own }
 
 -- a process past its `ecall`, with its flag written
 abbrev pub flag_written : Record → ℕ → ℕ → Record
@@ -109,20 +108,28 @@ flag_written r at byte = record r { process = after_call r.process; own = with_f
 
 -- A yield that does not wait: where an upcall is pending, it writes 1 to its flag, and the first one is delivered; else
 -- it writes 0, and the process goes on.
-abbrev pub yield_now : Record → ℕ → List Scheduled → Served
-yield_now r at [] = record { after = flag_written r at 0; outcome = GoesOn; acts = [] }
-yield_now r at (upcall ∷ more) = record {
-  after = deliver_by (flag_written r at 1) (upcall ∷ more);
-  outcome = Delivered;
-  acts = [];
-}
+abbrev pub yield_now : Record → ℕ → Option Scheduled → Served
+yield_now r at None = comes_to (flag_written r at 0) GoesOn
+yield_now r at (Some upcall) = comes_to (deliver (flag_written r at 1) (Function upcall) (taken_at 0)) Delivered
 
--- yield with 0 does not wait, with 1 waits for an upcall; another number goes on
-unfoldable pub yielding : Record → ℕ → ℕ → Served
-yielding r number at =
-    if number == 0 then yield_now r at r.own.inbox.pending
-    else (if number == 1 then record { after = with_process r (waiting r.process); outcome = Waits; acts = [] }
-    else record { after = with_process r (after_call r.process); outcome = GoesOn; acts = [] })
+-- A yield for one upcall alone: where one of its driver and number is pending, the process goes on with the arguments
+-- of the first, which is taken out; else it waits for that upcall.
+abbrev pub yield_for : Record → ℕ → ℕ → Option Scheduled → Served
+yield_for r driver number None =
+    let own = own.with_inbox (λ inbox. record inbox { wait = For driver number }) r.own in
+    comes_to (record r { process = waiting r.process; own = own }) Waits
+yield_for r driver number (Some upcall) =
+    let place = place_of driver number r.own.inbox.pending in
+    comes_to (deliver (with_process r (after_call r.process)) (Arguments upcall.args) (taken_at place)) Delivered
+
+-- yield with 0 does not wait, with 1 waits for an upcall, with 2 for one alone; another number goes on
+unfoldable pub yielding : Record → ℕ → ℕ → ℕ → Served
+yielding r number a1 a2 =
+    let pending = r.own.inbox.pending in
+    if number == 0 then yield_now r a1 (slice_get pending 0)
+    else (if number == 1 then comes_to (with_process r (waiting r.process)) Waits
+    else (if number == 2 then yield_for r a1 a2 (slice_get pending (place_of a1 a2 pending))
+    else comes_to (with_process r (after_call r.process)) GoesOn))
 
 -- sbrk moves the break by a signed number; none is below 0
 abbrev pub moved_by : ℕ → ℕ → Option ℕ
@@ -143,8 +150,7 @@ break_moved r (Some new) reply =
 
 -- the writeable flash regions that the header of an object names
 abbrev pub regions_named : Result Meaning HeaderFault → Option (List ℕ)
-regions_named (Ok h) = h.regions
-regions_named (Err fault) = None
+regions_named header = option_and_then (λ h. h.regions) (result_ok header)
 
 -- an end of a region, mod 2^32; a region that the header does not name has none
 abbrev pub region_end : Record → (ℕ × ℕ → ℕ) → Option (ℕ × ℕ) → Served
@@ -199,16 +205,15 @@ restarted_by r (Err fault) = r
 unfoldable pub restart : Record → Record
 restart r = restarted_by r (header_reading r.object)
 
+-- a call that ends a life of its process, which leaves all queues then
+abbrev pub ended : Record → Outcome → Served
+ended r outcome = record { after = r; outcome = outcome; acts = leaving_all }
+
 -- exit with 0 ends the process with its completion code, with 1 it starts again; another number is refused
 unfoldable pub exit : Record → ℕ → ℕ → Served
 exit r kind code =
-    if kind == 0 then record {
-      after = record r { process = after_exit r.process code; own = own.own_ended r.own };
-      outcome = Ended;
-      acts = leaving_all;
-    }
-    else (if kind == 1 then record { after = restart r; outcome = Again; acts = leaving_all }
-    else refused r NoOperation)
+    if kind == 0 then ended (record r { process = after_exit r.process code; own = own.own_ended r.own }) Ended
+    else (if kind == 1 then ended (restart r) Again else refused r NoOperation)
 
 -- a driver replies to a command, or refuses it
 abbrev pub driver_answered : Record → Result Reply CallRule → Served
@@ -226,7 +231,7 @@ taken_by around number a2 a3 r (Some taker) = commanded r (taker around number a
 
 -- the calls, by form
 unfoldable pub by_form : CommandContext → Record → CallForm → Served
-by_form around r (forms.Yield number a1 a2) = yielding r number a1
+by_form around r (forms.Yield number a1 a2) = yielding r number a1 a2
 by_form around r (forms.Swap swap) = swapped r swap
 by_form around r (forms.Command driver number a2 a3) = taken_by around number a2 a3 r (handler_of driver)
 by_form around r (forms.Memop operation argument) = memop r operation argument
@@ -240,8 +245,7 @@ failure_of form rule = Failure (error_of rule)
 -- the permissions that the header of an object lists (Tock Binary Format, "Permissions"); one that cannot be read has
 -- no such list
 abbrev pub permissions_listed : Result Meaning HeaderFault → Option (List ℕ)
-permissions_listed (Ok h) = h.permissions
-permissions_listed (Err fault) = None
+permissions_listed header = option_and_then (λ h. h.permissions) (result_ok header)
 
 -- whether an object permits a call to its process, under a strict filter or an open one
 abbrev pub object_permits : Bool → List ℕ → SystemCall → Bool

@@ -1,6 +1,7 @@
 -- What changes the bytes of a process: of its own RAM, of its whole block, of its storage (Levy et al., SOSP 2017; TRD
 -- 104, "Yield", "Exit", "Read-Write Allow"; the userspace-readable allow of Tock's kernel).
-use Rattle.std.specs.Prelude.{◌≡◌, ◌≢◌, ◌⊎◌, ◌≤◌, ◌<◌, ℕ, ◌+◌, ◌==◌, ◌&&◌, Bool, true, false, IsTrue, List, [], length, slice_get}
+use Rattle.std.specs.Prelude.{◌≡◌, ◌≢◌, ◌⊎◌, ◌≤◌, ◌<◌, ℕ, ◌+◌, ◌==◌, ◌&&◌, Bool, true, false, IsTrue, List, [], length}
+use Rattle.std.specs.Prelude.{slice_get}
 use Rattle.std.specs.Prelude.{slice_index, Option, None, Some, is_none, is_some, IfSome, option_map, unwrap_or}
 use Rattle.std.specs.List.{Any, list_any}
 use Rattle.tk_base.specs.declared.process.Choice.{Choice}

@@ -1,5 +1,5 @@
 -- What a step and a world show: the facts of the report, and of one step. What is shown is this board's own rule.
-use Rattle.std.specs.Prelude.{◌≡◌, ◌==◌, Bool, true, false, not, ◌||◌, if◌then◌else◌, List, [], ◌∷◌, ◌++◌, length}
+use Rattle.std.specs.Prelude.{◌≡◌, ◌==◌, true, not, ◌||◌, if◌then◌else◌, List, [], ◌∷◌, ◌++◌, length}
 use Rattle.std.specs.Prelude.{map, Some}
 use Rattle.process_record.specs.declared.emit.Emit.{Emit}
 use Rattle.process_record.specs.declared.summary.SlotLine.{SlotLine}
@@ -15,6 +15,7 @@ abbrev pub slot_line_of : Record → SlotLine
 slot_line_of r = record {
   name = record { items = name_of r.object };
   state = r.process.state;
+  wait = r.own.inbox.wait;
   denial = r.process.denial;
   turns = r.process.turns;
   restarts = r.process.restarts;

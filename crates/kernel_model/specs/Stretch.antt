@@ -1,5 +1,6 @@
 -- Quiet stretches: turns of processes, one after another, that only execute an instruction.
-use Rattle.std.specs.Prelude.{◌≡◌, ◌≤◌, ◌<◌, ℕ, zero, suc, ◌+◌, ◌-◌, true, [], length, slice_get, slice_set, Some, None, All}
+use Rattle.std.specs.Prelude.{◌≡◌, ◌≤◌, ◌<◌, ℕ, zero, suc, ◌+◌, ◌-◌, true, [], length, slice_get, slice_set, Some, None}
+use Rattle.std.specs.Prelude.{All}
 use Rattle.tk_base.specs.declared.limits.TheConstants.{STEP_LIMIT}
 use Rattle.tk_base.specs.declared.process.Choice.TheVariants.{Run}
 use Rattle.rv32_model.specs.declared.turn_end.TurnEnd.TheVariants.{Went}

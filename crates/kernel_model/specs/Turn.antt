@@ -1,7 +1,7 @@
 -- The turn of a process, and what else may happen to it. Its states are those of TRD 104, "Yield" and "Exit"; that a
 -- turn is one instruction is this board's own rule.
-use Rattle.std.specs.Prelude.{ℕ, ◌==◌, Bool, true, false, not, if◌then◌else◌, List, [], ◌∷◌, length, Option, None, Some}
-use Rattle.std.specs.Prelude.{option_map, unwrap_or}
+use Rattle.std.specs.Prelude.{ℕ, ◌==◌, Bool, true, false, not, if◌then◌else◌, List, [], ◌∷◌, Option, None, Some}
+use Rattle.std.specs.Prelude.{is_some, option_map, unwrap_or}
 use Rattle.tk_base.specs.declared.access.Access.TheVariants.{Fetch}
 use Rattle.tk_base.specs.declared.access.Rule.TheVariants.{UnknownClass}
 use Rattle.tk_base.specs.declared.access.Denial.{Denial}
@@ -13,7 +13,8 @@ use Rattle.rv32_model.specs.UserTurn.{MemoryAccess, denied_at}
 use Rattle.fault_policy.specs.declared.Action.{Action}
 use Rattle.fault_policy.specs.declared.Action.TheVariants.{Stop, Restart}
 use Rattle.fault_policy.specs.Policy.{decision}
-use Rattle.tk_base.specs.declared.upcall.Upcall.{Upcall}
+use Rattle.upcall_queue.specs.declared.inbox.Delivery.{Delivery}
+use Rattle.upcall_queue.specs.Pending.{due, left_by}
 use Rattle.syscall_abi.specs.declared.call.Call.{Call as SystemCall}
 use Rattle.syscall_abi.specs.declared.form.CallForm.{CallForm}
 use Rattle.syscall_abi.specs.declared.form.CallForm.TheVariants.{Yield}
@@ -39,7 +40,7 @@ use Rattle.process_record.specs.declared.process.State.TheVariants.{Running, Yie
 use Rattle.process_record.specs.Process.{after_turn, after_fault}
 use Rattle.kernel_model.specs.Record.{Record, with_process, instruction, with_effect, record_with_step}
 use Rattle.kernel_model.specs.declared.settings.Settings.{Settings}
-use Rattle.kernel_model.specs.Calls.{Served, deliver_by, served, restart}
+use Rattle.kernel_model.specs.Calls.{Served, deliver, served, restart}
 
 -- what a turn tells: its accesses, the call in it, the address of the flag that its yield wrote, and the denial in it
 pub record TurnTrace : Type 0 where
@@ -78,12 +79,8 @@ rule_shown other = None
 
 -- the call as the step shows it, from the registers before it and what came of it
 abbrev pub made : Registers → Outcome → CallMade
-made regs outcome = record {
-  class = class regs;
-  args = arguments regs;
-  reply = reply_shown regs outcome;
-  rule = rule_shown outcome;
-}
+made regs outcome =
+    record { class = class regs; args = arguments regs; reply = reply_shown regs outcome; rule = rule_shown outcome }
 
 -- a process that faulted ends, or starts again, as the policy decides
 abbrev pub settled : Record → Action → Record
@@ -92,11 +89,9 @@ settled r Restart = restart r
 
 -- a denial is recorded, and the process faults
 abbrev pub faulted : Settings → Record → Denial → Turned
-faulted settings r denial = record {
-  after = settled (with_process r (after_fault r.process denial)) (decision settings.policy r.process.restarts);
-  told = record untraced { denial = Some denial };
-  acts = leaving_all;
-}
+faulted settings r denial =
+    let after = settled (with_process r (after_fault r.process denial)) (decision settings.policy r.process.restarts) in
+    record { after = after; told = record untraced { denial = Some denial }; acts = leaving_all }
 
 -- A class that is unknown is denied as a fetch at the `ecall`'s address.
 abbrev pub unknown_call : Process → Denial
@@ -110,22 +105,15 @@ yield_flag_of r form = None
 
 -- a call that was made, with what came of it
 abbrev pub called : Record → List MemoryAccess → SystemCall → Served → Turned
-called r accesses call s = record {
-  after = s.after;
-  told = record (only_accessed accesses) {
-    call = Some (made r.process.regs s.outcome);
-    flag = yield_flag_of r (form_of call);
-  };
-  acts = s.acts;
-}
+called r accesses call s =
+    let shown = Some (made r.process.regs s.outcome) in
+    let told = record (only_accessed accesses) { call = shown; flag = yield_flag_of r (form_of call) } in
+    record { after = s.after; told = told; acts = s.acts }
 
 -- what a command sees of the board at a time
 abbrev pub surroundings : Settings → ℕ → CommandContext
-surroundings settings time = record {
-  now = clock_at settings.start time;
-  leds = settings.leds;
-  storage = settings.storage;
-}
+surroundings settings time =
+    record { now = clock_at settings.start time; leds = settings.leds; storage = settings.storage }
 
 -- the call that stands in the registers is served; an unknown class is a fault
 abbrev pub calls : Settings → ℕ → Record → List MemoryAccess → Option SystemCall → Turned
@@ -152,15 +140,15 @@ instructed settings time r = let t = instruction r in
 abbrev pub idle : Record → Turned
 idle r = record { after = r; told = untraced; acts = [] }
 
--- a process that waits gets the first of its pending upcalls, which is its turn (TRD 104, "Yield")
-abbrev pub delivery : Record → List Upcall → Turned
-delivery r [] = idle r
-delivery r (upcall ∷ more) = idle (deliver_by (turn_counted r) (upcall ∷ more))
+-- a process that has yielded gets what is due to it, which is its turn (TRD 104, "Yield")
+abbrev pub delivery : Record → Option Delivery → Turned
+delivery r None = idle r
+delivery r (Some next) = idle (deliver (turn_counted r) next (left_by next))
 
 -- its turn, as it runs or waits; one that ended has none
 abbrev pub turn_in : Settings → ℕ → State → Record → Turned
 turn_in settings time Running r = instructed settings time r
-turn_in settings time Yielded r = delivery r r.own.inbox.pending
+turn_in settings time Yielded r = delivery r (due r.own.inbox)
 turn_in settings time other r = idle r
 
 -- the turn of a process at a time, by its state
@@ -210,16 +198,12 @@ apply settings (Word word) r = record_with_step r (random.answered (Some word) r
 apply settings NoWord r = record_with_step r (random.answered None r.own).step
 apply settings (Stored moved) r = stored moved r
 
--- whether a process in a state can have a turn: it runs, or it waits and an upcall is pending
-abbrev pub has_turn : State → Bool → Bool
-has_turn Running pending = true
-has_turn Yielded pending = pending
-has_turn other pending = false
-
--- whether an upcall waits to be delivered
-abbrev pub is_pending : List Upcall → Bool
-is_pending pending = not (length pending == 0)
+-- whether a process in a state can have a turn: it runs, or it has yielded and something is due to it
+abbrev pub has_turn : State → Option Delivery → Bool
+has_turn Running next = true
+has_turn Yielded next = is_some next
+has_turn other next = false
 
 -- whether a process can have a turn
 abbrev pub may_turn : Record → Bool
-may_turn r = has_turn r.process.state (is_pending r.own.inbox.pending)
+may_turn r = has_turn r.process.state (due r.own.inbox)

@@ -27,7 +27,8 @@ use Rattle.driver_model.specs.Storage as storage
 use Rattle.driver_model.specs.Leds.{with_switched}
 use Rattle.driver_model.specs.Told.{Telling, drawn_told, received_told, sent_told, stored_told}
 use Rattle.driver_model.specs.Commands.{BoardRequest, Waits, Leaves, Lights, QueueName, Writes, Reads, Randoms, Stores}
-use Rattle.kernel_model.specs.Turn.{Event, Turn, Alarmed, Taken, WriteDone, Input, Word, NoWord, Stored, TurnTrace, Turned}
+use Rattle.kernel_model.specs.Turn.{Event, Turn, Alarmed, Taken, WriteDone, Input, Word, NoWord, Stored, TurnTrace}
+use Rattle.kernel_model.specs.Turn.{Turned}
 use Rattle.kernel_model.specs.Turn.{untraced}
 use Rattle.kernel_model.specs.Turn.{apply, flash_of, turned, may_turn}
 
@@ -155,10 +156,13 @@ as_events = record {
   stored = Stored;
 }
 
+-- it tells it something, and nothing is printed
+abbrev pub telling : Event → Devices → DeviceAnswer
+telling event d = record { answer = record { event = event; printed = [] }; devices = d }
+
 -- the alarm of a process fires at a time
 abbrev pub alarmed : Settings → ℕ → Devices → DeviceAnswer
-alarmed settings time d =
-    record { answer = record { event = as_events.alarmed (clock_at settings.start time); printed = [] }; devices = d }
+alarmed settings time d = telling (as_events.alarmed (clock_at settings.start time)) d
 
 -- the UART takes the next bytes of the write of the process in a slot, or the write completes
 abbrev pub transmitting : ℕ → Devices → ℕ → Record → DeviceAnswer
@@ -175,32 +179,23 @@ transmitting time d slot r =
 abbrev pub receive_step : Devices → ℕ → Record → DeviceAnswer
 receive_step d slot r =
     let s = console.received d.line.ring r.own in
-    record {
-      answer = record { event = received_told as_events s; printed = [] };
-      devices = record (after_answer Reads s.completed slot d) {
-        line = record d.line { ring = drop (length s.moved) d.line.ring };
-      };
-    }
+    let line = record d.line { ring = drop (length s.moved) d.line.ring } in
+    telling (received_told as_events s) (record (after_answer Reads s.completed slot d) { line = line })
 
 -- a word is drawn for the request of the process in a slot, or none
 abbrev pub random_step : Devices → ℕ → Record → DeviceAnswer
 random_step d slot r =
     let a = random.answered (slice_get d.words 0) r.own in
-    record {
-      answer = record { event = drawn_told as_events a.drawn; printed = [] };
-      devices = record (after_answer Randoms a.completed slot d) { words = random.words_after a.drawn d.words };
-    }
+    let words = random.words_after a.drawn d.words in
+    telling (drawn_told as_events a.drawn) (record (after_answer Randoms a.completed slot d) { words = words })
 
 -- the storage request of the process in a slot is served, or fails, by its number among all that were
 abbrev pub storing : Devices → ℕ → Record → DeviceAnswer
 storing d slot r =
     let fails = is_fault d.faults (d.served + 1) in
     let a = storage.answered fails (flash_of r) r.storage r.own in
-    record {
-      answer = record { event = stored_told as_events fails; printed = [] };
-      devices =
-          record (after_answer Stores a.completed slot d) { served = if a.completed then d.served + 1 else d.served };
-    }
+    let served = if a.completed then d.served + 1 else d.served in
+    telling (stored_told as_events fails) (record (after_answer Stores a.completed slot d) { served = served })
 
 -- whom a device serves: the lowest slot whose alarm is due, or the first of those that wait; bytes that come in are
 -- nobody's

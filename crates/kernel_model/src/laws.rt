@@ -1,7 +1,9 @@
 //! Laws of the definitions, each the contract of a function that does nothing.
 ghost use Rattle.kernel_model.specs.Laws.{DriversPromise, NextIsReady, NextLiesAhead, NoneIsLeft};
-ghost use Rattle.kernel_model.specs.Laws.{DevicesAnswerOne, OnlyItsOwnEvents, RefusedChangesNothingElse};
-ghost use Rattle.kernel_model.specs.Replay.{RecordIsReplay, RoundFollowsChoices, SameHistorySameRecord};
+ghost use Rattle.kernel_model.specs.Laws.{DevicesAnswerOne, OnlyItsOwnEvents};
+ghost use Rattle.kernel_model.specs.Laws.{RefusedChangesNothingElse};
+ghost use Rattle.kernel_model.specs.Replay.{RecordIsReplay, RoundFollowsChoices};
+ghost use Rattle.kernel_model.specs.Replay.{SameHistorySameRecord};
 
 use driver_model::{
     a_command_drops_at_most_one_upcall, a_driver_that_refuses_changes_nothing,
@@ -9,7 +11,8 @@ use driver_model::{
     lines_follow_commands, only_drivers_move_lines,
 };
 
-/// What the laws of calls rest on: the laws of the drivers' commands, and of the requests that drivers keep.
+/// What the laws of calls rest on: the laws of the drivers' commands, and of the requests that
+/// drivers keep.
 pub fn drivers_promise()
     ensures { DriversPromise }
 {
@@ -21,21 +24,23 @@ pub fn drivers_promise()
     drivers_keep_places_and_order();
 }
 
-/// A step changes the record of each process by the one event that it tells it, its turn or a device's answer, or not at
-/// all.
+/// A step changes the record of each process by the one event that it tells it, its turn or a
+/// device's answer, or not at all.
 pub fn only_its_own_events()
     ensures { OnlyItsOwnEvents }
 {}
 
-/// A device's step that answers one process changes its record and the devices, and tells of it alone; one that answers
-/// nobody changes the devices alone. Each step of a device is one of these, or none.
+/// A device's step that answers one process changes its record and the devices, and tells of it
+/// alone; one that answers nobody changes the devices alone. Each step of a device is one of these,
+/// or none.
 #[tactic(auto, using(crate::proofs::Told::devices_answer_one))]
 pub fn devices_answer_one()
     ensures { DevicesAnswerOne }
 {}
 
-/// Below the limit of steps the next choice of the round robin may be made. Where no device step is ready, the
-/// nearest time at which one becomes ready lies ahead, so that a pass to it takes some ticks.
+/// Below the limit of steps the next choice of the round robin may be made. Where no device step is
+/// ready, the nearest time at which one becomes ready lies ahead, so that a pass to it takes some
+/// ticks.
 pub fn next_is_ready()
     ensures ready { NextIsReady }
     ensures ahead { NextLiesAhead }
@@ -43,8 +48,8 @@ pub fn next_is_ready()
     an_alarm_is_due_where_no_ticks_are_left();
 }
 
-/// A refused call, a command that its driver refuses too, changes of its process the reply registers, pc and the
-/// recorded refusal, and nothing else.
+/// A refused call, a command that its driver refuses too, changes of its process the reply
+/// registers, pc and the recorded refusal, and nothing else.
 pub fn refused_changes_nothing_else()
     ensures { RefusedChangesNothingElse }
 {
@@ -58,10 +63,10 @@ pub fn no_call_is_left()
     drivers_promise();
 }
 
-/// After any choices a process's record is the replay of its own turns and of what devices answered it alone,
-/// and a run by round robin follows its choices. So in any two worlds in which a process has the same record
-/// under the same settings, and then the same turns and answers, it has the same record: its registers, memory
-/// and storage byte by byte.
+/// After any choices a process's record is the replay of its own turns and of what devices answered
+/// it alone, and a run by round robin follows its choices. So in any two worlds in which a process
+/// has the same record under the same settings, and then the same turns and answers, it has the
+/// same record: its registers, memory and storage byte by byte.
 pub fn a_record_is_the_replay_of_its_events()
     ensures replay { RecordIsReplay }
     ensures same { SameHistorySameRecord }

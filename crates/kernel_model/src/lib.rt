@@ -1,5 +1,5 @@
-//! The abstract kernel, in `specs/`: the record of one process and its turn, the world, a step, a run,
-//! the round robin. Nothing here runs.
+//! The abstract kernel, in `specs/`: the record of one process and its turn, the world, a step, a
+//! run, the round robin. Nothing here runs.
 #![tactic(auto)]
 
 mod every_run;

@@ -4,7 +4,6 @@ use Rattle.std.proofs.Common.{Option, None, Some, is_some, IfSome, refl, ap, sym
 use Rattle.std.specs.Prelude.{slice_set}
 use Rattle.std.specs.Option.{option_map}
 use Rattle.std.proofs.lemmas.Bool.{false≢true}
-use Rattle.tk_base.specs.declared.upcall.Upcall.{Upcall as Scheduled}
 use Rattle.tk_base.specs.declared.kinds.PairKind.{PairKind}
 use Rattle.tk_base.specs.Kinds.{count_of, pair_count}
 use Rattle.grant_values.specs.Values.{KeptValue}
@@ -13,7 +12,7 @@ use Rattle.grant_model.specs.Grants.{shape_of, with_grant, with_pair, with_value
 use Rattle.grant_model.specs.Laws.{PairsStandByKind}
 use Rattle.process_model.specs.Own.{Own}
 use Rattle.process_model.specs.Handed.{own_entering, handing, held, lies_in_ram}
-use Rattle.process_model.specs.Served.{queueing, upcall_of, with_kept}
+use Rattle.process_model.specs.Served.{own_scheduled, with_kept}
 use Rattle.process_model.specs.Flag.{with_flag}
 use Rattle.process_model.specs.Pairs.{HandsNone, HandsOne, HandsTheSame, HasShape, OnlyHandingChangesPairs, pairs_in}
 
@@ -217,9 +216,6 @@ same_grants : (own o : Own) → o.grants ≡ own.grants → HandsTheSame own o
 same_grants own o same =
     record { pairs = λ driver. ap (λ (gs : List Grant). pairs_in driver (grant_of driver gs)) same }
 
-queued_same : (upcall : Scheduled) (own : Own) → (queueing upcall own).grants ≡ own.grants
-queued_same upcall own = refl
-
 flagged_same : (at byte : ℕ) (own : Own) → (with_flag at byte own).grants ≡ own.grants
 flagged_same at byte own = by_place (lies_in_ram own.layout at 1)
   where
@@ -236,7 +232,7 @@ only_handing_changes_pairs law = record {
   grants = same_grants;
   entering = entering_same;
   keeping = keeping;
-  scheduled = λ driver number args own. same_grants own _ (queued_same (upcall_of driver number args own) own);
+  scheduled = λ driver number args own. same_grants own (own_scheduled driver number args own) refl;
   flag = λ at byte own. same_grants own _ (flagged_same at byte own);
   none = hands_none law;
 }

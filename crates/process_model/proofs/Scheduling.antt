@@ -3,9 +3,10 @@ use Rattle.std.proofs.Common.{◌≡◌, ℕ, ◌==◌, Bool, true, false, cond,
 use Rattle.tk_base.specs.declared.kinds.PairKind.TheVariants.{Upcall}
 use Rattle.grant_values.specs.Values.{KeptValue}
 use Rattle.grant_model.specs.Grants.{Grant, grant_of, pair_of, with_value}
-use Rattle.process_model.specs.Own.{Own}
+use Rattle.upcall_queue.specs.Pending.{scheduled}
+use Rattle.process_model.specs.Own.{Own, with_inbox}
 use Rattle.process_model.specs.Handed.{held}
-use Rattle.process_model.specs.Served.{queueing, with_kept}
+use Rattle.process_model.specs.Served.{with_kept}
 use Rattle.process_model.specs.Laws.{KeepingCommutes}
 use Rattle.process_model.proofs.Pairs.{at}
 
@@ -25,10 +26,10 @@ held_still driver value d n own =
 pub keeping_commutes : KeepingCommutes
 keeping_commutes driver value None own = refl
 keeping_commutes driver value (Some upcall) own =
-    ap (λ (pair : ℕ × ℕ). queueing (record {
+    ap (λ (pair : ℕ × ℕ). with_inbox (scheduled (record {
       driver = upcall.driver;
       number = upcall.number;
       function = pair.0;
       app = pair.1;
       args = upcall.args;
-    }) (with_kept driver value own)) (sym (held_still driver value upcall.driver upcall.number own))
+    })) (with_kept driver value own)) (sym (held_still driver value upcall.driver upcall.number own))

@@ -1,4 +1,5 @@
--- What a process hands to a driver: the upcalls that it subscribes and the buffers that it allows (TRD 104, "Subscribe",
+-- What a process hands to a driver: the upcalls that it subscribes and the buffers that it allows (TRD 104,
+-- "Subscribe",
 -- "Read-Only Allow", "Read-Write Allow"; the userspace-readable allow of Tock's kernel;
 -- Levy et al., SOSP 2017, section 4).
 use Rattle.std.specs.Prelude.{ℕ, ◌+◌, ◌-◌, ◌*◌, ◌/◌, ◌==◌, Bool, IsTrue, true, ◌||◌, max, nat_le, if◌then◌else◌, List}

@@ -1,9 +1,10 @@
 -- What the kernel keeps of one process beside its registers: where it lies, the bytes of its block and the grants in it
--- (Levy et al., SOSP 2017); the upcalls that wait for it (TRD 104, "Yield"); which of its lives it is in, and whether it
--- lives (TRD 104, "Exit"); how many upcalls were dropped.
-use Rattle.std.specs.Prelude.{ℕ, ◌+◌, ◌-◌, Bool, true, false, List, [], ◌++◌, replicate, drop}
+-- (Levy et al., SOSP 2017); what is scheduled for it (TRD 104, "Yield"); which of its lives it is in, and whether it
+-- lives (TRD 104, "Exit").
+use Rattle.std.specs.Prelude.{ℕ, ◌+◌, ◌-◌, Bool, true, false, List, [], ◌++◌, replicate}
 use Rattle.tk_base.specs.Numbers.{rounded_up}
 use Rattle.upcall_queue.specs.declared.inbox.Inbox.{Inbox}
+use Rattle.upcall_queue.specs.Pending.{cleared, empty}
 use Rattle.process_layout.specs.LayoutView.{LayoutView}
 use Rattle.process_layout.specs.Bounds.{Bounds, bounds_of, layout_within}
 use Rattle.grant_model.specs.Grants.{Grant, costs}
@@ -11,8 +12,8 @@ use Rattle.grant_model.specs.Encoding.{encode_grants}
 use Rattle.process_model.specs.declared.place.Object.{Object}
 use Rattle.process_model.specs.declared.place.Footprint.{Footprint}
 
--- What the kernel keeps of a process: where its object and its memory lie; its memory; what waits for it; which of its
--- lives it is in, counted from 0, and whether it lives; how many upcalls were dropped.
+-- What the kernel keeps of a process: where its object and its memory lie; its memory; what is scheduled for it; which
+-- of its lives it is in, counted from 0, and whether it lives.
 pub record Own : Type 0 where
   pub object : Object
   pub layout : Bounds
@@ -20,7 +21,6 @@ pub record Own : Type 0 where
   pub ram : List ℕ
   -- its grants, the last entered first; their bytes fill the block from the kernel break on
   pub grants : List Grant
-  -- the upcalls that wait to be delivered, the first one first, and how many were dropped
   pub inbox : Inbox
   pub life : ℕ
   pub lives : Bool
@@ -51,23 +51,22 @@ at_start object e inbox life = record {
 
 -- before its first turn
 abbrev pub opened : Footprint → Own
-opened f = at_start f.object (bounds_of f.layout) (record { pending = []; dropped = 0 }) 0
+opened f = at_start f.object (bounds_of f.layout) empty 0
 
 -- a process whose break was moved to an address, rounded up to a multiple of 4 (TRD 104, "Memop")
 abbrev pub with_moved_break : ℕ → Own → Own
 with_moved_break new own = record own { layout = record own.layout { brk = rounded_up new } }
 
--- a process that starts again, with its first break: its next life begins, its block is zeroed, it has no grants and no
--- pending upcalls; how many upcalls were dropped stays
+-- a process that starts again, with its first break: its next life begins, its block is zeroed, it has no grants, and
+-- nothing is scheduled for it; how many upcalls were dropped stays
 abbrev pub own_restarted : ℕ → Own → Own
 own_restarted brk own =
-    at_start own.object (record own.layout { brk = brk; mark = own.layout.start }) (record own.inbox { pending = [] })
-    (own.life + 1)
+    at_start own.object (record own.layout { brk = brk; mark = own.layout.start }) (cleared own.inbox) (own.life + 1)
 
--- a process that ended: it has no pending upcalls, and its memory stays as it is
+-- a process that ended: nothing is scheduled for it, and its memory stays as it is
 abbrev pub own_ended : Own → Own
-own_ended own = record own { inbox = record own.inbox { pending = [] }; lives = false }
+own_ended own = record own { inbox = cleared own.inbox; lives = false }
 
--- a process whose first pending upcall was taken out, to be delivered (TRD 104, "Yield")
-abbrev pub without_first : Own → Own
-without_first own = record own { inbox = record own.inbox { pending = drop 1 own.inbox.pending } }
+-- a process for which what is scheduled changes, and nothing else
+abbrev pub with_inbox : (Inbox → Inbox) → Own → Own
+with_inbox change own = record own { inbox = change own.inbox }

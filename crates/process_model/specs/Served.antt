@@ -1,5 +1,6 @@
 -- What a driver does to a process that it serves: it schedules upcalls (TRD 104, "Subscribe", "Yield"), reads and
--- writes the buffers that the process has allowed (TRD 104, "Read-Only Allow", "Read-Write Allow"), and keeps a value in the
+-- writes the buffers that the process has allowed (TRD 104, "Read-Only Allow", "Read-Write Allow"), and keeps a value
+-- in the
 -- process's grant (Levy et al., SOSP 2017, section 4).
 use Rattle.std.specs.Prelude.{ℕ, ◌+◌, ◌-◌, if◌then◌else◌, List, map, take}
 use Rattle.std.specs.Prelude.{slice_range, Option, None, Some, option_map}
@@ -10,7 +11,7 @@ use Rattle.tk_base.specs.declared.kinds.PairKind.{PairKind}
 use Rattle.tk_base.specs.declared.kinds.PairKind.TheVariants.{Upcall}
 use Rattle.grant_values.specs.Values.{KeptValue}
 use Rattle.grant_model.specs.Grants.{grant_of, with_grant, with_value}
-use Rattle.process_model.specs.Own.{Own}
+use Rattle.process_model.specs.Own.{Own, with_inbox}
 use Rattle.process_model.specs.Handed.{held, lies_in_ram}
 use Rattle.tk_base.specs.Bytes.{over}
 
@@ -20,13 +21,9 @@ upcall_of driver number args own =
     let pair = held Upcall driver number own in
     record { driver = driver; number = number; function = pair.0; app = pair.1; args = args }
 
--- a process for which an upcall was scheduled
-abbrev pub queueing : Scheduled → Own → Own
-queueing upcall own = record own { inbox = scheduled upcall own.inbox }
-
--- the same of the upcall that the process now holds
+-- a process for which the upcall was scheduled that it now holds
 abbrev pub own_scheduled : ℕ → ℕ → List ℕ → Own → Own
-own_scheduled driver number args own = queueing (upcall_of driver number args own) own
+own_scheduled driver number args own = with_inbox (scheduled (upcall_of driver number args own)) own
 
 -- an upcall that a driver schedules for a process, by its number there, with arguments
 pub record ScheduledUpcall : Type 0 where

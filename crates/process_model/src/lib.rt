@@ -1,4 +1,5 @@
-//! What the kernel keeps of one process beside its registers: where it lies, and in `specs/` all else.
+//! What the kernel keeps of one process beside its registers: where it lies, and in `specs/` all
+//! else.
 #![tactic(auto)]
 
 mod laws;

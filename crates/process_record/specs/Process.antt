@@ -1,12 +1,14 @@
 -- One process: TRD 104, "Yield", "Exit" and "Return Values"; the start registers as Tock gives them to a process.
-use Rattle.std.specs.Prelude.{ℕ, ◌+◌, ◌*◌, ◌/◌, ◌%◌, ◌^◌, None, Some, replicate, slice_index}
+use Rattle.std.specs.Prelude.{ℕ, ◌+◌, ◌*◌, ◌/◌, ◌%◌, ◌^◌, [], ◌∷◌, None, Some, replicate}
 use Rattle.tk_base.specs.declared.access.Denial.{Denial}
 use Rattle.tk_base.specs.Regs.{Registers}
 use Rattle.tk_base.specs.Regs.{with_register}
 use Rattle.tk_base.specs.declared.call.CallRule.{CallRule}
 use Rattle.tk_base.specs.declared.upcall.Upcall.{Upcall}
+use Rattle.upcall_queue.specs.declared.inbox.Delivery.{Delivery}
+use Rattle.upcall_queue.specs.declared.inbox.Delivery.TheVariants.{Function, Arguments}
 use Rattle.syscall_abi.specs.declared.reply.Reply.{Reply}
-use Rattle.syscall_abi.specs.Reply.{put_reply}
+use Rattle.syscall_abi.specs.Reply.{put_reply, with_words}
 use Rattle.tbf_headers.specs.declared.program.Main.{Main}
 use Rattle.tbf_headers.specs.Meaning.{Meaning}
 use Rattle.tbf_headers.specs.Addresses.{after_protected, entry_of}
@@ -17,12 +19,15 @@ use Rattle.process_record.specs.declared.process.State.TheVariants.{Running, Yie
 abbrev pub cleared : ℕ → Registers
 cleared pc = record { x = replicate 32 0; pc = pc }
 
--- the registers of a start, for an object at an address: pc is the entry, a0 the first address after the header
--- and the protected bytes, a1 and sp the start of the RAM, a2 the block's length, a3 the break
+-- the registers of a start: pc is the entry, a0 the first address after the header and the protected bytes, a1 and sp
+-- the start of the RAM, a2 the block's length, a3 the break
+abbrev pub regs_from : ℕ → ℕ → ℕ → ℕ → ℕ → Registers
+regs_from entry protected ram length brk =
+    with_words 10 (protected ∷ ram ∷ length ∷ brk ∷ []) (with_register (cleared entry) 2 ram)
+
+-- the registers of a start, for an object at an address
 abbrev pub start_regs : ℕ → Meaning → Main → ℕ → ℕ → ℕ → Registers
-start_regs object h m ram length brk =
-    with_register (with_register (with_register (with_register (with_register (cleared (entry_of object h m))
-    2 ram) 10 (after_protected object h m)) 11 ram) 12 length) 13 brk
+start_regs object h m ram length brk = regs_from (entry_of object h m) (after_protected object h m) ram length brk
 
 -- a process at its start
 abbrev pub started : ℕ → Meaning → Main → ℕ → ℕ → ℕ → Process
@@ -36,13 +41,13 @@ started object h m ram length brk = record {
   refusal = None;
 }
 
--- a process that starts again: its object, its turns, its last denial and its last refusal stay
+-- a process that starts again with registers: its object, its turns, its last denial and its last refusal stay
+abbrev pub restarted_with_regs : Process → Registers → Process
+restarted_with_regs p regs = record p { regs = regs; state = Running; restarts = p.restarts + 1 }
+
+-- a process that starts again by the header of its object
 abbrev pub restarted : Process → Meaning → Main → ℕ → ℕ → ℕ → Process
-restarted p h m ram length brk = record p {
-  regs = start_regs p.object.address h m ram length brk;
-  state = Running;
-  restarts = p.restarts + 1;
-}
+restarted p h m ram length brk = restarted_with_regs p (start_regs p.object.address h m ram length brk)
 
 -- a process that had one more turn
 abbrev pub after_turn : Process → Process
@@ -66,9 +71,8 @@ after_reply p reply = record p { regs = past_call (put_reply reply p.regs) }
 
 -- the refused call is recorded, by the address of its `ecall` and the rule that it broke, and replied to
 abbrev pub after_refusal : Process → CallRule → Reply → Process
-after_refusal p rule reply = record (after_reply p reply) {
-  refusal = Some (record { address = p.regs.pc; rule = rule });
-}
+after_refusal p rule reply =
+    record (after_reply p reply) { refusal = Some (record { address = p.regs.pc; rule = rule }) }
 
 -- the process goes on past an `ecall` that has no reply
 abbrev pub after_call : Process → Process
@@ -78,14 +82,17 @@ after_call p = record p { regs = past_call p.regs }
 abbrev pub waiting : Process → Process
 waiting p = record (after_call p) { state = Yielded }
 
--- the registers of an upcall: a0 to a2 are its arguments and a3 the application data, ra is pc, and pc the function
--- with bit 0 cleared
+-- the registers of an upcall that runs: a0 to a2 are its arguments and a3 the application data, ra is pc, and pc the
+-- function with bit 0 cleared
 abbrev pub upcall_regs : Upcall → Registers → Registers
 upcall_regs u regs =
-    let called = with_register (with_register (with_register (with_register (with_register regs
-    10 (slice_index u.args 0)) 11 (slice_index u.args 1)) 12 (slice_index u.args 2)) 13 u.app) 1 regs.pc in
-    record called { pc = u.function / 2 * 2 }
+    record (with_register (with_register (with_words 10 u.args regs) 13 u.app) 1 regs.pc) { pc = u.function / 2 * 2 }
 
--- an upcall is delivered (TRD 104, "Yield")
-abbrev pub delivered : Upcall → Process → Process
-delivered u p = record p { regs = upcall_regs u p.regs; state = Running }
+-- the registers of a delivery: of one to a process that waited for one upcall alone its arguments, and all else stays
+abbrev pub delivery_regs : Delivery → Registers → Registers
+delivery_regs (Function upcall) regs = upcall_regs upcall regs
+delivery_regs (Arguments args) regs = with_words 10 args regs
+
+-- a process goes on with what is delivered to it (TRD 104, "Yield")
+abbrev pub delivered : Delivery → Process → Process
+delivered delivery p = record p { regs = delivery_regs delivery p.regs; state = Running }

@@ -20,7 +20,8 @@ pub fn short_name(name: Option<&[u8]>) -> ArrayVec<u8, 32>
     short
 }
 
-/// The name that the report shows of an object with these bytes; empty where its header has a fault.
+/// The name that the report shows of an object with these bytes; empty where its header has a
+/// fault.
 pub fn object_name(object: &[u8]) -> ArrayVec<u8, 32>
     ensures { result.items ≡ name_of object.now }
 {

@@ -2,12 +2,17 @@
 ghost use Rattle.std.specs.Prelude.{◌≡◌, ◌+◌, ◌<◌, ◌^◌, Some, IsSome, IfSome};
 ghost use Rattle.tbf_headers.specs.Addresses.{after_protected, entry_of};
 ghost use Rattle.tbf_headers.specs.Shown.{shown};
-ghost use Rattle.process_record.specs.Process.{start_regs, started, restarted, past_call, after_turn, after_fault, after_exit, after_reply, after_refusal, after_call, waiting, delivered};
+ghost use Rattle.process_record.specs.Process.{regs_from, started, restarted_with_regs, past_call};
+ghost use Rattle.process_record.specs.Process.{after_turn, after_fault, after_exit, after_reply};
+ghost use Rattle.process_record.specs.Process.{after_refusal, after_call, waiting, delivered};
+ghost use Rattle.process_record.specs.Process.{upcall_regs};
+ghost use Rattle.syscall_abi.specs.Reply.{with_words};
 
 use process_model::Object;
 use syscall_abi::Reply;
-use tbf_headers::{AppHeader, Header};
+use tbf_headers::{AppStart, Header};
 use tk_base::{Addr, CallRule, Denial, Regs, Upcall};
+use upcall_queue::Delivery;
 
 /// Whether a process runs (TRD 104, "Yield", "Exit"). It lives while it is Running or Yielded.
 #[derive(Clone, Copy, Debug, PartialEq, Eq, Default)]
@@ -50,11 +55,12 @@ pub struct Process {
 
 impl Process {
     /// A process at its start (TRD 104, "Exit"), for an application whose header stands at the
-    /// address `object` and whose block of RAM is `length` bytes from `ram` on. It has the registers
-    /// of a start: pc is the entry, a0 the address after the header and the protected bytes, a1 and
-    /// sp the start of the RAM, a2 the length, a3 the break; other registers are 0. It runs, and
-    /// nothing happened to it yet. It asks that the header has a Program or a Main TLV, and that
-    /// the entry and the address after the header and the protected bytes are below 2^32.
+    /// address `object` and whose block of RAM is `length` bytes from `ram` on. It has the
+    /// registers of a start: pc is the entry, a0 the address after the header and the protected
+    /// bytes, a1 and sp the start of the RAM, a2 the length, a3 the break; other registers are 0.
+    /// It runs, and nothing happened to it yet. It asks that the header has a Program or a Main
+    /// TLV, and that the entry and the address after the header and the protected bytes are below
+    /// 2^32.
     pub fn start(header: &Header<'_>, object: Addr, ram: Addr, length: u32, brk: Addr) -> Process
         requires main { IsSome header.now.main }
         requires entry { IfSome header.now.main
@@ -68,7 +74,7 @@ impl Process {
             unreachable!()
         };
         Process {
-            regs: regs_at_start(&app, object, ram, length, brk),
+            regs: regs_at_start(app.start(object), ram, length, brk),
             object: Object {
                 address: object,
                 size: header.total_size,
@@ -82,23 +88,17 @@ impl Process {
     }
 
     /// Starts the process again (TRD 104, "Exit"), with the registers of a start and a break. Its
-    /// count of restarts rises; its object, its count of turns, its last denial and its last refusal
-    /// stay. It asks that the header has a Program or a Main TLV, that the entry and the address
-    /// after the header and the protected bytes are below 2^32, and that the count can rise.
-    pub fn restart(&mut self, header: &Header<'_>, ram: Addr, length: u32, brk: Addr)
-        requires main { IsSome header.now.main }
-        requires entry { let at = self.old.object.address in
-            IfSome header.now.main (λ m. entry_of at (shown header.now) m < 2 ^ 32) }
-        requires protected { let at = self.old.object.address in
-            IfSome header.now.main (λ m. after_protected at (shown header.now) m < 2 ^ 32) }
+    /// count of restarts rises; its object, its count of turns, its last denial and its last
+    /// refusal stay. It asks that the entry and the address after the header and the protected
+    /// bytes are below 2^32, and that the count can rise.
+    pub fn restart(&mut self, start: AppStart, ram: Addr, length: u32, brk: Addr)
+        requires entry { start.entry < 2 ^ 32 }
+        requires protected { start.after_protected < 2 ^ 32 }
         requires count { self.old.restarts + 1 < 2 ^ 32 }
-        ensures { IfSome header.now.main
-            (λ m. self.new ≡ restarted self.old (shown header.now) m ram length brk) }
+        ensures { self.new ≡ restarted_with_regs self.old
+            (regs_from start.entry start.after_protected ram length brk) }
     {
-        let Some(app) = header.app() else {
-            unreachable!()
-        };
-        self.regs = regs_at_start(&app, self.object.address, ram, length, brk);
+        self.regs = regs_at_start(start, ram, length, brk);
         self.state = State::Running;
         self.restarts += 1;
     }
@@ -147,8 +147,8 @@ impl Process {
         self.reply(reply);
     }
 
-    /// Goes on after a system call that has no reply (TRD 104, "Yield"): pc goes past the `ecall`, and
-    /// nothing else changes.
+    /// Goes on after a system call that has no reply (TRD 104, "Yield"): pc goes past the `ecall`,
+    /// and nothing else changes.
     pub fn go_on(&mut self)
         ensures { self.new ≡ after_call self.old }
     {
@@ -163,19 +163,17 @@ impl Process {
         self.state = State::Yielded;
     }
 
-    /// Delivers an upcall (TRD 104, "Yield"): a0 to a2 are its arguments and a3 the application data, ra
-    /// is pc, and pc the function with bit 0 cleared. Other registers stay, and the process runs.
-    pub fn deliver(&mut self, upcall: &Upcall)
-        ensures { self.new ≡ delivered upcall.now self.old }
+    /// Delivers to the process what it waited for (TRD 104, "Yield"), and it runs. Of an upcall
+    /// whose function runs a0 to a2 are the arguments and a3 the application data, ra is pc, and
+    /// pc the function with bit 0 cleared; where it waited for one upcall alone a0 to a2 are its
+    /// arguments. Other registers stay.
+    pub fn deliver(&mut self, delivery: &Delivery)
+        ensures { self.new ≡ delivered delivery.now self.old }
     {
-        let back = self.regs.pc();
-        let [first, second, third] = upcall.args;
-        self.regs.set(10, first);
-        self.regs.set(11, second);
-        self.regs.set(12, third);
-        self.regs.set(13, upcall.app);
-        self.regs.set(1, back);
-        self.regs.set_pc(upcall.function / 2 * 2);
+        match delivery {
+            Delivery::Function(upcall) => put_upcall(&mut self.regs, upcall),
+            Delivery::Arguments(arguments) => put_arguments(&mut self.regs, *arguments),
+        }
         self.state = State::Running;
     }
 
@@ -187,15 +185,36 @@ impl Process {
     }
 }
 
-/// The registers with which a process starts whose header stands at the address `object`.
-fn regs_at_start(app: &AppHeader<'_>, object: Addr, ram: Addr, length: u32, brk: Addr) -> Regs
-    requires entry { entry_of object (shown app.now.header) app.now.main < 2 ^ 32 }
-    requires protected { after_protected object (shown app.now.header) app.now.main < 2 ^ 32 }
-    ensures { result ≡ start_regs object (shown app.now.header) app.now.main ram length brk }
+/// Puts the arguments of an upcall into a0 to a2.
+fn put_arguments(regs: &mut Regs, arguments: [u32; 3])
+    ensures { regs.new ≡ with_words 10 arguments regs.old }
 {
-    let mut regs = Regs::at(app.header.entry(object) as u32);
+    let [first, second, third] = arguments;
+    regs.set(10, first);
+    regs.set(11, second);
+    regs.set(12, third);
+}
+
+/// Puts an upcall into the registers, with which its function runs, and then goes back to pc.
+fn put_upcall(regs: &mut Regs, upcall: &Upcall)
+    ensures { regs.new ≡ upcall_regs upcall.now regs.old }
+{
+    let back = regs.pc();
+    put_arguments(regs, upcall.args);
+    regs.set(13, upcall.app);
+    regs.set(1, back);
+    regs.set_pc(upcall.function / 2 * 2);
+}
+
+/// The registers with which a process starts.
+fn regs_at_start(start: AppStart, ram: Addr, length: u32, brk: Addr) -> Regs
+    requires entry { start.entry < 2 ^ 32 }
+    requires protected { start.after_protected < 2 ^ 32 }
+    ensures { result ≡ regs_from start.entry start.after_protected ram length brk }
+{
+    let mut regs = Regs::at(start.entry as u32);
     regs.set(2, ram);
-    regs.set(10, app.after_protected(object) as u32);
+    regs.set(10, start.after_protected as u32);
     regs.set(11, ram);
     regs.set(12, length);
     regs.set(13, brk);

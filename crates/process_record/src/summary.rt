@@ -1,7 +1,7 @@
 //! What the report says of a board.
 use crate::process::State;
 use arrayvec::ArrayVec;
-use tk_base::{Denial, OBJECT_LIMIT, PENDING_LIMIT, PlaceFault, SLOT_COUNT};
+use tk_base::{Denial, OBJECT_LIMIT, PENDING_LIMIT, PlaceFault, SLOT_COUNT, Wait};
 
 /// What the report says of one slot.
 #[derive(Drop, Default)]
@@ -9,6 +9,8 @@ pub struct SlotLine {
     /// The first 32 bytes of the package name; empty where there is none.
     pub name: ArrayVec<u8, 32>,
     pub state: State,
+    /// What it waits for, where it has yielded.
+    pub wait: Wait,
     /// The last denial.
     pub denial: Option<Denial>,
     pub turns: u32,

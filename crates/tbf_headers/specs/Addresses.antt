@@ -1,6 +1,7 @@
 -- Where an application's parts lie, for an object at an address (Tock Binary Format, "Main" and "Program"). The
 -- offsets in a header count from the object's start, the init offset and the protected size from the header's end.
 use Rattle.std.specs.Prelude.{ℕ, ◌+◌, Option, Some, None}
+use Rattle.tbf_headers.specs.declared.app.AppStart.{AppStart}
 use Rattle.tbf_headers.specs.declared.program.Main.{Main}
 use Rattle.tk_base.specs.Numbers.{rounded_up}
 use Rattle.tbf_headers.specs.Meaning.{Meaning}
@@ -12,6 +13,14 @@ after_protected start h m = start + h.header_size + m.protected
 -- the address of the application's first instruction
 abbrev pub entry_of : ℕ → Meaning → Main → ℕ
 entry_of start h m = start + h.header_size + m.init
+
+-- where the application starts, and the RAM that it needs
+abbrev pub start_by : ℕ → Meaning → Main → AppStart
+start_by start h m = record {
+  entry = entry_of start h m;
+  after_protected = after_protected start h m;
+  minimum_ram = m.minimum_ram;
+}
 
 -- the start of accessible flash: after the protected bytes, rounded up to 4
 abbrev pub accessible_start : ℕ → Meaning → Main → ℕ

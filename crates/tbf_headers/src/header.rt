@@ -2,7 +2,7 @@
 ghost use Rattle.std.specs.Prelude.{◌≡◌, ◌*◌, ◌%◌, ◌<◌, ◌≤◌, length, Err, None, IsOk, IsSome};
 ghost use Rattle.std.specs.Prelude.{IfSome, IfOk, option_map, option_and_then, MatchResult};
 ghost use Rattle.std.specs.Option.{option_copied};
-ghost use Rattle.tbf_headers.specs.Addresses.{entry_of};
+ghost use Rattle.tbf_headers.specs.Addresses.{entry_of, start_by};
 ghost use Rattle.tbf_headers.specs.Numbers.{word_at};
 ghost use Rattle.tbf_headers.specs.Tlv.{first_bad, content};
 ghost use Rattle.tbf_headers.specs.Meaning.{header_reading, meaning_of, region_in, region_count};
@@ -10,7 +10,7 @@ ghost use Rattle.tbf_headers.specs.Meaning.{program_of, main_of, program_or_main
 ghost use Rattle.tbf_headers.specs.Shown.{shown, shown_result, permissions_of, regions_of};
 ghost use Rattle.tbf_headers.specs.Shown.{IsChecked, IsSized};
 
-use crate::app::{AppHeader, sum};
+use crate::app::{AppHeader, AppStart, start_after, sum};
 use crate::fault::HeaderFault;
 use crate::numbers::{checksum_of, half_at, word_at};
 use crate::perms::Perms;
@@ -86,10 +86,7 @@ impl<'a> Header<'a> {
     pub fn region_count(&self) -> u32
         ensures { result ≡ region_count (shown self.now).regions }
     {
-        match self.regions {
-            None => 0,
-            Some(regions) => regions.count(),
-        }
+        count_of(self.regions)
     }
 
     /// The permissions. None where there is no such TLV.
@@ -158,6 +155,16 @@ fn regions_in(header: &[u8]) -> Option<Regions<'_>>
 {
     let c = content_of(header, REGIONS)?;
     Some(Regions::of(c))
+}
+
+/// How many regions there are; none where there is no TLV of them.
+fn count_of(regions: Option<Regions<'_>>) -> u32
+    ensures { result ≡ region_count (option_map regions_of regions.entry) }
+{
+    match regions {
+        None => 0,
+        Some(regions) => regions.count(),
+    }
 }
 
 /// The permissions of the TLV.
@@ -253,4 +260,42 @@ pub fn permissions_in(object: &[u8]) -> Option<Perms<'_>>
         (λ h. option_map permissions_of result ≡ h.permissions) }
 {
     perms_in(known_header(object))
+}
+
+/// Where the application of an object starts that stands at an address, as [`AppHeader::start`] of
+/// [`read_header`] gives it. None where there is neither a Program nor a Main TLV. It looks at
+/// nothing else in the header, which is known to have no fault.
+#[tactic(auto, unfolding(crate::specs::Meaning::meaning_of))]
+pub fn start_in(object: &[u8], at: Addr) -> Option<AppStart>
+    requires { IsOk (header_reading object.now) }
+    ensures { IfOk (header_reading object.now)
+        (λ h. result ≡ option_map (start_by at h) h.main) }
+{
+    let main = main_in(known_header(object))?;
+    let header_size = u32::from(half_at(object, 2));
+    Some(start_after(at, header_size, &main))
+}
+
+/// How many writeable flash regions the header of an object names, as [`Header::region_count`] of
+/// [`read_header`] gives it. It looks at nothing else in the header, which is known to have no
+/// fault.
+#[tactic(auto, unfolding(crate::specs::Meaning::meaning_of))]
+pub fn region_count_in(object: &[u8]) -> u32
+    requires { IsOk (header_reading object.now) }
+    ensures { IfOk (header_reading object.now) (λ h. result ≡ region_count h.regions) }
+{
+    count_of(regions_in(known_header(object)))
+}
+
+/// The offset and the size of writeable flash region n in the header of an object, as
+/// [`Header::region`] of [`read_header`] gives them. It looks at nothing else in the header, which
+/// is known to have no fault.
+#[tactic(auto, unfolding(crate::specs::Meaning::meaning_of))]
+pub fn region_in(object: &[u8], n: u32) -> Option<(u32, u32)>
+    requires { IsOk (header_reading object.now) }
+    ensures { IfOk (header_reading object.now)
+        (λ h. result ≡ option_and_then (region_in n) h.regions) }
+{
+    let regions = regions_in(known_header(object))?;
+    regions.get(n)
 }

@@ -11,9 +11,9 @@ mod program;
 mod regions;
 mod tlv;
 
-pub use app::AppHeader;
+pub use app::{AppHeader, AppStart};
 pub use fault::HeaderFault;
-pub use header::{Header, permissions_in, read_header};
+pub use header::{Header, permissions_in, read_header, region_count_in, region_in, start_in};
 pub use numbers::{checksum_of, half_at, word_at};
 pub use object::object_at;
 pub use perms::Perms;

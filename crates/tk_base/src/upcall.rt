@@ -14,16 +14,15 @@ pub struct Upcall {
     pub args: [u32; 3],
 }
 
-/// What a process that has yielded waits for (TRD 104, "Yield"). No process waits for one upcall alone yet: a yield
-/// of that kind goes on without a reply.
+/// What a process that has yielded waits for (TRD 104, "Yield").
 #[derive(Clone, Copy, Debug, Default, PartialEq, Eq)]
 pub enum Wait {
     /// Any upcall.
     #[default]
     No,
-    /// The upcall of a driver and a number alone.
+    /// The upcall of a driver and a number alone, whose arguments it gets; no function of it runs.
     For(u32, u32),
-    /// Nothing any more: the upcall that it waited for came, with these arguments.
+    /// Nothing any more: the upcall that it waited for alone came, with these arguments.
     Given([u32; 3]),
 }
 

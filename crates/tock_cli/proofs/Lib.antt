@@ -2,10 +2,6 @@ pub mod Accounts
 pub mod Files
 pub mod Loading
 pub mod Packing
-pub mod Running
-pub mod Runs
 pub mod Serving
 pub mod Soak
-pub mod Tallies
 pub mod Tasks
-pub mod RunWriter

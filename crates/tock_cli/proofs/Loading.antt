@@ -16,7 +16,7 @@ use Rattle.tock_cli.specs.declared.refusal.File.{File}
 use Rattle.tock_cli.specs.declared.refusal.File.TheVariants.{Flash, Script as ScriptFile}
 use Rattle.tock_cli.specs.declared.refusal.Refusal.{Refusal}
 use Rattle.tock_cli.specs.declared.refusal.Refusal.TheVariants.{Usage, Fault, TooLong, Script, Image, Memory}
-use Rattle.tock_cli.specs.declared.run.Mode.TheVariants.{Soak}
+use Rattle.board_runs.specs.declared.run.Mode.TheVariants.{Soak}
 use Rattle.tock_cli.specs.Words.{Command, Runs, Lists, Soaks, Edits, RunWords, EditWords}
 use Rattle.tock_cli.specs.Refusals.{limit_of, edit_refused}
 use Rattle.tock_cli.specs.Comes.{Named, Task, Running, Listing, Making, IsTaskOf, IsText, comes_to, edit_made}

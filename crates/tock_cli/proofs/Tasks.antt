@@ -8,8 +8,8 @@ use Rattle.image_make.specs.Generator.{soak_flash, soak_script}
 use Rattle.image_make.specs.Packs.{pack}
 use Rattle.board_opening.specs.Opening.{opening}
 use Rattle.tock_cli.specs.declared.refusal.Refusal.{Refusal}
-use Rattle.tock_cli.specs.declared.run.Mode.{Mode}
-use Rattle.tock_cli.specs.declared.run.Mode.TheVariants.{Soak}
+use Rattle.board_runs.specs.declared.run.Mode.{Mode}
+use Rattle.board_runs.specs.declared.run.Mode.TheVariants.{Soak}
 use Rattle.tock_cli.specs.Words.{Command, Runs, Lists, Soaks, Packs, Edits, EditWords, RunWords}
 use Rattle.tock_cli.specs.Comes.{Task, Running, Listing, Making, comes_to, edit_made, edited_by, pack_made, run_under}
 

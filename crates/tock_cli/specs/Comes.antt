@@ -16,9 +16,9 @@ use Rattle.tock_cli.specs.declared.refusal.File.{File}
 use Rattle.tock_cli.specs.declared.refusal.File.TheVariants.{Flash, Script as ScriptFile}
 use Rattle.tock_cli.specs.declared.refusal.Refusal.{Refusal}
 use Rattle.tock_cli.specs.declared.refusal.Refusal.TheVariants.{TooLong, Script, Image}
-use Rattle.tock_cli.specs.declared.run.Mode.{Mode}
-use Rattle.tock_cli.specs.declared.run.Mode.TheVariants.{Soak}
-use Rattle.tock_cli.specs.RunText.{run_text}
+use Rattle.board_runs.specs.declared.run.Mode.{Mode}
+use Rattle.board_runs.specs.declared.run.Mode.TheVariants.{Soak}
+use Rattle.board_runs.specs.RunText.{run_text}
 use Rattle.tock_cli.specs.Refusals.{edit_refused, pack_refused, limit_of}
 use Rattle.tock_cli.specs.Words.{Command, Runs, Lists, Soaks, Packs, Edits, Edit, Enables, Renames}
 

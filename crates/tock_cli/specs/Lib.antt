@@ -3,7 +3,5 @@ pub mod Causes
 pub mod Comes
 pub mod Ready
 pub mod Refusals
-pub mod RunText
 pub mod Served
-pub mod RunWriter
 pub mod Words

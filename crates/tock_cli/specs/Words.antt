@@ -4,8 +4,8 @@ use Rattle.std.specs.Prelude.{String, string_bytes, Option, None, Some}
 use Rattle.std.specs.Option.{option_map, option_and_then}
 use Rattle.std.specs.Str.{bytes_eq}
 use Rattle.decimal_number.specs.Number.{number_up_to}
-use Rattle.tock_cli.specs.declared.run.Mode.{Mode}
-use Rattle.tock_cli.specs.declared.run.Mode.TheVariants.{Boot, Trace}
+use Rattle.board_runs.specs.declared.run.Mode.{Mode}
+use Rattle.board_runs.specs.declared.run.Mode.TheVariants.{Boot, Trace}
 use Rattle.tock_cli.specs.declared.words.RunCommand.{RunCommand}
 use Rattle.tock_cli.specs.declared.words.Edit.{Edit as GivenEdit}
 use Rattle.tock_cli.specs.declared.words.Edit.TheVariants as edit

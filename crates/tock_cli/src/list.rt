@@ -9,10 +9,11 @@ use board_report::write_list;
 use flash_walk::walk;
 use tk_outside::{Failed, Sink};
 
-/// Finds the objects of a flash image of at most [`FLASH_LIMIT`](tk_base::FLASH_LIMIT) bytes, and writes their list.
+/// Finds the objects of a flash image of at most [`FLASH_LIMIT`](tk_base::FLASH_LIMIT) bytes, and
+/// writes their list.
 ///
-/// [`Failed`] comes only where the sink's count of faults rose; a part of the list was written then that
-/// lacks at least one byte. No memory is taken.
+/// [`Failed`] comes only where the sink's count of faults rose; a part of the list was written then
+/// that lacks at least one byte. No memory is taken.
 pub fn list_out<K: Sink>(flash: &[u8], out: &mut K) -> Result<(), Failed>
     requires { length flash.now ≤ FLASH_LIMIT }
     ensures { Writes K.tells out.old out.new (list_text flash.now) result }

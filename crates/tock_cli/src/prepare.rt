@@ -1,6 +1,7 @@
 //! What is done before any text is written: the words, the files, the script's reading, the board.
 ghost use Rattle.std.specs.Prelude.{◌≡◌, ◌≤◌, length, IfOk, IfErr, OnOk};
-ghost use Rattle.tk_base.specs.declared.limits.TheConstants.{FLASH_LIMIT, OBJECT_LIMIT, SCRIPT_LIMIT};
+ghost use Rattle.tk_base.specs.declared.limits.TheConstants.{FLASH_LIMIT, OBJECT_LIMIT};
+ghost use Rattle.tk_base.specs.declared.limits.TheConstants.{SCRIPT_LIMIT};
 ghost use Rattle.image_make.specs.Outcomes.{Edits};
 ghost use Rattle.tock_cli.specs.declared.refusal.Refusal.TheVariants.{Memory};
 ghost use Rattle.tock_cli.specs.Refusals.{limit_of, pack_refused};
@@ -8,12 +9,14 @@ ghost use Rattle.tock_cli.specs.declared.words.TheConstants.{MOST_TURNS};
 ghost use Rattle.tock_cli.specs.Words.{command_of, edit_given, edits_of, packs_of, runs_of, Lists};
 ghost use Rattle.tock_cli.specs.Comes.{edited_by, IsText};
 ghost use Rattle.tock_cli.specs.Causes.{Cause, CauseOf, told_by};
-ghost use Rattle.tock_cli.specs.Ready.{HasNoBoard, IsFresh, IsReady, IsReadyFor, IsSoak, IsNotPacked, IsPackedFile, IsUnread, KeepsShelf, Opens, refusal_of};
+ghost use Rattle.tock_cli.specs.Ready.{HasNoBoard, IsFresh, IsReady, IsReadyFor, IsSoak};
+ghost use Rattle.tock_cli.specs.Ready.{IsNotPacked, IsPackedFile, IsUnread, KeepsShelf, Opens};
+ghost use Rattle.tock_cli.specs.Ready.{refusal_of};
 
 use crate::refusal::{File, ImageFault, Refusal};
-use crate::run::Mode;
 use crate::words::{Command, Edit, EditCommand, RunCommand};
 use board_core::Board;
+use board_runs::Mode;
 use image_make::{EditFault, PackFault, image_of, pack_one, rename, set_enabled};
 use script_text::{ScriptError, read_script};
 use std::alloc::Global;
@@ -23,8 +26,8 @@ use tk_outside::Shelf;
 /// What is left to do once the files are read.
 #[derive(Drop)]
 pub enum Ready {
-    /// A run: the board before its first step, what is written of it, and how many steps it is to make at
-    /// most.
+    /// A run: the board before its first step, what is written of it, and how many steps it is to
+    /// make at most.
     Run {
         board: Board,
         mode: Mode,
@@ -213,9 +216,10 @@ fn load_pack<H: Shelf>(alloc: Global, files: &[String], shelf: &mut H) -> Result
     Ok(Ready::Image { flash })
 }
 
-/// Does all that comes before any text: the words, the flash file, and for a run the script file, the
-/// script's reading and the board; `soak` has generated files in place of those that the words name, and
-/// `pack` packs each file before it reads the next one. A refusal names the first cause in this order.
+/// Does all that comes before any text: the words, the flash file, and for a run the script file,
+/// the script's reading and the board; `soak` has generated files in place of those that the words
+/// name, and `pack` packs each file before it reads the next one. A refusal names the first cause
+/// in this order.
 pub fn prepare<H: Shelf>(alloc: Global, words: &[String], shelf: &mut H) -> Result<Ready, Refusal>
     ensures task { IfOk result (IsReady (H.tells shelf.old) (command_of words.now)) }
     ensures fresh { IfOk result IsFresh }

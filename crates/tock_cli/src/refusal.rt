@@ -1,7 +1,8 @@
 //! Why a command is refused: the answer and the line of each cause.
 ghost use Rattle.std.specs.Prelude.{◌≡◌};
 ghost use Rattle.tk_outside.specs.Writes.{Writes};
-ghost use Rattle.tock_cli.specs.Refusals.{edit_refused, file_text, image_fault_text, limit_of, status_of, refusal_line};
+ghost use Rattle.tock_cli.specs.Refusals.{edit_refused, file_text, image_fault_text, limit_of};
+ghost use Rattle.tock_cli.specs.Refusals.{status_of, refusal_line};
 
 use image_make::EditFault;
 use itoa::Buffer;
@@ -88,7 +89,8 @@ pub enum Refusal {
     Fault(File),
     /// A file has more bytes than its limit.
     TooLong(File),
-    /// The script has no reading: its first bad line, counted from 1, and the first rule that it breaks.
+    /// The script has no reading: its first bad line, counted from 1, and the first rule that it
+    /// breaks.
     Script { line: u32, rule: ScriptRule },
     /// No image is written.
     Image(ImageFault),

@@ -1,9 +1,12 @@
 //! The words of the command line.
 ghost use Rattle.std.specs.Prelude.{◌≡◌, ◌≤◌, IfSome};
 ghost use Rattle.tock_cli.specs.declared.words.TheConstants.{MOST_TURNS};
-ghost use Rattle.tock_cli.specs.Words.{command_of, enable_of, list_command_of, mode_named, number_in, of_few, of_three, pack_of, rename_of, run_of, command_shown, soak_of, switch_named, turns_given, argument_bytes, HasTurnsWithin};
+ghost use Rattle.tock_cli.specs.Words.{command_of, enable_of, list_command_of, mode_named};
+ghost use Rattle.tock_cli.specs.Words.{number_in, of_few, of_three, pack_of, rename_of, run_of};
+ghost use Rattle.tock_cli.specs.Words.{command_shown, soak_of, switch_named, turns_given};
+ghost use Rattle.tock_cli.specs.Words.{argument_bytes, HasTurnsWithin};
 
-use crate::run::Mode;
+use board_runs::Mode;
 use decimal_number::number_up_to;
 
 /// The words of `tock boot FLASH SCRIPT --turns N` or `tock trace FLASH SCRIPT --turns N`.
@@ -25,7 +28,8 @@ pub enum Edit<'a> {
     Rename { name: &'a str },
 }
 
-/// The words of `tock enable FLASH OFFSET`, `tock disable FLASH OFFSET` or `tock rename FLASH OFFSET NAME`.
+/// The words of `tock enable FLASH OFFSET`, `tock disable FLASH OFFSET` or `tock rename FLASH
+/// OFFSET NAME`.
 #[derive(Clone, Copy)]
 pub struct EditCommand<'a> {
     pub flash: &'a str,
@@ -37,8 +41,8 @@ pub struct EditCommand<'a> {
 /// A command.
 #[derive(Clone, Copy)]
 pub enum Command<'a> {
-    /// `tock boot FLASH SCRIPT --turns N` or `tock trace FLASH SCRIPT --turns N`: a run of the applications of
-    /// a flash file.
+    /// `tock boot FLASH SCRIPT --turns N` or `tock trace FLASH SCRIPT --turns N`: a run of the
+    /// applications of a flash file.
     Run(RunCommand<'a>),
     /// `tock list FLASH`: the list of the objects of a flash file.
     List { flash: &'a str },
@@ -46,8 +50,8 @@ pub enum Command<'a> {
     Soak { number: u32, turns: u32 },
     /// `tock pack FILE ..`: flash files, one behind another.
     Pack { files: &'a [String] },
-    /// `tock enable FLASH OFFSET`, `tock disable FLASH OFFSET` or `tock rename FLASH OFFSET NAME`: a flash file in
-    /// which one object is edited.
+    /// `tock enable FLASH OFFSET`, `tock disable FLASH OFFSET` or `tock rename FLASH OFFSET NAME`:
+    /// a flash file in which one object is edited.
     Edit(EditCommand<'a>),
 }
 
@@ -224,7 +228,8 @@ fn of_few<'a>(name: &str, words: &'a [String]) -> Option<Command<'a>>
 }
 
 impl<'a> Command<'a> {
-    /// The command that the words are; None where they are none. The first word is the program's name.
+    /// The command that the words are; None where they are none. The first word is the program's
+    /// name.
     pub fn of(words: &'a [String]) -> Option<Command<'a>>
         ensures words { command_shown result ≡ command_of words.now }
         ensures turns { IfSome result HasTurnsWithin }

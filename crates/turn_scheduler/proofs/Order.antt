@@ -1,5 +1,5 @@
 -- The first ready slot, in parts.
-use Rattle.std.proofs.Common.{◌≡◌, ℕ, suc, ◌+◌, ◌-◌, ◌<◌, Bool, false, find, Option, None, Some, sym, ap, ◌∙◌, refl}
+use Rattle.std.proofs.Common.{◌≡◌, ℕ, zero, suc, ◌+◌, ◌-◌, ◌<◌, ◌≤◌, Bool, true, false, find, Option, None, Some, sym, ap, ◌∙◌, refl}
 use Rattle.std.proofs.Common.{arith, ◌^◌}
 use Rattle.std.specs.List.{range_with_len}
 use Rattle.std.specs.Option.{option_or}
@@ -16,6 +16,45 @@ passes_first p from n m e f = rw (e, f) refl
 pub find-pass : (p : ℕ → Bool) (slot to : ℕ) → slot < to → p slot ≡ false
     → find p (range_with_len (slot + 1) (to - (slot + 1))) ≡ find p (range_with_len slot (to - slot))
 find-pass p slot to h f = sym (passes_first p slot (to - slot) (to - (slot + 1)) (omega arith) f)
+
+comes_first : (p : ℕ → Bool) (from n m : ℕ) → n ≡ suc m → p from ≡ true → find p (range_with_len from n) ≡ Some from
+comes_first p from n m e f = rw (e, f) refl
+
+none_there : (p : ℕ → Bool) (from n : ℕ) → ((slot : ℕ) → from ≤ slot → p slot ≡ false)
+    → find p (range_with_len from n) ≡ None
+none_there p from zero h = refl
+none_there p from (suc n) h =
+    passes_first p from (suc n) n refl (h from (omega arith))
+    ∙ none_there p (from + 1) n (λ slot at. h slot (omega (arith, at)))
+
+none_more : (p : ℕ → Bool) (from k m : ℕ) → ((slot : ℕ) → from + k ≤ slot → p slot ≡ false)
+    → find p (range_with_len from (k + m)) ≡ find p (range_with_len from k)
+none_more p from zero m h =
+    ap (λ (n : ℕ). find p (range_with_len from n)) (nothing m)
+    ∙ none_there p from m (λ slot at. h slot (omega (arith, at)))
+  where
+    nothing : (m : ℕ) → 0 + m ≡ m
+    nothing m = omega arith
+none_more p from (suc k) m h =
+    by_first (p from) refl (none_more p (from + 1) k m (λ slot at. h slot (omega (arith, at))))
+  where
+    by_first : (b : Bool) → p from ≡ b
+        → find p (range_with_len (from + 1) (k + m)) ≡ find p (range_with_len (from + 1) k)
+        → find p (range_with_len from (suc k + m)) ≡ find p (range_with_len from (suc k))
+    by_first true e rest =
+        comes_first p from (suc k + m) (k + m) (omega arith) e ∙ sym (comes_first p from (suc k) k refl e)
+    by_first false e rest =
+        passes_first p from (suc k + m) (k + m) (omega arith) e ∙ rest ∙ sym (passes_first p from (suc k) k refl e)
+
+-- where none is ready from a slot on, none is looked for there
+pub none_past : (p : ℕ → Bool) (from to : ℕ) → to ≤ SLOT_COUNT → ((slot : ℕ) → to ≤ slot → p slot ≡ false)
+    → find p (range_with_len from (SLOT_COUNT - from)) ≡ find p (range_with_len from (to - from))
+none_past p from to h none =
+    ap (λ (n : ℕ). find p (range_with_len from n)) in_two
+    ∙ none_more p from (to - from) (SLOT_COUNT - from - (to - from)) (λ slot at. none slot (omega (arith, at)))
+  where
+    in_two : SLOT_COUNT - from ≡ (to - from) + (SLOT_COUNT - from - (to - from))
+    in_two = omega (arith, h)
 
 -- one that is ready after the present slot comes first
 pub slots_after-some : (p : ℕ → Bool) (o : Option ℕ) (present i slot : ℕ) → o ≡ Some present → i ≡ present

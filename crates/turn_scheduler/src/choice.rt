@@ -1,5 +1,5 @@
 //! The next step of the board.
-ghost use Rattle.std.specs.Prelude.{◌≡◌, ◌-◌, ◌^◌, ◌<◌, ◌≤◌};
+ghost use Rattle.std.specs.Prelude.{◌≡◌, ◌-◌, ◌^◌, ◌<◌, ◌≤◌, None};
 ghost use Rattle.tk_base.specs.declared.process.Choice.TheVariants.{Pass};
 ghost use Rattle.turn_scheduler.specs.RoundRobin.{ready_device, choice, IsNextAhead};
 ghost use Rattle.turn_scheduler.specs.Status.{situation_shown};
@@ -39,9 +39,25 @@ fn pass_to(at: u64, time: u64) -> Choice
     Choice::Pass((at - time) as u32)
 }
 
-/// The next choice in a situation, as round robin chooses: the first ready device step; else the slot that has the next
-/// turn of a process ([`next_slot`]); else a Pass to the time at which a device step becomes ready, which takes
-/// `next - time` ticks; else none. It asks what the situation is told under.
+/// The next choice in a situation in which no device step is ready, as [`next_choice_in`] says it.
+/// It asks what the situation is told under.
+#[tactic(auto, unfolding(crate::specs::RoundRobin::choice))]
+pub fn next_in_calm<S: Situated>(situated: &S) -> Option<Choice>
+    requires none { ready_device (S.situation situated.now).devices ≡ None }
+    requires asks { S.asks situated.now }
+    ensures { result ≡ choice (S.situation situated.now) }
+{
+    if let Some(slot) = next_slot(situated) {
+        return Some(Choice::Run(slot));
+    }
+    let at = situated.next()?;
+    Some(pass_to(at, situated.time()))
+}
+
+/// The next choice in a situation, as round robin chooses: the first ready device step; else the
+/// slot that has the next turn of a process ([`next_slot`]); else a Pass to the time at which a
+/// device step becomes ready, which takes `next - time` ticks; else none. It asks what the
+/// situation is told under.
 #[tactic(auto, unfolding(crate::specs::RoundRobin::choice))]
 pub fn next_choice_in<S: Situated>(situated: &S) -> Option<Choice>
     requires { S.asks situated.now }
@@ -50,15 +66,11 @@ pub fn next_choice_in<S: Situated>(situated: &S) -> Option<Choice>
     if let Some(device) = ready_device(situated) {
         return Some(Choice::Device(device));
     }
-    if let Some(slot) = next_slot(situated) {
-        return Some(Choice::Run(slot));
-    }
-    let at = situated.next()?;
-    Some(pass_to(at, situated.time()))
+    next_in_calm(situated)
 }
 
-/// The next choice of the board with this status ([`next_choice_in`]). It asks that, where no device step is ready, the
-/// time at which one becomes so lies ahead, by at most `2^32 - 1` ticks.
+/// The next choice of the board with this status ([`next_choice_in`]). It asks that, where no
+/// device step is ready, the time at which one becomes so lies ahead, by at most `2^32 - 1` ticks.
 pub fn next_choice(status: &Status) -> Option<Choice>
     requires { IsNextAhead (situation_shown status.now) }
     ensures { result ≡ choice (situation_shown status.now) }

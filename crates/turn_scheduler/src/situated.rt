@@ -1,11 +1,14 @@
 //! What the choice of the next step rests on, read a part at a time.
-ghost use Rattle.std.specs.Prelude.{◌≡◌, IfSome, None};
-ghost use Rattle.turn_scheduler.specs.RoundRobin.{LiesAhead, device_place, place_is_ready, ready_device};
+ghost use Rattle.std.specs.Prelude.{◌≡◌, ◌≤◌, ℕ, false, IfSome, None};
+ghost use Rattle.tk_base.specs.declared.limits.TheConstants.{SLOT_COUNT};
+ghost use Rattle.turn_scheduler.specs.RoundRobin.{LiesAhead, device_place, place_is_ready};
+ghost use Rattle.turn_scheduler.specs.RoundRobin.{ready_device};
 
 use tk_base::{Dev, Slot};
 
-/// What tells the situation of a board, each part where it is asked for. So who knows that a device step is ready looks
-/// at no slot, and the time at which one becomes ready is looked for only where nothing is.
+/// What tells the situation of a board, each part where it is asked for. So who knows that a device
+/// step is ready looks at no slot, and the time at which one becomes ready is looked for only where
+/// nothing is.
 pub trait Situated {
     ghost use Rattle.turn_scheduler.specs.Situation.{Situation};
 
@@ -23,8 +26,14 @@ pub trait Situated {
     fn slot_is_ready(&self, slot: Slot) -> bool
         ensures { result ≡ place_is_ready (situation self.now).ready slot };
 
-    /// The nearest time, in ticks, at which a device step becomes ready by itself, where none is ready now: it lies
-    /// ahead, by at most `2^32 - 1` ticks.
+    /// A number of slots from which on none is ready.
+    fn slots(&self) -> usize
+        ensures within { result ≤ SLOT_COUNT }
+        ensures none { (slot : ℕ) → result ≤ slot
+            → place_is_ready (situation self.now).ready slot ≡ false };
+
+    /// The nearest time, in ticks, at which a device step becomes ready by itself, where none is
+    /// ready now: it lies ahead, by at most `2^32 - 1` ticks.
     fn next(&self) -> Option<u64>
         requires none { ready_device (situation self.now).devices ≡ None }
         requires asks { asks self.now }

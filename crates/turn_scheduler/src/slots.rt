@@ -21,25 +21,26 @@ fn first_ready<S: Situated>(situated: &S, from: usize, to: usize) -> Option<Slot
     None
 }
 
-/// The next ready slot after the present one in cyclic order, the present one last; with none present,
-/// the first from slot 0.
+/// The next ready slot after the present one in cyclic order, the present one last; with none
+/// present, the first from slot 0.
 fn next_in_order<S: Situated>(situated: &S, present: Option<Slot>) -> Option<Slot>
     ensures { result
         ≡ find (place_is_ready (S.situation situated.now).ready) (slots_after present) }
 {
+    let slots = situated.slots();
     let Some(present) = present else {
-        return first_ready(situated, 0, SLOT_COUNT);
+        return first_ready(situated, 0, slots);
     };
     let after = present.index() + 1;
-    match first_ready(situated, after, SLOT_COUNT) {
+    match first_ready(situated, after, slots) {
         Some(slot) => Some(slot),
         None => first_ready(situated, 0, after),
     }
 }
 
 /// The slot that has the next turn of a process: the present one, if it is ready and has used fewer
-/// turns than its slice; else the next ready one after it in cyclic order, the present one last (with
-/// none present, from slot 0). None exactly where no slot is ready.
+/// turns than its slice; else the next ready one after it in cyclic order, the present one last
+/// (with none present, from slot 0). None exactly where no slot is ready.
 #[tactic(auto, unfolding(crate::specs::RoundRobin::next_slot))]
 pub fn next_slot<S: Situated>(situated: &S) -> Option<Slot>
     ensures { result ≡ slot_in (S.situation situated.now) }
@@ -54,9 +55,9 @@ pub fn next_slot<S: Situated>(situated: &S) -> Option<Slot>
     next_in_order(situated, present)
 }
 
-/// How many turns of its slice a slot has used after one more turn, after which it is the present one:
-/// one more, if it was the present one and its slice was not used up; else 1. So it has used no more than its slice,
-/// where that has a turn and no more were used before.
+/// How many turns of its slice a slot has used after one more turn, after which it is the present
+/// one: one more, if it was the present one and its slice was not used up; else 1. So it has used
+/// no more than its slice, where that has a turn and no more were used before.
 pub fn used_after(present: Option<Slot>, used: u32, slice: u32, slot: Slot) -> u32
     ensures value { result ≡ used_after present used slice slot }
     ensures within { 1 ≤ slice → used ≤ slice → result ≤ slice }

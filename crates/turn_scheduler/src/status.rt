@@ -6,13 +6,14 @@ use crate::situated::Situated;
 use arrayvec::ArrayVec;
 use tk_base::{Dev, SLOT_COUNT, Slot};
 
-/// What the round robin reads of a board. Contracts speak of it as a situation, with lists for the tables
-/// and a number for the slot.
+/// What the round robin reads of a board. Contracts speak of it as a situation, with lists for the
+/// tables and a number for the slot.
 #[derive(Drop)]
 pub struct Status {
     /// Whether the process in each slot can have a turn, slot 0 first. A slot past its end cannot.
     pub ready: ArrayVec<bool, SLOT_COUNT>,
-    /// Whether each device step is ready, in the order of `Dev`'s variants. One past its end is not.
+    /// Whether each device step is ready, in the order of `Dev`'s variants. One past its end is
+    /// not.
     pub devices: ArrayVec<bool, 6>,
     /// The nearest time, in ticks, at which a device step becomes ready that is not ready now.
     pub next: Option<u64>,
@@ -47,6 +48,10 @@ impl Situated for Status {
 
     fn slot_is_ready(&self, slot: Slot) -> bool {
         is_ready(&self.ready, slot.index())
+    }
+
+    fn slots(&self) -> usize {
+        self.ready.len()
     }
 
     fn next(&self) -> Option<u64> {

@@ -4,5 +4,5 @@
 mod inbox;
 mod queue;
 
-pub use inbox::Inbox;
+pub use inbox::{Delivery, Inbox};
 pub use queue::Queue;

@@ -1,5 +1,6 @@
 //! The upcalls of one process that wait to be delivered.
-ghost use Rattle.std.specs.Prelude.{◌≡◌, ◌≤◌, ◌==◌, [], length, drop, slice_get};
+ghost use Rattle.std.specs.Prelude.{◌≡◌, ◌≤◌, ◌==◌, [], length, drop, remove, slice_get, IfNone};
+ghost use Rattle.std.specs.List.{position};
 ghost use Rattle.tk_base.specs.declared.limits.TheConstants.{PENDING_LIMIT};
 
 use arrayvec::ArrayVec;
@@ -23,7 +24,7 @@ impl Model for Queue {
 }
 
 impl Queue {
-    ghost use Rattle.upcall_queue.specs.Pending.{appended, has_room, without_key};
+    ghost use Rattle.upcall_queue.specs.Pending.{appended, has_room, is_of, place_of, without_key};
 
     /// The queue of a process for which no upcall is pending.
     pub fn new() -> Queue
@@ -53,6 +54,24 @@ impl Queue {
         ensures rest { self.new ≡ drop 1 self.old }
     {
         self.pending.pop_at(0)
+    }
+
+    /// The place of the first upcall of a driver and number.
+    fn place_of(&self, driver: u32, number: u32) -> Option<usize>
+        ensures { result ≡ position (is_of driver number) self.now }
+    {
+        self.pending.iter().position(|upcall| upcall.driver == driver && upcall.number == number)
+    }
+
+    /// Takes the first upcall of a driver and number out (TRD 104, "Yield"). None exactly
+    /// where none is pending, and then nothing changes.
+    pub fn pop_of(&mut self, driver: u32, number: u32) -> Option<Upcall>
+        ensures first { result ≡ slice_get self.old (place_of driver number self.old) }
+        ensures rest { self.new ≡ remove self.old (place_of driver number self.old) }
+        ensures none { IfNone result (self.new ≡ self.old) }
+    {
+        let place = self.place_of(driver, number)?;
+        self.pending.pop_at(place)
     }
 
     /// Drops the upcalls of a driver and number, as a successful subscribe does (TRD 104,

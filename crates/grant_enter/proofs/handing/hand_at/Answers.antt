@@ -9,15 +9,16 @@ pub returns-clause-handed : goal.returns-clause-handed
 returns-clause-handed c =
     ap (λ (e : LayoutView). own_in c.swap_in.new.memory.ram
     (record c.args.seat.now { layout = e; inbox = c.note_handed.new.inbox })) c.note_handed.ensures.layout
-    ∙ own_handed c.args.memory.now c.args.seat.now c.requires.sits c.args.handover c.swap_in.new.memory c.swap_in.new.layout
-    c.in_ok-former.former c.in_ok-former.ensures.swapped c.note_handed.new.inbox c.note_handed.ensures.pending
-    c.note_handed.ensures.dropped
+    ∙ own_handed c.args.memory.now c.args.seat.now c.requires.sits c.args.handover c.swap_in.new.memory
+    c.swap_in.new.layout
+    c.in_ok-former.former c.in_ok-former.ensures.swapped c.note_handed.new.inbox c.note_handed.ensures.inbox
 
 pub returns-clause-reseats : goal.returns-clause-reseats
 returns-clause-reseats c =
     subst (λ (e : LayoutView). Reseats c.args.memory.now c.args.seat.now c.swap_in.new.memory
     (record c.args.seat.now { layout = e; inbox = c.note_handed.new.inbox })) (sym c.note_handed.ensures.layout)
-    (hand_reseats c.args.memory.now c.args.seat.now c.requires.sits c.args.handover c.swap_in.new.memory c.swap_in.new.layout
+    (hand_reseats c.args.memory.now c.args.seat.now c.requires.sits c.args.handover c.swap_in.new.memory
+    c.swap_in.new.layout
     c.in_ok-former.former c.in_ok-former.ensures.swapped c.note_handed.new.inbox c.pairs_stand_by_kind.ensures
     c.requires.pair c.requires.may)
 

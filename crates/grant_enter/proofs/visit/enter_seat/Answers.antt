@@ -57,7 +57,8 @@ returns-clause-enters g c =
       subst (λ (flash : List ℕ). Visited grants leaves flash
           (own_entering c.args.driver (own_in c.args.memory.now.ram c.args.seat.now)) c.in-Ok-visit_at.answer after)
           c.in-Ok.ensures.made.grants.flash
-          (subst (λ (own : Own). Visited grants leaves c.make_room_in.new.memory.flash own c.in-Ok-visit_at.answer after)
+          (subst (λ (own : Own). Visited grants leaves c.make_room_in.new.memory.flash own c.in-Ok-visit_at.answer
+          after)
           (entered g at) c.in-Ok-visit_at.ensures.visited),
     )
 

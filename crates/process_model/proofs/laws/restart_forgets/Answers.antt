@@ -1,4 +1,5 @@
 use Rattle.std.proofs.Common.{ℕ, ◌+◌, ◌-◌, true, [], replicate, ap, ◌∙◌}
+use Rattle.tk_base.specs.declared.upcall.Wait.TheVariants.{No}
 use Rattle.process_model.specs.declared.place.Object.{Object}
 use Rattle.process_model.specs.Own.{Own}
 use Rattle.process_model.proofs.laws.restart_forgets.Goals as goal
@@ -17,7 +18,7 @@ made brk object flash_start flash_end start end life dropped = record {
   };
   ram = replicate (end - start) 0;
   grants = [];
-  inbox = record { pending = []; dropped = dropped };
+  inbox = record { pending = []; dropped = dropped; wait = No };
   life = life + 1;
   lives = true;
 }

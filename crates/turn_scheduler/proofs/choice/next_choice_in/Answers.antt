@@ -1,6 +1,6 @@
-use Rattle.std.proofs.Common.{◌≡◌, None, arith}
+use Rattle.std.proofs.Common.{◌≡◌, None}
 use Rattle.turn_scheduler.specs.RoundRobin.{ready_device}
 use Rattle.turn_scheduler.proofs.choice.next_choice_in.Goals as goal
 
-pub next-requires-clause-none : goal.next-requires-clause-none
-next-requires-clause-none g c = cc (c.ready_device.ensures, c.in_default.is)
+pub next_in_calm-requires-clause-none : goal.next_in_calm-requires-clause-none
+next_in_calm-requires-clause-none g c = cc (c.ready_device.ensures, c.in_default.is)

@@ -7,6 +7,7 @@ use Rattle.turn_scheduler.proofs.choice.ready_device.Goals as goal
 pub returns : goal.returns
 unfolding ready_device
 returns g c =
-    let is_first = find_from_yields_List (λ device. place_is_ready (g.S.Situated.situation c.args.situated.now).devices (device_place device)) _ _
+    let is_first = find_from_yields_List (λ device. place_is_ready (g.S.Situated.situation c.args.situated.now).devices
+    (device_place device)) _ _
     c.find.result c.find.ensures.ran (YieldsList-from_slice device_order cc) (λ x b q k. search (rules, tests)) in
     c.copied.ensures ∙ is_first

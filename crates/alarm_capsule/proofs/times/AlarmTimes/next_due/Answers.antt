@@ -1,20 +1,32 @@
-use Rattle.std.proofs.Common.{◌+◌, ◌-◌, ℕ, fold, Option, ap, ◌∙◌}
-use Rattle.std.specs.List.{range_with_len}
-use Rattle.tk_base.specs.declared.limits.TheConstants.{SLOT_COUNT}
-use Rattle.driver_model.specs.Alarm.{ticks_left_in, nearer, nearer_with}
-use Rattle.alarm_capsule.proofs.Slots.{all_folded, folded}
+use Rattle.std.proofs.Common.{◌≡◌, ◌<◌, ◌-◌, ◌^◌, ℕ, List, Option, None, Some, rules, sym, subst, arith, ◌∙◌}
+use Rattle.alarm_capsule.specs.Times.{AllTell}
+use Rattle.alarm_capsule.proofs.Nearest.{nearest_is_near, nearest_is_next, none_is_next}
 use Rattle.alarm_capsule.proofs.times.AlarmTimes.next_due.Goals as goal
 
-pub loop-slot-preserved : goal.loop-slot-preserved
-loop-slot-preserved c =
-    let slot : ℕ = c.loop-slot.slot in
-    let left = c.left_in.ensures ∙ ap (λ (n : ℕ). ticks_left_in c.args.now c.args.home.now.owns n) c.new.ensures in
-    let least = c.nearer-least.ensures ∙ ap (λ (o : Option ℕ). nearer c.loop-slot.least o) left in
-    ap (λ (o : Option ℕ). fold (nearer_with c.args.now c.args.home.now.owns) o
-    (range_with_len (slot + 1) (SLOT_COUNT - (slot + 1)))) least
-    ∙ folded (nearer_with c.args.now c.args.home.now.owns) c.loop-slot.least slot SLOT_COUNT c.loop-slot-test.true
-    ∙ c.loop-slot.invariant
+pub returns-in_err-at : goal.returns-in_err-at
+returns-in_err-at c =
+    let owns = c.args.home.now.owns in
+    let tell = subst (λ (times : List (Option ℕ)). AllTell c.args.now c.args.time times owns) (sym c.self.view_is)
+    c.requires in
+    let none : c.self.inside.nearest ≡ None = search rules in
+    let is : c.from_residual.result ≡ None = search rules in
+    is ∙ none_is_next c.args.now c.args.time c.self.inside.times owns tell (sym c.self.invariant ∙ none)
+
+pub overflow_cast-result : goal.overflow_cast-result
+overflow_cast-result c =
+    let owns = c.args.home.now.owns in
+    let tell = subst (λ (times : List (Option ℕ)). AllTell c.args.now c.args.time times owns) (sym c.self.view_is)
+    c.requires in
+    let some : c.self.inside.nearest ≡ Some c.in_ok-at.at = search rules in
+    let near = nearest_is_near c.args.now c.args.time c.self.inside.times owns tell c.in_ok-at.at
+    (sym c.self.invariant ∙ some) (omega (arith, c.if-at-time.false)) in
+    omega (arith, near)
 
 pub returns : goal.returns
-returns c = all_folded (nearer_with c.args.now c.args.home.now.owns) c.loop-slot.least c.loop-slot.slot SLOT_COUNT
-    c.loop-slot-test.false ∙ c.loop-slot.invariant
+returns c =
+    let owns = c.args.home.now.owns in
+    let tell = subst (λ (times : List (Option ℕ)). AllTell c.args.now c.args.time times owns) (sym c.self.view_is)
+    c.requires in
+    let some : c.self.inside.nearest ≡ Some c.in_ok-at.at = search rules in
+    nearest_is_next c.args.now c.args.time c.self.inside.times owns tell c.in_ok-at.at (sym c.self.invariant ∙ some)
+    (omega (arith, c.if-at-time.false))

@@ -1,8 +1,9 @@
-use Rattle.std.proofs.Common.{◌≡◌, ◌+◌, ℕ, List, Some, true, All, slice_get, sym, ap, ap₂, subst, ◌∙◌, arith}
+use Rattle.std.specs.Prelude.{IfSome}
+use Rattle.std.proofs.Common.{◌≡◌, ◌+◌, ◌<◌, ℕ, List, [], ◌∷◌, Option, Some, true, false, All, slice_get, sym, ap, ap₂, subst, ◌∙◌, arith}
 use Rattle.std.specs.List.{zip}
 use Rattle.tk_base.specs.declared.process.Choice.TheVariants.{Run}
 use Rattle.process_record.specs.declared.process.Process.{Process}
-use Rattle.kernel_model.specs.Run.{next}
+use Rattle.kernel_model.specs.Run.{next, ready_devices}
 use Rattle.kernel_model.specs.Stretch.{GoesOn, IsStretch}
 use Rattle.board_drivers.specs.Calm.{AlarmsTell, IsCalm}
 use Rattle.board_drivers.specs.Driven.{AreDriven}
@@ -13,7 +14,8 @@ use Rattle.board_turns.specs.declared.machine.Machine.{Machine}
 use Rattle.board_core.specs.declared.board.Board.TheInside.{Inside}
 use Rattle.board_core.specs.Shows.{IsBoard, world_of}
 use Rattle.board_core.specs.Stretches.{slot_runs}
-use Rattle.board_core.proofs.Stretches.{chosen_in_calm, ends_shown, looked_ahead, nothing_comes, rests_there}
+use Rattle.board_core.proofs.Ready.{calm_shown}
+use Rattle.board_core.proofs.Stretches.{chosen_in_calm, ends_shown, looked_ahead, next_stays, nothing_comes, rests_there}
 use Rattle.board_core.proofs.Stretches.{runs_within, still, stretch_shown, turns_later, used_within}
 use Rattle.board_core.proofs.Boards.{may_turn_on}
 use Rattle.board_core.proofs.board.Board.run_part.Goals as goal
@@ -21,7 +23,8 @@ use Rattle.board_core.proofs.board.Board.run_part.Goals.{After-is_over}
 
 pub returns-then-not-runs-clause-ends : goal.returns-then-not-runs-clause-ends
 returns-then-not-runs-clause-ends c e h g =
-    rests_there c.self.inside c.self.invariant c.in-Some.slot (ap next c.self.view_is ∙ c.in-Some.ensures.some)
+    rests_there c.self.inside c.self.invariant c.in-Some.slot (ap next c.self.view_is
+    ∙ sym c.next_choice-next_choice.ensures.next ∙ c.in-Some.ensures.some)
     (ap (λ (ps : List Process). slot_runs (slice_get ps c.in-Some.slot)) (sym c.deref.ensures.value)
     ∙ sym c.runs.ensures ∙ c.if-not-runs.true)
     (subst GoesOn (sym c.self.view_is) g)
@@ -41,7 +44,8 @@ turns_at-made-requires c =
 
 -- the slot has the next turn, and its process runs
 chosen : (c : After-is_over) → next (world_of c.self.inside) ≡ Some (Run c.in-Some.slot)
-chosen c = ap next c.self.view_is ∙ c.in-Some.ensures.some
+chosen c = ap next c.self.view_is
+    ∙ sym c.next_choice-next_choice.ensures.next ∙ c.in-Some.ensures.some
 
 runs_there : (c : After-is_over) → slot_runs (slice_get c.self.inside.processes.items c.in-Some.slot) ≡ true
 runs_there c = ap (λ (ps : List Process). slot_runs (slice_get ps c.in-Some.slot)) (sym c.deref.ensures.value)
@@ -73,9 +77,9 @@ turned c x = record c.self.inside {
   used = c.present_after-present.result.1;
 }
 
-pub invariant_of-self-2 : goal.invariant_of-self-2
-invariant_of-self-2 c =
-    let a = (goal.at.invariant_of-self-2 c).After-is_over in
+-- is a board
+board_then : (c : After-is_over) → IsBoard (turned c c.turns_at-made.new.self)
+board_then c =
     let b = record c.self.inside { calm = c.calm_ahead-self-inside.result } in
     let board = looked_ahead c.self.inside c.calm_ahead-self-inside.result c.self.invariant
     c.calm_ahead-self-inside.ensures.calm in
@@ -87,7 +91,7 @@ invariant_of-self-2 c =
     let present = c.present_after-present in
     let holds = still b board c.in-Some.slot k c.turns_left-left.result present.result.1 present.result.0 x processes
     c.turns_at-made.ensures.quiet in
-    subst (λ (y : Machine). IsBoard (turned a y)) (sym (same_machine a)) (record {
+    subst (λ (y : Machine). IsBoard (turned c y)) (sym (same_machine c)) (record {
       seated = subst (λ (n : ℕ). All (IsResident x.home.flash (b.machine.moment.steps + n)) (zip processes x.home.owns))
           (sym ticks) holds.seated;
       lost = subst (λ (n : ℕ). All (HasLost (b.machine.moment.steps + n)) x.home.owns) (sym ticks) holds.lost;
@@ -108,6 +112,21 @@ invariant_of-self-2 c =
           (omega (arith, left.slice, c.turns_at-made.ensures.most)) (λ none. (present.ensures.none none).1)
           (λ some. (present.ensures.some some).1);
     })
+
+pub invariant_of-self-2 : goal.invariant_of-self-2
+invariant_of-self-2 c = board_then (goal.at.invariant_of-self-2 c).After-is_over
+
+-- where turns were left no device step is ready then
+calm_then : (c : After-is_over) → c.turns_at-made.result < c.turns_left-left.result
+    → ready_devices (world_of (turned c c.turns_at-made.new.self))
+    ≡ false ∷ false ∷ false ∷ false ∷ false ∷ false ∷ []
+calm_then c fewer =
+    let b = turned c c.turns_at-made.new.self in
+    let board = board_then c in
+    let until = c.turns_left-left.ensures.until in
+    let same = ap (λ (m : Moment). m.time) c.turns_at-made.ensures.quiet.moment in
+    calm_shown b board (board.calm b.machine.moment.time (omega arith)
+    (omega (arith, until, fewer, same, c.from-ticks.ensures)))
 
 pub returns-clause-stretch : goal.returns-clause-stretch
 returns-clause-stretch c =
@@ -149,3 +168,26 @@ returns-clause-ends c e h g =
     c.from-ticks.ensures most (c.is_over.ensures.over e) left.slice c.used_before-before.ensures.within
     (omega (arith, c.if-self.false)) c.requires left.all
     (subst (λ (y : Machine). GoesOn (world_of (turned a y))) (same_machine a) g)
+
+pub returns-clause-next : goal.returns-clause-next
+returns-clause-next c e =
+    let a = (goal.at.returns-clause-next c).After-is_over in
+    let b = record c.self.inside { calm = c.calm_ahead-self-inside.result } in
+    let board = looked_ahead c.self.inside c.calm_ahead-self-inside.result c.self.invariant
+    c.calm_ahead-self-inside.ensures.calm in
+    let left = c.turns_left-left.ensures in
+    let most = c.turns_at-made.ensures.most in
+    let present = c.present_after-present in
+    let q = c.turns_at-made.ensures.quiet in
+    c.in-Some.ensures.some
+    ∙ subst (λ (y : Machine). Some (Run c.in-Some.slot) ≡ next (world_of (turned a y))) (sym (same_machine a))
+    (next_stays b board c.in-Some.slot c.turns_at-made.result c.turns_left-left.result present.result.1
+    present.result.0 c.turns_at-made.new.self c.turns_at-made.new.processes.items q
+    (chosen a) (ap slot_runs (sym q.at.was) ∙ runs_there a) c.used_before-before.result
+    c.used_before-before.ensures.value (omega (arith, left.slice, most)) (omega (arith, left.until, most))
+    (omega (arith, left.limit, most)) present.ensures.none present.ensures.some
+    c.round_is_stretch.ensures.stays c.from-ticks.result c.turns_left-left.result c.from-ticks.ensures most
+    (c.is_over.ensures.over e) left.slice
+    (subst (λ (y : Machine). c.turns_at-made.result < c.turns_left-left.result
+    → ready_devices (world_of (turned a y)) ≡ false ∷ false ∷ false ∷ false ∷ false ∷ false ∷ []) (same_machine a)
+    (calm_then a)))

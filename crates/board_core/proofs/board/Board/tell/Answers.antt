@@ -69,7 +69,7 @@ invariant_of-self-2 c =
     c.look_ahead-self-inside.result c.note.new.self (below_shown c.self.inside c.args.self.now c.self.view_is
     c.requires.limit)
     (subst (λ (now : ℕ). AllTell now c.self.inside.machine.moment.time c.note.new.self c.act.new.home.owns)
-    c.tick.ensures c.note.ensures) c.look_ahead-self-inside.ensures.calm
+    c.tick.ensures c.note.ensures.tell) c.look_ahead-self-inside.ensures.calm
 
 pub returns : goal.returns
 returns c =

@@ -33,7 +33,7 @@ reads c = record {
 abbrev again : (c : After-clear_block) → Seat
 again c = record c.index_mut-seat.result.now {
   layout = c.restart.new.self;
-  inbox = record c.index_mut-seat.result.now.inbox { pending = c.clear.new.self };
+  inbox = c.clear.new.self;
   life =
       c.index_mut-seat.result.now.life + 1;
   lives = true;

@@ -1,7 +1,8 @@
 use Rattle.std.proofs.Common.{◌≡◌, List, sym, ap, ◌∙◌}
 use Rattle.std.specs.Prelude.{slice_get}
 use Rattle.tk_base.specs.declared.upcall.Upcall.{Upcall}
-use Rattle.process_model.specs.Own.{Own, without_first}
+use Rattle.upcall_queue.specs.Pending.{taken_at}
+use Rattle.process_model.specs.Own.{Own, with_inbox}
 use Rattle.grant_enter.specs.Seats.{Reseats, own_in}
 use Rattle.grant_enter.proofs.Moves.{Reads, own_before, requeued, reseated, reseated_only, reseated_shows, sits_before}
 use Rattle.grant_enter.proofs.home.Home.take_pending.Goals as goal
@@ -22,7 +23,8 @@ reads c = record {
 left : (c : After-pop)
     → Reseats c.self.inside.memory c.index_mut.result.now c.self.inside.memory
     (record c.index_mut.result.now { inbox = record c.index_mut.result.now.inbox { pending = c.pop.new.self } })
-left c = requeued c.self.inside.memory c.index_mut.result.now c.pop.new.self c.index_mut.result.now.lives
+left c = requeued c.self.inside.memory c.index_mut.result.now
+    (record c.index_mut.result.now.inbox { pending = c.pop.new.self }) c.index_mut.result.now.lives
     (sits_before (reads c))
 
 pub invariant_of-self : goal.invariant_of-self
@@ -39,7 +41,7 @@ pub returns-clause-own : goal.returns-clause-own
 returns-clause-own c =
     let a = (goal.at.returns-clause-own c).After-pop in
     let seat = c.index_mut.result.now in
-    reseated_shows (reads a) c.self.inside.memory _ (left a) (λ flash own own_after. own_after ≡ without_first own)
+    reseated_shows (reads a) c.self.inside.memory _ (left a) (λ flash own own_after. own_after ≡ with_inbox (taken_at 0) own)
     (ap (λ (q : List Upcall). own_in c.self.inside.memory.ram
     (record seat { inbox = record seat.inbox { pending = q } })) c.pop.ensures.rest)
 

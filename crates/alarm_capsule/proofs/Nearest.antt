@@ -1,0 +1,158 @@
+-- What the nearest of the kept times says of the next alarm.
+use Rattle.std.proofs.Common.{◌≡◌, ℕ, ◌-◌, ◌^◌, ◌<◌, ◌≤◌, List, [], ◌∷◌, fold, slice_get, slice_index_or, slice_set}
+use Rattle.std.proofs.Common.{replicate, Bool, true, false, IsTrue, Option, None, Some, refl}
+use Rattle.std.proofs.Common.{sym, ap, ◌∙◌, arith}
+use Rattle.std.specs.Prelude.{IfSome, is_some, min}
+use Rattle.std.specs.List.{range_with_len}
+use Rattle.std.proofs.lemmas.List.{set-get_or}
+use Rattle.tk_base.specs.declared.limits.TheConstants.{SLOT_COUNT}
+use Rattle.process_model.specs.Own.{Own}
+use Rattle.driver_model.specs.Alarm.{due_slot, nearer, nearer_with, next_left, ticks_left_in}
+use Rattle.driver_model.specs.Laws.{IsDueWhereNoneAreLeft}
+use Rattle.alarm_capsule.specs.Times.{AllTell, Tells, nearer_kept, nearest_kept}
+use Rattle.alarm_capsule.proofs.KeptTimes.{left_ahead, soon}
+
+-- how long it is until a time, if there is one
+abbrev until : ℕ → Option ℕ → Option ℕ
+until time None = None
+until time (Some at) = Some (at - time)
+
+the_one : (x y : ℕ) → ◌≡◌ {A = Option ℕ} (Some x) (Some y) → x ≡ y
+the_one x y e = cc
+
+no_left : (x : ℕ) → ◌≡◌ {A = Option ℕ} None (Some x) → ⊥
+no_left x e = cc
+
+is_true : (b : Bool) → b ≡ true → IsTrue b
+is_true b e = e
+
+-- the nearest of times is none of those after one of them
+not_after : (times : List (Option ℕ)) (slots : List ℕ) (x at : ℕ)
+    → fold (nearer_kept times) (Some x) slots ≡ Some at → at ≤ x
+not_after times [] x at e = omega (arith, the_one x at e)
+not_after times (slot ∷ slots) x at e =
+    by_kept (slice_index_or times slot None) (λ y f. not_after times slots y at f) e
+  where
+    by_kept : (kept : Option ℕ) → ((y : ℕ) → fold (nearer_kept times) (Some y) slots ≡ Some at → at ≤ y)
+        → fold (nearer_kept times) (nearer (Some x) kept) slots ≡ Some at → at ≤ x
+    by_kept None rest f = rest x f
+    by_kept (Some other) rest f = omega (arith, rest (min x other) f)
+
+-- where there is one there is a nearest
+not_none : (times : List (Option ℕ)) (slots : List ℕ) (x : ℕ) → fold (nearer_kept times) (Some x) slots ≡ None → ⊥
+not_none times [] x e = cc
+not_none times (slot ∷ slots) x e =
+    by_kept (slice_index_or times slot None) (λ y f. not_none times slots y f) e
+  where
+    by_kept : (kept : Option ℕ) → ((y : ℕ) → fold (nearer_kept times) (Some y) slots ≡ None → ⊥)
+        → fold (nearer_kept times) (nearer (Some x) kept) slots ≡ None → ⊥
+    by_kept None rest f = rest x f
+    by_kept (Some other) rest f = rest (min x other) f
+
+-- so is none of those after a time that is kept of a slot
+not_after_kept : (times : List (Option ℕ)) (slots : List ℕ) (least : Option ℕ) (x at : ℕ)
+    → fold (nearer_kept times) (nearer least (Some x)) slots ≡ Some at → at ≤ x
+not_after_kept times slots None x at e = not_after times slots x at e
+not_after_kept times slots (Some least) x at e = omega (arith, not_after times slots (min least x) at e)
+
+nearer_until : (time : ℕ) (least kept : Option ℕ) → nearer (until time least) (until time kept) ≡ until time (nearer least kept)
+nearer_until time None kept = refl
+nearer_until time (Some x) None = refl
+nearer_until time (Some x) (Some y) = ap Some (earlier x y time)
+  where
+    earlier : (x y time : ℕ) → min (x - time) (y - time) ≡ min x y - time
+    earlier x y time = omega arith
+
+module _ (now time : ℕ) (times : List (Option ℕ)) (owns : List Own) (tell : AllTell now time times owns) where
+  -- where all times that are kept lie ahead, each says what is left
+  all_left : (slots : List ℕ) (least : Option ℕ) (at : ℕ) → fold (nearer_kept times) least slots ≡ Some at → time < at
+      → fold (nearer_with now owns) (until time least) slots ≡ Some (at - time)
+  all_left [] least at e ahead = ap (until time) e
+  all_left (slot ∷ slots) least at e ahead =
+      ap (λ (o : Option ℕ). fold (nearer_with now owns) o slots)
+      (ap (nearer (until time least)) (left (slice_index_or times slot None) (tell slot) e)
+      ∙ nearer_until time least (slice_index_or times slot None))
+      ∙ all_left slots (nearer least (slice_index_or times slot None)) at e ahead
+    where
+      left : (kept : Option ℕ) → Tells now time kept (slice_get owns slot)
+          → fold (nearer_kept times) (nearer least kept) slots ≡ Some at
+          → ticks_left_in now owns slot ≡ until time kept
+      left None tells f = tells
+      left (Some other) tells f =
+          left_ahead now time other (slice_get owns slot)
+          (tells (omega (arith, ahead, not_after_kept times slots least other at f)))
+
+  -- where no time is kept none is left
+  none_left : (slots : List ℕ) → fold (nearer_kept times) None slots ≡ None
+      → fold (nearer_with now owns) None slots ≡ None
+  none_left [] e = refl
+  none_left (slot ∷ slots) e = by_kept (slice_index_or times slot None) (tell slot) (none_left slots) e
+    where
+      by_kept : (kept : Option ℕ) → Tells now time kept (slice_get owns slot)
+          → (fold (nearer_kept times) None slots ≡ None → fold (nearer_with now owns) None slots ≡ None)
+          → fold (nearer_kept times) kept slots ≡ None
+          → fold (nearer_with now owns) (ticks_left_in now owns slot) slots ≡ None
+      by_kept None tells rest f = ap (λ (o : Option ℕ). fold (nearer_with now owns) o slots) tells ∙ rest f
+      by_kept (Some other) tells rest f = absurd (not_none times slots other f)
+
+  -- the nearest lies less than 2^32 ticks ahead
+  not_far : (slots : List ℕ) (least : Option ℕ) (at : ℕ) → IfSome least (λ x. x - time < 2 ^ 32)
+      → fold (nearer_kept times) least slots ≡ Some at → time < at → at - time < 2 ^ 32
+  not_far [] None at near e ahead = cc
+  not_far [] (Some x) at near e ahead = omega (arith, near, the_one x at e)
+  not_far (slot ∷ slots) least at near e ahead =
+      not_far slots (nearer least (slice_index_or times slot None)) at
+      (by_kept (slice_index_or times slot None) (tell slot) e) e ahead
+    where
+      by_both : (o : Option ℕ) (other : ℕ) → IfSome o (λ x. x - time < 2 ^ 32) → other - time < 2 ^ 32
+          → IfSome (nearer o (Some other)) (λ x. x - time < 2 ^ 32)
+      by_both None other h small = small
+      by_both (Some x) other h small = omega (arith, h, small)
+
+      with_none : (o : Option ℕ) → IfSome o (λ x. x - time < 2 ^ 32) → IfSome (nearer o None) (λ x. x - time < 2 ^ 32)
+      with_none None h = h
+      with_none (Some x) h = h
+
+      by_kept : (kept : Option ℕ) → Tells now time kept (slice_get owns slot)
+          → fold (nearer_kept times) (nearer least kept) slots ≡ Some at
+          → IfSome (nearer least kept) (λ x. x - time < 2 ^ 32)
+      by_kept None tells f = with_none least near
+      by_kept (Some other) tells f =
+          by_both least other near (soon now time other (slice_get owns slot)
+          (tells (omega (arith, ahead, not_after_kept times slots least other at f))))
+
+  -- so the nearest of all, while it lies ahead, tells the next alarm
+  pub nearest_is_next : (at : ℕ) → nearest_kept times ≡ Some at → time < at → Some (at - time) ≡ next_left now owns
+  unfolding nearest_kept next_left
+  nearest_is_next at e ahead = sym (all_left (range_with_len 0 SLOT_COUNT) None at e ahead)
+
+  pub nearest_is_near : (at : ℕ) → nearest_kept times ≡ Some at → time < at → at - time < 2 ^ 32
+  unfolding nearest_kept
+  nearest_is_near at e ahead = not_far (range_with_len 0 SLOT_COUNT) None at tt e ahead
+
+  pub none_is_next : nearest_kept times ≡ None → None ≡ next_left now owns
+  unfolding nearest_kept next_left
+  none_is_next e = sym (none_left (range_with_len 0 SLOT_COUNT) e)
+
+  -- and none is due
+  pub none_is_due : IsDueWhereNoneAreLeft → (o : Option ℕ) → nearest_kept times ≡ o → IfSome o (λ at. time < at)
+      → false ≡ is_some (due_slot now owns)
+  none_is_due law o e ahead = by_due (is_some (due_slot now owns)) refl
+    where
+      not_now : (o : Option ℕ) → nearest_kept times ≡ o → IfSome o (λ at. time < at) → next_left now owns ≡ Some 0 → ⊥
+      not_now None f h left = no_left 0 (none_is_next f ∙ left)
+      not_now (Some at) f h left = omega (arith, h, the_one (at - time) 0 (nearest_is_next at f h ∙ left))
+
+      by_due : (b : Bool) → is_some (due_slot now owns) ≡ b → false ≡ is_some (due_slot now owns)
+      by_due false f = sym f
+      by_due true f = absurd (not_now o e ahead ((law now owns).1 (is_true (is_some (due_slot now owns)) f)))
+
+-- of fresh times there is no nearest
+pub no_nearest : nearest_kept (replicate SLOT_COUNT None) ≡ None
+unfolding nearest_kept
+no_nearest = refl
+
+-- a time that is what was kept leaves the times as they were
+pub kept_again : (times : List (Option ℕ)) (slot : ℕ) (due : Option ℕ) → due ≡ slice_index_or times slot None
+    → times ≡ slice_set times slot due
+kept_again times slot due is = sym (ap (slice_set times slot) is ∙ set-get_or times slot None)

@@ -1,0 +1,178 @@
+-- What is told of a run, by what its steps show and by their labels.
+use Rattle.std.proofs.Common.{◌≡◌, inl, inr, ℕ, zero, suc, ◌==◌, ◌||◌, not, Bool, true, false, cond, List, []}
+use Rattle.std.proofs.Common.{◌∷◌, ◌++◌, length, slice_get}
+use Rattle.std.proofs.Common.{Option, None, Some, All, refl, sym, ap, ap₂, subst, ◌∙◌, append-nil}
+use Rattle.std.specs.List.{flat_map}
+use Rattle.std.proofs.lemmas.List.Elements.{All-cons, All-head, All-nil, All-tail}
+use Rattle.tk_base.specs.declared.access.Denial.{Denial}
+use Rattle.tk_base.specs.declared.process.Choice.{Choice}
+use Rattle.tk_base.specs.declared.process.Choice.TheVariants.{Run, Device, Pass}
+use Rattle.process_record.specs.declared.emit.CallMade.{CallMade}
+use Rattle.process_record.specs.Emit.{nothing}
+use Rattle.process_record.specs.declared.emit.Emit.{Emit}
+use Rattle.kernel_model.specs.Record.{Record}
+use Rattle.kernel_model.specs.World.{Answer, Label, Stepped, World, after}
+use Rattle.kernel_model.specs.World.{answer_label, carried_out, labels, ran}
+use Rattle.kernel_model.specs.Turn.{is_turn}
+use Rattle.kernel_model.proofs.Labels.{shown_by-printed}
+use Rattle.kernel_model.specs.Laws.{ComesTo, DevicesAnswerOne}
+use Rattle.kernel_model.specs.Run.{Ran, next, printed, round}
+use Rattle.kernel_model.specs.Stretch.{IsQuietTurn, IsStretch}
+use Rattle.kernel_model.specs.Shown.{shown_by}
+use Rattle.board_report.specs.Trace.{out_line, out_text, trace_text, turn_text}
+use Rattle.board_runs.proofs.Runs.{of_stepped, printed-round, round-step, steps-step, steps-stop}
+use Rattle.board_runs.proofs.Runs.{steps-zero}
+use Rattle.board_runs.proofs.Tallies.{counting-tally_of}
+use Rattle.board_runs.specs.declared.run.Mode.{Mode}
+use Rattle.board_runs.specs.declared.run.Mode.TheVariants.{Boot, Trace, Soak}
+use Rattle.board_runs.specs.declared.teller.RunWriter.{RunWriter}
+use Rattle.board_runs.specs.declared.teller.RunWriter.TheVariants as tellings
+use Rattle.board_runs.specs.RunText.{Step, step_lines, step_of, steps, label_lines, shown_in, tally_of}
+use Rattle.board_runs.specs.RunWriter.{counted_bytes, passed_on, step_text, steps_text, telling_of, told_on, told_text}
+use Rattle.board_runs.specs.RunWriter.{total_text}
+
+-- the lines of a step by what it shows are those of its labels
+trace_text-carried_out : DevicesAnswerOne → (time : ℕ) (w : World) (c : Choice)
+    → trace_text time (shown_by (carried_out w c).labels) ≡ flat_map (label_lines time) (carried_out w c).labels
+unfolding trace_text shown_by carried_out
+trace_text-carried_out law time w (Run slot) = of_record (slice_get w.records slot)
+  where
+    of_record : (o : Option Record)
+        → trace_text time (shown_by (ran w slot o).labels) ≡ flat_map (label_lines time) (ran w slot o).labels
+    of_record None = refl
+    of_record (Some r) =
+        sym (append-nil (trace_text time (shown_by (ran w slot (Some r)).labels)))
+trace_text-carried_out law time w (Device device) = by_case _ (law.each w device)
+  where
+    of_answer : (slot : ℕ) (a : Answer)
+        → trace_text time (shown_by (answer_label slot a ∷ []))
+        ≡ flat_map (label_lines time) (answer_label slot a ∷ [])
+    of_answer slot a = by_shown (is_turn a.event) (length a.printed == 0) refl
+      where
+        shows : List ℕ → Emit
+        shows bytes = record nothing { slot = Some slot; printed = record { items = bytes } }
+
+        both : trace_text time (shows (a.printed ++ [])) ≡ out_text time slot a.printed ++ []
+        both = ap (out_text time slot) (append-nil a.printed) ∙ sym (append-nil (out_text time slot a.printed))
+
+        by_shown : (turn none : Bool) → (length a.printed == 0) ≡ none
+            → trace_text time (cond (turn || not none) (shows (a.printed ++ [])) nothing)
+            ≡ out_text time slot a.printed ++ []
+        by_shown true none e = both
+        by_shown false false e = both
+        by_shown false true e = sym (ap (λ (b : Bool). cond b [] (out_line time slot a.printed) ++ []) e)
+
+    by_case : (s : Stepped) → ComesTo w s
+        → trace_text time (shown_by s.labels) ≡ flat_map (label_lines time) s.labels
+    by_case s (inl none) =
+        subst (λ (x : Stepped). trace_text time (shown_by x.labels) ≡ flat_map (label_lines time) x.labels) (sym none)
+        refl
+    by_case s (inr (inl nobody)) =
+        subst (λ (x : Stepped). trace_text time (shown_by x.labels) ≡ flat_map (label_lines time) x.labels)
+        (sym nobody.1) refl
+    by_case s (inr (inr one)) =
+        subst (λ (x : Stepped). trace_text time (shown_by x.labels) ≡ flat_map (label_lines time) x.labels) (sym one.is)
+        (of_answer one.slot one.answer.answer)
+trace_text-carried_out law time w (Pass ticks) = refl
+
+trace_text-shown_by : DevicesAnswerOne → (time : ℕ) (w : World) (c : Choice)
+    → trace_text time (shown_by (labels w c)) ≡ flat_map (label_lines time) (labels w c)
+unfolding trace_text shown_by
+trace_text-shown_by law time w c =
+    of_stepped (λ (s : Stepped). trace_text time (shown_by s.labels) ≡ flat_map (label_lines time) s.labels) w c refl
+    (trace_text-carried_out law time w c)
+
+-- so what is told of a step by what it shows is what the mode tells of it
+pub told_text-step : DevicesAnswerOne → (mode : Mode) (w : World) (c : Choice) (bytes : List ℕ) (telling : RunWriter)
+    (step : Emit)
+    → telling ≡ telling_of mode w bytes → step ≡ shown_by (labels w c)
+    → told_text telling step ≡ step_text mode (step_of w c)
+told_text-step law mode w c bytes telling step t s =
+    ap (λ (x : RunWriter). told_text x step) t ∙ ap (told_text (telling_of mode w bytes)) s ∙ by_mode mode
+  where
+    by_mode : (m : Mode) → told_text (telling_of m w bytes) (shown_by (labels w c)) ≡ step_text m (step_of w c)
+    by_mode Boot = shown_by-printed (labels w c)
+    by_mode Trace = trace_text-shown_by law w.clock.time w c
+    by_mode Soak = refl
+
+-- what is kept after a step
+pub told_on-step : (mode : Mode) (w then : World) (bytes more : List ℕ) (telling : RunWriter) (step : Emit)
+    → telling ≡ telling_of mode w bytes → step.printed.items ≡ more
+    → told_on telling then step ≡ telling_of mode then (bytes ++ more)
+told_on-step mode w then bytes more telling step t s = ap (λ (x : RunWriter). told_on x then step) t ∙ by_mode mode
+  where
+    by_mode : (m : Mode) → told_on (telling_of m w bytes) then step ≡ telling_of m then (bytes ++ more)
+    by_mode Boot = refl
+    by_mode Trace = refl
+    by_mode Soak = ap tellings.Soak (counting-tally_of bytes step.printed.items
+        ∙ ap (λ (xs : List ℕ). tally_of (bytes ++ xs)) s)
+
+-- what is kept after steps that print nothing
+pub passed_on-steps : (mode : Mode) (w then : World) (bytes : List ℕ) (telling kept : RunWriter)
+    → telling ≡ telling_of mode w bytes → kept ≡ passed_on telling then
+    → (kept ≡ telling_of mode then bytes) × (counted_bytes kept ≡ counted_bytes telling)
+passed_on-steps mode w then bytes telling kept t k =
+    let is : kept ≡ passed_on (telling_of mode w bytes) then = k ∙ ap (λ (x : RunWriter). passed_on x then) t in
+    (is ∙ by_mode mode, ap counted_bytes is ∙ same_count mode ∙ sym (ap counted_bytes t))
+  where
+    by_mode : (m : Mode) → passed_on (telling_of m w bytes) then ≡ telling_of m then bytes
+    by_mode Boot = refl
+    by_mode Trace = refl
+    by_mode Soak = refl
+
+    same_count : (m : Mode)
+        → counted_bytes (passed_on (telling_of m w bytes) then) ≡ counted_bytes (telling_of m w bytes)
+    same_count Boot = refl
+    same_count Trace = refl
+    same_count Soak = refl
+
+silent : (ss : List Step) → steps_text Soak ss ≡ []
+silent [] = refl
+silent (step ∷ ss) = silent ss
+
+-- the text of a run: what is told of its steps, and after the last one
+pub text_in : (mode : Mode) (n : ℕ) (w : World) (end : List ℕ)
+    → steps_text mode (steps n w) ++ (total_text (telling_of mode (round n w).world (printed (round n w).labels))
+    ++ end) ≡ shown_in mode n w ++ end
+text_in Boot n w end = ap (λ (t : List ℕ). t ++ end) (sym (printed-round n w))
+text_in Trace n w end = refl
+text_in Soak n w end =
+    ap (λ (t : List ℕ). t ++ (total_text (telling_of Soak (round n w).world (printed (round n w).labels)) ++ end))
+    (silent (steps n w))
+
+-- quiet turns have no lines
+quiet_lines : (time : ℕ) (ls : List Label) → All IsQuietTurn ls → flat_map (label_lines time) ls ≡ []
+quiet_lines time [] all = refl
+quiet_lines time (label ∷ ls) all =
+    let quiet = All-head IsQuietTurn label ls all in
+    ap (λ (t : List ℕ). label_lines time label ++ t) (quiet_lines time ls (All-tail IsQuietTurn label ls all))
+    ∙ ap (λ (bytes : List ℕ). (turn_text time label.slot label.trace.call label.trace.denial
+    ++ out_text time label.slot bytes) ++ []) quiet.1
+    ∙ ap₂ (λ (call : Option CallMade) (denial : Option Denial). (turn_text time label.slot call denial ++ []) ++ [])
+    quiet.2 quiet.4
+
+both_parts : {X : Type 0} (P : X → Type 0) (xs ys : List X) → All P (xs ++ ys) → All P xs × All P ys
+both_parts P [] ys all = (All-nil P, all)
+both_parts P (x ∷ xs) ys all =
+    let rest = both_parts P xs ys (All-tail P x (xs ++ ys) all) in
+    (All-cons P x xs (All-head P x (xs ++ ys) all) rest.0, rest.1)
+
+quiet_steps : (k : ℕ) (w : World) → All IsQuietTurn (round k w).labels → flat_map step_lines (steps k w) ≡ []
+quiet_steps zero w all = ap (flat_map step_lines) (steps-zero w)
+quiet_steps (suc k) w all = by_next (next w) refl (λ c. quiet_steps k (after w c))
+  where
+    by_next : (o : Option Choice) → next w ≡ o
+        → ((c : Choice) → All IsQuietTurn (round k (after w c)).labels → flat_map step_lines (steps k (after w c)) ≡ [])
+        → flat_map step_lines (steps (suc k) w) ≡ []
+    by_next None e later = ap (flat_map step_lines) (steps-stop (suc k) w e)
+    by_next (Some c) e later =
+        let parts = both_parts IsQuietTurn (labels w c) (round k (after w c)).labels
+        (subst (λ (r : Ran). All IsQuietTurn r.labels) (round-step k w c e) all) in
+        ap (flat_map step_lines) (steps-step k w c e)
+        ∙ ap₂ (λ (a b : List ℕ). a ++ b) (quiet_lines w.clock.time (labels w c) parts.0) (later c parts.1)
+
+-- so nothing is told of a quiet stretch
+pub nothing_told : (mode : Mode) (k : ℕ) (w v : World) → IsStretch k w v → steps_text mode (steps k w) ≡ []
+nothing_told Boot k w v s = sym (printed-round k w) ∙ s.prints
+nothing_told Trace k w v s = quiet_steps k w s.quiet
+nothing_told Soak k w v s = silent (steps k w)

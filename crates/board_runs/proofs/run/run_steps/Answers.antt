@@ -1,0 +1,132 @@
+use Rattle.std.proofs.Common.{sym, arith, ◌∙◌}
+use Rattle.std.proofs.lemmas.Result.{MatchResult-from_err}
+use Rattle.board_runs.proofs.Running.{begins, flushed, made, made_so, one_more, over, part, room, stretched, unflushed}
+use Rattle.board_runs.proofs.Running.{world_here, world_on}
+use Rattle.board_runs.proofs.run.run_steps.Goals as goal
+
+pub loop-made-init : goal.loop-made-init
+loop-made-init g c = record {
+  on = begins _ c.args.mode c.args.turns c.args.board.now c.args.out.now c.args.buffer.now c.of-telling.result
+      c.puts_compose.ensures c.of-telling.ensures;
+  some = omega arith;
+}
+
+pub returns-in_default-clause-text : goal.returns-in_default-clause-text
+returns-in_default-clause-text g c =
+    let quiet = c.run_quietly-quiet.ensures in
+    let r = stretched c.loop-made.invariant.on c.rounds_join.ensures
+    (omega (arith, quiet.most, c.min.ensures, c.loop-made-test.true, c.loop-made.invariant.some)) quiet.stretch
+    c.pass.ensures in
+    (over r.1 (sym quiet.next ∙ c.in_default.is)).text
+
+pub returns-in_default-clause-kept : goal.returns-in_default-clause-kept
+returns-in_default-clause-kept g c =
+    let quiet = c.run_quietly-quiet.ensures in
+    let r = stretched c.loop-made.invariant.on c.rounds_join.ensures
+    (omega (arith, quiet.most, c.min.ensures, c.loop-made-test.true, c.loop-made.invariant.some)) quiet.stretch
+    c.pass.ensures in
+    (over r.1 (sym quiet.next ∙ c.in_default.is)).kept_is
+
+pub returns-in_default-clause-last : goal.returns-in_default-clause-last
+returns-in_default-clause-last g c =
+    let quiet = c.run_quietly-quiet.ensures in
+    let r = stretched c.loop-made.invariant.on c.rounds_join.ensures
+    (omega (arith, quiet.most, c.min.ensures, c.loop-made-test.true, c.loop-made.invariant.some)) quiet.stretch
+    c.pass.ensures in
+    (over r.1 (sym quiet.next ∙ c.in_default.is)).last
+
+pub tell-requires : goal.tell-requires
+tell-requires g c =
+    let quiet = c.run_quietly-quiet.ensures in
+    let r = stretched c.loop-made.invariant.on c.rounds_join.ensures
+    (omega (arith, quiet.most, c.min.ensures, c.loop-made-test.true, c.loop-made.invariant.some)) quiet.stretch
+    c.pass.ensures in
+    room r.1 r.0 c.ranges.turns.fits
+
+pub returns-in_err-tell-clause-text : goal.returns-in_err-tell-clause-text
+returns-in_err-tell-clause-text g c =
+    let quiet = c.run_quietly-quiet.ensures in
+    let r = stretched c.loop-made.invariant.on c.rounds_join.ensures
+    (omega (arith, quiet.most, c.min.ensures, c.loop-made-test.true, c.loop-made.invariant.some)) quiet.stretch
+    c.pass.ensures in
+    MatchResult-from_err c.from_residual.result _ _ c.from_residual.ensures.0
+    (λ _. part r.1 c.puts_compose.ensures c.devices_answer_one.ensures r.0 (sym quiet.next ∙ c.in-Some.is)
+    c.in-Ok.ensures.shown c.in_err-tell.ensures.text)
+
+pub returns-in_err-tell-clause-some : goal.returns-in_err-tell-clause-some
+returns-in_err-tell-clause-some g c =
+    let quiet = c.run_quietly-quiet.ensures in
+    let r = stretched c.loop-made.invariant.on c.rounds_join.ensures
+    (omega (arith, quiet.most, c.min.ensures, c.loop-made-test.true, c.loop-made.invariant.some)) quiet.stretch
+    c.pass.ensures in
+    MatchResult-from_err c.from_residual.result _ _ c.from_residual.ensures.0
+    (λ _. world_on r.1 r.0 (sym quiet.next ∙ c.in-Some.is) c.in-Ok.ensures.ok)
+
+pub returns-in_err-flush-clause-text : goal.returns-in_err-flush-clause-text
+returns-in_err-flush-clause-text g c =
+    let quiet = c.run_quietly-quiet.ensures in
+    let r = stretched c.loop-made.invariant.on c.rounds_join.ensures
+    (omega (arith, quiet.most, c.min.ensures, c.loop-made-test.true, c.loop-made.invariant.some)) quiet.stretch
+    c.pass.ensures in
+    let told = c.in_ok-tell.ensures in
+    let s = one_more r.1 c.puts_compose.ensures c.devices_answer_one.ensures r.0 (sym quiet.next ∙ c.in-Some.is)
+    c.in-Ok.ensures.ok c.in-Ok.ensures.shown told.text told.kept told.count in
+    MatchResult-from_err c.from_residual-in_err-flush.result _ _ c.from_residual-in_err-flush.ensures.0
+    (λ _. unflushed s c.puts_compose.ensures c.flush.new.out c.in_err-flush.ensures.text)
+
+pub returns-in_err-flush-clause-some : goal.returns-in_err-flush-clause-some
+returns-in_err-flush-clause-some g c =
+    let quiet = c.run_quietly-quiet.ensures in
+    let r = stretched c.loop-made.invariant.on c.rounds_join.ensures
+    (omega (arith, quiet.most, c.min.ensures, c.loop-made-test.true, c.loop-made.invariant.some)) quiet.stretch
+    c.pass.ensures in
+    let told = c.in_ok-tell.ensures in
+    let s = one_more r.1 c.puts_compose.ensures c.devices_answer_one.ensures r.0 (sym quiet.next ∙ c.in-Some.is)
+    c.in-Ok.ensures.ok c.in-Ok.ensures.shown told.text told.kept told.count in
+    MatchResult-from_err c.from_residual-in_err-flush.result _ _ c.from_residual-in_err-flush.ensures.0
+    (λ _. world_here s (omega (arith, r.0)))
+
+pub loop-made-preserved : goal.loop-made-preserved
+loop-made-preserved g c =
+    let quiet = c.run_quietly-quiet.ensures in
+    let r = stretched c.loop-made.invariant.on c.rounds_join.ensures
+    (omega (arith, quiet.most, c.min.ensures, c.loop-made-test.true, c.loop-made.invariant.some)) quiet.stretch
+    c.pass.ensures in
+    let told = c.in_ok-tell.ensures in
+    let s = one_more r.1 c.puts_compose.ensures c.devices_answer_one.ensures r.0 (sym quiet.next ∙ c.in-Some.is)
+    c.in-Ok.ensures.ok c.in-Ok.ensures.shown told.text told.kept told.count in
+    record {
+      on = made_so s _ (omega arith);
+      some = omega (
+        arith,
+        quiet.most,
+        c.min.ensures,
+        c.loop-made-test.true,
+        c.loop-made.invariant.some,
+        c.if-gathered-eq-FLUSH_STEPS.false,
+      );
+    }
+
+pub loop-made-preserved-then-gathered-eq-FLUSH_STEPS : goal.loop-made-preserved-then-gathered-eq-FLUSH_STEPS
+loop-made-preserved-then-gathered-eq-FLUSH_STEPS g c =
+    let quiet = c.run_quietly-quiet.ensures in
+    let r = stretched c.loop-made.invariant.on c.rounds_join.ensures
+    (omega (arith, quiet.most, c.min.ensures, c.loop-made-test.true, c.loop-made.invariant.some)) quiet.stretch
+    c.pass.ensures in
+    let told = c.in_ok-tell.ensures in
+    let s = one_more r.1 c.puts_compose.ensures c.devices_answer_one.ensures r.0 (sym quiet.next ∙ c.in-Some.is)
+    c.in-Ok.ensures.ok c.in-Ok.ensures.shown told.text told.kept told.count in
+    record {
+      on = flushed (made_so s _ (omega arith)) c.puts_compose.ensures c.flush.new.out c.flush.new.self
+          c.in_ok-flush.ensures.text c.in_ok-flush.ensures.empty;
+      some = omega arith;
+    }
+
+pub returns-clause-text : goal.returns-clause-text
+returns-clause-text g c = (made c.loop-made.invariant.on c.loop-made-test.false).text
+
+pub returns-clause-kept : goal.returns-clause-kept
+returns-clause-kept g c = (made c.loop-made.invariant.on c.loop-made-test.false).kept_is
+
+pub returns-clause-last : goal.returns-clause-last
+returns-clause-last g c = (made c.loop-made.invariant.on c.loop-made-test.false).last

@@ -1,0 +1,9 @@
+//! Runs of a board by the round robin, and their text: what they print or what they ask of the
+//! kernel, and the report of their last world.
+#![tactic(auto)]
+
+mod run;
+mod tally;
+mod teller;
+
+pub use run::{Mode, run_out};

@@ -1,0 +1,156 @@
+//! What is told of a run while it goes on.
+ghost use Rattle.std.specs.Prelude.{◌≡◌, ◌+◌, ◌<◌, ◌≤◌, ◌^◌, [], true, OnOk};
+ghost use Rattle.tk_base.specs.declared.limits.TheConstants.{PRINT_LIMIT};
+ghost use Rattle.tk_outside.specs.Writes.{Writes};
+ghost use Rattle.gathered_output.specs.Puts.{Puts};
+ghost use Rattle.board_runs.specs.RunWriter.{counted_bytes, passed_on, telling_of, told_text};
+ghost use Rattle.board_runs.specs.RunWriter.{told_on, total_text};
+
+use crate::run::Mode;
+use crate::tally::Tally;
+use board_core::Board;
+use board_report::write_trace;
+use gathered_output::{OutputBuffer, Text, puts_compose};
+use process_record::Emit;
+use tk_outside::{Failed, Sink, put_all};
+
+/// What is told of a run, with what has to be kept for it from step to step.
+#[derive(Clone, Copy, Debug, PartialEq, Eq)]
+pub enum RunWriter {
+    /// What it prints.
+    Boot,
+    /// The lines of its steps, and the time at which the next one begins.
+    Trace { time: u64 },
+    /// How much it printed so far.
+    Soak { tally: Tally },
+}
+
+/// What is written at once of a step.
+#[derive(Clone, Copy)]
+struct StepText<'a> {
+    writer: RunWriter,
+    step: &'a Emit,
+}
+
+impl Text for StepText<'_> {
+    ghost use Rattle.board_runs.specs.RunWriter.{told_text};
+
+    ghost bytes = { λ text. told_text text.writer text.step.now };
+
+    fn write_to<K: Sink>(&self, out: &mut K) -> Result<(), Failed> {
+        match self.writer {
+            RunWriter::Boot => put_all(out, &self.step.printed),
+            RunWriter::Trace { time } => write_trace(time, self.step, out),
+            RunWriter::Soak { .. } => Ok(()),
+        }
+    }
+}
+
+impl RunWriter {
+    /// What is kept before the first step.
+    pub fn of(mode: Mode, board: &Board) -> RunWriter
+        ensures { result ≡ telling_of mode board.now [] }
+    {
+        match mode {
+            Mode::Boot => RunWriter::Boot,
+            Mode::Trace => RunWriter::Trace {
+                time: board.status().time,
+            },
+            Mode::Soak => RunWriter::Soak {
+                tally: Tally::new(),
+            },
+        }
+    }
+
+    /// Tells a step that led to this board: puts its text behind what is gathered for the sink, and
+    /// keeps what is asked of it later. A step prints at most [`PRINT_LIMIT`] bytes, and the count
+    /// has room for them.
+    pub fn tell<K: Sink>(
+        &mut self,
+        board: &Board,
+        step: &Emit,
+        buffer: &mut OutputBuffer,
+        out: &mut K,
+    ) -> Result<(), Failed>
+        requires { counted_bytes self.old + PRINT_LIMIT < 2 ^ 64 }
+        ensures text { Puts K.tells out.old out.new buffer.old buffer.new
+            (told_text self.old step.now) result }
+        ensures kept { OnOk result (self.new ≡ told_on self.old board.now step.now) }
+        ensures count { OnOk result (counted_bytes self.new
+            ≤ counted_bytes self.old + PRINT_LIMIT) }
+    {
+        puts_compose::<K>();
+        // Of most steps nothing is told, and they pay for nothing.
+        if self.is_silent(step) {
+            self.keep(board, step);
+            return Ok(());
+        }
+        self.tell_any(board, step, buffer, out)
+    }
+
+    /// Whether nothing is written of a step, as far as a look tells.
+    fn is_silent(self, step: &Emit) -> bool
+        ensures { result ≡ true → told_text self step.now ≡ [] }
+    {
+        match self {
+            RunWriter::Boot => step.printed.is_empty(),
+            RunWriter::Trace { .. } => false,
+            RunWriter::Soak { .. } => true,
+        }
+    }
+
+    /// The same of any step, out of the loop's way.
+    #[inline(never)]
+    fn tell_any<K: Sink>(
+        &mut self,
+        board: &Board,
+        step: &Emit,
+        buffer: &mut OutputBuffer,
+        out: &mut K,
+    ) -> Result<(), Failed>
+        requires { counted_bytes self.old + PRINT_LIMIT < 2 ^ 64 }
+        ensures text { Puts K.tells out.old out.new buffer.old buffer.new
+            (told_text self.old step.now) result }
+        ensures kept { OnOk result (self.new ≡ told_on self.old board.now step.now) }
+        ensures count { OnOk result (counted_bytes self.new
+            ≤ counted_bytes self.old + PRINT_LIMIT) }
+    {
+        let writer = *self;
+        buffer.put(&StepText { writer, step }, out)?;
+        self.keep(board, step);
+        Ok(())
+    }
+
+    /// Keeps what is asked later of a step that led to this board.
+    fn keep(&mut self, board: &Board, step: &Emit)
+        requires { counted_bytes self.old + PRINT_LIMIT < 2 ^ 64 }
+        ensures kept { self.new ≡ told_on self.old board.now step.now }
+        ensures count { counted_bytes self.new ≤ counted_bytes self.old + PRINT_LIMIT }
+    {
+        match self {
+            RunWriter::Boot => {}
+            RunWriter::Trace { time } => *time = board.status().time,
+            RunWriter::Soak { tally } => tally.add(&step.printed),
+        }
+    }
+
+    /// Steps that show nothing led to this board: there is nothing to write, and what is asked of
+    /// it later is kept.
+    pub fn pass(&mut self, board: &Board)
+        ensures { self.new ≡ passed_on self.old board.now }
+    {
+        if let RunWriter::Trace { time } = self {
+            *time = board.status().time;
+        }
+    }
+
+    /// Writes what is told after the last step.
+    pub fn write_total<K: Sink>(self, out: &mut K) -> Result<(), Failed>
+        ensures { Writes K.tells out.old out.new (total_text self) result }
+    {
+        match self {
+            RunWriter::Boot | RunWriter::Trace { .. } => Ok(()),
+            RunWriter::Soak { tally } => tally.write_line(out),
+        }
+    }
+}

@@ -1,0 +1,385 @@
+-- A process that waits for one upcall alone gets the arguments of the first scheduling of it.
+use Rattle.std.proofs.Common.{◌≡◌, ℕ, ◌+◌, ◌-◌, ◌==◌, nat_le, Bool, true, false, not, cond, List, [], ◌∷◌, ◌++◌, find, slice_get}
+use Rattle.std.proofs.Common.{slice_set, Option, None, Some, refl, sym, ap, ap₂, ◌∙◌, eqb-true, eq-eqb}
+use Rattle.std.specs.Prelude.{All, filter_map, option_and_then, unwrap_or}
+use Rattle.std.specs.List.{cons_option, flat_map}
+use Rattle.std.specs.Option.{option_map}
+use Rattle.std.proofs.lemmas.Bool.{false≢true}
+use Rattle.std.proofs.lemmas.List.Elements.{All-nil, All-cons, All-weaker}
+use Rattle.tk_base.specs.declared.process.Choice.{Choice}
+use Rattle.tk_base.specs.declared.process.Choice.TheVariants.{Run, Device, Pass}
+use Rattle.tk_base.specs.declared.upcall.Upcall.{Upcall as Scheduled}
+use Rattle.tk_base.specs.declared.upcall.Wait.{Wait}
+use Rattle.tk_base.specs.declared.upcall.Wait.TheVariants.{For, Given}
+use Rattle.rv32_model.specs.Laws.{CallsAreOfEcall}
+use Rattle.upcall_queue.specs.declared.inbox.Delivery.TheVariants.{Arguments}
+use Rattle.upcall_queue.specs.declared.inbox.Inbox.{Inbox}
+use Rattle.upcall_queue.specs.Pending.{awaits, due_by, has_room, is_of, place_of, scheduled}
+use Rattle.process_model.specs.Own.{Own}
+use Rattle.process_model.specs.Served.{ScheduledUpcall, own_scheduling, upcall_of}
+use Rattle.grant_values.specs.declared.alarm.Armed.{Armed}
+use Rattle.grant_values.specs.declared.console.WaitingRead.{WaitingRead}
+use Rattle.grant_values.specs.declared.console.WaitingWrite.{WaitingWrite}
+use Rattle.grant_values.specs.declared.random.RandomRequest.{RandomRequest}
+use Rattle.grant_values.specs.declared.storage.StorageKind.{StorageKind}
+use Rattle.grant_values.specs.declared.storage.StorageKind.TheVariants.{Read, Write}
+use Rattle.grant_values.specs.declared.storage.StorageRequest.{StorageRequest}
+use Rattle.driver_model.specs.Alarm.{answered as alarm_answered, due_alarm, fired_if}
+use Rattle.driver_model.specs.Console.{console_reads, console_writes, reading_in, taking, write_completing}
+use Rattle.driver_model.specs.Random.{advanced, answered as random_answered, completing, drawing, progress, randoms}
+use Rattle.driver_model.specs.Random.{unanswered as random_unanswered, wanted, with_word}
+use Rattle.driver_model.specs.Storage.{answered as storage_answered, moving, storage_answer_of, storage_served, storages}
+use Rattle.driver_model.specs.Storage.{unanswered as storage_unanswered}
+use Rattle.driver_model.specs.Requests.{waiting_in}
+use Rattle.driver_model.specs.Steps.{own_after, silently}
+use Rattle.driver_model.specs.Upcalls.{scheduled_if}
+use Rattle.process_record.specs.declared.process.Process.{Process}
+use Rattle.process_record.specs.declared.process.State.{State}
+use Rattle.process_record.specs.declared.process.State.TheVariants.{Running, Yielded, Faulted, Terminated}
+use Rattle.process_record.specs.Process.{after_turn, delivered}
+use Rattle.kernel_model.specs.Record.{Record}
+use Rattle.kernel_model.specs.declared.settings.Settings.{Settings}
+use Rattle.kernel_model.specs.Calls.{yield_for}
+use Rattle.kernel_model.specs.Laws.{one_answered}
+use Rattle.kernel_model.specs.Turn.{Event, Turn, Alarmed, Taken, WriteDone, Input, Word, NoWord, Stored, TurnTrace}
+use Rattle.kernel_model.specs.Turn.{apply, delivery, turn_counted, turn_in, turned}
+use Rattle.kernel_model.specs.World.{DeviceAnswer, Label, Stepped, World, after, carried_out, ran}
+use Rattle.kernel_model.specs.Replay.{after_all}
+use Rattle.kernel_model.specs.Histories.{turns_in}
+use Rattle.kernel_histories.specs.Deliveries.{FirstOf, Takes, takes, told_in, wait_in, wait_in_slot}
+use Rattle.kernel_histories.specs.Deliveries.{wait_of}
+use Rattle.kernel_histories.specs.Waits.{HasNoTurn, WaitsGetTheFirst, answer_step, awaited, upcall_told}
+use Rattle.kernel_histories.specs.Waits.{upcalls_since, upcalls_told}
+use Rattle.kernel_model.proofs.Places.{of_stepped, ran-other, set_own, slice_get-set_other}
+use Rattle.kernel_model.proofs.Steps.{IsAnswer, answer_changes, of_answers, of_step}
+use Rattle.kernel_histories.proofs.Takings.{OfTakings, step_takes}
+
+-- What an answer leaves before its upcall is scheduled is what was scheduled before: of each kind of request
+read_inbox : (bytes : List ℕ) (own : Own) (o : Option WaitingRead)
+    → (unwrap_or (option_map (reading_in bytes own) o) (silently own)).own.inbox ≡ own.inbox
+read_inbox bytes own None = refl
+read_inbox bytes own (Some read) = refl
+
+taking_inbox : (own : Own) (o : Option WaitingWrite)
+    → (unwrap_or (option_map (taking own) o) (silently own)).own.inbox ≡ own.inbox
+taking_inbox own None = refl
+taking_inbox own (Some write) = refl
+
+write_inbox : (own : Own) (o : Option WaitingWrite)
+    → (unwrap_or (option_map (write_completing own) o) (silently own)).own.inbox ≡ own.inbox
+write_inbox own None = refl
+write_inbox own (Some write) = refl
+
+alarm_inbox : (now : ℕ) (own : Own) (o : Option Armed) → (fired_if now own o).own.inbox ≡ own.inbox
+alarm_inbox now own None = refl
+alarm_inbox now own (Some alarm) = refl
+
+progress_inbox : (word : Option ℕ) (request : RandomRequest) (own : Own)
+    → (progress word request own).step.own.inbox ≡ own.inbox
+progress_inbox word request own = by_wanted (nat_le (wanted request own) request.written)
+  where
+    left : ℕ
+    left = wanted request own - request.written
+
+    by_left : (drawn : ℕ) (b : Bool)
+        → (cond b (completing (Some drawn) 0 (request.written + left) (with_word drawn left request own))
+        (record {
+          rest = Some (record request { written = request.written + 4 });
+          step = silently (with_word drawn left request own);
+          drawn = Some drawn;
+        })).step.own.inbox ≡ own.inbox
+    by_left drawn true = refl
+    by_left drawn false = refl
+
+    by_word : (o : Option ℕ) → (drawing left request own o).step.own.inbox ≡ own.inbox
+    by_word None = refl
+    by_word (Some drawn) = by_left drawn (nat_le left 4)
+
+    by_wanted : (b : Bool) → (cond b (completing None 0 request.written own) (drawing left request own word)).step.own.inbox
+        ≡ own.inbox
+    by_wanted true = refl
+    by_wanted false = by_word word
+
+random_inbox : (word : Option ℕ) (own : Own) (o : Option RandomRequest)
+    → (unwrap_or (option_map (λ (request : RandomRequest). advanced (progress word request own)) o)
+    (random_unanswered own)).step.own.inbox ≡ own.inbox
+random_inbox word own None = refl
+random_inbox word own (Some request) = progress_inbox word request own
+
+served_inbox : (fault : Bool) (flash : ℕ → ℕ) (bytes : List ℕ) (request : StorageRequest) (own : Own)
+    → (storage_served fault flash bytes request own).step.own.inbox ≡ own.inbox
+served_inbox true flash bytes request own = refl
+served_inbox false flash bytes request own = by_kind request.kind
+  where
+    by_kind : (kind : StorageKind) → (moving kind flash bytes request own).step.own.inbox ≡ own.inbox
+    by_kind Read = refl
+    by_kind Write = refl
+
+storage_inbox : (fault : Bool) (flash : ℕ → ℕ) (bytes : List ℕ) (own : Own) (o : Option StorageRequest)
+    → (unwrap_or (option_map (λ (request : StorageRequest).
+    storage_answer_of (storage_served fault flash bytes request own)) o) (storage_unanswered own)).step.own.inbox
+    ≡ own.inbox
+storage_inbox fault flash bytes own None = refl
+storage_inbox fault flash bytes own (Some request) = served_inbox fault flash bytes request own
+
+answer_inbox : (event : Event) (r : Record) → (answer_step event r).own.inbox ≡ r.own.inbox
+unfolding answer_step alarm_answered random_answered storage_answered
+answer_inbox (Turn time) r = refl
+answer_inbox (Alarmed now) r = alarm_inbox now r.own (due_alarm now r.own)
+answer_inbox Taken r = taking_inbox r.own (waiting_in console_writes r.own)
+answer_inbox WriteDone r = write_inbox r.own (waiting_in console_writes r.own)
+answer_inbox (Input bytes) r = read_inbox bytes r.own (waiting_in console_reads r.own)
+answer_inbox (Word word) r = random_inbox (Some word) r.own (waiting_in randoms r.own)
+answer_inbox NoWord r = random_inbox None r.own (waiting_in randoms r.own)
+answer_inbox (Stored moved) r = storage_inbox (not moved) _ r.storage r.own (waiting_in storages r.own)
+
+-- an answer is that step
+answer_own : (settings : Settings) (event : Event) (r : Record) → IsAnswer event
+    → (apply settings event r).own ≡ own_after (answer_step event r)
+unfolding apply answer_step
+answer_own settings (Turn time) r is = absurd (cc)
+answer_own settings (Alarmed now) r is = refl
+answer_own settings Taken r is = refl
+answer_own settings WriteDone r is = refl
+answer_own settings (Input bytes) r is = refl
+answer_own settings (Word word) r is = refl
+answer_own settings NoWord r is = refl
+answer_own settings (Stored moved) r is = refl
+
+-- so what is scheduled then is what was, and its upcall
+told_inbox : (settings : Settings) (event : Event) (r : Record) → IsAnswer event
+    → (apply settings event r).own.inbox ≡ scheduled_if (upcall_told event r) r.own.inbox
+told_inbox settings event r is =
+    ap (λ (o : Own). o.inbox) (answer_own settings event r is)
+    ∙ by_upcall (answer_step event r).schedules
+  where
+    own : Own
+    own = (answer_step event r).own
+
+    by_upcall : (o : Option ScheduledUpcall)
+        → (own_scheduling o own).inbox
+        ≡ scheduled_if (option_map (λ u. upcall_of u.driver u.number u.args own) o) r.own.inbox
+    by_upcall None = answer_inbox event r
+    by_upcall (Some u) = ap (scheduled (upcall_of u.driver u.number u.args own)) (answer_inbox event r)
+
+-- what a process waits for after an upcall was scheduled for it, and after some
+abbrev wait_after : Wait → Scheduled → Wait
+wait_after wait u = cond (awaits wait u) (Given u.args) wait
+
+abbrev over : Wait → List Scheduled → Wait
+over wait [] = wait
+over wait (u ∷ us) = over (wait_after wait u) us
+
+over_both : (wait : Wait) (us vs : List Scheduled) → over wait (us ++ vs) ≡ over (over wait us) vs
+over_both wait [] vs = refl
+over_both wait (u ∷ us) vs = over_both (wait_after wait u) us vs
+
+over_given : (args : List ℕ) (us : List Scheduled) → over (Given args) us ≡ Given args
+over_given args [] = refl
+over_given args (u ∷ us) = over_given args us
+
+over_for : (driver number : ℕ) (us : List Scheduled) → over (For driver number) us ≡ awaited driver number us
+over_for driver number [] = refl
+over_for driver number (u ∷ us) = by_test (is_of driver number u) (over_for driver number us)
+  where
+    by_test : (b : Bool) → over (For driver number) us ≡ awaited driver number us
+        → over (cond b (Given u.args) (For driver number)) us
+        ≡ unwrap_or (option_map (λ upcall. Given upcall.args) (cond b (Some u) (find (is_of driver number) us)))
+        (For driver number)
+    by_test true rest = over_given u.args us
+    by_test false rest = rest
+
+wait_scheduled : (u : Scheduled) (inbox : Inbox) → (scheduled u inbox).wait ≡ wait_after inbox.wait u
+wait_scheduled u inbox = by_test (awaits inbox.wait u) (u.function == 0) (has_room inbox.pending)
+  where
+    by_test : (awaited null room : Bool)
+        → (cond awaited (record inbox { wait = Given u.args }) (cond null inbox
+        (cond room (record inbox { pending = inbox.pending ++ u ∷ [] })
+        (record inbox { dropped = inbox.dropped + 1 })))).wait ≡ cond awaited (Given u.args) inbox.wait
+    by_test true null room = refl
+    by_test false true room = refl
+    by_test false false true = refl
+    by_test false false false = refl
+
+-- those that an option holds
+abbrev listed : Option Scheduled → List Scheduled
+listed None = []
+listed (Some u) = u ∷ []
+
+wait_if : (o : Option Scheduled) (inbox : Inbox) → (scheduled_if o inbox).wait ≡ over inbox.wait (listed o)
+wait_if None inbox = refl
+wait_if (Some u) inbox = wait_scheduled u inbox
+
+-- a process that has yielded, after an answer
+waits_on : (state : State) (a b wait : Wait) (us : List Scheduled) → wait_in state a ≡ Some wait → b ≡ over a us
+    → wait_in state b ≡ Some (over wait us)
+waits_on Running a b wait us is left = absurd (cc)
+waits_on Yielded a b wait us is left =
+    let same : a ≡ wait = cc in ap Some (left ∙ ap (λ (x : Wait). over x us) same)
+waits_on Faulted a b wait us is left = absurd (cc)
+waits_on (Terminated code) a b wait us is left = absurd (cc)
+
+after_answer : (settings : Settings) (event : Event) (r : Record) → IsAnswer event → (wait : Wait)
+    → wait_of r ≡ Some wait → wait_of (apply settings event r) ≡ Some (over wait (listed (upcall_told event r)))
+after_answer settings event r is wait waits =
+    ap (λ (p : Process). wait_in p.state (apply settings event r).own.inbox.wait)
+    (ap (λ (x : Record). x.process) (answer_changes settings event r is))
+    ∙ waits_on r.process.state r.own.inbox.wait _ wait (listed (upcall_told event r)) waits
+    (ap (λ (i : Inbox). i.wait) (told_inbox settings event r is) ∙ wait_if (upcall_told event r) r.own.inbox)
+
+-- of a step in which the process in a slot has no turn
+module _ (w : World) (slot : ℕ) where
+  abbrev told : Label → Option Scheduled
+  told label =
+      cond (label.slot == slot) (option_and_then (upcall_told label.event) (slice_get w.records slot)) None
+
+  abbrev Does : Stepped → Type 0
+  Does s = flat_map (turns_in slot) s.labels ≡ [] → (wait : Wait)
+      → option_and_then wait_of (slice_get w.records slot) ≡ Some wait
+      → option_and_then wait_of (slice_get s.after.records slot) ≡ Some (over wait (filter_map told s.labels))
+
+  of_ran : (other : ℕ) (o : Option Record) → slice_get w.records other ≡ o → Does (ran w other o)
+  of_ran other None there none wait is = is
+  of_ran other (Some r) there none wait is = by_slot (other == slot) refl none
+    where
+      by_slot : (b : Bool) → (other == slot) ≡ b
+          → cond b ((turned w.settings w.clock.time r).told ∷ []) [] ++ [] ≡ []
+          → option_and_then wait_of (slice_get (ran w other (Some r)).after.records slot)
+          ≡ Some (over wait (cons_option (cond b (option_and_then (upcall_told (Turn w.clock.time))
+          (slice_get w.records slot)) None) []))
+      by_slot true e none = absurd (cc)
+      by_slot false e none =
+          ap (option_and_then wait_of)
+          (ran-other w other slot (Some r) (λ same. false≢true (sym e ∙ eq-eqb other slot (sym same)))) ∙ is
+
+  of_answered : (at : ℕ) (r : Record) → slice_get w.records at ≡ Some r → (a : DeviceAnswer)
+      → IsAnswer a.answer.event → Does (one_answered w at r a)
+  of_answered at r there a is none wait waits = by_slot (at == slot) refl
+    where
+      s : Record
+      s = apply w.settings a.answer.event r
+
+      by_slot : (b : Bool) → (at == slot) ≡ b
+          → option_and_then wait_of (slice_get (slice_set w.records at s) slot)
+          ≡ Some (over wait (cons_option (cond b (option_and_then (upcall_told a.answer.event)
+          (slice_get w.records slot)) None) []))
+      by_slot true e =
+          let same : at ≡ slot = eqb-true at slot e in
+          let here : slice_get w.records slot ≡ Some r = ap (slice_get w.records) (sym same) ∙ there in
+          ap (option_and_then wait_of) (ap (slice_get (slice_set w.records at s)) (sym same)
+          ∙ set_own w.records at s r there)
+          ∙ after_answer w.settings a.answer.event r is wait (sym (ap (option_and_then wait_of) here) ∙ waits)
+          ∙ ap (λ (us : List Scheduled). Some (over wait us)) (as_listed (upcall_told a.answer.event r)
+          ∙ ap (λ (o : Option Record). cons_option (option_and_then (upcall_told a.answer.event) o) []) (sym here))
+        where
+          as_listed : (o : Option Scheduled) → listed o ≡ cons_option o []
+          as_listed None = refl
+          as_listed (Some u) = refl
+      by_slot false e =
+          ap (option_and_then wait_of) (slice_get-set_other w.records at slot s
+          (λ same. false≢true (sym e ∙ eq-eqb at slot (sym same)))) ∙ waits
+
+  of_choice : (choice : Choice) → Does (carried_out w choice)
+  unfolding carried_out
+  of_choice (Run other) = of_ran other (slice_get w.records other) refl
+  of_choice (Device device) = of_answers w Does stays (λ devices. stays) of_answered device
+    where
+      stays : (none : ◌≡◌ {A = List TurnTrace} [] []) (wait : Wait) → option_and_then wait_of (slice_get w.records slot) ≡ Some wait
+          → option_and_then wait_of (slice_get w.records slot) ≡ Some wait
+      stays none wait is = is
+  of_choice (Pass ticks) = λ none wait is. is
+
+  pub step_waits : (choice : Choice) (wait : Wait) → wait_in_slot slot w ≡ Some wait → told_in slot w choice ≡ []
+      → wait_in_slot slot (after w choice) ≡ Some (over wait (upcalls_told slot w choice))
+  step_waits choice wait is none =
+      of_stepped Does w choice (λ none wait is. is) (λ ready. of_choice choice) none wait is
+
+-- and of all steps since it waits
+since_waits : (since : List Choice) (slot : ℕ) (w : World) (wait : Wait) → wait_in_slot slot w ≡ Some wait
+    → HasNoTurn slot w since → wait_in_slot slot (after_all w since) ≡ Some (over wait (upcalls_since slot w since))
+since_waits [] slot w wait is none = is
+since_waits (choice ∷ since) slot w wait is none =
+    since_waits since slot (after w choice) (over wait (upcalls_told slot w choice))
+    (step_waits w slot choice wait is none.0) none.1
+    ∙ ap Some (sym (over_both wait (upcalls_told slot w choice) (upcalls_since slot (after w choice) since)))
+
+-- a call that asks for one upcall alone, of which none waits, waits for it
+abbrev WaitsFor : Takes → Record → Record → Type 0
+WaitsFor taking r s = (driver number : ℕ) → taking ≡ FirstOf driver number
+    → slice_get r.own.inbox.pending (place_of driver number r.own.inbox.pending) ≡ None
+    → wait_of s ≡ Some (For driver number)
+
+begins_to_wait : OfTakings WaitsFor
+begins_to_wait = record {
+  nothing = λ r s driver number e none. absurd (cc);
+  now = λ r at runs driver number e none. absurd (cc);
+  asks = λ r asked_driver asked_number runs driver number e none.
+      let same_driver : asked_driver ≡ driver = cc in
+      let same_number : asked_number ≡ number = cc in
+      let pending = r.own.inbox.pending in
+      ap₂ (λ (d n : ℕ). wait_of (yield_for (turn_counted r) d n (slice_get pending (place_of d n pending))).after)
+      same_driver same_number
+      ∙ ap (λ (o : Option Scheduled). wait_of (yield_for (turn_counted r) driver number o).after) none;
+  woken = λ r yielded driver number e none. absurd (cc);
+}
+
+-- a turn of a process that has the arguments of the upcall for which it waited
+given_turn : (settings : Settings) (time : ℕ) (r : Record) (args : List ℕ) → wait_of r ≡ Some (Given args)
+    → (turned settings time r).after.process ≡ delivered (Arguments args) (after_turn r.process)
+unfolding turned
+given_turn settings time r args = by_state r.process.state
+  where
+    by_state : (state : State) → wait_in state r.own.inbox.wait ≡ Some (Given args)
+        → (turn_in settings time state r).after.process ≡ delivered (Arguments args) (after_turn r.process)
+    by_state Running is = absurd (cc)
+    by_state Yielded is =
+        let given : r.own.inbox.wait ≡ Given args = cc in
+        ap (λ (wait : Wait). (delivery r (due_by wait r.own.inbox.pending)).after.process) given
+    by_state Faulted is = absurd (cc)
+    by_state (Terminated code) is = absurd (cc)
+
+step_gives : (w : World) (slot : ℕ) (choice : Choice) (r s : Record) (args : List ℕ)
+    → slice_get w.records slot ≡ Some r → slice_get (after w choice).records slot ≡ Some s
+    → wait_of r ≡ Some (Given args)
+    → All (λ told. s.process ≡ delivered (Arguments args) (after_turn r.process)) (told_in slot w choice)
+step_gives w slot choice r s args is left waits =
+    of_step w slot Of
+    (record {
+      stays = λ x e. All-nil (Tells x);
+      turn = λ q there x e.
+          All-cons (Tells x) (turned w.settings w.clock.time q).told [] (at_turn q x (same_record (slice_get w.records slot) q r there is) e)
+          (All-nil (Tells x));
+      answer = λ q there event answers x e. All-nil (Tells x);
+    })
+    choice s left
+  where
+    Tells : Record → TurnTrace → Type 0
+    Tells x told = x.process ≡ delivered (Arguments args) (after_turn r.process)
+
+    Of : List TurnTrace → Option Record → Type 0
+    Of tolds o = (x : Record) → o ≡ Some x → All (Tells x) tolds
+
+    same_record : (o : Option Record) (x y : Record) → o ≡ Some x → o ≡ Some y → x ≡ y
+    same_record o x y e f = let both : Some x ≡ Some y = sym e ∙ f in cc
+
+    at_turn : (q x : Record) → q ≡ r → Some (turned w.settings w.clock.time q).after ≡ Some x
+        → x.process ≡ delivered (Arguments args) (after_turn r.process)
+    at_turn q x same e =
+        let is_x : (turned w.settings w.clock.time q).after ≡ x = cc in
+        ap (λ (y : Record). y.process) (sym is_x)
+        ∙ ap (λ (y : Record). (turned w.settings w.clock.time y).after.process) same
+        ∙ given_turn w.settings w.clock.time r args waits
+
+pub waits_get_the_first : CallsAreOfEcall → WaitsGetTheFirst
+waits_get_the_first of_ecall w slot = record {
+  calls = λ choices choice r s driver number is left none.
+      All-weaker (λ told. WaitsFor (takes (wait_of r) told.call) r s)
+      (λ told. takes (wait_of r) told.call ≡ FirstOf driver number → wait_of s ≡ Some (For driver number))
+      (λ told asks e. asks driver number e none) (told_in slot (after_all w choices) choice)
+      (step_takes WaitsFor begins_to_wait of_ecall (after_all w choices) slot choice r s is left);
+  waits = λ choices since driver number is none.
+      since_waits since slot (after_all w choices) (For driver number) is none
+      ∙ ap Some (over_for driver number (upcalls_since slot (after_all w choices) since));
+  given = λ choices choice r s args is left waits.
+      step_gives (after_all w choices) slot choice r s args is left waits;
+}

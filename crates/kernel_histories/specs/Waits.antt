@@ -1,0 +1,88 @@
+-- What a process gets that waits for one upcall alone: the arguments of the first scheduling of it since it waits (TRD
+-- 104, "Yield").
+use Rattle.std.specs.Prelude.{◌≡◌, ℕ, ◌==◌, not, if◌then◌else◌, List, [], ◌∷◌, ◌++◌, find, filter_map, slice_get, All}
+use Rattle.std.specs.Prelude.{Option, None, Some, option_and_then, option_map, unwrap_or}
+use Rattle.tk_base.specs.declared.process.Choice.{Choice}
+use Rattle.tk_base.specs.declared.upcall.Upcall.{Upcall as Scheduled}
+use Rattle.tk_base.specs.declared.upcall.Wait.{Wait}
+use Rattle.tk_base.specs.declared.upcall.Wait.TheVariants.{For, Given}
+use Rattle.upcall_queue.specs.declared.inbox.Delivery.TheVariants.{Arguments}
+use Rattle.upcall_queue.specs.Pending.{is_of, place_of}
+use Rattle.process_model.specs.Served.{upcall_of}
+use Rattle.driver_model.specs.Alarm as alarm
+use Rattle.driver_model.specs.Console as console
+use Rattle.driver_model.specs.Random as random
+use Rattle.driver_model.specs.Storage as storage
+use Rattle.driver_model.specs.Steps.{DriverStep, silently}
+use Rattle.process_record.specs.Process.{after_turn, delivered}
+use Rattle.kernel_model.specs.Record.{Record}
+use Rattle.kernel_model.specs.Turn.{Event, Turn, Alarmed, Taken, WriteDone, Input, Word, NoWord, Stored, flash_of}
+use Rattle.kernel_model.specs.World.{Label, World, after, labels}
+use Rattle.kernel_model.specs.Replay.{after_all}
+use Rattle.kernel_histories.specs.Deliveries.{FirstOf, takes, told_in, wait_in_slot, wait_of}
+
+-- What a device's answer leaves of a process, and what it schedules; of a turn it is nothing.
+unfoldable pub answer_step : Event → Record → DriverStep
+answer_step (Turn time) r = silently r.own
+answer_step (Alarmed now) r = alarm.answered now r.own
+answer_step Taken r = console.taken r.own
+answer_step WriteDone r = console.write_done r.own
+answer_step (Input bytes) r = console.input bytes r.own
+answer_step (Word word) r = (random.answered (Some word) r.own).step
+answer_step NoWord r = (random.answered None r.own).step
+answer_step (Stored moved) r = (storage.answered (not moved) (flash_of r) r.storage r.own).step
+
+-- the upcall that an answer schedules for its process, which may be the null upcall, or be dropped
+abbrev pub upcall_told : Event → Record → Option Scheduled
+upcall_told event r =
+    let step = answer_step event r in
+    option_map (λ upcall. upcall_of upcall.driver upcall.number upcall.args step.own) step.schedules
+
+-- what the answers in a step schedule for the process in a slot
+abbrev pub upcalls_told : ℕ → World → Choice → List Scheduled
+upcalls_told slot w choice =
+    let told = λ (label : Label).
+    if label.slot == slot then option_and_then (upcall_told label.event) (slice_get w.records slot) else None in
+    filter_map told (labels w choice)
+
+-- and in any choices, one after another
+abbrev pub upcalls_since : ℕ → World → List Choice → List Scheduled
+upcalls_since slot w [] = []
+upcalls_since slot w (choice ∷ choices) = upcalls_told slot w choice ++ upcalls_since slot (after w choice) choices
+
+-- what a process waits for that waited for the upcall of a driver and a number alone, once these upcalls were scheduled
+-- for it, one after another: the first of that driver and number gave it its arguments; it waits where there is none
+abbrev pub awaited : ℕ → ℕ → List Scheduled → Wait
+awaited driver number upcalls =
+    unwrap_or (option_map (λ upcall. Given upcall.args) (find (is_of driver number) upcalls)) (For driver number)
+
+-- no step is a turn of the process in a slot
+abbrev pub HasNoTurn : ℕ → World → List Choice → Type 0
+HasNoTurn slot w [] = Unit
+HasNoTurn slot w (choice ∷ choices) = (told_in slot w choice ≡ []) × HasNoTurn slot (after w choice) choices
+
+-- Of a world and a slot: any choices are made. A turn whose call asks for the upcall of a driver and a number alone, of
+-- which none waits, has the process wait for it. While it has no turn then, it waits for it still exactly where none of
+-- the driver and number was scheduled for it since, null or not and dropped or not; else it has the arguments of the
+-- first. Its next turn delivers these.
+pub record GivesTheFirst (w : World) (slot : ℕ) : Type 0 where
+  pub calls : (choices : List Choice) (choice : Choice) (r s : Record) (driver number : ℕ) →
+      let v = after_all w choices in
+      let pending = r.own.inbox.pending in
+      slice_get v.records slot ≡ Some r → slice_get (after v choice).records slot ≡ Some s →
+      slice_get pending (place_of driver number pending) ≡ None →
+      All (λ told. takes (wait_of r) told.call ≡ FirstOf driver number → wait_of s ≡ Some (For driver number))
+      (told_in slot v choice)
+  pub waits : (choices since : List Choice) (driver number : ℕ) →
+      let v = after_all w choices in
+      wait_in_slot slot v ≡ Some (For driver number) → HasNoTurn slot v since →
+      wait_in_slot slot (after_all v since) ≡ Some (awaited driver number (upcalls_since slot v since))
+  pub given : (choices : List Choice) (choice : Choice) (r s : Record) (args : List ℕ) →
+      let v = after_all w choices in
+      slice_get v.records slot ≡ Some r → slice_get (after v choice).records slot ≡ Some s →
+      wait_of r ≡ Some (Given args) →
+      All (λ told. s.process ≡ delivered (Arguments args) (after_turn r.process)) (told_in slot v choice)
+
+-- so it is of every process
+abbrev pub WaitsGetTheFirst : Type 0
+WaitsGetTheFirst = (w : World) (slot : ℕ) → GivesTheFirst w slot
