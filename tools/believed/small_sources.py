@@ -66,7 +66,10 @@ STATE = """\
 #[derive(Clone)]
 pub enum State {
     /// It is on.
-    On,
+    On {
+        since: u8,
+        until: u8,
+    },
     Off(Seen),
 }
 
@@ -137,7 +140,7 @@ class Following(unittest.TestCase):
 
     def test_lines_without_comments(self):
         self.assertEqual((self.under.size, self.under.files), (13, ["top/Promise", "base/Sums"]))
-        self.assertEqual(len(self.under.types[0].code()), 4)
+        self.assertEqual(self.under.types[0].code()[1:3], ["    On { since: u8, until: u8 },", "    Off(Seen),"])
 
     def test_library(self):
         self.assertIn(("Rattle.std.specs.Prelude", "◌+◌"), self.under.library)

@@ -77,9 +77,11 @@ class Type:
         return (self.crate, self.file, self.name)
 
     def code(self):
-        """Its lines without comments and attributes."""
+        """Its lines without comments and attributes. A variant stands with its fields in one line, as a constructor of
+        a definition does."""
         lines = (line.split("//")[0] for line in self.text.split("\n"))
-        return [line for line in lines if line.strip() and not line.strip().startswith("#[")]
+        lines = [line for line in lines if line.strip() and not line.strip().startswith("#[")]
+        return variants_joined(lines) if lines[0].startswith("pub enum") else lines
 
 
 @dataclass
@@ -92,6 +94,18 @@ class Module:
     uses: dict = field(default_factory=dict)
     ghosts: dict = field(default_factory=dict)
     models: dict = field(default_factory=dict)
+
+
+def variants_joined(lines):
+    """The lines of an enum, with each variant that has named fields in one line."""
+    joined, is_open = [], False
+    for line in lines:
+        if is_open:
+            joined[-1] = (joined[-1] + " " + line.strip()).replace(", },", " },")
+        else:
+            joined.append(line)
+        is_open = line.strip() != "}," and (is_open or line.startswith("    ") and line.endswith("{"))
+    return joined
 
 
 def without_comment(line):

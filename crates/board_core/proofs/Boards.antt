@@ -27,7 +27,7 @@ use Rattle.process_record.specs.declared.process.Process.{Process}
 use Rattle.process_record.specs.declared.summary.SlotLine.{SlotLine}
 use Rattle.process_record.specs.declared.summary.Summary.{Summary}
 use Rattle.process_record.specs.Summary.{Unplaced}
-use Rattle.driver_model.specs.Leds.{led_bits}
+use Rattle.tk_base.specs.Bits.{bits_of}
 use Rattle.grant_enter.specs.Homes.{Homes, IsInPlace, nobody, own_of}
 use Rattle.kernel_model.specs.Record.{Record}
 use Rattle.kernel_model.specs.Turn.{may_turn}
@@ -37,8 +37,8 @@ use Rattle.kernel_model.specs.Laws.{NextIsReady, NextLiesAhead}
 use Rattle.kernel_model.specs.Run.{next, next_time, ready_devices, ready_slots, situation_of}
 use Rattle.kernel_model.specs.Shown.{summary_of, slot_line_of}
 use Rattle.board_core.specs.declared.board.Board.TheInside.{Inside}
-use Rattle.board_drivers.specs.Residents.{Resident, record_of, resident_turns, can_turn_in, line_in}
-use Rattle.board_core.specs.Shows.{IsBoard, world_of, residents}
+use Rattle.board_drivers.specs.Residents.{Resident, resident_turns, can_turn_in, line_in}
+use Rattle.board_core.specs.Shows.{IsBoard, recorded, world_of, residents}
 use Rattle.board_drivers.proofs.Records.{beside_get, reads_shown, owns_shown}
 use Rattle.board_drivers.proofs.Pairs.{zip-get, get_or-zip, length-firsts}
 use Rattle.board_turns.specs.Turning.{MayTurnAt}
@@ -55,9 +55,8 @@ pub shown_whole : (b : Inside) → IsBoard b
 shown_whole b board holds lies slot r is =
     let there : slice_get b.machine.home.owns slot ≡ Some r.own
     = ap (λ (owns : List Own). slice_get owns slot)
-    (sym (owns_shown b.machine.home.flash b.processes.items b.machine.home.owns b.machine.drivers.stores.slots
-    board.owns
-    (has_storage b board)))
+    (sym (owns_shown b.machine.home.flash b.machine.drivers.buttons.pressed b.processes.items b.machine.home.owns
+    b.machine.drivers.stores.slots board.owns (has_storage b board)))
     ∙ slice_get-map (λ (x : Record). x.own) (world_of b).records slot ∙ ap (option_map (λ (x : Record). x.own)) is in
     let within = slice_get_within b.machine.home.owns slot r.own there in
     let same : own_of b.machine.home slot ≡ r.own = get_or_from_slice_get b.machine.home.owns slot r.own nobody there in
@@ -70,9 +69,8 @@ shown_whole b board holds lies slot r is =
 -- which slots are ready
 pub ready_slots_shown : (b : Inside) → IsBoard b → ready_slots (world_of b) ≡ map resident_turns (residents b)
 ready_slots_shown b board =
-    reads_shown may_turn resident_turns b.machine.home.flash (residents b) b.machine.drivers.stores.slots
-    (has_storage b board)
-    (λ p. refl)
+    reads_shown may_turn resident_turns b.machine.home.flash b.machine.drivers.buttons.pressed (residents b)
+    b.machine.drivers.stores.slots (has_storage b board) (λ p. refl)
 
 -- the status of the world that a board shows
 pub status_shown : (b : Inside) (ready devices : List Bool) (nearest : Option ℕ) → IsBoard b
@@ -88,7 +86,7 @@ status_shown b ready devices nearest board e f g =
 -- its summary
 pub summary_shown : (b : Inside) (lines : ArrayVec SlotLine) (unplaced : ArrayVec Unplaced) (leds : ℕ) → IsBoard b
     → lines.items ≡ map (line_in b.machine.home.flash) (residents b) → unplaced.items ≡ b.unplaced.items
-    → leds ≡ led_bits b.machine.drivers.leds
+    → leds ≡ bits_of b.machine.drivers.leds
     → ◌≡◌ {A = Summary} (record {
       slots = lines;
       unplaced = unplaced;
@@ -102,9 +100,8 @@ unfolding summary_of
 summary_shown b lines unplaced leds board e f lit =
     let s = summary_of (world_of b) in
     ap (λ (xs : List SlotLine). record s { slots = record { items = xs }; unplaced = unplaced; leds = leds })
-    (e ∙ sym (reads_shown slot_line_of (line_in b.machine.home.flash) b.machine.home.flash (residents b)
-    b.machine.drivers.stores.slots
-    (has_storage b board) (λ p. refl)))
+    (e ∙ sym (reads_shown slot_line_of (line_in b.machine.home.flash) b.machine.home.flash
+    b.machine.drivers.buttons.pressed (residents b) b.machine.drivers.stores.slots (has_storage b board) (λ p. refl)))
     ∙ ap₂ (λ (xs : List Unplaced) (bits : ℕ). record s { unplaced = record { items = xs }; leds = bits }) f lit
 
 -- the line that was made of a slot
@@ -171,13 +168,12 @@ unfolding may_be_made
 ready_shown b slot board =
     let slots = b.machine.drivers.stores.slots in
     ap (λ (c : Bool). nat_lt b.machine.moment.steps STEP_LIMIT && c)
-    (ap can_run (slice_get-map (record_of b.machine.home.flash) (zip (residents b) slots) slot
-    ∙ ap (option_map (record_of b.machine.home.flash)) (beside_get (residents b) slots slot (has_storage b board)))
+    (ap can_run (slice_get-map (recorded b) (zip (residents b) slots) slot
+    ∙ ap (option_map (recorded b)) (beside_get (residents b) slots slot (has_storage b board)))
     ∙ of_resident (slice_index_or slots slot []) (slice_get (residents b) slot))
   where
     of_resident : (storage : List ℕ) (o : Option Resident)
-        → can_run (option_map (record_of b.machine.home.flash) (option_map (λ (r : Resident). (r, storage)) o))
-        ≡ can_turn_in o
+        → can_run (option_map (recorded b) (option_map (λ (r : Resident). (r, storage)) o)) ≡ can_turn_in o
     of_resident storage None = refl
     of_resident storage (Some r) = refl
 

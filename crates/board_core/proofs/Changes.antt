@@ -7,6 +7,7 @@ use Rattle.std.proofs.lemmas.List.Elements.{All-set, All-weaker}
 use Rattle.arrayvec.specs.ArrayVec.{ArrayVec}
 use Rattle.tk_base.specs.declared.access.Denial.{Denial}
 use Rattle.tk_base.specs.declared.process.Choice.TheVariants.{Run}
+use Rattle.board_devices.specs.Buttons.{ButtonsView}
 use Rattle.turn_scheduler.specs.RoundRobin.{used_after}
 use Rattle.process_record.specs.declared.emit.CallMade.{CallMade}
 use Rattle.process_record.specs.declared.emit.Emit.{Emit}
@@ -45,29 +46,32 @@ module _ (i : ℕ) (home home_after : Homes) (old new : List Process) (t : Chang
   flash_is = ap (λ (h : Homes). h.flash) t.own_is
 
   -- the record before it
-  pub found : (slots : List (List ℕ)) → length (zip old home.owns) ≤ length slots
-      → slice_get (map (record_of home.flash) (zip (zip old home.owns) slots)) i
-      ≡ Some (record_of home.flash (t.before, bytes_of slots i))
-  found slots h = record_found home.flash old home.owns slots i t.before.0 t.before.1 t.was t.own_was h
+  pub found : (pressed : ℕ) (slots : List (List ℕ)) → length (zip old home.owns) ≤ length slots
+      → slice_get (map (record_of home.flash pressed) (zip (zip old home.owns) slots)) i
+      ≡ Some (record_of home.flash pressed (t.before, bytes_of slots i))
+  found pressed slots h =
+      record_found home.flash pressed old home.owns slots i t.before.0 t.before.1 t.was t.own_was h
 
   -- the records after it, where those bytes are then in its storage
-  pub changed_records : (slots : List (List ℕ)) (bytes : List ℕ)
-      → map (record_of home_after.flash) (zip (zip new home_after.owns) (slice_set slots i bytes))
-      ≡ slice_set (map (record_of home.flash) (zip (zip old home.owns) slots)) i (record_of home.flash (t.after, bytes))
-  changed_records slots bytes =
-      ap (λ (f : List ℕ). map (record_of f) (zip (zip new home_after.owns) (slice_set slots i bytes))) flash_is
-      ∙ ap (λ (rs : List Resident). map (record_of home.flash) (zip rs (slice_set slots i bytes))) residents_after
-      ∙ ap (map (record_of home.flash)) (zip-set (zip old home.owns) slots i t.after bytes)
-      ∙ map-set (record_of home.flash) (zip (zip old home.owns) slots) i (t.after, bytes)
+  pub changed_records : (pressed : ℕ) (slots : List (List ℕ)) (bytes : List ℕ)
+      → map (record_of home_after.flash pressed) (zip (zip new home_after.owns) (slice_set slots i bytes))
+      ≡ slice_set (map (record_of home.flash pressed) (zip (zip old home.owns) slots)) i
+      (record_of home.flash pressed (t.after, bytes))
+  changed_records pressed slots bytes =
+      ap (λ (f : List ℕ). map (record_of f pressed) (zip (zip new home_after.owns) (slice_set slots i bytes))) flash_is
+      ∙ ap (λ (rs : List Resident). map (record_of home.flash pressed) (zip rs (slice_set slots i bytes)))
+      residents_after
+      ∙ ap (map (record_of home.flash pressed)) (zip-set (zip old home.owns) slots i t.after bytes)
+      ∙ map-set (record_of home.flash pressed) (zip (zip old home.owns) slots) i (t.after, bytes)
 
   -- and where its storage is as before
-  pub kept_records : (slots : List (List ℕ))
-      → map (record_of home_after.flash) (zip (zip new home_after.owns) slots)
-      ≡ slice_set (map (record_of home.flash) (zip (zip old home.owns) slots)) i
-      (record_of home.flash (t.after, bytes_of slots i))
-  kept_records slots =
-      ap (λ (s : List (List ℕ)). map (record_of home_after.flash) (zip (zip new home_after.owns) s))
-      (sym (set-get_or slots i [])) ∙ changed_records slots (bytes_of slots i)
+  pub kept_records : (pressed : ℕ) (slots : List (List ℕ))
+      → map (record_of home_after.flash pressed) (zip (zip new home_after.owns) slots)
+      ≡ slice_set (map (record_of home.flash pressed) (zip (zip old home.owns) slots)) i
+      (record_of home.flash pressed (t.after, bytes_of slots i))
+  kept_records pressed slots =
+      ap (λ (s : List (List ℕ)). map (record_of home_after.flash pressed) (zip (zip new home_after.owns) s))
+      (sym (set-get_or slots i [])) ∙ changed_records pressed slots (bytes_of slots i)
 
   -- the processes after it, some steps later, so one step later
   pub still_seated_on : (steps more : ℕ) → IsResident home.flash (steps + more) t.after
@@ -116,27 +120,33 @@ module _ (b : Inside) (slot : ℕ) (x : Machine) (processes : List Process) (sho
     (few : length (residents b) ≤ length b.machine.drivers.stores.slots) where
   -- the record before the turn, and the turn
   abbrev pub before_turn : Record
-  before_turn = record_of b.machine.home.flash (t.at.before, bytes_of b.machine.drivers.stores.slots slot)
+  before_turn = record_of b.machine.home.flash b.machine.drivers.buttons.pressed
+      (t.at.before, bytes_of b.machine.drivers.stores.slots slot)
 
   abbrev pub turn_made : Turned
   turn_made = turned b.machine.moment.settings b.machine.moment.time before_turn
 
   turn_found : slice_get (world_of b).records slot ≡ Some before_turn
-  turn_found = found slot b.machine.home x.home b.processes.items processes t.at b.machine.drivers.stores.slots few
+  turn_found = found slot b.machine.home x.home b.processes.items processes t.at b.machine.drivers.buttons.pressed
+      b.machine.drivers.stores.slots few
 
   -- the world after the turn
   pub world_after : (used : ℕ) → used ≡ used_after b.present b.used b.slice slot
-      → with_step b (map (record_of x.home.flash) (zip (zip processes x.home.owns) x.drivers.stores.slots))
-      (devices_of x.drivers)
+      → with_step b (map (record_of x.home.flash x.drivers.buttons.pressed)
+      (zip (zip processes x.home.owns) x.drivers.stores.slots)) (devices_of x.drivers)
       (turn_later b.machine.moment) (Some slot) used ≡ (carried_out (world_of b) (Run slot)).after
   unfolding carried_out
   world_after used u =
       let m = turn_later b.machine.moment in
       let does = t.turns (bytes_of b.machine.drivers.stores.slots slot) in
-      let records : map (record_of x.home.flash) (zip (zip processes x.home.owns) x.drivers.stores.slots)
+      let pressed = b.machine.drivers.buttons.pressed in
+      let records : map (record_of x.home.flash x.drivers.buttons.pressed)
+      (zip (zip processes x.home.owns) x.drivers.stores.slots)
       ≡ slice_set (world_of b).records slot turn_made.after =
-      ap (λ (s : _). map (record_of x.home.flash) (zip (zip processes x.home.owns) s.slots)) does.2.bytes
-      ∙ kept_records slot b.machine.home x.home b.processes.items processes t.at b.machine.drivers.stores.slots
+      ap (λ (s : ButtonsView). map (record_of x.home.flash s.pressed)
+      (zip (zip processes x.home.owns) x.drivers.stores.slots)) does.2.buttons
+      ∙ ap (λ (s : _). map (record_of x.home.flash pressed) (zip (zip processes x.home.owns) s.slots)) does.2.bytes
+      ∙ kept_records slot b.machine.home x.home b.processes.items processes t.at pressed b.machine.drivers.stores.slots
       ∙ ap (slice_set (world_of b).records slot) (sym does.0) in
       ap (λ (rs : List Record). with_step b rs (devices_of x.drivers) m (Some slot) used) records
       ∙ ap (λ (ds : Devices). with_step b (slice_set (world_of b).records slot turn_made.after) ds m (Some slot) used)

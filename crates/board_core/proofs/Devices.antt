@@ -1,4 +1,5 @@
 -- Device steps of a board.
+use Rattle.board_devices.specs.Buttons.{ButtonsView}
 use Rattle.board_devices.specs.Clock.{clock_at}
 use Rattle.alarm_capsule.proofs.KeptTimes.{others_tell}
 use Rattle.alarm_capsule.specs.Times.{OthersTell}
@@ -46,7 +47,7 @@ use Rattle.board_turns.specs.Guards.{GuardsOnly}
 use Rattle.board_core.specs.Makes.{MakesStep, shown_printed}
 use Rattle.board_drivers.specs.Residents.{HasLost, IsResident, record_of}
 use Rattle.board_turns.specs.Turning.{ChangesSlot}
-use Rattle.board_core.specs.Shows.{IsBoard, world_of, residents}
+use Rattle.board_core.specs.Shows.{IsBoard, recorded, world_of, residents}
 use Rattle.board_drivers.specs.Tells.{DeviceTold}
 use Rattle.board_drivers.proofs.Lines.{line_after}
 use Rattle.board_core.proofs.Changes.{a_step_later, as_many_owns, changed_records, found}
@@ -179,40 +180,37 @@ module _ (b : Inside) (device : Dev) (slot : ℕ) (printed : List ℕ) (home : H
   few = beside b.processes.items b.machine.home.owns b.machine.drivers.stores.slots h.owns h.few h.driven.slots
 
   told_found : slice_get (world_of b).records slot
-      ≡ Some (record_of b.machine.home.flash
-      ((t.process, own_of b.machine.home slot), bytes_of b.machine.drivers.stores.slots slot))
+      ≡ Some (recorded b ((t.process, own_of b.machine.home slot), bytes_of b.machine.drivers.stores.slots slot))
   unfolding told_at
-  told_found = found slot b.machine.home home b.processes.items b.processes.items told_at b.machine.drivers.stores.slots
-      few
+  told_found = found slot b.machine.home home b.processes.items b.processes.items told_at
+      b.machine.drivers.buttons.pressed b.machine.drivers.stores.slots few
 
   -- its process alone was answered
   answered_so : DevicesAnswerOne → done (world_of b) (device_step_of (world_of b) device)
       ≡ one_answered (world_of b) slot
-      (record_of b.machine.home.flash
-      ((t.process, own_of b.machine.home slot), bytes_of b.machine.drivers.stores.slots slot))
+      (recorded b ((t.process, own_of b.machine.home slot), bytes_of b.machine.drivers.stores.slots slot))
       (record { answer = record { event = t.serves.event; printed = printed }; devices = devices_of d })
   answered_so law = ap (done (world_of b)) t.serves.deed ∙ law.one (world_of b) slot
       (record { answer = record { event = t.serves.event; printed = printed }; devices = devices_of d })
-      (record_of b.machine.home.flash (
-        (t.process, own_of b.machine.home slot),
-        bytes_of b.machine.drivers.stores.slots
-            slot,
-      )) told_found
+      (recorded b ((t.process, own_of b.machine.home slot), bytes_of b.machine.drivers.stores.slots slot)) told_found
 
   -- the world after it
-  pub world_told : DevicesAnswerOne → with_step b (map (record_of home.flash) (zip (zip b.processes.items home.owns)
-      d.stores.slots))
+  pub world_told : DevicesAnswerOne
+      → with_step b
+      (map (record_of home.flash d.buttons.pressed) (zip (zip b.processes.items home.owns) d.stores.slots))
       (devices_of d) (a_step_later b.machine.moment) b.present b.used ≡ (carried_out (world_of b) (Device device)).after
   unfolding carried_out told_at
   world_told law =
       let w = world_of b in
-      let changed : map (record_of home.flash) (zip (zip b.processes.items home.owns) d.stores.slots)
-      ≡ slice_set w.records slot (record_of b.machine.home.flash ((t.process, own_of home slot), t.serves.bytes)) =
-      ap (λ (s : List (List ℕ)). map (record_of home.flash) (zip (zip b.processes.items home.owns) s))
+      let pressed = b.machine.drivers.buttons.pressed in
+      let changed : map (record_of home.flash d.buttons.pressed) (zip (zip b.processes.items home.owns) d.stores.slots)
+      ≡ slice_set w.records slot (recorded b ((t.process, own_of home slot), t.serves.bytes)) =
+      ap (λ (s : ButtonsView). map (record_of home.flash s.pressed)
+      (zip (zip b.processes.items home.owns) d.stores.slots)) t.serves.buttons
+      ∙ ap (λ (s : List (List ℕ)). map (record_of home.flash pressed) (zip (zip b.processes.items home.owns) s))
       t.serves.stores.slots
-      ∙ changed_records slot b.machine.home home b.processes.items b.processes.items told_at
-      b.machine.drivers.stores.slots
-      t.serves.bytes in
+      ∙ changed_records slot b.machine.home home b.processes.items b.processes.items told_at pressed
+      b.machine.drivers.stores.slots t.serves.bytes in
       ap (λ (rs : List Record). with_step b rs (devices_of d) (a_step_later b.machine.moment) b.present b.used)
       (changed ∙ ap (slice_set w.records slot) (sym t.serves.tells))
       ∙ sym (ap (λ (s : Stepped). s.after) (answered_so law))
@@ -260,6 +258,7 @@ module _ (b : Inside) (device : Dev) (slot : ℕ) (printed : List ℕ) (home : H
             (t.serves.follows.within b.machine.moment.settings.storage (h.driven.within slot nobody t.there))
             h.driven.within;
         leds = t.serves.leds ∙ h.driven.leds;
+        buttons = ap (λ (s : ButtonsView). s.count) t.serves.buttons ∙ h.driven.buttons;
         size = t.serves.stores.size ∙ h.driven.size;
         slots = ap length t.serves.stores.slots ∙ length-set b.machine.drivers.stores.slots slot t.serves.bytes
             ∙ h.driven.slots;

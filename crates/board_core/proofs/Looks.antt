@@ -14,8 +14,8 @@ use Rattle.grant_enter.specs.Homes.{nobody, own_of}
 use Rattle.board_devices.specs.Storage.{slot_bytes}
 use Rattle.kernel_model.specs.Record.{Record}
 use Rattle.board_core.specs.declared.board.Board.TheInside.{Inside}
-use Rattle.board_drivers.specs.Residents.{Resident, record_of}
-use Rattle.board_core.specs.Shows.{IsBoard, residents, world_of}
+use Rattle.board_drivers.specs.Residents.{Resident}
+use Rattle.board_core.specs.Shows.{IsBoard, recorded, residents, world_of}
 use Rattle.tk_base.specs.declared.process.ProcessId.{ProcessId}
 use Rattle.driver_requests.specs.Waiting.{waits}
 use Rattle.process_model.specs.Own.{Own}
@@ -33,27 +33,25 @@ module _ (b : Inside) (board : IsBoard b) (slot : ℕ) where
   -- the record in a slot, by what is kept for the slot
   looked : (o : Option Resident) → slice_get (residents b) slot ≡ o
       → slice_get (world_of b).records slot
-      ≡ option_map (λ (r : Resident). record_of b.machine.home.flash (r, slot_bytes b.machine.drivers.stores slot)) o
+      ≡ option_map (λ (r : Resident). recorded b (r, slot_bytes b.machine.drivers.stores slot)) o
   looked o is =
-      slice_get-map (record_of b.machine.home.flash) (zip (residents b) b.machine.drivers.stores.slots) slot
-      ∙ ap (option_map (record_of b.machine.home.flash))
+      slice_get-map (recorded b) (zip (residents b) b.machine.drivers.stores.slots) slot
+      ∙ ap (option_map (recorded b))
       (beside_get (residents b) b.machine.drivers.stores.slots slot (has_storage b board)
       ∙ ap (option_map (λ (r : Resident). (r, slot_bytes b.machine.drivers.stores slot))) is)
       ∙ joined o
     where
       joined : (o : Option Resident)
-          → option_map (record_of b.machine.home.flash)
+          → option_map (recorded b)
           (option_map (λ (r : Resident). (r, slot_bytes b.machine.drivers.stores slot)) o)
-          ≡ option_map (λ (r : Resident). record_of b.machine.home.flash (r, slot_bytes b.machine.drivers.stores slot))
-          o
+          ≡ option_map (λ (r : Resident). recorded b (r, slot_bytes b.machine.drivers.stores slot)) o
       joined None = refl
       joined (Some r) = refl
 
   -- a slot that has a process
   pub there : (p : Process) → slice_get b.processes.items slot ≡ Some p
       → slice_get (world_of b).records slot
-      ≡ Some (record_of b.machine.home.flash
-      ((p, own_of b.machine.home slot), slot_bytes b.machine.drivers.stores slot))
+      ≡ Some (recorded b ((p, own_of b.machine.home slot), slot_bytes b.machine.drivers.stores slot))
   there p is =
       let within : slot < length b.processes.items = slice_get_within b.processes.items slot p is in
       looked (Some (p, own_of b.machine.home slot))
@@ -77,8 +75,7 @@ module _ (b : Inside) (board : IsBoard b) (slot : ℕ) where
 
     pub read_there : (x : X) → slot < length b.processes.items
         → ((p : Process) → slice_get b.processes.items slot ≡ Some p
-        → x ≡ read (record_of b.machine.home.flash
-        ((p, own_of b.machine.home slot), slot_bytes b.machine.drivers.stores slot)))
+        → x ≡ read (recorded b ((p, own_of b.machine.home slot), slot_bytes b.machine.drivers.stores slot)))
         → Some x ≡ option_map read (slice_get (world_of b).records slot)
     read_there x within is =
         let found = some_at b.processes.items slot within in
@@ -112,9 +109,8 @@ module _ (b : Inside) (board : IsBoard b) where
       → slice_get b.machine.home.owns slot ≡ option_map (λ (r : Record). r.own) (slice_get (world_of b).records slot)
   own_read slot =
       ap (λ (owns : List Own). slice_get owns slot)
-      (sym (owns_shown b.machine.home.flash b.processes.items b.machine.home.owns b.machine.drivers.stores.slots
-      board.owns
-      (has_storage b board)))
+      (sym (owns_shown b.machine.home.flash b.machine.drivers.buttons.pressed b.processes.items b.machine.home.owns
+      b.machine.drivers.stores.slots board.owns (has_storage b board)))
       ∙ slice_get-map (λ (r : Record). r.own) (world_of b).records slot
 
   -- one that waits lives

@@ -52,8 +52,8 @@ module _ (b : Inside) (board : IsBoard b) where
   -- what the owns of the world that a board shows are
   pub owns_in_world : owns_in (world_of b) ≡ b.machine.home.owns
   owns_in_world =
-      owns_shown b.machine.home.flash b.processes.items b.machine.home.owns b.machine.drivers.stores.slots board.owns
-      (has_storage b board)
+      owns_shown b.machine.home.flash b.machine.drivers.buttons.pressed b.processes.items b.machine.home.owns
+      b.machine.drivers.stores.slots board.owns (has_storage b board)
 
   -- the nearest time at which a device step becomes ready by itself
   pub next_shown : (work_in b.machine.moment b.machine.home.owns b.machine.drivers).next ≡ next_time (world_of b)
@@ -79,8 +79,8 @@ is_carried_out w choice ready = by_ready (is_ready w choice) ready
     by_ready false h = absurd (cc)
 
 -- what always holds of a board holds after so many ticks
-pub passed_board : TimeBringsNearer → (b : Inside) (n : ℕ) → n < 2 ^ 32 → b.machine.moment.steps < STEP_LIMIT → IsBoard b
-    → IsBoard (record b {
+pub passed_board : TimeBringsNearer → (b : Inside) (n : ℕ) → n < 2 ^ 32 → b.machine.moment.steps < STEP_LIMIT
+    → IsBoard b → IsBoard (record b {
       machine = record b.machine {
         moment = record b.machine.moment { time = b.machine.moment.time + n; steps = b.machine.moment.steps + 1 };
       };
@@ -101,6 +101,7 @@ passed_board law b n small below h =
         queues = h.driven.queues;
         within = h.driven.within;
         leds = h.driven.leds;
+        buttons = h.driven.buttons;
         size = h.driven.size;
         slots = h.driven.slots;
         ticks = h.driven.ticks;

@@ -36,7 +36,7 @@ use Rattle.board_drivers.specs.declared.drivers.Drivers.{Drivers}
 use Rattle.board_drivers.specs.declared.moment.Moment.{Moment}
 use Rattle.board_drivers.specs.Driven.{AreDriven, devices_of, ids_waiting_in}
 use Rattle.board_core.specs.Makes.{ready_in}
-use Rattle.board_core.specs.Shows.{IsBoard, residents, world_of}
+use Rattle.board_core.specs.Shows.{IsBoard, recorded, residents, world_of}
 use Rattle.board_drivers.specs.Residents.{HasLost, IsResident, Resident, record_of}
 use Rattle.board_core.specs.Stretches.{is_running, slot_runs}
 use Rattle.board_turns.specs.Quiet.{QuietAt}
@@ -64,6 +64,7 @@ ram_driven settings time later slot owns d own ram was passes h = record {
       (subst (IsWithin settings.storage) (get_or_from_slice_get owns slot own nobody was)
       (h.within slot nobody (slice_get_within owns slot own was))) h.within;
   leds = h.leds;
+  buttons = h.buttons;
   size = h.size;
   slots = h.slots;
   ticks = h.ticks;
@@ -164,8 +165,9 @@ module _ (b : Inside) (board : IsBoard b) where
   process_there slot =
       sym (slice_get-map (λ (r : Record). r.process) (world_of b).records slot)
       ∙ ap (λ (ps : List Process). slice_get ps slot)
-      (reads_shown (λ (r : Record). r.process) (λ (r : Resident). r.0) b.machine.home.flash (residents b)
-      b.machine.drivers.stores.slots (beside b.processes.items b.machine.home.owns b.machine.drivers.stores.slots
+      (reads_shown (λ (r : Record). r.process) (λ (r : Resident). r.0) b.machine.home.flash
+      b.machine.drivers.buttons.pressed (residents b) b.machine.drivers.stores.slots
+      (beside b.processes.items b.machine.home.owns b.machine.drivers.stores.slots
       board.owns board.few
       board.driven.slots) (λ p. refl))
       ∙ slice_get-map (λ (r : Resident). r.0) (residents b) slot
@@ -189,18 +191,22 @@ module _ (b : Inside) (board : IsBoard b) where
     few = beside b.processes.items b.machine.home.owns b.machine.drivers.stores.slots board.owns board.few
         board.driven.slots
 
+    abbrev pressed : ℕ
+    pressed = b.machine.drivers.buttons.pressed
+
     abbrev storage : List ℕ
     storage = bytes_of b.machine.drivers.stores.slots slot
 
     -- the record before the turns, and after them
     abbrev before : Record
-    before = record_of b.machine.home.flash (q.at.before, bytes_of b.machine.drivers.stores.slots slot)
+    before = recorded b (q.at.before, bytes_of b.machine.drivers.stores.slots slot)
 
     abbrev after : Record
-    after = record_of b.machine.home.flash (q.at.after, bytes_of b.machine.drivers.stores.slots slot)
+    after = recorded b (q.at.after, bytes_of b.machine.drivers.stores.slots slot)
 
     was_there : slice_get (world_of b).records slot ≡ Some before
-    was_there = found slot b.machine.home x.home b.processes.items processes q.at b.machine.drivers.stores.slots few
+    was_there = found slot b.machine.home x.home b.processes.items processes q.at b.machine.drivers.buttons.pressed
+        b.machine.drivers.stores.slots few
 
     -- what is each process's own on the way
     owns_then : (j : ℕ)
@@ -226,15 +232,16 @@ module _ (b : Inside) (board : IsBoard b) where
     -- the world after the turns, which took so many ticks
     abbrev world_after_ticks : ℕ → World
     world_after_ticks ticks =
-        with_step b (map (record_of x.home.flash) (zip (zip processes x.home.owns) b.machine.drivers.stores.slots))
-        (devices_of b.machine.drivers) (turns_later ticks b.machine.moment) present used
+        with_step b (map (record_of x.home.flash b.machine.drivers.buttons.pressed)
+        (zip (zip processes x.home.owns) b.machine.drivers.stores.slots)) (devices_of b.machine.drivers)
+        (turns_later ticks b.machine.moment) present used
 
     abbrev world_then : World
     world_then = world_after_ticks k
 
     records_then : world_then.records ≡ slice_set (world_of b).records slot after
     records_then = kept_records slot b.machine.home x.home b.processes.items processes q.at
-        b.machine.drivers.stores.slots
+        b.machine.drivers.buttons.pressed b.machine.drivers.stores.slots
 
     state_is : (s : State) → is_running s ≡ true → s ≡ Running
     state_is Running e = refl
@@ -249,7 +256,7 @@ module _ (b : Inside) (board : IsBoard b) where
         ap (λ (rs : List Record). with_step b rs (devices_of b.machine.drivers) (turns_later k b.machine.moment) present
         used)
         (records_then ∙ ap (slice_set (world_of b).records slot)
-        (q.quiet.leads storage ∙ ap (λ (n : ℕ). after_instructions n before) none)
+        (q.quiet.leads pressed storage ∙ ap (λ (n : ℕ). after_instructions n before) none)
         ∙ set-same (world_of b).records slot before was_there)
         ∙ ap₂ (λ (o : Option ℕ) (n : ℕ). with_step b (world_of b).records (devices_of b.machine.drivers)
         (turns_later k b.machine.moment) o n) p u
@@ -270,7 +277,7 @@ module _ (b : Inside) (board : IsBoard b) where
       stretched law chooses more =
           subst (IsStretch k (world_of b)) (sym same)
           (law k slot (world_of b) before more limit f was_there (state_is q.at.before.0.state runs) lasts_so
-          (q.quiet.go storage)
+          (q.quiet.go pressed storage)
           (chooses k slot (at_turn (world_of b) slot) before refl was_there (state_is q.at.before.0.state runs) lasts_so
           (none_acts until)))
         where
@@ -281,7 +288,7 @@ module _ (b : Inside) (board : IsBoard b) where
           same =
               ap (λ (rs : List Record). with_step b rs (devices_of b.machine.drivers) (turns_later k b.machine.moment)
               present used)
-              (records_then ∙ ap (slice_set (world_of b).records slot) (q.quiet.leads storage))
+              (records_then ∙ ap (slice_set (world_of b).records slot) (q.quiet.leads pressed storage))
               ∙ ap₂ (λ (o : Option ℕ) (n : ℕ). with_step b
               (slice_set (world_of b).records slot (after_instructions k before)) (devices_of b.machine.drivers)
               (turns_later k b.machine.moment) o n) (some more).0 ((some more).1 ∙ ap (λ (n : ℕ). n + k) begins)
@@ -311,7 +318,7 @@ module _ (b : Inside) (board : IsBoard b) where
               ∙ ap Some (get_or-set_same rs slot after after h)
 
       after_runs : after.process.state ≡ Running
-      after_runs = ap (λ (r : Record). r.process.state) (q.quiet.leads storage) ∙ still_runs k before
+      after_runs = ap (λ (r : Record). r.process.state) (q.quiet.leads pressed storage) ∙ still_runs k before
           ∙ state_is q.at.before.0.state runs
 
       -- who has the next turn then, where turns are left in the slice
@@ -361,7 +368,7 @@ module _ (b : Inside) (board : IsBoard b) where
           let at : slot ≡ g.slot = turn_stays law k refl (omega (arith, last, fewer)) g.slot g.chosen in
           let same : Some after ≡ Some g.before = sym after_there ∙ ap (slice_get world_then.records) at ∙ g.is_there in
           let is : after ≡ g.before = cc in
-          q.quiet.stops fewer storage (ap (λ (r : Record). (instruction r).end) is ∙ g.goes)
+          q.quiet.stops fewer pressed storage (ap (λ (r : Record). (instruction r).end) is ∙ g.goes)
 
       -- nor where none were left
       pub ends_shown : PresentStaysOn → (ticks asked until : ℕ) → ticks ≡ k → k ≤ most → (most ≤ k → most ≡ 0)

@@ -1,4 +1,5 @@
 -- Who waits, once a process had its turn.
+use Rattle.board_devices.specs.Buttons.{ButtonsView}
 use Rattle.board_devices.specs.Clock.{clock_at}
 use Rattle.alarm_capsule.proofs.KeptTimes.{all_later, kept_tell, others_tell}
 use Rattle.alarm_capsule.specs.Times.{OthersTell}
@@ -72,13 +73,17 @@ may_serve b slot h there = record {
   asks = λ queue none. (h.driven.queues queue).each slot there ∙ no_request queue (own_of b.machine.home slot) none;
   lost = lost_there b.machine.moment.steps b.machine.home slot h.lost;
   leds = h.driven.leds;
+  buttons = h.driven.buttons;
   size = h.driven.size;
 }
 
 module _ (b : Inside) (slot : ℕ) (x : Machine) (processes : List Process) (shown : Shown) (h : IsBoard b)
     (t : TurnsAt slot b.machine x b.processes.items processes shown) where
+  abbrev seen : Record
+  seen = record_of b.machine.home.flash b.machine.drivers.buttons.pressed (t.at.before, [])
+
   abbrev turn : Turned
-  turn = turned b.machine.moment.settings b.machine.moment.time (record_of b.machine.home.flash (t.at.before, []))
+  turn = turned b.machine.moment.settings b.machine.moment.time seen
 
   drives : Drives (id_of slot t.at.before.1) turn.acts b.machine.drivers x.drivers
   drives = (t.turns []).2
@@ -97,7 +102,7 @@ module _ (b : Inside) (slot : ℕ) (x : Machine) (processes : List Process) (sho
   turn_is_idle law quiet =
       let says = (t.turns []).1 in
       subst (λ (acts : List BoardRequest). Drives (id_of slot t.at.before.1) acts b.machine.drivers x.drivers)
-      (law b.machine.moment.settings b.machine.moment.time (record_of b.machine.home.flash (t.at.before, []))
+      (law b.machine.moment.settings b.machine.moment.time seen
       (says.call ∙ ap (λ (s : Shown). s.call) quiet) (says.denial ∙ ap (λ (s : Shown). s.denial) quiet))
       drives
 
@@ -108,9 +113,9 @@ module _ (b : Inside) (slot : ℕ) (x : Machine) (processes : List Process) (sho
   module _ (law : TurnsKeepLines) (lives : t.at.before.1.lives ≡ true) where
     keeps : KeepsLines b.machine.moment.settings.storage t.at.before.1 t.at.after.1 turn.acts
     keeps = subst (λ (o : Own). KeepsLines b.machine.moment.settings.storage t.at.before.1 o turn.acts) own_is
-        (law b.machine.moment.settings b.machine.moment.time (record_of b.machine.home.flash (t.at.before, [])) lives
+        (law b.machine.moment.settings b.machine.moment.time seen lives
         (can_start_again t.at.before.0.object.address t.at.before.1.layout
-        (header_reading (record_of b.machine.home.flash (t.at.before, [])).object) seat.own.object.application))
+        (header_reading seen.object) seat.own.object.application))
 
     line_is : (queue : QueueName)
         → IsQueueOf queue (ids_waiting_in x.drivers queue) (slice_set b.machine.home.owns slot t.at.after.1)
@@ -131,6 +136,7 @@ module _ (b : Inside) (slot : ℕ) (x : Machine) (processes : List Process) (sho
               (keeps.within before_within)
               h.driven.within;
           leds = drives.lit ∙ h.driven.leds;
+          buttons = ap (λ (s : ButtonsView). s.count) drives.buttons ∙ h.driven.buttons;
           size = ap (λ (s : _). s.size) drives.bytes ∙ h.driven.size;
           slots = ap (λ (s : _). length s.slots) drives.bytes ∙ h.driven.slots;
           ticks = omega (arith, ap (λ (l : _). l.ticks) drives.line, h.driven.ticks);
@@ -185,7 +191,8 @@ module _ (b : Inside) (slot : ℕ) (x : Machine) (processes : List Process) (sho
 -- A board whose tables, registers and drivers are then these: after the turn it is one again, and the slot is present.
 module _ (b a : Inside) (slot : ℕ) (shown : Shown) (h : IsBoard b)
     (t : TurnsAt slot b.machine a.machine b.processes.items a.processes.items shown) where
-  pub turned_board : (calm used : ℕ) (times : List (Option ℕ)) → DropsAtMostOne → TurnsKeepLines → is_ready (world_of b) (Run slot) ≡ true
+  pub turned_board : (calm used : ℕ) (times : List (Option ℕ)) → DropsAtMostOne → TurnsKeepLines
+      → is_ready (world_of b) (Run slot) ≡ true
       → IsCalm b.machine.moment.settings.start (b.machine.moment.time + 1) calm a.machine.home.owns a.machine.drivers
       → AlarmsTell (turn_later b.machine.moment) times a.machine.home.owns → used ≤ b.slice
       → IsBoard (record b {

@@ -1,8 +1,9 @@
 -- The world that a board shows: what a board is to contracts. The invariant beside it is for proofs alone. It is this
 -- board's own.
-use Rattle.std.specs.Prelude.{◌≡◌, ◌≤◌, ◌*◌, ◌^◌, List, length, map, All}
+use Rattle.std.specs.Prelude.{◌≡◌, ◌≤◌, ◌*◌, ◌^◌, ℕ, List, length, map, All}
 use Rattle.std.specs.List.{zip}
 use Rattle.tk_base.specs.declared.limits.TheConstants.{SLOT_COUNT, STEP_LIMIT}
+use Rattle.kernel_model.specs.Record.{Record}
 use Rattle.kernel_model.specs.World.{World}
 use Rattle.board_turns.specs.Guards.{GuardsOnly}
 use Rattle.board_drivers.specs.Residents.{HasLost, Resident, record_of, IsResident}
@@ -15,10 +16,15 @@ use Rattle.board_core.specs.declared.board.Board.TheInside.{Inside}
 abbrev pub residents : Inside → List Resident
 residents b = zip b.processes.items b.machine.home.owns
 
--- the records are those of the processes with their own and their storage, their objects in flash
+-- the record of a process with its own and its storage: its object is in flash, and of buttons it was told what the
+-- device holds
+abbrev pub recorded : Inside → Resident × List ℕ → Record
+recorded b = record_of b.machine.home.flash b.machine.drivers.buttons.pressed
+
+-- the records are those of the processes
 abbrev pub world_of : Inside → World
 world_of b = record {
-  records = map (record_of b.machine.home.flash) (zip (residents b) b.machine.drivers.stores.slots);
+  records = map (recorded b) (zip (residents b) b.machine.drivers.stores.slots);
   unplaced = b.unplaced.items;
   settings = b.machine.moment.settings;
   pace = pace b.slice;

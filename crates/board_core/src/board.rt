@@ -25,7 +25,7 @@ ghost use Rattle.board_devices.specs.Clock.{clock_at};
 ghost use Rattle.alarm_capsule.specs.Times.{OthersTell};
 ghost use Rattle.board_drivers.specs.Calm.{AlarmsTell, IsCalm};
 ghost use Rattle.board_core.specs.Makes.{MakesStep, ready_in, shown_printed};
-ghost use Rattle.board_drivers.specs.Tells.{tells_somebody};
+ghost use Rattle.board_drivers.specs.Tells.{tells_one};
 ghost use Rattle.board_drivers.specs.Residents.{InFlash, line_in, resident_turns, can_turn_in};
 ghost use Rattle.board_turns.specs.Turning.{nothing_shown, told_in_emit};
 
@@ -34,7 +34,7 @@ use arrayvec::ArrayVec;
 use board_drivers::{Drivers, Moment};
 use board_opening::{LoadedProcesses, first_crew, placed_in, unplaced};
 use board_turns::{ActivePmp, Machine, can_turn};
-use driver_model::time_brings_an_alarm_nearer;
+use driver_model::{lines_follow_answers, time_brings_an_alarm_nearer};
 use grant_enter::Home;
 use kernel_laws::{grants_change_at_calls, turns_keep_lines};
 use kernel_lives::steps_are_accounted_for;
@@ -154,12 +154,11 @@ fn devices_ready(
 
 /// What of a script's settings processes can see.
 fn settings_of(script: &Script) -> Settings
-    ensures { result
-        ≡ visible_settings script.now.leds script.now.start script.now.storage script.now.policy
-        script.now.strict }
+    ensures { result ≡ visible_settings script.now }
 {
     Settings {
         leds: script.leds,
+        buttons: script.buttons,
         start: script.start,
         storage: script.storage,
         policy: script.policy,
@@ -413,12 +412,14 @@ impl Board {
         Ok(())
     }
 
-    /// The next bytes come in on the serial line.
+    /// What is next to come in does: bytes on the serial line, or an edge of a button, which every
+    /// process is told that enabled it.
     fn arrive(&mut self, emit: &mut Emit) -> Result<(), NotReady>
         requires { self.old.clock.steps < STEP_LIMIT }
         ensures { MakesStep (Device Event) self.old self.new emit.old emit.new result }
     {
         devices_answer_one();
+        lines_follow_answers();
         if !self
             .machine
             .drivers
@@ -427,10 +428,8 @@ impl Board {
         {
             return Err(NotReady);
         }
-        self.machine
-            .drivers
-            .arrivals
-            .arrive(&mut self.machine.drivers.uart);
+        let slots = self.processes.len();
+        self.machine.drivers.arrive(&mut self.machine.home, slots);
         hide(emit);
         self.machine.moment.steps += 1;
         self.calm = self
@@ -440,9 +439,9 @@ impl Board {
         Ok(())
     }
 
-    /// A device tells a process something.
+    /// A device tells one process something.
     fn tell(&mut self, device: Dev, emit: &mut Emit) -> Result<(), NotReady>
-        requires tells { tells_somebody device ≡ true }
+        requires tells { tells_one device ≡ true }
         requires limit { self.old.clock.steps < STEP_LIMIT }
         ensures { MakesStep (Device device) self.old self.new emit.old emit.new result }
     {
@@ -529,9 +528,10 @@ impl Board {
     /// Each byte of a process that the step changes, of its block and of its storage, has its cause
     /// among the labels; each access of a turn was permitted, and each denial was due, and is shown
     /// with its address and its rule; a call that was refused changes the process's reply and
-    /// counts alone; what is printed was in the read-only buffer that its process then held. The
-    /// record of each process is the replay of its own turn, or of what the device answers it, and
-    /// as it was where the step is neither.
+    /// counts alone; what is printed was in the read-only buffer that its process then held; an edge
+    /// of a button schedules one upcall for each process that is told of it, and nothing else
+    /// schedules any of the buttons. The record of each process is the replay of its own turn, or of
+    /// what the device answers it, and as it was where the step is neither.
     #[inline(always)]
     #[tactic(auto, unfolding(kernel_model::specs::World::may_be_made))]
     pub fn step(&mut self, choice: Choice, emit: &mut Emit) -> Result<(), NotReady>
@@ -584,7 +584,7 @@ impl Board {
     }
 
     /// The next choice of the round robin; None exactly where no process can have a turn, no device
-    /// has anything to do, no input is still to come in, no write waits and no alarm is armed. It
+    /// has anything to do, nothing is still to come in, no write waits and no alarm is armed. It
     /// may be made while fewer than 4,000,000,000 steps were made.
     // Inlined, it saves 4 to 8 machine instructions a turn.
     #[inline(always)]

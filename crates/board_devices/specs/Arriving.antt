@@ -1,19 +1,64 @@
--- Bytes that are still to come in on the serial line, and when. Their times are this board's own.
-use Rattle.std.specs.Prelude.{ℕ, nat_le, Bool, false, List, [], ◌∷◌, Option, None, Some}
-use Rattle.script_text.specs.Settings.{ScriptEvent}
+-- What is still to come in: bytes on the serial line, and changes of buttons. Their times are this board's own.
+use Rattle.std.specs.Prelude.{ℕ, nat_le, Bool, true, false, not, if◌then◌else◌, List, [], ◌∷◌, Option, None, Some}
+use Rattle.std.specs.Prelude.{option_and_then}
+use Rattle.tk_base.specs.Bits.{has_bit, with_bit}
+use Rattle.script_text.specs.Settings.{ScriptEvent, EventKind, Input, Press, Release}
 use Rattle.board_devices.specs.SerialLine.{SerialLine, with_input}
 
--- the time at which the first of them come in
+-- the time at which the first of them comes in
 abbrev pub first_arrival_time : List ScriptEvent → Option ℕ
 first_arrival_time [] = None
 first_arrival_time (event ∷ rest) = Some event.time
 
--- whether the first come in at a time
+-- whether the first comes in at a time
 abbrev pub is_time : ℕ → List ScriptEvent → Bool
 is_time time [] = false
 is_time time (event ∷ rest) = nat_le event.time time
 
--- the line after the first came in: of all bytes in the ring the newest are kept
+-- what an event tells of a button: which one, and whether it is pressed; nothing where bytes come in
+abbrev pub edge_of : EventKind → Option (ℕ × Bool)
+edge_of (Input bytes) = None
+edge_of (Press button) = Some (button, true)
+edge_of (Release button) = Some (button, false)
+
+-- the line after an event: of all bytes in the ring the newest are kept
+abbrev pub line_after : EventKind → SerialLine → SerialLine
+line_after (Input bytes) line = with_input bytes line
+line_after other line = line
+
+-- whether a button has another state than this one by a mask of pressed buttons
+abbrev pub differs : ℕ → ℕ → Bool → Bool
+differs mask button true = not (has_bit mask button)
+differs mask button false = has_bit mask button
+
+-- a button and its state, where it has another one by a mask of pressed buttons
+abbrev pub if_differs : ℕ → ℕ × Bool → Option (ℕ × Bool)
+if_differs mask edge = if differs mask edge.0 edge.1 then Some edge else None
+
+-- what an event changes of a button, by a mask of pressed buttons: which one, and whether it is pressed then
+abbrev pub change_by : EventKind → ℕ → Option (ℕ × Bool)
+change_by kind mask = option_and_then (if_differs mask) (edge_of kind)
+
+-- a mask of pressed buttons with the state of one button set, if one is told
+abbrev pub with_edge : Option (ℕ × Bool) → ℕ → ℕ
+with_edge None mask = mask
+with_edge (Some edge) mask = with_bit mask edge.0 edge.1
+
+-- the mask of pressed buttons after an event
+abbrev pub pressed_after : EventKind → ℕ → ℕ
+pressed_after kind mask = with_edge (change_by kind mask) mask
+
+-- the line after the first came in
 abbrev pub with_first_arrived : List ScriptEvent → SerialLine → SerialLine
 with_first_arrived [] line = line
-with_first_arrived (event ∷ rest) line = with_input event.bytes line
+with_first_arrived (event ∷ rest) line = line_after event.kind line
+
+-- the mask of pressed buttons after the first came in
+abbrev pub pressed_after_first : List ScriptEvent → ℕ → ℕ
+pressed_after_first [] mask = mask
+pressed_after_first (event ∷ rest) mask = pressed_after event.kind mask
+
+-- the change of a button that the first makes
+abbrev pub change_by_first : List ScriptEvent → ℕ → Option (ℕ × Bool)
+change_by_first [] mask = None
+change_by_first (event ∷ rest) mask = change_by event.kind mask

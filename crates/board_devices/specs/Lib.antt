@@ -2,3 +2,4 @@ pub mod Clock
 pub mod SerialLine
 pub mod Storage
 pub mod Arriving
+pub mod Buttons

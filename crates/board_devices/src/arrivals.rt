@@ -1,25 +1,23 @@
-//! Bytes that are still to come in.
-ghost use Rattle.std.specs.Prelude.{◌≡◌, ◌<◌, drop, length};
-ghost use Rattle.board_devices.specs.SerialLine.{with_input};
-ghost use Rattle.board_devices.specs.Arriving.{is_time, first_arrival_time, with_first_arrived};
+//! What is still to come in.
+ghost use Rattle.std.specs.Prelude.{◌≡◌, ◌<◌, drop, length, option_map, IfSome};
+ghost use Rattle.script_text.specs.Kinds.{kind_of};
+ghost use Rattle.script_text.specs.Settings.{IsKind};
+ghost use Rattle.tk_base.specs.declared.limits.TheConstants.{BUTTON_LIMIT};
+ghost use Rattle.board_devices.specs.Arriving.{first_arrival_time, is_time, if_differs, change_by, with_edge};
+ghost use Rattle.board_devices.specs.Arriving.{line_after, pressed_after, with_first_arrived, pressed_after_first, change_by_first};
+ghost use Rattle.board_devices.specs.Buttons.{told_by};
 
+use crate::buttons::{Buttons, Edge};
 use crate::uart::Uart;
-use script_text::{EventList, TimedEvent};
+use script_text::{EventKind, EventList};
 use std::marker::Model;
 
-/// The bytes that are still to come in on the serial line, and when. Contracts see the list of them, the first one
-/// first.
+/// What is still to come in, and when: bytes on the serial line, and changes of buttons. Contracts
+/// see the list of the events, the first one first.
 #[derive(Drop)]
 pub struct Arrivals {
     events: EventList,
     come: usize,
-}
-
-/// The bytes of an event come in.
-fn push_into(uart: &mut Uart, event: &TimedEvent)
-    ensures { uart.new ≡ with_input event.now.bytes uart.old }
-{
-    uart.push(&event.bytes);
 }
 
 impl Model for Arrivals {
@@ -33,15 +31,52 @@ impl Model for Arrivals {
     ghost invariant = { λ a. a.come ≤ length a.events };
 }
 
+/// Sets a button, and answers its change, if that is one.
+fn change(buttons: &mut Buttons, button: u32, state: bool) -> Option<Edge>
+    requires { button < BUTTON_LIMIT }
+    ensures edge { option_map told_by result ≡ if_differs buttons.old.pressed (button, state) }
+    ensures within { IfSome result (λ edge. edge.button < BUTTON_LIMIT) }
+    ensures pressed { buttons.new ≡ record buttons.old {
+      pressed = with_edge (if_differs buttons.old.pressed (button, state)) buttons.old.pressed;
+    } }
+{
+    if buttons.set(button, state) {
+        Some(Edge { button, state })
+    } else {
+        None
+    }
+}
+
+/// What an event of a kind does to the serial line and the buttons, and the change of a button, if
+/// that is one.
+fn happen(kind: &EventKind, uart: &mut Uart, buttons: &mut Buttons) -> Option<Edge>
+    requires { IsKind BUTTON_LIMIT (kind_of kind.now) }
+    ensures edge { option_map told_by result ≡ change_by (kind_of kind.now) buttons.old.pressed }
+    ensures within { IfSome result (λ edge. edge.button < BUTTON_LIMIT) }
+    ensures line { uart.new ≡ line_after (kind_of kind.now) uart.old }
+    ensures pressed { buttons.new ≡ record buttons.old {
+      pressed = pressed_after (kind_of kind.now) buttons.old.pressed;
+    } }
+{
+    match kind {
+        EventKind::Input(bytes) => {
+            uart.push(bytes);
+            None
+        }
+        EventKind::Press(button) => change(buttons, *button, true),
+        EventKind::Release(button) => change(buttons, *button, false),
+    }
+}
+
 impl Arrivals {
-    /// All bytes of a list, the first to come in first.
+    /// All events of a list, the first to come in first.
     pub fn new(events: EventList) -> Arrivals
         ensures { result ≡ events }
     {
         Arrivals { events, come: 0 }
     }
 
-    /// The time, in ticks, at which the next bytes come in. None exactly where none are left.
+    /// The time, in ticks, at which the next event comes in. None exactly where none is left.
     pub fn next_time(&self) -> Option<u32>
         ensures { result ≡ first_arrival_time self.now }
     {
@@ -49,7 +84,7 @@ impl Arrivals {
         Some(next.time)
     }
 
-    /// Whether the next bytes come in at a time.
+    /// Whether the next event comes in at a time.
     pub fn is_time(&self, time: u64) -> bool
         ensures { result ≡ is_time time self.now }
     {
@@ -59,14 +94,21 @@ impl Arrivals {
         }
     }
 
-    /// The next bytes come in. It asks that some are left.
-    pub fn arrive(&mut self, uart: &mut Uart)
+    /// The next event comes in. Where it changes the state of a button, this change is answered. A
+    /// state that the button has already is no change. It asks that an event is left.
+    pub fn arrive(&mut self, uart: &mut Uart, buttons: &mut Buttons) -> Option<Edge>
         requires { 0 < length self.old }
+        ensures edge { option_map told_by result ≡ change_by_first self.old buttons.old.pressed }
+        ensures within { IfSome result (λ edge. edge.button < BUTTON_LIMIT) }
         ensures left { self.new ≡ drop 1 self.old }
         ensures line { uart.new ≡ with_first_arrived self.old uart.old }
+        ensures pressed { buttons.new ≡ record buttons.old {
+          pressed = pressed_after_first self.old buttons.old.pressed;
+        } }
     {
         let event = &self.events.as_slice()[self.come];
-        push_into(uart, event);
+        let edge = happen(&event.kind, uart, buttons);
         self.come += 1;
+        edge
     }
 }

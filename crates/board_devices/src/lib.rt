@@ -4,6 +4,7 @@
 
 mod answer;
 mod arrivals;
+mod buttons;
 mod clock;
 mod leds;
 mod stores;
@@ -12,6 +13,7 @@ mod words;
 
 pub use answer::{Answer, Kind};
 pub use arrivals::Arrivals;
+pub use buttons::{Buttons, Edge};
 pub use clock::Clock;
 pub use leds::Leds;
 pub use stores::Stores;

@@ -7,3 +7,4 @@ pub mod Pairs
 pub mod Records
 pub mod Serving
 pub mod Parts
+pub mod Edges

@@ -17,9 +17,10 @@ use Rattle.driver_model.specs.Asked.{OneOf}
 use Rattle.driver_model.specs.Steps.{own_after, silently}
 use Rattle.driver_model.specs.Commands.{BoardRequest, Commanded, Waits, Leaves, Lights, Switch, On, Off, Toggle}
 use Rattle.driver_model.specs.Commands.{by_number, refusing, QueueName, Writes, Reads, Randoms, Stores}
-use Rattle.driver_model.specs.Drivers.{CommandHandler, handler_by}
+use Rattle.driver_model.specs.Drivers.{CommandContext, CommandHandler, handler_by}
 use Rattle.driver_model.specs.Leds as leds
-use Rattle.driver_model.specs.Leds.{led_bits, lit_after}
+use Rattle.tk_base.specs.Bits.{bits_of}
+use Rattle.driver_model.specs.Leds.{lit_after}
 use Rattle.driver_requests.specs.Waiting.{queue_after}
 use Rattle.board_drivers.specs.declared.drivers.Drivers.{Drivers}
 use Rattle.board_drivers.specs.declared.drivers.Order.{Order}
@@ -56,17 +57,27 @@ leds_keep count number led own =
     switched switch true = refl
     switched switch false = refl
 
+-- what a command sees of the drivers when the alarm's clock shows a tick
+abbrev seen_at : ℕ → Drivers → CommandContext
+seen_at tick d = record {
+  now = tick;
+  leds = length d.leds;
+  buttons = d.buttons.count;
+  pressed = d.buttons.pressed;
+  storage = d.stores.size;
+}
+
 -- what a driver does
 pub commands_by : (driver : Driver) (tick : ℕ) (id : ProcessId) (order : Order) (d d' : Drivers) (own own' : Own)
     (answer : Reply × Option CallRule) → driver_of order.driver ≡ Some driver
-    → (let c = handler_by driver (record { now = tick; leds = length d.leds; storage = d.stores.size }) order.number
+    → (let c = handler_by driver (seen_at tick d) order.number
     order.a2 order.a3 own in (answer ≡ reply_of c.answer) × (own' ≡ own_after c.step) × Drives id c.acts d d')
     → Commands tick id order d own answer own' d'
 commands_by driver tick id order d d' own own' answer is does taker found =
     let same : handler_by driver ≡ taker =
     (let known : Some (handler_by driver) ≡ Some taker = sym (ap (option_map handler_by) is) ∙ found in cc) in
     subst (λ (t : CommandHandler). let c =
-    t (record { now = tick; leds = length d.leds; storage = d.stores.size }) order.number order.a2 order.a3 own in
+    t (seen_at tick d) order.number order.a2 order.a3 own in
     (answer ≡ reply_of c.answer) × (own' ≡ own_after c.step) × Drives id c.acts d d') same does
 
 -- drivers of which nothing changes
@@ -76,6 +87,7 @@ drives_nothing id d =
       queues = λ queue. refl;
       leds = refl;
       lit = refl;
+      buttons = refl;
       line =
           refl;
       arrivals = refl;
@@ -93,19 +105,21 @@ by_list P acts (xs ∷ lists) (inr of) all = by_list P acts lists of all.1
 -- where the drivers differ in who waits alone
 record OthersStay (d d' : Drivers) : Type 0 where
   leds : d'.leds ≡ d.leds
+  buttons : d'.buttons ≡ d.buttons
   line : d'.uart ≡ d.uart
   arrivals : d'.arrivals ≡ d.arrivals
   words : d'.words ≡ d.words
   bytes : d'.stores ≡ d.stores
 
 lists_drive : (id : ProcessId) (acts : List BoardRequest) (d d' : Drivers) → OthersStay d d'
-    → lit_after acts (led_bits d.leds) ≡ led_bits d.leds
+    → lit_after acts (bits_of d.leds) ≡ bits_of d.leds
     → ((queue : QueueName) → ids_waiting_in d' queue ≡ queue_after queue id (ids_waiting_in d queue) acts)
     → Drives id acts d d'
 lists_drive id acts d d' stay unlit queues = record {
   queues = queues;
-  leds = ap led_bits stay.leds ∙ sym unlit;
+  leds = ap bits_of stay.leds ∙ sym unlit;
   lit = ap length stay.leds;
+  buttons = stay.buttons;
   line = stay.line;
   arrivals = stay.arrivals;
   words = stay.words;
@@ -113,9 +127,9 @@ lists_drive id acts d d' stay unlit queues = record {
 }
 
 module _ (id : ProcessId) (d : Drivers) where
-  -- the alarm, which asks for nothing
-  pub alarm_drives : (acts : List BoardRequest) → acts ≡ [] → Drives id acts d d
-  alarm_drives acts none = subst (λ (acts : List BoardRequest). Drives id acts d d) (sym none) (drives_nothing id d)
+  -- the alarm and the buttons, which ask for nothing
+  pub unasked_drives : (acts : List BoardRequest) → acts ≡ [] → Drives id acts d d
+  unasked_drives acts none = subst (λ (acts : List BoardRequest). Drives id acts d d) (sym none) (drives_nothing id d)
 
   -- the console
   pub console_drives : (writes reads : List ProcessId) (acts : List BoardRequest)
@@ -156,7 +170,7 @@ module _ (id : ProcessId) (d : Drivers) where
       )
     where
       stay : OthersStay d (record d { console = record { writes = writes; reads = reads } })
-      stay = record { leds = refl; line = refl; arrivals = refl; words = refl; bytes = refl }
+      stay = record { leds = refl; buttons = refl; line = refl; arrivals = refl; words = refl; bytes = refl }
 
   -- the source of random bytes
   pub random_drives : (randoms : List ProcessId) (acts : List BoardRequest)
@@ -179,7 +193,7 @@ module _ (id : ProcessId) (d : Drivers) where
       )
     where
       stay : OthersStay d (record d { random = record { waiting = randoms } })
-      stay = record { leds = refl; line = refl; arrivals = refl; words = refl; bytes = refl }
+      stay = record { leds = refl; buttons = refl; line = refl; arrivals = refl; words = refl; bytes = refl }
 
   -- the storage
   pub storage_drives : (stores : List ProcessId) (acts : List BoardRequest) → OneOf acts ([] ∷ (Waits Stores ∷ []) ∷ [])
@@ -202,15 +216,15 @@ module _ (id : ProcessId) (d : Drivers) where
       )
     where
       stay : OthersStay d (record d { storage = record { waiting = stores } })
-      stay = record { leds = refl; line = refl; arrivals = refl; words = refl; bytes = refl }
+      stay = record { leds = refl; buttons = refl; line = refl; arrivals = refl; words = refl; bytes = refl }
 
   -- the LEDs
   pub leds_drive : (lit : List Bool) (led : ℕ) (acts : List BoardRequest)
       → OneOf acts ([] ∷ (Lights led On ∷ []) ∷ (Lights led Off ∷ []) ∷ (Lights led Toggle ∷ []) ∷ [])
-      → led_bits lit ≡ lit_after acts (led_bits d.leds) → length lit ≡ length d.leds
+      → bits_of lit ≡ lit_after acts (bits_of d.leds) → length lit ≡ length d.leds
       → Drives id acts d (record d { leds = lit })
   leds_drive lit led acts of =
-      by_list (λ acts. led_bits lit ≡ lit_after acts (led_bits d.leds) → length lit ≡ length d.leds
+      by_list (λ acts. bits_of lit ≡ lit_after acts (bits_of d.leds) → length lit ≡ length d.leds
       → Drives id acts d (record d { leds = lit })) acts
       ([] ∷ (Lights led On ∷ []) ∷ (Lights led Off ∷ []) ∷ (Lights led Toggle ∷ []) ∷ []) of (
         λ b n. switched [] (λ queue. refl) b n,
@@ -225,13 +239,14 @@ module _ (id : ProcessId) (d : Drivers) where
     where
       switched : (acts : List BoardRequest)
           → ((queue : QueueName) → ids_waiting_in d queue ≡ queue_after queue id (ids_waiting_in d queue) acts)
-          → led_bits lit ≡ lit_after acts (led_bits d.leds) → length lit ≡ length d.leds
+          → bits_of lit ≡ lit_after acts (bits_of d.leds) → length lit ≡ length d.leds
           → Drives id acts d (record d { leds = lit })
       switched acts queues b n =
           record {
             queues = queues;
             leds = b;
             lit = n;
+            buttons = refl;
             line = refl;
             arrivals = refl;
             words = refl;

@@ -8,7 +8,8 @@ use Rattle.board_drivers.proofs.Records.{owns_shown}
 
 pub owns_in_parts : (b : BoardParts) → AreBoardParts b → owns_in (world_shown b) ≡ b.home.owns
 owns_in_parts b board =
-    owns_shown b.home.flash b.processes b.home.owns b.drivers.stores.slots board.owns has_storage
+    owns_shown b.home.flash b.drivers.buttons.pressed b.processes b.home.owns b.drivers.stores.slots board.owns
+    has_storage
   where
     has_storage : length (zip b.processes b.home.owns) ≤ length b.drivers.stores.slots
     has_storage = omega (arith, board.few, board.driven.slots, length-firsts b.processes b.home.owns board.owns)

@@ -29,13 +29,14 @@ beside_set rs slots i r =
     ap (zip (slice_set rs i r)) (sym (set-get_or slots i [])) ∙ zip-set rs slots i r (slice_index_or slots i [])
 
 -- what is read of each record that storage has no part in
-pub reads_shown : {X : Type 0} (f : Record → X) (g : Resident → X) (flash : List ℕ) (rs : List Resident)
-    (slots : List (List ℕ)) → length rs ≤ length slots → ((p : Resident × List ℕ) → f (record_of flash p) ≡ g p.0)
-    → map f (map (record_of flash) (zip rs slots)) ≡ map g rs
-reads_shown f g flash [] slots h same = refl
-reads_shown f g flash (r ∷ rs) [] h same = absurd (omega (arith, h))
-reads_shown f g flash (r ∷ rs) (s ∷ slots) h same =
-    ap (λ xs. f (record_of flash (r, s)) ∷ xs) (reads_shown f g flash rs slots (omega (arith, h)) same)
+pub reads_shown : {X : Type 0} (f : Record → X) (g : Resident → X) (flash : List ℕ) (pressed : ℕ)
+    (rs : List Resident) (slots : List (List ℕ)) → length rs ≤ length slots
+    → ((p : Resident × List ℕ) → f (record_of flash pressed p) ≡ g p.0)
+    → map f (map (record_of flash pressed) (zip rs slots)) ≡ map g rs
+reads_shown f g flash pressed [] slots h same = refl
+reads_shown f g flash pressed (r ∷ rs) [] h same = absurd (omega (arith, h))
+reads_shown f g flash pressed (r ∷ rs) (s ∷ slots) h same =
+    ap (λ xs. f (record_of flash pressed (r, s)) ∷ xs) (reads_shown f g flash pressed rs slots (omega (arith, h)) same)
     ∙ ap (λ x. x ∷ map g rs) (same (r, s))
 
 -- the bytes of a slot's storage
@@ -43,14 +44,14 @@ abbrev pub bytes_of : List (List ℕ) → ℕ → List ℕ
 bytes_of slots slot = slice_index_or slots slot []
 
 -- the record of a slot
-pub record_found : (flash : List ℕ) (processes : List Process) (owns : List Own) (slots : List (List ℕ)) (slot : ℕ)
-    (process : Process) (own : Own) → slice_get processes slot ≡ Some process → slice_get owns slot ≡ Some own
-    → length (zip processes owns) ≤ length slots
-    → slice_get (map (record_of flash) (zip (zip processes owns) slots)) slot
-    ≡ Some (record_of flash ((process, own), bytes_of slots slot))
-record_found flash processes owns slots slot process own was own_was h =
-    slice_get-map (record_of flash) (zip (zip processes owns) slots) slot
-    ∙ ap (option_map (record_of flash)) (beside_get (zip processes owns) slots slot h
+pub record_found : (flash : List ℕ) (pressed : ℕ) (processes : List Process) (owns : List Own) (slots : List (List ℕ))
+    (slot : ℕ) (process : Process) (own : Own) → slice_get processes slot ≡ Some process
+    → slice_get owns slot ≡ Some own → length (zip processes owns) ≤ length slots
+    → slice_get (map (record_of flash pressed) (zip (zip processes owns) slots)) slot
+    ≡ Some (record_of flash pressed ((process, own), bytes_of slots slot))
+record_found flash pressed processes owns slots slot process own was own_was h =
+    slice_get-map (record_of flash pressed) (zip (zip processes owns) slots) slot
+    ∙ ap (option_map (record_of flash pressed)) (beside_get (zip processes owns) slots slot h
     ∙ ap (option_map (λ (r : Resident). (r, bytes_of slots slot)))
     (zip-get processes owns slot process own was own_was))
 
@@ -93,11 +94,12 @@ seated_there flash n ps owns slot r was own_was all =
     (all slot r (slice_get_within (zip ps owns) slot r pair))
 
 -- what each process has as its own
-pub owns_shown : (flash : List ℕ) (processes : List Process) (owns : List Own) (slots : List (List ℕ))
+pub owns_shown : (flash : List ℕ) (pressed : ℕ) (processes : List Process) (owns : List Own) (slots : List (List ℕ))
     → length owns ≡ length processes → length (zip processes owns) ≤ length slots
-    → map (λ (r : Record). r.own) (map (record_of flash) (zip (zip processes owns) slots)) ≡ owns
-owns_shown flash processes owns slots n stored =
-    reads_shown (λ (r : Record). r.own) (λ (r : Resident). r.1) flash (zip processes owns) slots stored (λ p. refl)
+    → map (λ (r : Record). r.own) (map (record_of flash pressed) (zip (zip processes owns) slots)) ≡ owns
+owns_shown flash pressed processes owns slots n stored =
+    reads_shown (λ (r : Record). r.own) (λ (r : Resident). r.1) flash pressed (zip processes owns) slots stored
+    (λ p. refl)
     ∙ seconds processes owns n
   where
     seconds : (ps : List Process) (os : List Own) → length os ≡ length ps → map (λ (r : Resident). r.1) (zip ps os) ≡ os

@@ -4,7 +4,8 @@ use Rattle.std.proofs.lemmas.List.{map-append}
 use Rattle.tk_base.specs.declared.process.ProcessId.{ProcessId}
 use Rattle.driver_model.specs.Commands.{BoardRequest, Waits, Leaves, Lights, QueueName, Writes, Reads, Randoms, Stores}
 use Rattle.driver_model.specs.Commands.{is_same}
-use Rattle.driver_model.specs.Leds.{led_bits, lit_after, lit_by}
+use Rattle.tk_base.specs.Bits.{bits_of}
+use Rattle.driver_model.specs.Leds.{lit_after, lit_by}
 use Rattle.driver_requests.specs.Waiting.{after_act, queue_after, without}
 use Rattle.kernel_model.specs.World as world
 use Rattle.kernel_model.specs.World.{Devices, acted, routed, slots_in}
@@ -113,7 +114,7 @@ pub drives_shown : (id : ProcessId) (acts : List BoardRequest) (d d' : Drivers) 
 drives_shown id acts d d' t =
     devices_same (devices_of d') (record (devices_of d) {
       waiting = waiting_by after;
-      leds = lit_after acts (led_bits
+      leds = lit_after acts (bits_of
           d.leds);
     })
     (λ queue. slots_by (λ (q : QueueName). slots_of (ids_waiting_in d' q)) queue ∙ ap slots_of (t.queues queue)

@@ -58,7 +58,7 @@ use Rattle.kernel_model.specs.Record.{Record, record_with_step}
 use Rattle.kernel_model.specs.Turn.{Event, Alarmed, Taken, WriteDone, Input, Stored, apply, flash_of}
 use Rattle.kernel_model.specs.Turn.{written_over}
 use Rattle.kernel_model.specs.Laws.{queue_after_answer}
-use Rattle.kernel_model.specs.World.{DeviceAnswer, Devices, World, alarmed, answering, can_act, as_events, random_step}
+use Rattle.kernel_model.specs.World.{drawn_event, DeviceAnswer, Devices, World, alarmed, answering, can_act, random_step}
 use Rattle.kernel_model.specs.World.{is_waited_for, owns_in, receive_step, serving, storing}
 use Rattle.kernel_model.specs.World.{WaitingSlots, transmitting}
 use Rattle.board_drivers.specs.declared.drivers.Drivers.{Drivers}
@@ -167,7 +167,8 @@ module _ (b : BoardParts) (h : AreBoardParts b) (id : ProcessId) (is_there : IsT
   its_process = process_there.0
 
   abbrev pub its_record : Record
-  its_record = record_of b.home.flash ((its_process, own_of b.home id.slot), bytes_of b.drivers.stores.slots id.slot)
+  its_record = record_of b.home.flash b.drivers.buttons.pressed
+      ((its_process, own_of b.home id.slot), bytes_of b.drivers.stores.slots id.slot)
 
   pub its_seat : IsResident b.home.flash b.moment.steps (its_process, own_of b.home id.slot)
   unfolding its_process
@@ -184,8 +185,8 @@ module _ (b : BoardParts) (h : AreBoardParts b) (id : ProcessId) (is_there : IsT
 
   pub its_record_was : slice_get (world_shown b).records id.slot ≡ Some its_record
   its_record_was =
-      record_found b.home.flash b.processes b.home.owns b.drivers.stores.slots id.slot its_process
-      (own_of b.home id.slot) its_process_was own_was
+      record_found b.home.flash b.drivers.buttons.pressed b.processes b.home.owns b.drivers.stores.slots id.slot
+      its_process (own_of b.home id.slot) its_process_was own_was
       (beside b.processes b.home.owns b.drivers.stores.slots h.owns h.few h.driven.slots)
 
   -- a device that does not serve the serial line leaves it as it is
@@ -376,6 +377,7 @@ serves_sent b h lines events law lent id is_there first =
       follows = lines.writes (flash_of r) own;
       lines = elim [ Writes ↦ refl | Reads ↦ refl | Randoms ↦ refl | Stores ↦ refl ];
       leds = refl;
+      buttons = refl;
       uart = record {
         ticks = refl;
         free =
@@ -435,6 +437,7 @@ serves_received b h lines events id is_there first =
       follows = lines.reads ring own;
       lines = elim [ Writes ↦ refl | Reads ↦ refl | Randoms ↦ refl | Stores ↦ refl ];
       leds = refl;
+      buttons = refl;
       uart = record { ticks = refl; free = h.driven.free };
       bytes = bytes_of b.drivers.stores.slots id.slot;
       stores = stores_stay b h id is_there;
@@ -457,7 +460,7 @@ serves_received b h lines events id is_there first =
 -- what a process has as its own once a word was drawn for it, or none
 drawn_applied : (settings : Settings) (drawn : Option ℕ) (r : Record) (step : DriverStep)
     → step ≡ (random.answered drawn r.own).step
-    → apply settings (drawn_told as_events drawn) r ≡ record_with_step r step
+    → apply settings (drawn_event drawn) r ≡ record_with_step r step
 unfolding apply
 drawn_applied settings None r step e = ap (record_with_step r) (sym e)
 drawn_applied settings (Some word) r step e = ap (record_with_step r) (sym e)
@@ -492,14 +495,15 @@ serves_drawn b h lines events id is_there first =
       follows = lines.randoms word own;
       lines = elim [ Writes ↦ refl | Reads ↦ refl | Randoms ↦ refl | Stores ↦ refl ];
       leds = refl;
+      buttons = refl;
       uart = uart_stays b h id is_there;
       bytes = bytes_of b.drivers.stores.slots id.slot;
       stores = stores_stay b h id is_there;
-      event = drawn_told as_events s.drawn;
+      event = drawn_event s.drawn;
       deed = first_deed (random_step (devices_of b.drivers)) (world_shown b) Randoms (ids_waiting_in b.drivers)
           (ids_waiting_in ((draws b).after
           (waiting_still s.completed id.slot b.drivers.random.waiting) (random.words_after s.drawn words))) id r
-          s.completed (λ (slots : WaitingSlots). telling (drawn_told as_events s.drawn) []
+          s.completed (λ (slots : WaitingSlots). telling (drawn_event s.drawn) []
           (record (devices_of b.drivers) { waiting = slots; words = random.words_after s.drawn words }))
           first (its_record_was b h id is_there)
           (elim [ Writes ↦ refl | Reads ↦ refl | Randoms ↦ refl | Stores ↦ refl ]) refl;
@@ -594,6 +598,7 @@ serves_stored b h lines law lent id is_there first =
       follows = lines.stores fails (flash_of r) bytes own;
       lines = elim [ Writes ↦ refl | Reads ↦ refl | Randoms ↦ refl | Stores ↦ refl ];
       leds = refl;
+      buttons = refl;
       uart = uart_stays b h id is_there;
       bytes = written_over bytes a.written;
       stores = record {
@@ -648,6 +653,7 @@ serves_alarmed b h id is_there lines due =
       follows = lines.alarms now (own_of b.home id.slot);
       lines = λ line. refl;
       leds = refl;
+      buttons = refl;
       uart = uart_stays b h id is_there;
       bytes = bytes_of b.drivers.stores.slots id.slot;
       stores = stores_stay b h id is_there;

@@ -16,11 +16,13 @@ use Rattle.driver_model.specs.Drivers.{CommandHandler, handler_of}
 use Rattle.driver_model.specs.Replies.{reply_of}
 use Rattle.driver_model.specs.Requests.{request_in}
 use Rattle.driver_model.specs.Lines.{IsWithin, has_waiting, kind_in}
-use Rattle.driver_model.specs.Leds.{led_bits, lit_after}
+use Rattle.tk_base.specs.Bits.{bits_of}
+use Rattle.driver_model.specs.Leds.{lit_after}
 use Rattle.driver_requests.specs.Waiting.{queue_after, waits}
 use Rattle.grant_enter.specs.Homes.{nobody}
 use Rattle.kernel_model.specs.declared.settings.Settings.{Settings}
 use Rattle.kernel_model.specs.World.{Devices, WaitingSlots}
+use Rattle.kernel_calls.specs.Own.{Beside}
 use Rattle.board_drivers.specs.declared.moment.Moment.{Moment}
 use Rattle.board_drivers.specs.declared.drivers.Drivers.{Drivers}
 use Rattle.board_drivers.specs.declared.drivers.Order.{Order}
@@ -45,7 +47,7 @@ waiting_by slots =
 abbrev pub devices_of : Drivers → Devices
 devices_of d = record {
   waiting = waiting_by (λ queue. slots_of (ids_waiting_in d queue));
-  leds = led_bits d.leds;
+  leds = bits_of d.leds;
   line = d.uart;
   arrivals = d.arrivals;
   words = d.words;
@@ -53,15 +55,21 @@ devices_of d = record {
   faults = d.stores.faults;
 }
 
+-- what a process has beside, with these bytes of storage: of buttons it was told what the device holds
+abbrev pub beside_in : Drivers → List ℕ → Beside
+beside_in d storage = record { storage = storage; pressed = d.buttons.pressed }
+
 -- the bytes of storage of each slot
 abbrev pub storage_bytes : Drivers → List (List ℕ)
 storage_bytes d = d.stores.slots
 
--- the drivers under a script before the first step: nobody waits, all LEDs are off, nothing was drawn or served
+-- the drivers under a script before the first step: nobody waits, all LEDs are off, no button is pressed, nothing was
+-- drawn or served
 pub record AreFresh (script : Script) (d : Drivers) : Type 0 where
   pub queues : (queue : QueueName) → ids_waiting_in d queue ≡ []
   pub line : d.uart ≡ record { ring = []; ticks = script.uart; free = 0 }
   pub leds : d.leds ≡ replicate script.leds false
+  pub buttons : d.buttons ≡ record { count = script.buttons; pressed = 0 }
   pub arrivals : d.arrivals ≡ script.events
   pub words : d.words ≡ script.words
   pub stores : d.stores ≡ fresh_storage script.storage script.faults
@@ -77,11 +85,12 @@ pub record IsQueueOf (queue : QueueName) (ids : List ProcessId) (owns : List Own
       → waits slot ids ≡ has_waiting queue (slice_index_or owns slot nobody)
 
 -- The drivers of a board with these settings, at a time: who waits has a request that waits; each request for storage
--- lies in what a slot has; so many LEDs there are; the UART is free soon.
+-- lies in what a slot has; so many LEDs and buttons there are; the UART is free soon.
 pub record AreDriven (settings : Settings) (time : ℕ) (owns : List Own) (d : Drivers) : Type 0 where
   pub queues : (queue : QueueName) → IsQueueOf queue (ids_waiting_in d queue) owns
   pub within : All (IsWithin settings.storage) owns
   pub leds : length d.leds ≡ settings.leds
+  pub buttons : d.buttons.count ≡ settings.buttons
   pub size : d.stores.size ≡ settings.storage
   pub slots : length d.stores.slots ≡ SLOT_COUNT
   pub ticks : d.uart.ticks ≤ BYTE_TICKS_LIMIT
@@ -90,8 +99,9 @@ pub record AreDriven (settings : Settings) (time : ℕ) (owns : List Own) (d : D
 -- what the drivers do for a process of what is asked of them: who waits where, and the LEDs; nothing else changes
 pub record Drives (id : ProcessId) (acts : List BoardRequest) (old new : Drivers) : Type 0 where
   pub queues : (queue : QueueName) → ids_waiting_in new queue ≡ queue_after queue id (ids_waiting_in old queue) acts
-  pub leds : led_bits new.leds ≡ lit_after acts (led_bits old.leds)
+  pub leds : bits_of new.leds ≡ lit_after acts (bits_of old.leds)
   pub lit : length new.leds ≡ length old.leds
+  pub buttons : new.buttons ≡ old.buttons
   pub line : new.uart ≡ old.uart
   pub arrivals : new.arrivals ≡ old.arrivals
   pub words : new.words ≡ old.words
@@ -111,6 +121,7 @@ pub record MayServe (m : Moment) (d : Drivers) (slot : ℕ) (own : Own) : Type 0
   pub asks : MayAsk d slot own
   pub lost : own.inbox.dropped ≤ m.steps
   pub leds : length d.leds ≡ m.settings.leds
+  pub buttons : d.buttons.count ≡ m.settings.buttons
   pub size : d.stores.size ≡ m.settings.storage
 
 -- what comes of a command, as its driver takes it: the answer, what is then the process's own, and what the drivers do
@@ -120,6 +131,8 @@ Commands tick id order d own answer own' d_after =
     let c = taker (record {
       now = tick;
       leds = length d.leds;
+      buttons = d.buttons.count;
+      pressed = d.buttons.pressed;
       storage = d.stores.size;
     }) order.number order.a2 order.a3 own in
     (answer ≡ reply_of c.answer) × (own' ≡ own_after c.step) × Drives id c.acts d d_after

@@ -21,7 +21,8 @@ pub record BoardParts : Type 0 where
 -- the world that they make
 abbrev pub world_shown : BoardParts → World
 world_shown p = record p.rest {
-  records = map (record_of p.home.flash) (zip (zip p.processes p.home.owns) p.drivers.stores.slots);
+  records = map (record_of p.home.flash p.drivers.buttons.pressed)
+      (zip (zip p.processes p.home.owns) p.drivers.stores.slots);
   settings = p.moment.settings;
   devices = devices_of p.drivers;
   clock = record { time = p.moment.time; steps = p.moment.steps };

@@ -19,9 +19,9 @@ use Rattle.tk_base.specs.declared.process.ProcessId.{ProcessId}
 abbrev pub Resident : Type 0
 Resident = Process × Own
 
--- the record that it shows, with its storage
-abbrev pub record_of : List ℕ → Resident × List ℕ → Record
-record_of flash r = record_in flash r.0.0 r.0.1 r.1
+-- the record that it shows, with its storage, where buttons of a mask are pressed
+abbrev pub record_of : List ℕ → ℕ → Resident × List ℕ → Record
+record_of flash pressed r = record_in flash r.0.0 r.0.1 (record { storage = r.1; pressed = pressed })
 
 -- the process in a slot, with what is its own
 abbrev pub resident : Homes → ℕ → Process → Resident

@@ -1,17 +1,20 @@
 -- What a device tells a process, as a step of the board. Only proofs use this.
-use Rattle.std.specs.Prelude.{◌≡◌, ◌≤◌, ◌<◌, ℕ, ◌+◌, Bool, true, false, List, [], length, slice_get, slice_set}
-use Rattle.std.specs.Prelude.{slice_index_or, Some, Result, Ok, Err}
+use Rattle.std.specs.Prelude.{◌≡◌, ◌≤◌, ◌<◌, ℕ, ◌+◌, Bool, true, false, List, [], drop, length, map, slice_get}
+use Rattle.std.specs.Prelude.{slice_set, slice_index_or, Option, None, Some, Result, Ok, Err}
 use Rattle.tk_base.specs.declared.limits.TheConstants.{SENDING_LIMIT}
 use Rattle.tk_base.specs.declared.process.Dev.{Dev}
 use Rattle.tk_base.specs.declared.process.Dev.TheVariants.{Event as Arrival, Alarm, Uart, Receive, Random, Store}
 use Rattle.board_devices.specs.declared.answer.Answer.{Answer}
 use Rattle.tk_base.specs.declared.process.NotReady.{NotReady}
+use Rattle.board_devices.specs.Arriving.{change_by_first, pressed_after_first, with_first_arrived}
 use Rattle.board_devices.specs.SerialLine.{SerialLine}
 use Rattle.board_devices.specs.Storage.{StoredSlots}
 use Rattle.process_model.specs.Own.{Own}
 use Rattle.process_record.specs.declared.process.Process.{Process}
 use Rattle.driver_model.specs.Answers.{FollowsAnswer}
+use Rattle.driver_model.specs.Buttons.{edged}
 use Rattle.driver_model.specs.Commands.{QueueName}
+use Rattle.driver_model.specs.Steps.{own_after}
 use Rattle.driver_requests.specs.Waiting.{waiting_still}
 use Rattle.grant_enter.specs.Homes.{Homes, ChangesOnly, own_of}
 use Rattle.kernel_model.specs.Turn.{Event, apply}
@@ -22,14 +25,15 @@ use Rattle.board_drivers.specs.Driven.{devices_of, ids_waiting_in}
 use Rattle.board_drivers.specs.Residents.{record_of}
 use Rattle.board_drivers.specs.Parts.{AreBoardParts, BoardParts, world_shown}
 
--- whether a device tells a process something: bytes that come in tell nobody anything
-abbrev pub tells_somebody : Dev → Bool
-tells_somebody Arrival = false
-tells_somebody Alarm = true
-tells_somebody Uart = true
-tells_somebody Receive = true
-tells_somebody Random = true
-tells_somebody Store = true
+-- whether a device tells one process something: bytes that come in tell nobody anything, and an edge of a button is
+-- told to several
+abbrev pub tells_one : Dev → Bool
+tells_one Arrival = false
+tells_one Alarm = true
+tells_one Uart = true
+tells_one Receive = true
+tells_one Random = true
+tells_one Store = true
 
 -- the UART takes as long for a byte as before, and is free soon
 pub record IsFreeSoon (time : ℕ) (old new : SerialLine) : Type 0 where
@@ -51,6 +55,7 @@ pub record DeviceServes (b : BoardParts) (process : Process) (device : Dev) (slo
   pub lines : (line : QueueName)
       → ids_waiting_in d line ≡ waiting_still (left line) slot (ids_waiting_in b.drivers line)
   pub leds : length d.leds ≡ length b.drivers.leds
+  pub buttons : d.buttons ≡ b.drivers.buttons
   pub uart : IsFreeSoon b.moment.time b.drivers.uart d.uart
   pub bytes : List ℕ
   pub stores : HoldsFor slot bytes b.drivers.stores d.stores
@@ -60,8 +65,9 @@ pub record DeviceServes (b : BoardParts) (process : Process) (device : Dev) (slo
     devices = devices_of d;
   }))
   pub tells : apply b.moment.settings event
-      (record_of b.home.flash ((process, own_of b.home slot), slice_index_or b.drivers.stores.slots slot []))
-      ≡ record_of b.home.flash ((process, own), bytes)
+      (record_of b.home.flash b.drivers.buttons.pressed
+      ((process, own_of b.home slot), slice_index_or b.drivers.stores.slots slot []))
+      ≡ record_of b.home.flash b.drivers.buttons.pressed ((process, own), bytes)
 
 -- What a device told the process in a slot, as the board has it: the device may act, and nothing of another process
 -- changed.
@@ -86,3 +92,18 @@ abbrev pub Acts : Dev → Moment → Homes → Drivers → Result Answer NotRead
 Acts device m home d told printed home_after d_after = (b : BoardParts) →
     let here = record b { moment = m; home = home; drivers = d } in
     AreBoardParts here → Acted here device told printed home_after d_after
+
+-- What is a process's own once each process that is to be told an edge of a button was, if there was one.
+abbrev pub owns_told : Option (ℕ × Bool) → List Own → List Own
+owns_told None owns = owns
+owns_told (Some edge) owns = map (λ own. own_after (edged edge.0 edge.1 own)) owns
+
+-- What came in: of the drivers the line, the buttons and what is still to come changed, and each process was told what
+-- of a button changed.
+pub record Arrives (home : Homes) (d : Drivers) (home_after : Homes) (d_after : Drivers) : Type 0 where
+  pub drivers : d_after ≡ record d {
+    uart = with_first_arrived d.arrivals d.uart;
+    buttons = record d.buttons { pressed = pressed_after_first d.arrivals d.buttons.pressed };
+    arrivals = drop 1 d.arrivals;
+  }
+  pub memory : home_after ≡ record home { owns = owns_told (change_by_first d.arrivals d.buttons.pressed) home.owns }

@@ -7,15 +7,15 @@ ghost use Rattle.grant_enter.specs.Homes.{own_of, ChangesOnly};
 ghost use Rattle.grant_enter.specs.Visits.{is_stale};
 ghost use Rattle.kernel_model.specs.World.{sending_time};
 ghost use Rattle.board_drivers.specs.Residents.{HasLost};
-ghost use Rattle.board_drivers.specs.Tells.{Acts, tells_somebody};
-ghost use Rattle.tk_base.specs.declared.limits.TheConstants.{STEP_LIMIT};
+ghost use Rattle.board_drivers.specs.Tells.{Acts, Arrives, tells_one};
+ghost use Rattle.tk_base.specs.declared.limits.TheConstants.{SLOT_COUNT, STEP_LIMIT};
 ghost use Rattle.board_drivers.specs.Driven.{AreDriven, AreFresh, Commands, Drives, IsTaken};
 ghost use Rattle.board_drivers.specs.Driven.{MayAsk, devices_of};
 
 use crate::moment::Moment;
 use alarm_capsule::AlarmCapsule;
 use arrayvec::ArrayVec;
-use board_devices::{Answer, Arrivals, Leds, Stores, Uart, Words};
+use board_devices::{Answer, Arrivals, Buttons, Leds, Stores, Uart, Words};
 use console_capsule::ConsoleCapsule;
 use driver_model::{
     a_due_slot_is_there, drivers_ask_for_their_own, events_tell_steps, lines_follow_answers,
@@ -40,6 +40,7 @@ pub struct Drivers {
     pub storage: StorageCapsule,
     pub uart: Uart,
     pub leds: Leds,
+    pub buttons: Buttons,
     pub arrivals: Arrivals,
     pub words: Words,
     pub stores: Stores,
@@ -68,6 +69,7 @@ impl Drivers {
             storage: StorageCapsule::default(),
             uart,
             leds: Leds::new(script.leds),
+            buttons: Buttons::new(script.buttons),
             arrivals: Arrivals::new(script.events),
             words: Words::new(script.words),
             stores,
@@ -85,7 +87,7 @@ impl Drivers {
         self.storage.gone(*id);
     }
 
-    /// The time at which the next bytes come in, if any are to.
+    /// The time at which the next event comes in, if one is to.
     pub fn arrival_time(&self) -> Option<u64>
         ensures at { result ≡ first_arrival_time self.now.arrivals }
         ensures near { IfSome result (λ at. at < 2 ^ 32) }
@@ -105,9 +107,25 @@ impl Drivers {
         }
     }
 
-    /// Has a device act that tells a process something at a moment: which process, what it is told,
-    /// and what was printed for it. [`NotReady`] comes, and nothing changes, where the device may
-    /// not act.
+    /// The next event comes in, of which it asks that there is one: bytes, which the UART holds
+    /// then; or a button is pressed, or released, which each process that lives and enabled it is
+    /// told, slot by slot, where that is another state than it had. It asks for the number of slots
+    /// that there are.
+    pub fn arrive(&mut self, home: &mut Home, slots: usize)
+        requires left { 0 < length self.old.arrivals }
+        requires slots { slots ≡ length home.old.owns }
+        requires few { slots ≤ SLOT_COUNT }
+        requires dropped { All (λ own. own.inbox.dropped + 1 < 2 ^ 32) home.old.owns }
+        ensures { Arrives home.old self.old home.new self.new }
+    {
+        if let Some(edge) = self.arrivals.arrive(&mut self.uart, &mut self.buttons) {
+            button_capsule::edges(home, slots, edge.button, edge.state);
+        }
+    }
+
+    /// Has a device act that tells one process something at a moment: which process, what it is
+    /// told, and what was printed for it. [`NotReady`] comes, and nothing changes, where the device
+    /// may not act.
     // Inlined, what is told is not copied: the board takes of it whom it was told.
     #[inline(always)]
     pub fn act(
@@ -117,7 +135,7 @@ impl Drivers {
         moment: &Moment,
         printed: &mut ArrayVec<u8, PRINT_LIMIT>,
     ) -> Result<Answer, NotReady>
-        requires tells { tells_somebody device ≡ true }
+        requires tells { tells_one device ≡ true }
         requires driven { AreDriven moment.now.settings moment.now.time home.old.owns self.old }
         requires lost { All (HasLost moment.now.steps) home.old.owns }
         requires limit { moment.now.steps < STEP_LIMIT }
@@ -173,6 +191,10 @@ impl Drivers {
             Some(Driver::Alarm) => AlarmCapsule.command(home, tick, id, number, a2, a3),
             Some(Driver::Console) => self.console.command(home, id, number, a2),
             Some(Driver::Leds) => led_capsule::command(&mut self.leds, number, a2),
+            Some(Driver::Buttons) => {
+                let (pressed, count) = (self.buttons.pressed(), self.buttons.count());
+                button_capsule::command(home, id, pressed, count, number, a2)
+            }
             Some(Driver::Random) => self.random.command(home, id, number, a2),
             Some(Driver::Storage) => {
                 let size = self.stores.size();

@@ -45,8 +45,8 @@ impl Moment {
         Clock::new(self.settings.start).now(self.time)
     }
 
-    /// Whether a device step is ready: bytes are to come in; an alarm is due; a write waits and the
-    /// UART is free; a read waits and bytes came in; a request for random bytes waits; one for
+    /// Whether a device step is ready: something is to come in; an alarm is due; a write waits and
+    /// the UART is free; a read waits and bytes came in; a request for random bytes waits; one for
     /// storage waits.
     pub fn is_ready(&self, home: &Home, alarms: &AlarmTimes, drivers: &Drivers, device: Dev) -> bool
         requires { AlarmsTell self.now alarms.now home.now.owns }
@@ -83,9 +83,9 @@ impl Moment {
         Some(self.time + u64::from(ticks))
     }
 
-    /// The nearest time at which a device step becomes ready by itself: bytes come in, an alarm
-    /// becomes due, or the UART is free for a write that waits. None exactly where none of these is
-    /// to come.
+    /// The nearest time at which a device step becomes ready by itself: something comes in, an
+    /// alarm becomes due, or the UART is free for a write that waits. None exactly where none of
+    /// these is to come.
     pub fn next_time(&self, home: &Home, alarms: &AlarmTimes, drivers: &Drivers) -> Option<u64>
         requires alarms { AlarmsTell self.now alarms.now home.now.owns }
         requires time { self.now.time + 2 ^ 32 ≤ 2 ^ 64 }

@@ -230,6 +230,7 @@ module _ (flash : List ℕ) (offset : ℕ) (e : LayoutView) (a : KnownApplicatio
                   e;
             });
         storage = erased storage;
+        pressed = 0;
       })) (whole_object flash offset (size_at flash offset) a.h.total_size a.total)
       ∙ sym (ap (opened_by storage flash offset e) a.read
       ∙ ap (option_map (opening_record storage flash offset e a.h)) a.main)
@@ -556,18 +557,18 @@ module _ (script : Script) (flash : List ℕ) where
       → map (fresh_record script.storage flash) (zip processes (map own_opened footprints))
       ≡ filter_map (record_placed script.storage flash) (placed_applications script.ram flash)
       → unplaced.items ≡ filter_map unplaced_at (placed_applications script.ram flash)
-      → visible ≡ visible_settings script.leds script.start script.storage script.policy script.strict
+      → visible ≡ visible_settings script
       → AreFresh script d
-      → world_with (map (record_of home.flash) (zip (zip processes home.owns) d.stores.slots)) unplaced.items visible
-      (devices_of d) ≡ opening script flash
+      → world_with (map (record_of home.flash d.buttons.pressed) (zip (zip processes home.owns) d.stores.slots))
+      unplaced.items visible (devices_of d) ≡ opening script flash
   unfolding opening
   opening_shown home footprints processes unplaced visible d h count few e u v fresh =
       let owns = map own_opened footprints in
       let residents : length (zip processes owns) ≤ SLOT_COUNT =
       omega (arith, few, length-firsts processes owns (length-map footprints own_opened ∙ sym count)) in
-      let records : map (record_of home.flash) (zip (zip processes home.owns) d.stores.slots)
+      let records : map (record_of home.flash d.buttons.pressed) (zip (zip processes home.owns) d.stores.slots)
       ≡ filter_map (record_placed script.storage flash) (placed_applications script.ram flash) =
-      ap (λ (x : Homes). map (record_of x.flash) (zip (zip processes x.owns) d.stores.slots)) h
+      ap (λ (x : Homes). map (record_of x.flash d.buttons.pressed) (zip (zip processes x.owns) d.stores.slots)) h
       ∙ records_fresh script d flash (zip processes owns) residents fresh ∙ e in
       ap₂ (λ (rs : List Record) (us : List Unplaced). world_with rs us visible (devices_of d)) records u
       ∙ ap₂ (λ (s : Settings) (ds : Devices). world_with

@@ -6,11 +6,12 @@ use Rattle.std.proofs.lemmas.List.{length-replicate}
 use Rattle.tk_base.specs.declared.limits.TheConstants.{BYTE_TICKS_LIMIT, SLOT_COUNT}
 use Rattle.tk_base.specs.declared.process.ProcessId.{ProcessId}
 use Rattle.script_text.specs.Settings.{ScriptSettings as Script}
+use Rattle.board_devices.specs.Buttons.{ButtonsView}
 use Rattle.board_devices.specs.SerialLine.{SerialLine}
 use Rattle.board_devices.specs.Storage.{StoredSlots}
 use Rattle.process_model.specs.declared.place.Footprint.{Footprint}
 use Rattle.process_model.specs.Own.{opened}
-use Rattle.driver_model.specs.Leds.{led_bits}
+use Rattle.tk_base.specs.Bits.{bits_of}
 use Rattle.driver_model.specs.Commands.{QueueName}
 use Rattle.driver_model.specs.Lines.{IsWithin, has_waiting}
 use Rattle.grant_enter.specs.Homes.{nobody}
@@ -22,7 +23,7 @@ use Rattle.board_drivers.proofs.Routing.{devices_same, slots_by}
 use Rattle.board_drivers.specs.Residents.{Resident, record_of}
 use Rattle.board_opening.specs.Settings.{erased, visible_settings}
 
-leds_off : (n : ℕ) → led_bits (replicate n false) ≡ 0
+leds_off : (n : ℕ) → bits_of (replicate n false) ≡ 0
 leds_off zero = refl
 leds_off (suc n) = ap (λ (others : ℕ). 0 + 2 * others) (leds_off n)
 
@@ -52,7 +53,7 @@ module _ (script : Script) (d : Drivers) where
       })
       (λ queue. slots_by (λ (q : QueueName). slots_of (ids_waiting_in d q)) queue ∙ ap slots_of (fresh.queues queue)
       ∙ sym (slots_by (λ q. []) queue))
-      (ap led_bits fresh.leds ∙ leds_off script.leds)
+      (ap bits_of fresh.leds ∙ leds_off script.leds)
       fresh.line
       fresh.arrivals
       fresh.words
@@ -60,7 +61,7 @@ module _ (script : Script) (d : Drivers) where
       (ap (λ (s : StoredSlots). s.faults) fresh.stores)
 
   records_beside : (flash : List ℕ) (rs : List Resident) (n : ℕ) → length rs ≤ n
-      → map (record_of flash) (zip rs (replicate n (erased script.storage)))
+      → map (record_of flash 0) (zip rs (replicate n (erased script.storage)))
       ≡ map (fresh_record script.storage flash) rs
   records_beside flash [] n h = refl
   records_beside flash (r ∷ rs) zero h = absurd (omega (arith, h))
@@ -69,9 +70,10 @@ module _ (script : Script) (d : Drivers) where
 
   -- the records of no more processes than slots with their storage
   pub records_fresh : (flash : List ℕ) (rs : List Resident) → length rs ≤ SLOT_COUNT → AreFresh script d
-      → map (record_of flash) (zip rs d.stores.slots) ≡ map (fresh_record script.storage flash) rs
+      → map (record_of flash d.buttons.pressed) (zip rs d.stores.slots) ≡ map (fresh_record script.storage flash) rs
   records_fresh flash rs few fresh =
-      ap (λ (s : StoredSlots). map (record_of flash) (zip rs s.slots)) fresh.stores
+      ap (λ (b : ButtonsView). map (record_of flash b.pressed) (zip rs d.stores.slots)) fresh.buttons
+      ∙ ap (λ (s : StoredSlots). map (record_of flash 0) (zip rs s.slots)) fresh.stores
       ∙ records_beside flash rs SLOT_COUNT few
 
   -- a process that was not started yet waits for nothing
@@ -91,13 +93,13 @@ module _ (script : Script) (d : Drivers) where
 
   -- they are those of a board
   pub driven_first : (fs : List Footprint) → script.uart ≤ BYTE_TICKS_LIMIT → AreFresh script d
-      → AreDriven (visible_settings script.leds script.start script.storage script.policy script.strict) 0
-      (map opened fs) d
+      → AreDriven (visible_settings script) 0 (map opened fs) d
   driven_first fs slow fresh = record {
     queues = λ queue. subst (λ (ids : List ProcessId). IsQueueOf queue ids (map opened fs)) (sym (fresh.queues queue))
         (empty_line queue fs);
     within = all_within script.storage fs;
     leds = ap length fresh.leds ∙ length-replicate script.leds false;
+    buttons = ap (λ (b : ButtonsView). b.count) fresh.buttons;
     size = ap (λ (s : StoredSlots). s.size) fresh.stores;
     slots = ap (λ (s : StoredSlots). length s.slots) fresh.stores;
     ticks = omega (arith, ap (λ (l : SerialLine). l.ticks) fresh.line, slow);

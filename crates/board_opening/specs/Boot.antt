@@ -38,9 +38,10 @@ layout_at p = layout_in p.place
 abbrev pub footprint_of : Process → Place → Footprint
 footprint_of process place = record { object = process.object; layout = place.1 }
 
--- the record that a process shows with what is its own, and so many bytes of storage that nobody wrote yet
+-- the record that a process shows with what is its own, and so many bytes of storage that nobody wrote yet, where no
+-- button is pressed
 abbrev pub fresh_record : ℕ → List ℕ → Resident → Record
-fresh_record storage flash r = record_of flash (r, erased storage)
+fresh_record storage flash r = record_of flash 0 (r, erased storage)
 
 -- a footprint lies where a process may begin its first life, in so many bytes of flash, but for its block in RAM
 pub record IsFirst (flash : ℕ) (f : Footprint) : Type 0 where

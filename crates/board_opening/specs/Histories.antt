@@ -3,6 +3,7 @@
 use Rattle.std.specs.Prelude.{◌≤◌, ℕ, List, slice_get, IfSome}
 use Rattle.script_text.specs.Settings.{ScriptSettings as Script}
 use Rattle.kernel_histories.specs.Deliveries.{DeliversTheLast}
+use Rattle.kernel_histories.specs.Edges.{EdgesComeOnce}
 use Rattle.kernel_histories.specs.Waits.{GivesTheFirst}
 use Rattle.kernel_laws.specs.Fairness.{IsFair}
 use Rattle.kernel_model.specs.Histories.{GivesBackTheLast, HandedNothing}
@@ -27,6 +28,11 @@ DeliveriesFromBootAreOfTheLast =
 abbrev pub WaitsFromBootGetTheFirst : Type 0
 WaitsFromBootGetTheFirst =
     (script : Script) (flash : List ℕ) (slot : ℕ) → GivesTheFirst (opening script flash) slot
+
+-- and each edge of the script comes once to each process that is told of it, in the order of the script
+abbrev pub EdgesFromBootComeOnce : Type 0
+EdgesFromBootComeOnce =
+    (script : Script) (flash : List ℕ) (slot : ℕ) → EdgesComeOnce (opening script flash) slot
 
 -- the run by round robin from there is fair, where a slice has some turns
 abbrev pub RunsFromBootAreFair : Type 0

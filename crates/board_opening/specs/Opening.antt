@@ -20,13 +20,14 @@ use Rattle.kernel_model.specs.World.{World}
 use Rattle.board_opening.specs.Settings.{erased, visible_settings, pace}
 
 -- the first record of an application with these bytes, whose object stands at an address: at its start, its block
--- zeroed, so many bytes of storage erased
+-- zeroed, so many bytes of storage erased, and no button pressed
 abbrev pub first_record : ℕ → List ℕ → ℕ → LayoutView → Meaning → Main → Record
 first_record storage object address e h m = record {
   process = started address h m e.start (e.end - e.start) e.brk;
   object = object;
   own = own.opened (record { object = record { address = address; size = h.total_size }; layout = e });
   storage = erased storage;
+  pressed = 0;
 }
 
 -- of one whose object stands at an offset in flash
@@ -68,7 +69,7 @@ unfoldable pub opening : Script → List ℕ → World
 opening script flash = record {
   records = filter_map (record_placed script.storage flash) (placed_applications script.ram flash);
   unplaced = filter_map unplaced_at (placed_applications script.ram flash);
-  settings = visible_settings script.leds script.start script.storage script.policy script.strict;
+  settings = visible_settings script;
   pace = pace script.slice;
   devices = record {
     waiting = record { writes = []; reads = []; randoms = []; stores = [] };

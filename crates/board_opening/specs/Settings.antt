@@ -1,14 +1,21 @@
 -- The settings of a board under a script. They are this board's own.
-use Rattle.std.specs.Prelude.{ℕ, Bool, List, replicate}
-use Rattle.fault_policy.specs.declared.Policy.{Policy}
+use Rattle.std.specs.Prelude.{ℕ, List, replicate}
+use Rattle.script_text.specs.Settings.{ScriptSettings as Script}
 use Rattle.kernel_model.specs.declared.settings.Settings.{Settings}
 use Rattle.kernel_model.specs.World.{Pace}
 
--- so many LEDs, an alarm's clock that shows a number at time 0, so many bytes of storage for each slot, a policy for
--- processes that fault, and whether an application without a Permissions TLV is refused every call to a driver
-abbrev pub visible_settings : ℕ → ℕ → ℕ → Policy → Bool → Settings
-visible_settings leds start storage policy strict =
-    record { leds = leds; start = start; storage = storage; policy = policy; strict = strict }
+-- of what a script says processes can see how many LEDs and buttons there are, what the alarm's clock shows at time 0,
+-- how many bytes of storage a slot has, the policy for processes that fault, and whether an application without a
+-- Permissions TLV is refused every call to a driver
+abbrev pub visible_settings : Script → Settings
+visible_settings script = record {
+  leds = script.leds;
+  buttons = script.buttons;
+  start = script.start;
+  storage = script.storage;
+  policy = script.policy;
+  strict = script.strict;
+}
 
 -- slices of so many turns
 abbrev pub pace : ℕ → Pace

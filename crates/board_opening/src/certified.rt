@@ -34,7 +34,7 @@ pub fn processes_from_boot_keep_their_places()
 
 /// Whatever choices are made after a boot, a step that starts a process again leaves it as it was
 /// at the boot, but for its turns, its restarts and its life, its dropped upcalls, its last denial,
-/// its last refusal and its storage.
+/// its last refusal, its storage, and which buttons it was told are pressed.
 pub fn restarts_from_boot_are_as_opened()
     ensures { RestartsFromBoot }
 {
@@ -51,7 +51,7 @@ pub fn counts_from_boot_add_up()
 }
 
 /// After any choices from a boot the round robin is done exactly where no process and no device is
-/// ready, no bytes are still to come in, no process that lives has an alarm armed, and no write
+/// ready, nothing is still to come in, no process that lives has an alarm armed, and no write
 /// waits.
 pub fn runs_from_boot_are_done_where_nothing_is_left()
     ensures { IsDoneFromBoot }
@@ -92,8 +92,9 @@ pub fn changes_from_boot_have_causes()
 /// then allowed to the driver which answers it; one of its grants, above, is changed in its own
 /// turn or by an answer to it; one of its storage by a served request of its own. Each access was
 /// permitted, each denial was due and is shown with its address and rule, and a refused call
-/// changed little. The record of each process is what becomes of it alone, by its own turns and
-/// answers (Levy et al., SOSP 2017).
+/// changed little. Each edge of a button scheduled one upcall for each process that was told of it,
+/// and nothing else scheduled any of the buttons. The record of each process is what becomes of it
+/// alone, by its own turns and answers (Levy et al., SOSP 2017).
 pub fn runs_from_boot_are_accounted_for()
     ensures { RunsFromBootAreAccountedFor }
 {

@@ -1,11 +1,14 @@
 //! Laws of all runs from a boot. The functions do nothing.
 ghost use Rattle.board_opening.specs.Alone.{OpeningsAreAlone, RunsAreAlone, SameViewSameRecord};
 ghost use Rattle.board_opening.specs.Histories.{DeliveriesFromBootAreOfTheLast};
+ghost use Rattle.board_opening.specs.Histories.{EdgesFromBootComeOnce};
 ghost use Rattle.board_opening.specs.Histories.{OpensWithNothingHanded, RunsFromBootAreFair};
 ghost use Rattle.board_opening.specs.Histories.{SwapsFromBootGiveBackTheLast};
 ghost use Rattle.board_opening.specs.Histories.{WaitsFromBootGetTheFirst};
 
-use kernel_histories::{deliveries_are_of_the_last, swaps_give_back_the_last, waits_get_the_first};
+use kernel_histories::{
+    deliveries_are_of_the_last, each_edge_comes_once, swaps_give_back_the_last, waits_get_the_first,
+};
 use kernel_laws::ready_processes_have_turns;
 use kernel_model::a_record_is_the_replay_of_its_events;
 
@@ -32,6 +35,16 @@ pub fn deliveries_from_boot_are_of_the_last()
     swaps_from_boot_give_back_the_last();
     deliveries_are_of_the_last();
     waits_get_the_first();
+}
+
+/// Whatever choices are made after a boot: what came in, and then what is still to come in, is what
+/// the script says. Each edge of a button of which a process is told, which lives then and has the
+/// button enabled, schedules upcall 0 of the buttons for it once, in the order of the script, and
+/// nothing else schedules one of them (TRD 104, "Subscribe", "Yield").
+pub fn edges_from_boot_come_once()
+    ensures { EdgesFromBootComeOnce }
+{
+    each_edge_comes_once();
 }
 
 /// No process that is ready waits for good after a boot: in the run by round robin, every window of

@@ -15,5 +15,5 @@ pub use certified::{
 };
 pub use laws::{
     a_process_depends_on_its_own_view_alone, deliveries_from_boot_are_of_the_last,
-    runs_from_boot_are_fair, swaps_from_boot_give_back_the_last,
+    edges_from_boot_come_once, runs_from_boot_are_fair, swaps_from_boot_give_back_the_last,
 };

@@ -12,10 +12,11 @@ use Rattle.process_record.specs.Emit.{nothing}
 use Rattle.process_record.specs.declared.emit.Emit.{Emit}
 use Rattle.kernel_model.specs.Record.{Record}
 use Rattle.kernel_model.specs.World.{Answer, Label, Stepped, World, after}
-use Rattle.kernel_model.specs.World.{answer_label, carried_out, labels, ran}
+use Rattle.kernel_model.specs.World.{answer_label, carried_out, labels, ran, telling_edge}
 use Rattle.kernel_model.specs.Turn.{is_turn}
 use Rattle.kernel_model.proofs.Labels.{shown_by-printed}
-use Rattle.kernel_model.specs.Laws.{ComesTo, DevicesAnswerOne}
+use Rattle.kernel_model.proofs.Told.{edge_answer, told_labels}
+use Rattle.kernel_model.specs.Laws.{ComesTo, DevicesAnswerOne, edge_labels}
 use Rattle.kernel_model.specs.Run.{Ran, next, printed, round}
 use Rattle.kernel_model.specs.Stretch.{IsQuietTurn, IsStretch}
 use Rattle.kernel_model.specs.Shown.{shown_by}
@@ -30,6 +31,24 @@ use Rattle.board_runs.specs.declared.teller.RunWriter.TheVariants as tellings
 use Rattle.board_runs.specs.RunText.{Step, step_lines, step_of, steps, label_lines, shown_in, tally_of}
 use Rattle.board_runs.specs.RunWriter.{counted_bytes, passed_on, step_text, steps_text, telling_of, told_on, told_text}
 use Rattle.board_runs.specs.RunWriter.{total_text}
+
+-- labels without lines have none together
+no_lines : (time : ℕ) (ls : List Label) → All (λ label. label_lines time label ≡ []) ls
+    → flat_map (label_lines time) ls ≡ []
+no_lines time [] all = refl
+no_lines time (label ∷ ls) all =
+    let none = λ (x : Label). label_lines time x ≡ [] in
+    ap₂ (λ (a b : List ℕ). a ++ b) (All-head none label ls all) (no_lines time ls (All-tail none label ls all))
+
+-- an edge of a button has none
+edge_lines : (time : ℕ) (w : World) (button : ℕ) (pressed : Bool)
+    → flat_map (label_lines time) (edge_labels button pressed w) ≡ []
+edge_lines time w button pressed =
+    no_lines time (edge_labels button pressed w)
+    (told_labels (λ (label : Label). label_lines time label ≡ [])
+    (telling_edge button pressed w.records w.devices).told 0 w.records
+    (λ slot at r a here there is. ap (λ (x : Answer). label_lines time (answer_label at x))
+    (edge_answer button pressed (slice_get w.records at) a is)))
 
 -- the lines of a step by what it shows are those of its labels
 trace_text-carried_out : DevicesAnswerOne → (time : ℕ) (w : World) (c : Choice)
@@ -70,9 +89,14 @@ trace_text-carried_out law time w (Device device) = by_case _ (law.each w device
     by_case s (inr (inl nobody)) =
         subst (λ (x : Stepped). trace_text time (shown_by x.labels) ≡ flat_map (label_lines time) x.labels)
         (sym nobody.1) refl
-    by_case s (inr (inr one)) =
+    by_case s (inr (inr (inl one))) =
         subst (λ (x : Stepped). trace_text time (shown_by x.labels) ≡ flat_map (label_lines time) x.labels) (sym one.is)
         (of_answer one.slot one.answer.answer)
+    by_case s (inr (inr (inr edge))) =
+        subst (λ (x : Stepped). trace_text time (shown_by x.labels) ≡ flat_map (label_lines time) x.labels)
+        (sym (edge.is ∙ law.tells_edge w edge.button edge.pressed (record w.devices { arrivals = edge.rest })))
+        (ap (trace_text time) (law.shows_nothing w edge.button edge.pressed)
+        ∙ sym (edge_lines time w edge.button edge.pressed))
 trace_text-carried_out law time w (Pass ticks) = refl
 
 trace_text-shown_by : DevicesAnswerOne → (time : ℕ) (w : World) (c : Choice)

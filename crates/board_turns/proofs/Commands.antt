@@ -30,12 +30,12 @@ use Rattle.kernel_calls.specs.Own.{IsOwnObject, record_in}
 use Rattle.kernel_model.specs.Lives.{is_alive}
 use Rattle.kernel_calls.specs.Given.{given}
 use Rattle.kernel_calls.specs.Outcomes.{ServingComesTo, IsLeft, IsServed, ServesAt, acts_for, is_for_driver}
-use Rattle.kernel_calls.specs.Outcomes.{is_driver_command}
+use Rattle.kernel_calls.specs.Outcomes.{is_driver_command, record_of_slot}
 use Rattle.kernel_model.specs.Turn.{surroundings}
 use Rattle.board_drivers.specs.declared.moment.Moment.{Moment}
 use Rattle.board_drivers.specs.declared.drivers.Drivers.{Drivers}
 use Rattle.board_drivers.specs.declared.drivers.Order.{Order}
-use Rattle.board_drivers.specs.Driven.{Commands, Drives, MayServe}
+use Rattle.board_drivers.specs.Driven.{Commands, Drives, MayServe, beside_in}
 use Rattle.board_drivers.specs.Residents.{IsResident, id_of}
 use Rattle.board_turns.specs.Turning.{Finishes}
 
@@ -69,11 +69,21 @@ given_so : (r : Record) (answer : Result Reply CallRule) → driver_answered r a
 given_so r (Ok reply) = refl
 given_so r (Err rule) = refl
 
+-- what a command sees at a moment, where the drivers have these buttons pressed
+abbrev pub seen_by_commands : Moment → Drivers → CommandContext
+seen_by_commands m d = record {
+  now = clock_at m.settings.start m.time;
+  leds = m.settings.leds;
+  buttons = m.settings.buttons;
+  pressed = d.buttons.pressed;
+  storage = m.settings.storage;
+}
+
 -- what comes of a command of the process in a slot, as its driver takes it at a moment
 abbrev pub Came : Moment → ℕ → Homes → Homes → Order → Reply × Option CallRule → Drivers → Drivers → CommandHandler
     → Type 0
 Came m slot home home' order answer d d' taker =
-    let c = taker (surroundings m.settings m.time) order.number order.a2 order.a3 (own_of home slot) in
+    let c = taker (seen_by_commands m d) order.number order.a2 order.a3 (own_of home slot) in
     (answer ≡ reply_of c.answer) × (own_of home' slot ≡ own_after c.step) × Drives
     (id_of slot (own_of home slot)) c.acts d d'
 
@@ -90,23 +100,34 @@ module _ (m : Moment) (slot : ℕ) (home home' : Homes) (order : Order) (answer 
       (answer ≡ reply_of c.answer) × (own_of home' slot ≡ own_after c.step)
       × Drives (id_of slot (own_of home slot)) c.acts d d')
       around
-      (subst (λ (k : ProcessId). let c =
-      taker (record { now = tick; leds = length d.leds; storage = d.stores.size }) order.number order.a2 order.a3
-      (own_of home k.slot) in (answer ≡ reply_of c.answer) × (own_of home' k.slot ≡ own_after c.step)
-      × Drives k c.acts d d')
+      (subst (λ (k : ProcessId). let c = taker shown order.number order.a2 order.a3 (own_of home k.slot) in
+      (answer ≡ reply_of c.answer) × (own_of home' k.slot ≡ own_after c.step) × Drives k c.acts d d')
       at (comes taker found))
     where
-      around : ◌≡◌ {A = CommandContext} (record { now = tick; leds = length d.leds; storage = d.stores.size })
-          (surroundings m.settings m.time)
-      around = λ i. record { now = when i; leds = may.leds i; storage = may.size i }
+      shown : CommandContext
+      shown = record {
+        now = tick;
+        leds = length d.leds;
+        buttons = d.buttons.count;
+        pressed = d.buttons.pressed;
+        storage = d.stores.size;
+      }
+
+      around : shown ≡ seen_by_commands m d
+      around = λ i. record {
+        now = when i;
+        leds = may.leds i;
+        buttons = may.buttons i;
+        pressed = d.buttons.pressed;
+        storage = may.size i;
+      }
 
   -- it has left the process in its place
   pub came_in_place : (taker : CommandHandler) → handler_of order.driver ≡ Some taker → CommandsStayInPlace
       → Came m slot home home' order answer d d' taker → StaysInPlace (own_of home slot) (own_of home' slot)
   came_in_place taker found law come =
       subst (StaysInPlace (own_of home slot)) (sym come.1)
-      (law order.driver taker found (surroundings m.settings m.time) order.number order.a2 order.a3
-      (own_of home slot))
+      (law order.driver taker found (seen_by_commands m d) order.number order.a2 order.a3 (own_of home slot))
 
   -- what comes of a command that its driver answered
   pub finishes : (p p' : Process) (call : SystemCall) (o : Outcome) (taker : CommandHandler)
@@ -120,7 +141,8 @@ module _ (m : Moment) (slot : ℕ) (home home' : Homes) (order : Order) (answer 
   finishes p p' call o taker found is for come object same gives = record {
     acts = c.acts;
     serves = λ storage.
-        let r = record_in home.flash p own storage in
+        let beside = beside_in d storage in
+        let r = record_in home.flash p own beside in
         ap (λ (b : Bool). cond b (by_form around r (form_of call))
         (refused_with r Permission (failure_of (form_of call) Permission)))
         (both (object_permits m.settings.strict (object_in home.flash p.object) call) (is_driver_command call) for).0
@@ -132,17 +154,23 @@ module _ (m : Moment) (slot : ℕ) (home home' : Homes) (order : Order) (answer 
         ∙ gives (record_with_own r own'))
         ∙ ap (λ (x : Object). record {
           after =
-              record { process = p'; object = object_in home.flash x; own = own'; storage = storage };
+              record {
+                process = p';
+                object = object_in home.flash x;
+                own = own';
+                storage = storage;
+                pressed = d.buttons.pressed;
+              };
           outcome = o;
           acts =
               c.acts;
         }) (sym object)
-        ∙ ap (λ (f : List ℕ). record { after = record_in f p' own' storage; outcome = o; acts = c.acts }) (sym same);
+        ∙ ap (λ (f : List ℕ). record { after = record_in f p' own' beside; outcome = o; acts = c.acts }) (sym same);
     drives = come.2;
   }
     where
       around : CommandContext
-      around = surroundings m.settings m.time
+      around = seen_by_commands m d
 
       own : Own
       own = own_of home slot
@@ -188,7 +216,12 @@ pub served_itself : (m : Moment) (slot : ℕ) (home home' : Homes) (p p' : Proce
     → Drives (id_of slot (own_of home slot)) (acts_for o) d d'
     → Finishes m slot home p call home' p' o d d'
 served_itself m slot home home' p p' call o d d' is drives =
-    record { acts = acts_for o; serves = is.comes (surroundings m.settings m.time); drives = drives }
+    record {
+      acts = acts_for o;
+      serves = λ storage. let beside = beside_in d storage in
+          is.comes (surroundings m.settings m.time (record_of_slot home slot p beside)) beside;
+      drives = drives;
+    }
 
 -- a process that stays in its place stays seated
 pub stays_seated : (flash : List ℕ) (steps : ℕ) (p p' : Process) (own own' : Own) → StaysInPlace own own'

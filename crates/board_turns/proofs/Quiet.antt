@@ -7,10 +7,11 @@ use Rattle.process_model.specs.Instruction.{with_write}
 use Rattle.process_record.specs.Process.{after_turn}
 use Rattle.process_record.specs.declared.process.Process.{Process}
 use Rattle.grant_enter.specs.Homes.{IsStopped, MakesAll}
-use Rattle.kernel_calls.specs.Own.{IsOwnObject, record_in}
+use Rattle.kernel_calls.specs.Own.{Beside, IsOwnObject, record_in}
 use Rattle.kernel_model.specs.Record.{Record, byte_at, instruction}
 use Rattle.kernel_model.specs.Stretch.{AllGo, after_instructions, instruction_made}
 use Rattle.board_drivers.specs.Residents.{IsResident, Resident, record_of}
+use Rattle.board_turns.specs.Turning.{nothing_beside}
 use Rattle.board_turns.specs.Quiet.{Quietly}
 use Rattle.board_turns.proofs.Sight.{sees_record}
 
@@ -32,36 +33,36 @@ one_then : (n k : ℕ) → n + 1 + k ≡ n + suc k
 one_then n k = omega arith
 
 -- instructions that each went are those of the record, and lead it to what they left
-pub record Follows (k : ℕ) (flash : List ℕ) (p : Process) (own own' : Own) (later : Registers) (storage : List ℕ) : Type
+pub record Follows (k : ℕ) (flash : List ℕ) (p : Process) (own own' : Own) (later : Registers) (beside : Beside) : Type
     0 where
-  pub go : AllGo k (record_in flash p own storage)
-  pub leads : record_in flash (later_process p k later) own' storage
-      ≡ after_instructions k (record_in flash p own storage)
+  pub go : AllGo k (record_in flash p own beside)
+  pub leads : record_in flash (later_process p k later) own' beside
+      ≡ after_instructions k (record_in flash p own beside)
 
 first_and_rest : (k : ℕ) (r : Record) → (instruction r).end ≡ Went → AllGo k (instruction_made r) → AllGo (suc k) r
 unfolding after_instructions
 first_and_rest k r first rest zero h = first
 first_and_rest k r first rest (suc j) h = rest j (omega (arith, h))
 
-pub follows : (k : ℕ) (flash : List ℕ) (p : Process) (own own' : Own) (later : Registers) (storage : List ℕ)
+pub follows : (k : ℕ) (flash : List ℕ) (p : Process) (own own' : Own) (later : Registers) (beside : Beside)
     → IsOwnObject flash p.object own.layout → MakesAll k flash own p.regs own' later
-    → Follows k flash p own own' later storage
+    → Follows k flash p own own' later beside
 unfolding MakesAll after_instructions
-follows zero flash p own own' later storage object m = record {
+follows zero flash p own own' later beside object m = record {
   go = λ j h. absurd (omega (arith, h));
   leads =
-      ap₂ (λ (o : Own) (regs : Registers). record_in flash (later_process p 0 regs) o storage) m.0 m.1
-      ∙ ap (λ (n : ℕ). record_in flash (record p { turns = n }) own storage) (none_more p.turns);
+      ap₂ (λ (o : Own) (regs : Registers). record_in flash (later_process p 0 regs) o beside) m.0 m.1
+      ∙ ap (λ (n : ℕ). record_in flash (record p { turns = n }) own beside) (none_more p.turns);
 }
-follows (suc k) flash p own own' later storage object m =
-    let r = record_in flash p own storage in
+follows (suc k) flash p own own' later beside object m =
+    let r = record_in flash p own beside in
     let t = instruction r in
-    let made = m.1 (byte_at (record_in flash p own [])) (sees_record flash (p, own) object m.0) in
-    let rest = follows k flash (record (after_turn p) { regs = t.regs }) (with_write own t) own' later storage object
+    let made = m.1 (byte_at (record_in flash p own nothing_beside)) (sees_record flash (p, own) object m.0) in
+    let rest = follows k flash (record (after_turn p) { regs = t.regs }) (with_write own t) own' later beside object
     made.1 in
     record {
       go = first_and_rest k r made.0 rest.go;
-      leads = ap (λ (n : ℕ). record_in flash (record p { regs = later; turns = n }) own' storage)
+      leads = ap (λ (n : ℕ). record_in flash (record p { regs = later; turns = n }) own' beside)
           (sym (one_then p.turns k)) ∙ rest.leads;
     }
 
@@ -70,9 +71,10 @@ pub left_own : (k : ℕ) (flash : List ℕ) (p : Process) (own own' : Own) (late
     → IsOwnObject flash p.object own.layout → MakesAll k flash own p.regs own' later
     → own' ≡ record own { ram = own'.ram }
 left_own k flash p own own' later object m =
-    let led = (follows k flash p own own' later [] object m).leads in
-    let after : own' ≡ (after_instructions k (record_in flash p own [])).own = ap (λ (r : Record). r.own) led in
-    after ∙ own_after k (record_in flash p own []) ∙ ap (λ (o : Own). record own { ram = o.ram }) (sym after)
+    let led = (follows k flash p own own' later nothing_beside object m).leads in
+    let before = record_in flash p own nothing_beside in
+    let after : own' ≡ (after_instructions k before).own = ap (λ (r : Record). r.own) led in
+    after ∙ own_after k before ∙ ap (λ (o : Own). record own { ram = o.ram }) (sym after)
 
 -- so a process is as it is to be, so many steps later
 pub later_seated : (flash : List ℕ) (steps k : ℕ) (p : Process) (own own' : Own) (later : Registers)
@@ -91,14 +93,16 @@ pub quietly : (k most : ℕ) (flash : List ℕ) (p : Process) (own own' : Own) (
     → IsOwnObject flash p.object own.layout → MakesAll k flash own p.regs own' later
     → (k < most → IsStopped flash own' later) → Quietly k most flash (p, own) (later_process p k later, own')
 quietly k most flash p own own' later object m stops = record {
-  go = λ storage. (follows k flash p own own' later storage object m).go;
-  leads = λ storage. (follows k flash p own own' later storage object m).leads;
-  stops = λ fewer storage.
+  go = λ pressed storage.
+      (follows k flash p own own' later (record { storage = storage; pressed = pressed }) object m).go;
+  leads = λ pressed storage.
+      (follows k flash p own own' later (record { storage = storage; pressed = pressed }) object m).leads;
+  stops = λ fewer pressed storage.
       let stopped = stops fewer in
       let there : IsOwnObject flash p.object own'.layout =
       subst (λ (o : Own). IsOwnObject flash p.object o.layout) (sym (left_own k flash p own own' later object m))
       object in
-      stopped.1 (byte_at (record_in flash (later_process p k later) own' []))
+      stopped.1 (byte_at (record_in flash (later_process p k later) own' nothing_beside))
       (sees_record flash (later_process p k later, own') there stopped.0);
 }
 
@@ -106,6 +110,6 @@ quietly k most flash p own own' later object m stops = record {
 pub kept_own : (k most : ℕ) (flash : List ℕ) (old new : Resident) → Quietly k most flash old new
     → new.1 ≡ record old.1 { ram = new.1.ram }
 kept_own k most flash old new q =
-    let after : new.1 ≡ (after_instructions k (record_of flash (old, []))).own =
-    ap (λ (r : Record). r.own) (q.leads []) in
-    after ∙ own_after k (record_of flash (old, [])) ∙ ap (λ (o : Own). record old.1 { ram = o.ram }) (sym after)
+    let before = record_of flash 0 (old, []) in
+    let after : new.1 ≡ (after_instructions k before).own = ap (λ (r : Record). r.own) (q.leads 0 []) in
+    after ∙ own_after k before ∙ ap (λ (o : Own). record old.1 { ram = o.ram }) (sym after)

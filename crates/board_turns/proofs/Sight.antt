@@ -1,5 +1,5 @@
 -- The bytes that a record tells are those that its process sees.
-use Rattle.std.proofs.Common.{◌≡◌, ℕ, ◌+◌, ◌-◌, ◌<◌, ◌≤◌, ◌&&◌, nat_le, nat_lt, if◌then◌else◌, List, [], length}
+use Rattle.std.proofs.Common.{◌≡◌, ℕ, ◌+◌, ◌-◌, ◌<◌, ◌≤◌, ◌&&◌, nat_le, nat_lt, if◌then◌else◌, List, length}
 use Rattle.std.proofs.Common.{slice_index, ap, ◌∙◌, arith}
 use Rattle.std.proofs.lemmas.Bool.Decides.{nat_tests}
 use Rattle.std.proofs.lemmas.List.{get_or-take, get_or-drop}
@@ -10,6 +10,7 @@ use Rattle.grant_enter.specs.Homes.{IsInPlace}
 use Rattle.kernel_calls.specs.Own.{IsOwnObject, record_in}
 use Rattle.kernel_model.specs.Record.{byte_at}
 use Rattle.board_drivers.specs.Residents.{Resident}
+use Rattle.board_turns.specs.Turning.{nothing_beside}
 
 -- a byte of an object is one of flash
 in_object : (flash : List ℕ) (from size k : ℕ) → k < size
@@ -24,7 +25,7 @@ ram_side : (start n a x y : ℕ) → start ≤ a → a < start + n
 ram_side start n a x y from below = grind (arith, nat_tests)
 
 pub sees_record : (flash : List ℕ) (r : Resident) → IsOwnObject flash r.0.object r.1.layout → IsInPlace r.1
-    → Sees flash r.1 (byte_at (record_in flash r.0 r.1 []))
+    → Sees flash r.1 (byte_at (record_in flash r.0 r.1 nothing_beside))
 sees_record flash r own place =
     let e = r.1.layout in
     let object = r.0.object in

@@ -1,8 +1,9 @@
 -- The turn of a process.
-use Rattle.std.proofs.Common.{◌≡◌, ◌≤◌, ℕ, ◌+◌, ◌==◌, ◌⊎◌, inl, inr, true, false, List, [], length}
+use Rattle.std.proofs.Common.{◌≡◌, ◌≤◌, ℕ, ◌+◌, ◌⊎◌, inl, inr, true, false, List, [], length}
 use Rattle.std.proofs.Common.{Option, None, Some, is_some, Result, Ok, Err, refl, sym, ap, subst, ◌∙◌, arith}
 use Rattle.std.proofs.lemmas.List.{length-set, set-set}
 use Rattle.tk_base.specs.declared.access.Denial.{Denial}
+use Rattle.syscall_abi.specs.Call.{call_of}
 use Rattle.tbf_headers.specs.declared.fault.HeaderFault.{HeaderFault}
 use Rattle.tbf_headers.specs.declared.program.Main.{Main}
 use Rattle.tbf_headers.specs.Meaning.{Meaning, header_reading}
@@ -17,14 +18,15 @@ use Rattle.process_model.specs.Own.{Own}
 use Rattle.process_record.specs.Process.{after_fault, after_turn}
 use Rattle.grant_enter.specs.Homes.{Homes, ChangesOnly, own_of, with_own}
 use Rattle.process_model.specs.Flash.{object_in}
-use Rattle.kernel_calls.specs.Own.{IsOwn, IsApplication, HasStart, record_in}
+use Rattle.kernel_calls.specs.Own.{Beside, IsOwn, IsApplication, HasStart, record_in}
 use Rattle.kernel_model.specs.Lives.{is_alive}
 use Rattle.kernel_model.specs.Record.{Record, with_process}
 use Rattle.upcall_queue.specs.declared.inbox.Delivery.{Delivery}
 use Rattle.upcall_queue.specs.Pending.{due}
 use Rattle.kernel_calls.specs.Outcomes.{deliver_due}
 use Rattle.kernel_model.specs.Calls.{restart, restarted_by, restarted_main}
-use Rattle.kernel_model.specs.Turn.{Turned, turn_counted, delivery, at_turn_end, idle, turn_in, turned}
+use Rattle.kernel_model.specs.Turn.{Turned, turn_counted, calls, delivery, at_turn_end, faulted, idle, turn_in, turned}
+use Rattle.kernel_model.specs.Turn.{unknown_call}
 use Rattle.driver_model.specs.Commands.{leaving_all}
 use Rattle.board_drivers.specs.declared.drivers.Drivers.{Drivers}
 use Rattle.board_turns.specs.declared.guard.ActivePmp.{ActivePmp}
@@ -34,7 +36,7 @@ use Rattle.board_memory.specs.Registers.{Protect}
 use Rattle.board_drivers.specs.declared.moment.Moment.{Moment}
 use Rattle.board_turns.specs.declared.turn.Shown.{Shown}
 use Rattle.kernel_model.specs.Laws.{DropsAtMostOne, GrantsChangeAtCalls}
-use Rattle.board_drivers.specs.Driven.{Drives, MayServe}
+use Rattle.board_drivers.specs.Driven.{Drives, MayServe, beside_in}
 use Rattle.board_drivers.specs.Residents.{Resident, IsResident}
 use Rattle.board_turns.specs.Turning.{InTurn, IsMade, LeavesOn, LeavesSlot, MayTurn, ServesCall, Settles}
 use Rattle.board_drivers.specs.Residents.{id_of}
@@ -53,28 +55,28 @@ pub only_flash : (slot : ℕ) (a b : Homes) → ChangesOnly slot a b → b.flash
 only_flash slot a b only = ap (λ (h : Homes). h.flash) only
 
 -- what a turn leaves of the process in a slot, shows, and has the drivers do
-abbrev DoesWith : ℕ → List ℕ → Resident → Resident → Shown → Drivers → Drivers → List ℕ → Turned → Type 0
-DoesWith slot flash old new shown d d' storage t =
-    (t.after ≡ record_in flash new.0 new.1 storage) × Shows t shown × Drives (id_of slot old.1) t.acts d d'
+abbrev DoesWith : ℕ → List ℕ → Resident → Resident → Shown → Drivers → Drivers → Beside → Turned → Type 0
+DoesWith slot flash old new shown d d' beside t =
+    (t.after ≡ record_in flash new.0 new.1 beside) × Shows t shown × Drives (id_of slot old.1) t.acts d d'
 
 -- it is that of the turn that it is
-as_known : (slot : ℕ) (flash : List ℕ) (old new : Resident) (shown : Shown) (d d' : Drivers) (storage : List ℕ)
-    (t u : Turned) → t ≡ u → DoesWith slot flash old new shown d d' storage u
-    → DoesWith slot flash old new shown d d' storage t
-as_known slot flash old new shown d d' storage t u e h =
-    subst (λ (x : Turned). DoesWith slot flash old new shown d d' storage x) (sym e) h
+as_known : (slot : ℕ) (flash : List ℕ) (old new : Resident) (shown : Shown) (d d' : Drivers) (beside : Beside)
+    (t u : Turned) → t ≡ u → DoesWith slot flash old new shown d d' beside u
+    → DoesWith slot flash old new shown d d' beside t
+as_known slot flash old new shown d d' beside t u e h =
+    subst (λ (x : Turned). DoesWith slot flash old new shown d d' beside x) (sym e) h
 
 -- the turn of a record that runs, by the end of its instruction
-by_end : (m : Moment) (flash : List ℕ) (r : Resident) (storage : List ℕ) (end : TurnEnd) → r.0.state ≡ Running
+by_end : (m : Moment) (flash : List ℕ) (r : Resident) (beside : Beside) (end : TurnEnd) → r.0.state ≡ Running
     → (next_instruction flash r).end ≡ end
     → (let a = after_instruction r (next_instruction flash r) in
-    turned m.settings m.time (record_in flash r.0 r.1 storage)
-    ≡ at_turn_end m.settings m.time (record_in flash a.0 a.1 storage) (next_instruction flash r).accesses end)
+    turned m.settings m.time (record_in flash r.0 r.1 beside)
+    ≡ at_turn_end m.settings m.time (record_in flash a.0 a.1 beside) (next_instruction flash r).accesses end)
 unfolding turned
-by_end m flash r storage end runs e =
+by_end m flash r beside end runs e =
     let a = after_instruction r (next_instruction flash r) in
-    ap (λ (s : State). turn_in m.settings m.time s (record_in flash r.0 r.1 storage)) runs
-    ∙ ap (at_turn_end m.settings m.time (record_in flash a.0 a.1 storage) (next_instruction flash r).accesses) e
+    ap (λ (s : State). turn_in m.settings m.time s (record_in flash r.0 r.1 beside)) runs
+    ∙ ap (at_turn_end m.settings m.time (record_in flash a.0 a.1 beside) (next_instruction flash r).accesses) e
 
 -- an instruction leaves a process as it is to be, a step later
 pub instruction_seated : (flash : List ℕ) (steps : ℕ) (r : Resident) (t : UserTurn) → IsResident flash steps r
@@ -153,6 +155,7 @@ module _ (m : Moment) (slot : ℕ) (home made : Homes) (p q : Process) (is : IsM
     asks = may.asks;
     lost = may.lost;
     leds = may.leds;
+    buttons = may.buttons;
     size = may.size;
   })
 
@@ -161,7 +164,8 @@ module _ (m : Moment) (slot : ℕ) (home made : Homes) (p q : Process) (is : IsM
       → Turns m slot home.flash before (resident made slot q) nothing_shown d d
   went d runs end =
       subst (λ (r : Resident). Turns m slot home.flash before r nothing_shown d d) (sym is) (λ storage.
-      as_known slot home.flash before _ nothing_shown d d storage _ _ (by_end m home.flash before storage Went runs end)
+      let beside = beside_in d storage in
+      as_known slot home.flash before _ nothing_shown d d beside _ _ (by_end m home.flash before beside Went runs end)
       (refl, record { call = refl; denial = refl }, drives_nothing (id_of slot before.1) d))
 
   -- one that is denied
@@ -170,11 +174,12 @@ module _ (m : Moment) (slot : ℕ) (home made : Homes) (p q : Process) (is : IsM
       → Settles m.settings.policy made.flash q (own_of made slot) denial new
       → Drives (id_of slot (own_of made slot)) leaving_all d d' → Turns m slot home.flash before new shown d d'
   trapped new denial shown d d' runs end e settles drives = λ storage.
+      let beside = beside_in d storage in
       let settled = subst (λ (r : Resident). Settles m.settings.policy home.flash r.0 r.1 denial new) is
       (subst (λ (f : List ℕ). Settles m.settings.policy f q (own_of made slot) denial new)
       (only_flash slot home made only) settles) in
-      as_known slot home.flash before new _ d d' storage _ _ (by_end m home.flash before storage (Trap denial) runs end) (
-        settled storage,
+      as_known slot home.flash before new _ d d' beside _ _ (by_end m home.flash before beside (Trap denial) runs end) (
+        settled beside,
         record { call = ap (λ (s : Shown). s.call) (sym e); denial = ap (λ (s : Shown). s.denial) (sym e) },
         subst (λ (r : Resident). Drives (id_of slot r.1) leaving_all d d') is drives,
       )
@@ -185,11 +190,27 @@ module _ (m : Moment) (slot : ℕ) (home made : Homes) (p q : Process) (is : IsM
       → ServesCall m slot made.flash (resident made slot q) new shown d d'
       → Turns m slot home.flash before new shown d d'
   makes_call new shown d d' runs end serves = λ storage.
+      let beside = beside_in d storage in
       let served = subst (λ (r : Resident). ServesCall m slot home.flash r new shown d d') is
       (subst (λ (f : List ℕ). ServesCall m slot f (resident made slot q) new shown d d')
       (only_flash slot home made only) serves) in
-      as_known slot home.flash before new shown d d' storage _ _ (by_end m home.flash before storage Call runs end)
+      as_known slot home.flash before new shown d d' beside _ _ (by_end m home.flash before beside Call runs end)
       (served (next_instruction home.flash before).accesses storage)
+
+-- a call of an unknown class is a fault
+pub unknown_faults : (m : Moment) (slot : ℕ) (flash : List ℕ) (old new : Resident) (denial : Denial) (shown : Shown)
+    (d d' : Drivers) → call_of old.0.regs ≡ None → denial ≡ unknown_call old.0
+    → shown ≡ record { call = None; denial = Some denial } → Settles m.settings.policy flash old.0 old.1 denial new
+    → Drives (id_of slot old.1) leaving_all d d' → ServesCall m slot flash old new shown d d'
+unknown_faults m slot flash old new denial shown d d' none is e settles drives = λ accesses storage.
+    let beside = beside_in d storage in
+    let r = record_in flash old.0 old.1 beside in
+    as_known slot flash old new shown d d' beside _ (faulted m.settings r denial)
+    (ap (calls m.settings m.time r accesses) none ∙ ap (faulted m.settings r) (sym is)) (
+      settles beside,
+      record { call = ap (λ (s : Shown). s.call) (sym e); denial = ap (λ (s : Shown). s.denial) (sym e) },
+      drives,
+    )
 
 -- the start again of a process that faulted is that of one whose denial was recorded
 restarted_same : (r : Record) (denial : Denial) (e : Bounds) (address : ℕ) (read : Result Meaning HeaderFault)
@@ -205,13 +226,13 @@ restarted_same r denial e address (Ok meaning) h a = by_main meaning.main a
     by_main None b = absurd b
     by_main (Some m) b = refl
 
-pub starts_again : (flash : List ℕ) (process : Process) (own : Own) (storage : List ℕ) (denial : Denial)
+pub starts_again : (flash : List ℕ) (process : Process) (own : Own) (beside : Beside) (denial : Denial)
     → IsOwn flash process own
-    → restart (record_in flash (after_fault process denial) own storage)
-    ≡ restart (record_in flash (record process { denial = Some denial }) own storage)
+    → restart (record_in flash (after_fault process denial) own beside)
+    ≡ restart (record_in flash (record process { denial = Some denial }) own beside)
 unfolding restart
-starts_again flash process own storage denial h =
-    sym (restarted_same (record_in flash process own storage) denial own.layout process.object.address
+starts_again flash process own beside denial h =
+    sym (restarted_same (record_in flash process own beside) denial own.layout process.object.address
     (header_reading (object_in flash process.object)) refl h.object.application)
 
 -- the turn of a process that has yielded
@@ -227,41 +248,41 @@ none_due r (Some next) e = absurd (cc)
 module _ (m : Moment) (slot : ℕ) (flash : List ℕ) where
   -- a turn in which a process may be changed, and no more
   is_quiet : (old new : Resident) (d : Drivers)
-      → ((storage : List ℕ)
-      → turned m.settings m.time (record_in flash old.0 old.1 storage) ≡ idle (record_in flash new.0 new.1 storage))
+      → ((beside : Beside)
+      → turned m.settings m.time (record_in flash old.0 old.1 beside) ≡ idle (record_in flash new.0 new.1 beside))
       → Turns m slot flash old new nothing_shown d d
   is_quiet old new d t = λ storage.
-      as_known slot flash old new nothing_shown d d storage _ _ (t storage)
+      as_known slot flash old new nothing_shown d d (beside_in d storage) _ _ (t (beside_in d storage))
       (refl, record { call = refl; denial = refl }, drives_nothing (id_of slot old.1) d)
 
   -- what is due to it is delivered
   pub woken : (old new : Resident) (d : Drivers) → old.0.state ≡ Yielded → is_some (due old.1.inbox) ≡ true
-      → ((storage : List ℕ)
-      → record_in flash new.0 new.1 storage
-      ≡ deliver_due (record_in flash (after_turn old.0) old.1 storage) (due old.1.inbox))
+      → ((beside : Beside)
+      → record_in flash new.0 new.1 beside
+      ≡ deliver_due (record_in flash (after_turn old.0) old.1 beside) (due old.1.inbox))
       → Turns m slot flash old new nothing_shown d d
   unfolding turned
-  woken old new d waits some delivers = is_quiet old new d (λ storage.
-      let r = record_in flash old.0 old.1 storage in
+  woken old new d waits some delivers = is_quiet old new d (λ beside.
+      let r = record_in flash old.0 old.1 beside in
       ap (λ (s : State). turn_in m.settings m.time s r) waits ∙ by_due r (due old.1.inbox) some
-      ∙ ap idle (sym (delivers storage)))
+      ∙ ap idle (sym (delivers beside)))
 
   -- where nothing is nothing happens
   pub waits_on : (r : Resident) (d : Drivers) → r.0.state ≡ Yielded → is_some (due r.1.inbox) ≡ false
       → Turns m slot flash r r nothing_shown d d
   unfolding turned
-  waits_on r d waits none = is_quiet r r d (λ storage.
-      ap (λ (s : State). turn_in m.settings m.time s (record_in flash r.0 r.1 storage)) waits
-      ∙ none_due (record_in flash r.0 r.1 storage) (due r.1.inbox) none)
+  waits_on r d waits none = is_quiet r r d (λ beside.
+      ap (λ (s : State). turn_in m.settings m.time s (record_in flash r.0 r.1 beside)) waits
+      ∙ none_due (record_in flash r.0 r.1 beside) (due r.1.inbox) none)
 
   -- a process that ended has no turn
   pub rests : (r : Resident) (d : Drivers) → (r.0.state ≡ Faulted) ⊎ ((code : ℕ) × (r.0.state ≡ Terminated code))
       → Turns m slot flash r r nothing_shown d d
   unfolding turned
   rests r d (inl is) =
-      is_quiet r r d (λ storage. ap (λ (s : State). turn_in m.settings m.time s (record_in flash r.0 r.1 storage)) is)
+      is_quiet r r d (λ beside. ap (λ (s : State). turn_in m.settings m.time s (record_in flash r.0 r.1 beside)) is)
   rests r d (inr is) =
-      is_quiet r r d (λ storage. ap (λ (s : State). turn_in m.settings m.time s (record_in flash r.0 r.1 storage)) is.1)
+      is_quiet r r d (λ beside. ap (λ (s : State). turn_in m.settings m.time s (record_in flash r.0 r.1 beside)) is.1)
 
 -- a process that had no turn is as it is to be, some steps later, so one step later
 pub rests_seated_on : (flash : List ℕ) (steps more : ℕ) (r : Resident) → IsResident flash steps r
@@ -285,9 +306,11 @@ module _ (m : Moment) (slot : ℕ) (flash : List ℕ) (old new : Resident) (show
       → (new.1.grants ≡ old.1.grants) × (new.1.lives ≡ old.1.lives)
   keeps_quiet law quiet turns =
       let t = turns [] in
-      let keeps = law m.settings m.time (record_in flash old.0 old.1 []) (t.1.call ∙ ap (λ (s : Shown). s.call) quiet)
+      let beside = beside_in d [] in
+      let r = record_in flash old.0 old.1 beside in
+      let keeps = law m.settings m.time r (t.1.call ∙ ap (λ (s : Shown). s.call) quiet)
       (t.1.denial ∙ ap (λ (s : Shown). s.denial) quiet) in
-      let own : (turned m.settings m.time (record_in flash old.0 old.1 [])).after.own ≡ new.1 =
+      let own : (turned m.settings m.time r).after.own ≡ new.1 =
       ap (λ (r : Record). r.own) t.0 in
       (sym (ap (λ (o : Own). o.grants) own) ∙ keeps.0, sym (ap (λ (o : Own). o.lives) own) ∙ keeps.1)
 
@@ -295,4 +318,4 @@ module _ (m : Moment) (slot : ℕ) (flash : List ℕ) (old new : Resident) (show
   pub loses_one : DropsAtMostOne → Turns m slot flash old new shown d d' → new.1.inbox.dropped ≤ old.1.inbox.dropped + 1
   loses_one law turns =
       subst (λ (r : Record). r.own.inbox.dropped ≤ old.1.inbox.dropped + 1) (turns []).0
-      (law m.settings m.time (record_in flash old.0 old.1 [])).not_more
+      (law m.settings m.time (record_in flash old.0 old.1 (beside_in d []))).not_more

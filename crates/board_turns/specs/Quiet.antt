@@ -9,13 +9,15 @@ use Rattle.board_turns.specs.Guards.{GuardsOnly}
 use Rattle.board_drivers.specs.Residents.{IsResident, Resident, record_of}
 use Rattle.board_turns.specs.Turning.{ChangesSlot}
 
--- So many turns of a process, of at most so many, lead from it to another, whatever its storage is: each only executes
--- an instruction. Where they are fewer, the next instruction makes a system call or is denied.
+-- So many turns of a process, of at most so many, lead from it to another, whatever its storage is and whichever
+-- buttons are pressed: each only executes an instruction. Where they are fewer, the next instruction makes a system
+-- call or is denied.
 pub record Quietly (k most : ℕ) (flash : List ℕ) (old new : Resident) : Type 0 where
-  pub go : (storage : List ℕ) → AllGo k (record_of flash (old, storage))
-  pub leads : (storage : List ℕ)
-      → record_of flash (new, storage) ≡ after_instructions k (record_of flash (old, storage))
-  pub stops : k < most → (storage : List ℕ) → (instruction (record_of flash (new, storage))).end ≢ Went
+  pub go : (pressed : ℕ) (storage : List ℕ) → AllGo k (record_of flash pressed (old, storage))
+  pub leads : (pressed : ℕ) (storage : List ℕ)
+      → record_of flash pressed (new, storage) ≡ after_instructions k (record_of flash pressed (old, storage))
+  pub stops : k < most → (pressed : ℕ) (storage : List ℕ)
+      → (instruction (record_of flash pressed (new, storage))).end ≢ Went
 
 -- so many quiet turns of the process in a slot, and of no other
 pub record QuietAt (k most slot : ℕ) (old new : Machine) (processes processes_after : List Process) : Type 0 where

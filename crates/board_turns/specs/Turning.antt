@@ -15,7 +15,7 @@ use Rattle.fault_policy.specs.Policy.{decision}
 use Rattle.fault_policy.specs.declared.Policy.{Policy}
 use Rattle.kernel_model.specs.Record.{instruction}
 use Rattle.kernel_model.specs.Turn.{Turned, calls, settled, surroundings, turned}
-use Rattle.kernel_calls.specs.Own.{record_in}
+use Rattle.kernel_calls.specs.Own.{Beside, record_in}
 use Rattle.kernel_calls.specs.Outcomes.{record_of_slot}
 use Rattle.kernel_model.specs.Calls.{served}
 use Rattle.syscall_abi.specs.declared.call.Call.{Call}
@@ -26,13 +26,17 @@ use Rattle.board_drivers.specs.declared.drivers.Drivers.{Drivers}
 use Rattle.board_turns.specs.declared.guard.ActivePmp.{ActivePmp}
 use Rattle.board_turns.specs.declared.machine.Machine.{Machine}
 use Rattle.board_turns.specs.Guards.{GuardsOnly, IsSetFor}
-use Rattle.board_drivers.specs.Driven.{Drives, MayServe}
+use Rattle.board_drivers.specs.Driven.{Drives, MayServe, beside_in}
 use Rattle.driver_model.specs.Commands.{BoardRequest}
 use Rattle.board_drivers.specs.Residents.{Resident, resident, id_of, IsResident}
 
--- its next instruction, which its storage is not part of
+-- no bytes of storage, and no button pressed
+abbrev pub nothing_beside : Beside
+nothing_beside = record { storage = []; pressed = 0 }
+
+-- its next instruction, which reads nothing of what it has beside
 abbrev pub next_instruction : List ℕ → Resident → UserTurn
-next_instruction flash r = instruction (record_in flash r.0 r.1 [])
+next_instruction flash r = instruction (record_in flash r.0 r.1 nothing_beside)
 
 -- what an instruction leaves of both, and that it counts as a turn
 abbrev pub after_instruction : Resident → UserTurn → Resident
@@ -60,36 +64,40 @@ pub record Shows (t : Turned) (shown : Shown) : Type 0 where
   pub denial : t.told.denial ≡ shown.denial
 
 -- A turn, or a part of it, of the process in a slot leaves this, shows this, and has the drivers do what it asks of
--- them, whatever the process's storage is.
-abbrev pub Does : (List ℕ → Turned) → ℕ → List ℕ → Resident → Resident → Shown → Drivers → Drivers → Type 0
+-- them, whatever the process's storage is. Of the buttons it sees those that the drivers before it have pressed, and it
+-- leaves them so.
+abbrev pub Does : (Beside → Turned) → ℕ → List ℕ → Resident → Resident → Shown → Drivers → Drivers → Type 0
 Does turn slot flash old new shown d d_after = (storage : List ℕ) →
-    let t = turn storage in
-    (t.after ≡ record_in flash new.0 new.1 storage) × Shows t shown × Drives (id_of slot old.1) t.acts d d_after
+    let beside = beside_in d storage in
+    let t = turn beside in
+    (t.after ≡ record_in flash new.0 new.1 beside) × Shows t shown × Drives (id_of slot old.1) t.acts d d_after
 
 -- what serving the call of a process does at a moment
 abbrev pub ServesCall : Moment → ℕ → List ℕ → Resident → Resident → Shown → Drivers → Drivers → Type 0
 ServesCall m slot flash old new shown d d_after = (accesses : List MemoryAccess) →
-    Does (λ storage. calls m.settings m.time (record_in flash old.0 old.1 storage) accesses (call_of old.0.regs))
+    Does (λ beside. calls m.settings m.time (record_in flash old.0 old.1 beside) accesses (call_of old.0.regs))
     slot flash old new shown d d_after
 
--- a fault of a process is settled as a policy decides
+-- a fault of a process is settled as a policy decides, whatever the process has beside
 abbrev pub Settles : Policy → List ℕ → Process → Own → Denial → Resident → Type 0
-Settles policy flash process own denial new = (storage : List ℕ) →
-    settled (record_in flash (after_fault process denial) own storage) (decision policy process.restarts)
-    ≡ record_in flash new.0 new.1 storage
+Settles policy flash process own denial new = (beside : Beside) →
+    settled (record_in flash (after_fault process denial) own beside) (decision policy process.restarts)
+    ≡ record_in flash new.0 new.1 beside
 
 -- what a turn of a process does at a moment
 abbrev pub Turns : Moment → ℕ → List ℕ → Resident → Resident → Shown → Drivers → Drivers → Type 0
 Turns m slot flash old new shown d d_after =
-    Does (λ storage. turned m.settings m.time (record_in flash old.0 old.1 storage)) slot flash old new shown d d_after
+    Does (λ beside. turned m.settings m.time (record_in flash old.0 old.1 beside)) slot flash old new shown d d_after
 
 -- what a call of the process in a slot leaves at a moment, what comes of it, and what the drivers do for it
 pub record Finishes (m : Moment) (slot : ℕ) (home : Homes) (process : Process) (call : Call) (home_after : Homes)
     (process_after : Process) (outcome : Outcome) (d d_after : Drivers) : Type 0 where
   pub acts : List BoardRequest
   pub serves : (storage : List ℕ) →
-      served m.settings.strict (surroundings m.settings m.time) (record_of_slot home slot process storage) call
-      ≡ record { after = record_of_slot home_after slot process_after storage; outcome = outcome; acts = acts }
+      let beside = beside_in d storage in
+      let r = record_of_slot home slot process beside in
+      served m.settings.strict (surroundings m.settings m.time r) r call
+      ≡ record { after = record_of_slot home_after slot process_after beside; outcome = outcome; acts = acts }
   pub drives : Drives (id_of slot (own_of home slot)) acts d d_after
 
 -- So many turns of the process in a slot may be made at a moment: it is as it is to be, so many steps are left, and the

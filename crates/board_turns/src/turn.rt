@@ -1,5 +1,5 @@
 //! One turn of the process in a slot.
-ghost use Rattle.std.specs.Prelude.{◌≡◌, ◌+◌, ◌<◌, ℕ, List, [], length, true, false, None, Some};
+ghost use Rattle.std.specs.Prelude.{◌≡◌, ◌+◌, ◌<◌, [], length, true, false, None, Some};
 ghost use Rattle.process_record.specs.declared.process.State.TheVariants.{Running, Yielded};
 ghost use Rattle.process_model.specs.Own.{own_ended};
 ghost use Rattle.process_record.specs.Process.{after_fault};
@@ -7,7 +7,7 @@ ghost use Rattle.grant_enter.specs.Homes.{own_of, ChangesOnly};
 ghost use Rattle.driver_model.specs.Commands.{leaving_all};
 ghost use Rattle.kernel_calls.specs.Outcomes.{acts_for, is_for_driver};
 ghost use Rattle.process_model.specs.Flash.{object_in};
-ghost use Rattle.kernel_calls.specs.Own.{record_in};
+ghost use Rattle.kernel_calls.specs.Own.{Beside, record_in};
 ghost use Rattle.board_drivers.specs.Driven.{Drives};
 ghost use Rattle.kernel_model.specs.Calls.{restart};
 ghost use Rattle.kernel_model.specs.Turn.{arguments, made, unknown_call};
@@ -114,10 +114,10 @@ fn restart_at(
 )
     requires turn { InTurn moment.now slot home.old process.old }
     requires guard { IsSetFor slot guard.old home.old }
-    ensures restarted { (storage : List ℕ) →
+    ensures restarted { (beside : Beside) →
         restart (record_in home.old.flash (after_fault process.old denial) (own_of home.old slot)
-        storage)
-        ≡ record_in home.old.flash process.new (own_of home.new slot) storage }
+        beside)
+        ≡ record_in home.old.flash process.new (own_of home.new slot) beside }
     ensures leaves { LeavesSlot (moment.now.steps + 1) slot home.old home.new process.new }
     ensures guard { IsSetFor slot guard.new home.new }
 {

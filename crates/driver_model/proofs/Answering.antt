@@ -15,10 +15,12 @@ use Rattle.grant_values.specs.declared.storage.StorageRequest.{StorageRequest}
 use Rattle.process_model.specs.Own.{Own}
 use Rattle.driver_model.specs.Commands.{is_same, QueueName, Writes, Reads, Randoms, Stores}
 use Rattle.driver_model.specs.Requests.{RequestKind, keeping_request, request_in, waiting_in, with_request}
-use Rattle.driver_model.specs.Steps.{DriverStep, own_after, scheduling}
+use Rattle.driver_model.specs.Steps.{DriverStep, own_after, scheduling, silently}
+use Rattle.tk_base.specs.Bits.{bit_of}
 use Rattle.process_model.specs.Served.{with_written}
 use Rattle.process_model.proofs.Scheduling.{keeping_commutes}
 use Rattle.grant_values.specs.Values.{AlarmValue}
+use Rattle.driver_model.specs.Buttons as buttons
 use Rattle.driver_model.specs.Console as console
 use Rattle.driver_model.specs.Console.{Sent, console_reads, console_writes}
 use Rattle.driver_model.specs.Random as random
@@ -35,7 +37,8 @@ use Rattle.driver_model.proofs.Scheduled.{Serves, as_before, none_more, serves, 
 use Rattle.driver_model.proofs.Sizes.{showing_size, written_size}
 use Rattle.driver_model.proofs.Asked.{asked, asked_beside, asked_put, if_none, if_told}
 use Rattle.driver_model.proofs.Waits.{Moves, each_waits, moves_one, same_here, within_still}
-use Rattle.driver_model.proofs.Follows.{arms_apart}
+use Rattle.driver_model.proofs.Follows.{kept_apart}
+use Rattle.driver_model.proofs.Outcomes.{alarm_apart}
 
 -- by what is asked for after the answer
 follows : (left : QueueName → Bool) (own o : Own) → Remains own o
@@ -123,10 +126,17 @@ module _ (own o : Own) (served : Serves own o) where
 
   stops_alarm : FollowsAnswer (λ queue. false) own (with_alarm None o)
   stops_alarm =
-      let still = λ (queue : QueueName). arms_apart queue None o ∙ ap (asked queue) same in
+      let still = λ (queue : QueueName). kept_apart alarm.alarm_driver _ alarm_apart queue o ∙ ap (asked queue) same in
       follows _ own _ (remains own o _ served) served.dropped
       (stays (λ queue. false) own (with_alarm None o) (λ queue. refl) still)
       (λ size. within_still size own (with_alarm None o) (still Stores))
+
+  -- nothing else is kept
+  told_alone : FollowsAnswer (λ queue. false) own o
+  told_alone =
+      follows _ own o (remains own o o.grants served) served.dropped
+      (stays (λ queue. false) own o (λ queue. refl) (λ queue. ap (asked queue) same))
+      (λ size. within_still size own o (ap (asked Stores) same))
 
 -- a request that is kept before an upcall is scheduled, and after
 then_told : {R : Type 0} (left : QueueName → Bool) (request_kind : RequestKind R) (request : Option R)
@@ -263,5 +273,25 @@ fires now own = by_due (alarm.due_alarm now own)
         (alarm.fired now armed own).schedules (alarm.showing now own))
         (stops_alarm own _ (serves _ _ _ _ own (showing_size now own)))
 
+edges : (button : ℕ) (state : Bool) (own : Own) → FollowsAnswer (λ line. false) own
+    (own_after (buttons.edged button state own))
+unfolding buttons.edged
+edges button state own = by_told (buttons.is_told button own)
+  where
+    args : List ℕ
+    args = button ∷ bit_of state ∷ 0 ∷ []
+
+    by_told : (b : Bool)
+        → FollowsAnswer (λ line. false) own (own_after (cond b (scheduling buttons.buttons 0 args own) (silently own)))
+    by_told true = told_alone own _ (serves buttons.buttons 0 args own.ram own (as_before own))
+    by_told false = unmoved _ own (λ line. refl)
+
 pub lines_follow_answers : LinesFollowAnswers
-lines_follow_answers = record { writes = sends; reads = receives; randoms = draws; stores = stores; alarms = fires }
+lines_follow_answers = record {
+  writes = sends;
+  reads = receives;
+  randoms = draws;
+  stores = stores;
+  alarms = fires;
+  edges = edges;
+}

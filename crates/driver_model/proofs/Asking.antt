@@ -10,11 +10,13 @@ use Rattle.driver_model.specs.Alarm as alarm
 use Rattle.driver_model.specs.Asked.{AskTheirOwn, OneOf}
 use Rattle.driver_model.specs.Commands.{BoardRequest, Commanded, Waits, Leaves, Lights, On, Off, Toggle, Switch, Writes}
 use Rattle.driver_model.specs.Commands.{Reads, Randoms, Stores}
+use Rattle.driver_model.specs.Buttons as buttons
 use Rattle.driver_model.specs.Console as console
 use Rattle.driver_model.specs.Leds as leds
 use Rattle.driver_model.specs.Random as random
 use Rattle.driver_model.specs.Requests.{RequestKind, asking_beside, request_in}
 use Rattle.driver_model.specs.Storage as storage
+use Rattle.driver_model.proofs.Outcomes.{of_buttons}
 use Rattle.driver_model.proofs.Tables.{Each, commanded}
 
 by_test : (P : Commanded → Type 0) (b : Bool) (c d : Commanded) → P c → P d → P (cond b c d)
@@ -38,6 +40,13 @@ unfolding Each alarm.command alarm.commands AsksNothing
 alarm_asks now number a2 a3 own =
     commanded AsksNothing own (alarm.commands now a2 a3 own) number refl
     (refl, (refl, (refl, (stopping_asks (alarm.alarm_in own) own, (arming_asks _ own, (arming_asks _ own, tt))))))
+
+buttons_ask : (count pressed number button : ℕ) (own : Own)
+    → AsksNothing (buttons.command count pressed number button own)
+unfolding AsksNothing
+buttons_ask count pressed number button own =
+    of_buttons AsksNothing count pressed number button own (λ rule. refl) (λ reply. refl) (λ value. refl)
+    (λ value room. refl)
 
 -- a request has its process begin to wait, or asks for nothing
 begins : {R : Type 0} (P : Commanded → Type 0) (request_kind : RequestKind R) (o : Option R) (request : R) (own : Own)
@@ -131,4 +140,11 @@ storage_asks size number a2 a3 own =
 pub ask_their_own : AskTheirOwn
 unfolding AsksNothing
 ask_their_own =
-    record { alarm = alarm_asks; console = console_asks; leds = leds_ask; random = random_asks; storage = storage_asks }
+    record {
+      alarm = alarm_asks;
+      buttons = buttons_ask;
+      console = console_asks;
+      leds = leds_ask;
+      random = random_asks;
+      storage = storage_asks;
+    }

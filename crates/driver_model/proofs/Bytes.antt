@@ -2,6 +2,7 @@
 use Rattle.std.proofs.Common.{◌≡◌, ◌⊎◌, inl, inr, ℕ, ◌+◌, ◌-◌, ◌<◌, Bool, true, false, cond, nat_le, List, [], ◌∷◌}
 use Rattle.std.proofs.Common.{length, Option, None, Some, refl, ap, sym, subst}
 use Rattle.std.specs.Prelude.{min, slice_range}
+use Rattle.tk_base.specs.Bits.{bit_of}
 use Rattle.tk_base.specs.Call.{code_of}
 use Rattle.tk_base.specs.declared.call.ErrorCode.TheVariants.{CANCEL}
 use Rattle.tk_base.specs.declared.kinds.PairKind.TheVariants.{ReadOnly, ReadWrite, Readable}
@@ -19,14 +20,15 @@ use Rattle.process_model.specs.Served.{own_scheduled, with_kept, with_written}
 use Rattle.process_model.specs.Changes.{ChangesAt, IsInside, IsOwnAddress, IsWhole, KeepsBytes, OnlyWritesChangeBytes}
 use Rattle.process_model.specs.Changes.{own_byte}
 use Rattle.driver_model.specs.Alarm as alarm
+use Rattle.driver_model.specs.Buttons as buttons
 use Rattle.driver_model.specs.Console as console
 use Rattle.driver_model.specs.Console.{console_reads, console_writes}
 use Rattle.driver_model.specs.Random as random
-use Rattle.driver_model.specs.Random.{Progress, randoms}
+use Rattle.driver_model.specs.Random.{randoms}
 use Rattle.driver_model.specs.Storage as storage
 use Rattle.driver_model.specs.Storage.{storages}
 use Rattle.driver_model.specs.Requests.{RequestKind, keeping_request, waiting_in, with_request}
-use Rattle.driver_model.specs.Steps.{DriverStep, own_after, silently}
+use Rattle.driver_model.specs.Steps.{DriverStep, own_after, scheduling, silently}
 use Rattle.driver_model.specs.Bytes.{AnswersWriteInBuffers, CommandsWriteInBuffers, ShowsClock, clock_buffer}
 use Rattle.driver_model.specs.Bytes.{input_buffer, shows_clock}
 use Rattle.driver_model.specs.Bytes.{stored_buffer, word_buffer}
@@ -106,9 +108,9 @@ commands_write_in_buffers law driver taker is around number a2 a3 own whole =
       replies = λ reply at before after. inl refl;
       lights = λ led switch at before after. inl refl;
       shows = λ clock at before after. inside clock at (shows law around.now own (whole clock) at before after);
-      arms = λ armed room at before after. inl (enters alarm.alarm_driver _ at before after);
-      stops = λ at before after. inl refl;
-      cancels = λ at before after.
+      keeps = λ d value reply apart at before after. inl refl;
+      enters = λ d value reply apart room at before after. inl (enters d value at before after);
+      cancels = λ is at before after.
           inl (told_kept console.console 2 (code_of CANCEL ∷ 0 ∷ 0 ∷ []) console.console _ own at before after);
       writes = λ request room none at before after. inl (enters console.console _ at before after);
       reads = λ request room none at before after. inl (enters console.console _ at before after);
@@ -205,10 +207,16 @@ module _ (law : OnlyWritesChangeBytes) where
       own
   served false flash bytes request own whole = moving request.kind flash bytes request own whole
 
+  edges : (own : Own) (args : List ℕ) (is_told : Bool)
+      → KeepsBytes own (own_after (cond is_told (scheduling buttons.buttons 0 args own) (silently own)))
+  edges own args true = keeps_scheduled buttons.buttons 0 args own
+  edges own args false = λ at before after. refl
+
   pub answers_write_in_buffers : AnswersWriteInBuffers
-  unfolding alarm.answered random.answered storage.answered
+  unfolding alarm.answered buttons.edged random.answered storage.answered
   answers_write_in_buffers = record {
     alarmed = λ now own whole. fires now own (alarm.due_alarm now own) whole;
+    edged = λ button state own. edges own (button ∷ bit_of state ∷ 0 ∷ []) (buttons.is_told button own);
     taken = λ own. if_waits (λ (s : DriverStep). KeepsBytes own (own_after s)) (console.taking own) (silently own)
         (waiting_in console_writes own)
         (λ at before after. refl) (λ write at before after. refl);

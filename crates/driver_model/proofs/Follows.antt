@@ -1,19 +1,18 @@
 -- Who waits after a command.
-use Rattle.std.proofs.Common.{◌≡◌, Bool, true, false, cond, not, ◌&&◌, [], ◌∷◌, Option, None, Some, is_some, Ok, refl}
-use Rattle.std.proofs.Common.{ap, sym, subst, ◌∙◌, ◌+◌, ◌≤◌, ◌==◌, IfSome}
+use Rattle.std.proofs.Common.{◌≡◌, ℕ, Bool, true, false, cond, not, ◌&&◌, [], ◌∷◌, Option, None, Some, is_some, Ok}
+use Rattle.std.proofs.Common.{refl, ap, sym, subst, ◌∙◌, ◌+◌, ◌≤◌, IfSome}
 use Rattle.std.proofs.lemmas.Bool.{false≢true}
 use Rattle.tk_base.specs.Call.{code_of}
 use Rattle.tk_base.specs.declared.call.ErrorCode.TheVariants.{CANCEL}
 use Rattle.grant_model.specs.Grants.{grant_of, with_value}
-use Rattle.grant_values.specs.declared.alarm.Armed.{Armed}
-use Rattle.grant_values.specs.Values.{AlarmValue}
+use Rattle.grant_values.specs.Values.{KeptValue}
 use Rattle.syscall_abi.specs.declared.reply.Reply.TheVariants.{Success}
 use Rattle.process_model.specs.Own.{Own}
 use Rattle.process_model.specs.Handed.{own_entering}
+use Rattle.process_model.specs.Served.{with_kept}
 use Rattle.driver_model.specs.Steps.{own_after, silently}
 use Rattle.driver_model.specs.Commands.{Commanded, Leaves, QueueName, Writes, Reads, Randoms, Stores, Waits, is_same}
 use Rattle.driver_model.specs.Requests.{request_in, with_request}
-use Rattle.driver_model.specs.Alarm.{alarm_driver, with_alarm}
 use Rattle.driver_model.specs.Console.{console, console_reads, dropping_read}
 use Rattle.driver_model.specs.Lines.{FollowsCommand, IsWithin, LinesFollowCommands, RequestOf, has_waiting, kind_in}
 use Rattle.driver_model.specs.Lines.{waits_after, waits_once}
@@ -22,7 +21,7 @@ use Rattle.driver_model.proofs.Scheduled.{schedules}
 use Rattle.driver_model.proofs.Asked.{asked, asked_apart, asked_beside, asked_put, asked_still, entered_beside}
 use Rattle.driver_model.proofs.Asked.{entered_put, if_none}
 use Rattle.driver_model.proofs.Waits.{Moves, each_waits, moves_one, same_here, same_queue, within_still}
-use Rattle.driver_model.proofs.Outcomes.{of_command}
+use Rattle.driver_model.proofs.Outcomes.{IsApart, of_command}
 
 -- by what is asked for after the command
 follows : (around : CommandContext) (own : Own) (c : Commanded) → (own_after c.step).lives ≡ own.lives
@@ -36,18 +35,11 @@ follows around own c lives moves within once = record {
   within = within;
 }
 
--- another driver than those of the queues is armed, or stopped
-pub arms_apart : (queue : QueueName) (armed : Option Armed) (own : Own)
-    → asked queue (with_alarm armed own).grants ≡ asked queue own.grants
-arms_apart queue armed own =
-    asked_apart queue alarm_driver (with_value (AlarmValue (record { armed = armed }))) own.grants (apart queue)
-    (λ g. refl)
-  where
-    apart : (q : QueueName) → (alarm_driver == (kind_in q).driver) ≡ false
-    apart Writes = refl
-    apart Reads = refl
-    apart Randoms = refl
-    apart Stores = refl
+-- a value is kept for another driver than those of the queues
+pub kept_apart : (driver : ℕ) (value : KeptValue) → IsApart driver → (queue : QueueName) (own : Own)
+    → asked queue (with_kept driver value own).grants ≡ asked queue own.grants
+kept_apart driver value apart queue own =
+    asked_apart queue driver (with_value value) own.grants (apart queue) (λ g. refl)
 
 -- where no request is kept, it begins to wait once
 begins_once : (here queue : QueueName) (own : Own) → request_in (kind_in here) own ≡ None
@@ -127,15 +119,16 @@ lines_follow_commands driver taker is around number a2 a3 own =
       replies = λ reply. follows around own _ refl (λ queue. refl) (λ held. held) (λ queue. refl);
       lights = λ led switch. follows around own _ refl (λ queue. refl) (λ held. held) (λ queue. refl);
       shows = λ is. follows around own _ refl (λ queue. refl) (λ held. held) (λ queue. refl);
-      arms = λ alarm room.
-          let same = λ (queue : QueueName). arms_apart queue (Some alarm) (own_entering alarm_driver own)
-          ∙ asked_still queue alarm_driver own.grants in
+      keeps = λ d value reply apart.
+          let same = λ (queue : QueueName). kept_apart d value apart queue own in
           follows around own _ refl (λ queue. ap is_some (same queue))
-          (within_still around.storage own (with_alarm (Some alarm) (own_entering alarm_driver own)) (same Stores))
-          (λ queue. refl);
-      stops = follows around own _ refl (λ queue. ap is_some (arms_apart queue None own))
-          (within_still around.storage own (with_alarm None own) (arms_apart Stores None own)) (λ queue. refl);
-      cancels = cancels around own;
+          (within_still around.storage own (with_kept d value own) (same Stores)) (λ queue. refl);
+      enters = λ d value reply apart room.
+          let same = λ (queue : QueueName). kept_apart d value apart queue (own_entering d own)
+          ∙ asked_still queue d own.grants in
+          follows around own _ refl (λ queue. ap is_some (same queue))
+          (within_still around.storage own (with_kept d value (own_entering d own)) (same Stores)) (λ queue. refl);
+      cancels = λ is. cancels around own;
       writes = λ request room none. begins_beside around Writes request own refl none;
       reads = λ request room none. begins_beside around Reads request own refl none;
       draws = λ request room none. begins_beside around Randoms request own refl none;

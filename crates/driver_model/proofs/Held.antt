@@ -14,7 +14,7 @@ use Rattle.process_model.specs.Served.{with_kept}
 use Rattle.driver_model.specs.Keeping.{DriversKeep, HandsInPlace, IsInOrder, KeepsLimit, KeepsOrder}
 use Rattle.driver_model.specs.Laws.{StaysInPlace}
 use Rattle.grant_model.proofs.Costs.{same_costs}
-use Rattle.driver_model.proofs.Scheduled.{same_limit}
+use Rattle.driver_model.proofs.Scheduled.{Serves, same_limit}
 use Rattle.driver_model.proofs.Services.{of_services}
 
 -- the order speaks of the layout and of the costs alone
@@ -41,6 +41,11 @@ entering_order driver own room h = by_grant (grant_of driver own.grants) room
 pub keeping_order : (driver : ℕ) (value : KeptValue) (own : Own) → KeepsOrder own (with_kept driver value own)
 keeping_order driver value own h =
     same_order own (with_kept driver value own) refl (same_costs driver _ own.grants (λ g. refl)) h
+
+-- a driver serves it
+served_order : (own o : Own) → Serves own o → KeepsOrder own o
+served_order own o s =
+    same_order own o (ap (λ (x : Own). x.layout) s.rest) (ap (λ (x : Own). costs x.grants) s.rest)
 
 -- a buffer that lies in accessible RAM raises the mark to its end at most
 and_right : (a b : Bool) → (a && b) ≡ true → b ≡ true
@@ -117,23 +122,22 @@ drivers_keep = record {
     keeps = λ driver value own. refl;
     enters = λ driver value own room. refl;
     serves = λ driver value own o s. subst (λ (x : Own). StaysInPlace own (with_kept driver value x)) (sym s.rest) refl;
-    shows = λ own ram size. refl;
+    tells = λ own o s. subst (StaysInPlace own) (sym s.rest) refl;
   });
   order = of_services KeepsOrder (record {
     same = λ own h. h;
     keeps = keeping_order;
     enters = λ driver value own room h. keeping_order driver value (own_entering driver own)
         (entering_order driver own room h);
-    serves = λ driver value own o s h. keeping_order driver value o
-        (same_order own o (ap (λ (x : Own). x.layout) s.rest) (ap (λ (x : Own). costs x.grants) s.rest) h);
-    shows = λ own ram size h. same_order own _ refl refl h;
+    serves = λ driver value own o s h. keeping_order driver value o (served_order own o s h);
+    tells = served_order;
   });
   limit = of_services KeepsLimit (record {
     same = same_limit;
     keeps = λ driver value own. record { limit = λ few. few; room = λ few. refl };
     enters = λ driver value own room. record { limit = λ few. few; room = λ few. refl };
     serves = λ driver value own o s. record { limit = s.limit.limit; room = s.limit.room };
-    shows = λ own ram size. record { limit = λ few. few; room = λ few. refl };
+    tells = λ own o s. s.limit;
   });
   handed = handed_order;
   handed_places = handed_places;

@@ -7,7 +7,6 @@ mod Refusals
 mod Places
 mod Nearing
 mod Firing
-mod Bits
 mod Asking
 mod Grants
 mod Asked

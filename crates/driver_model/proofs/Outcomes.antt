@@ -8,26 +8,32 @@ use Rattle.grant_values.specs.declared.alarm.Armed.{Armed}
 use Rattle.grant_values.specs.declared.console.WaitingRead.{WaitingRead}
 use Rattle.grant_values.specs.declared.console.WaitingWrite.{WaitingWrite}
 use Rattle.grant_values.specs.declared.drivers.Driver.{Driver}
-use Rattle.grant_values.specs.declared.drivers.Driver.TheVariants.{Alarm, Console, Leds, Random, Storage}
+use Rattle.grant_values.specs.declared.drivers.Driver.TheVariants.{Alarm, Buttons, Console, Leds, Random, Storage}
 use Rattle.grant_values.specs.declared.random.RandomRequest.{RandomRequest}
 use Rattle.grant_values.specs.declared.storage.StorageRequest.{StorageRequest}
 use Rattle.grant_values.specs.Drivers.{number_of_driver}
+use Rattle.grant_values.specs.Values.{KeptValue}
+use Rattle.tk_base.specs.Bits.{bit_of, has_bit}
 use Rattle.driver_model.specs.Bytes.{shows_clock}
 use Rattle.syscall_abi.specs.declared.reply.Reply.{Reply}
 use Rattle.syscall_abi.specs.declared.reply.Reply.TheVariants.{Success, SuccessU32}
 use Rattle.process_model.specs.Own.{Own}
 use Rattle.process_model.specs.Handed.{own_entering, has_place}
+use Rattle.process_model.specs.Served.{with_kept}
 use Rattle.driver_model.specs.Steps.{silently}
-use Rattle.driver_model.specs.Commands.{Commanded, Leaves, Lights, Reads, Switch, On, Off, Toggle, Waits, accepting}
-use Rattle.driver_model.specs.Commands.{refusing}
+use Rattle.driver_model.specs.Commands.{Commanded, Leaves, Lights, QueueName, Reads, Switch, On, Off, Toggle, Waits}
+use Rattle.driver_model.specs.Commands.{accepting, refusing, Writes, Randoms, Stores}
 use Rattle.driver_model.specs.Requests.{RequestKind, asking, asking_beside, request_in, with_request}
-use Rattle.driver_model.specs.Alarm.{alarm_driver, alarm_in, arming, expiration, showing, stopping, with_alarm}
+use Rattle.driver_model.specs.Alarm.{alarm_driver, alarm_in, arming, showing, stopping}
 use Rattle.driver_model.specs.Alarm.{command as alarm_command, commands as alarm_commands}
+use Rattle.driver_model.specs.Buttons.{buttons, enabling, of_button, set_enabled}
+use Rattle.driver_model.specs.Buttons.{command as button_command, commands as button_commands}
 use Rattle.driver_model.specs.Console.{cancelling, console_reads, console_writes, asking_to_read, dropping_read}
 use Rattle.driver_model.specs.Console.{command as console_command, commands as console_commands}
 use Rattle.driver_model.specs.Leds.{switching, command as led_command, commands as led_commands}
 use Rattle.driver_model.specs.Random.{randoms, command as random_command, commands as random_commands}
 use Rattle.driver_model.specs.Storage.{requesting, storages, command as storage_command, commands as storage_commands}
+use Rattle.driver_model.specs.Lines.{kind_in}
 use Rattle.driver_model.specs.Drivers.{CommandContext, CommandHandler, handler_by, handler_of}
 use Rattle.driver_model.proofs.Tables.{Each, EachAt, commanded, commanded_at, taken}
 
@@ -39,6 +45,22 @@ begun request_kind request own = record {
   acts = Waits request_kind.line ∷ [];
 }
 
+-- a driver for which no request waits in a queue
+abbrev pub IsApart : ℕ → Type 0
+IsApart driver = (queue : QueueName) → (driver == (kind_in queue).driver) ≡ false
+
+pub alarm_apart : IsApart alarm_driver
+alarm_apart Writes = refl
+alarm_apart Reads = refl
+alarm_apart Randoms = refl
+alarm_apart Stores = refl
+
+buttons_apart : IsApart buttons
+buttons_apart Writes = refl
+buttons_apart Reads = refl
+buttons_apart Randoms = refl
+buttons_apart Stores = refl
+
 -- what holds of each thing that may come of a command to a driver
 pub record OfEachOutcome (driver number : ℕ) (around : CommandContext) (own : Own) (P : Commanded → Type 0) : Type 0
   where
@@ -47,14 +69,15 @@ pub record OfEachOutcome (driver number : ℕ) (around : CommandContext) (own : 
     pub lights : (led : ℕ) (switch : Switch)
         → P (record { answer = Ok Success; step = silently own; acts = Lights led switch ∷ [] })
     pub shows : shows_clock driver number ≡ true → P (accepting (SuccessU32 around.now) (showing around.now own))
-    pub arms : (alarm : Armed) → has_place alarm_driver own ≡ true
-        → P (accepting (SuccessU32 (expiration alarm)) (with_alarm (Some alarm) (own_entering alarm_driver own)))
-    pub stops : P (accepting Success (with_alarm None own))
-    pub cancels : P (record { answer = Ok Success; step = dropping_read own; acts = Leaves Reads ∷ [] })
+    pub keeps : (d : ℕ) (value : KeptValue) (reply : Reply) → IsApart d → P (accepting reply (with_kept d value own))
+    pub enters : (d : ℕ) (value : KeptValue) (reply : Reply) → IsApart d → has_place d own ≡ true
+        → P (accepting reply (with_kept d value (own_entering d own)))
+    pub cancels : number_of_driver Console ≡ driver
+        → P (record { answer = Ok Success; step = dropping_read own; acts = Leaves Reads ∷ [] })
     pub writes : (request : WaitingWrite) → has_place console_writes.driver own ≡ true
         → request_in console_writes own ≡ None → P (begun console_writes request own)
-    pub reads : (request : WaitingRead) → has_place console_reads.driver own ≡ true → request_in console_reads own ≡ None
-        → P (begun console_reads request own)
+    pub reads : (request : WaitingRead) → has_place console_reads.driver own ≡ true
+        → request_in console_reads own ≡ None → P (begun console_reads request own)
     pub draws : (request : RandomRequest) → has_place randoms.driver own ≡ true → request_in randoms own ≡ None
         → P (begun randoms request own)
     pub stores : (request : StorageRequest) → request.offset + request.length ≤ around.storage
@@ -79,14 +102,38 @@ by_asking : {R : Type 0} (P : Commanded → Type 0) (request_kind : RequestKind 
 by_asking P request_kind request own refuses begins =
     by_beside P request_kind (request_in request_kind own) request own refl refuses begins
 
+-- whatever comes of a command to the buttons
+pub of_buttons : (P : Commanded → Type 0) (count pressed number button : ℕ) (own : Own)
+    → ((rule : CallRule) → P (refusing rule own)) → ((reply : Reply) → P (accepting reply own))
+    → ((value : KeptValue) → P (accepting Success (with_kept buttons value own)))
+    → ((value : KeptValue) → has_place buttons own ≡ true
+    → P (accepting Success (with_kept buttons value (own_entering buttons own))))
+    → P (button_command count pressed number button own)
+unfolding Each button_command button_commands
+of_buttons P count pressed number button own refuses replies keeps enters =
+    commanded P own (button_commands count pressed button own) number (refuses NoCommand) (
+      replies (SuccessU32 count),
+      (
+        there (enabling button own) (by_test P (has_place buttons own) _ _ (enters _) (refuses NoRoom)),
+        (
+          there (accepting Success (set_enabled button false own)) (keeps _),
+          (there (accepting (SuccessU32 (bit_of (has_bit pressed button))) own) (replies _), tt),
+        ),
+      ),
+    )
+  where
+    there : (c : Commanded) → P c → P (of_button count button own c)
+    there c p = by_test P (nat_lt button count) _ _ (λ below. p) (refuses Range)
+
 module _ (P : Commanded → Type 0) (driver : ℕ) (around : CommandContext) (number a2 a3 : ℕ) (own : Own)
     (each : OfEachOutcome driver number around own P) where
   by_arming : (alarm : Armed) → P (arming alarm own)
-  by_arming alarm = by_test P (has_place alarm_driver own) _ _ (each.arms alarm) (each.refuses NoRoom)
+  by_arming alarm =
+      by_test P (has_place alarm_driver own) _ _ (each.enters alarm_driver _ _ alarm_apart) (each.refuses NoRoom)
 
   by_stopping : (alarm : Option Armed) → P (stopping alarm own)
   by_stopping None = each.refuses Nothing
-  by_stopping (Some alarm) = each.stops
+  by_stopping (Some alarm) = each.keeps alarm_driver _ Success alarm_apart
 
   clock : number_of_driver Alarm ≡ driver → (2 == number) ≡ true → shows_clock driver number ≡ true
   clock is two =
@@ -110,18 +157,18 @@ module _ (P : Commanded → Type 0) (driver : ℕ) (around : CommandContext) (nu
   by_reading = by_test P (a2 == 0) _ _ (λ none. each.refuses Empty)
       (by_asking P console_reads _ own each.refuses (each.reads _))
 
-  by_cancelling : (read : Option WaitingRead) → P (cancelling read own)
-  by_cancelling None = each.refuses Nothing
-  by_cancelling (Some read) = each.cancels
+  by_cancelling : number_of_driver Console ≡ driver → (read : Option WaitingRead) → P (cancelling read own)
+  by_cancelling is None = each.refuses Nothing
+  by_cancelling is (Some read) = each.cancels is
 
-  of_console : P (console_command number a2 own)
+  of_console : number_of_driver Console ≡ driver → P (console_command number a2 own)
   unfolding Each console_command console_commands
-  of_console =
+  of_console is =
       commanded P own (console_commands a2 own) number (each.refuses NoCommand) (
         each.replies Success,
         (
           by_asking P console_writes _ own each.refuses (each.writes _),
-          (by_reading, (by_cancelling (request_in console_reads own), tt)),
+          (by_reading, (by_cancelling is (request_in console_reads own), tt)),
         ),
       )
 
@@ -154,8 +201,12 @@ module _ (P : Commanded → Type 0) (driver : ℕ) (around : CommandContext) (nu
 
   of_driver : (d : Driver) → number_of_driver d ≡ driver → P (handler_by d around number a2 a3 own)
   of_driver Alarm is = of_alarm is
-  of_driver Console is = of_console
+  of_driver Console is = of_console is
   of_driver Leds is = of_leds
+  of_driver Buttons is =
+      of_buttons P around.buttons around.pressed number a2 own each.refuses each.replies
+      (λ value. each.keeps buttons value Success buttons_apart)
+      (λ value. each.enters buttons value Success buttons_apart)
   of_driver Random is = of_random
   of_driver Storage is = of_storage
 

@@ -19,5 +19,5 @@ drivers_leave_pairs law =
           (law.keeping driver value (own_entering driver own));
       serves = λ driver value own o s. then (law.grants own o (ap (λ (x : Own). x.grants) s.rest))
           (law.keeping driver value o);
-      shows = λ own ram size. law.grants own _ refl;
+      tells = λ own o s. law.grants own o (ap (λ (x : Own). x.grants) s.rest);
     })

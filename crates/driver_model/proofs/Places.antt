@@ -28,9 +28,9 @@ commands_stay_in_place driver taker is around number a2 a3 own =
       replies = λ reply. refl;
       lights = λ led switch. refl;
       shows = λ is. refl;
-      arms = λ alarm room. refl;
-      stops = refl;
-      cancels = subst (StaysInPlace own) (sym (cancels own).rest) refl;
+      keeps = λ d value reply apart. refl;
+      enters = λ d value reply apart room. refl;
+      cancels = λ is. subst (StaysInPlace own) (sym (cancels own).rest) refl;
       writes = λ request room none. begun_stays console_writes request own;
       reads = λ request room none. begun_stays console_reads request own;
       draws = λ request room none. begun_stays randoms request own;
@@ -46,9 +46,9 @@ command_drops_at_most_one driver taker around number a2 a3 own is =
       replies = λ reply. none_more own.inbox.dropped;
       lights = λ led switch. none_more own.inbox.dropped;
       shows = λ is. none_more own.inbox.dropped;
-      arms = λ alarm room. none_more own.inbox.dropped;
-      stops = none_more own.inbox.dropped;
-      cancels = record { not_less = (cancels own).dropped.not_less; not_more = (cancels own).dropped.not_more };
+      keeps = λ d value reply apart. none_more own.inbox.dropped;
+      enters = λ d value reply apart room. none_more own.inbox.dropped;
+      cancels = λ is. record { not_less = (cancels own).dropped.not_less; not_more = (cancels own).dropped.not_more };
       writes = λ request room none. none_more own.inbox.dropped;
       reads = λ request room none. none_more own.inbox.dropped;
       draws = λ request room none. none_more own.inbox.dropped;

@@ -26,6 +26,7 @@ use Rattle.driver_model.specs.Laws.{StaysInPlace}
 use Rattle.driver_model.specs.Pairs.{DriversLeavePairs}
 use Rattle.driver_model.specs.Services.{OfEachService}
 use Rattle.driver_model.proofs.Held.{drivers_keep, handed_order, marked_rest}
+use Rattle.driver_model.proofs.Scheduled.{Serves}
 use Rattle.driver_model.proofs.Services.{of_services}
 use Rattle.driver_model.proofs.Sizes.{lies}
 
@@ -139,6 +140,12 @@ keeping_size driver value own size =
 below_grants : (own : Own) → IsInOrder own → own.layout.brk ≤ kernel_break_of own
 below_grants own h = omega (arith, h.grants)
 
+-- to be served leaves as many bytes
+served_size : (own o : Own) → Serves own o → KeepsSize own o
+served_size own o s h whole =
+    s.size whole (below_grants own h) ∙ whole.bytes
+    ∙ ap (λ (x : Own). kernel_break_of x - x.layout.start) (sym s.rest)
+
 keep_size : OfEachService KeepsSize
 keep_size =
     of_services KeepsSize (record {
@@ -146,10 +153,8 @@ keep_size =
       keeps = λ driver value own h whole. keeping_size driver value own whole.bytes;
       enters = λ driver value own room h whole.
           keeping_size driver value (own_entering driver own) (entering_size driver own whole.bytes);
-      serves = λ driver value own o s h whole. keeping_size driver value o
-          (s.size whole (below_grants own h) ∙ whole.bytes
-          ∙ ap (λ (x : Own). kernel_break_of x - x.layout.start) (sym s.rest));
-      shows = λ own ram size h whole. size whole (below_grants own h) ∙ whole.bytes;
+      serves = λ driver value own o s h whole. keeping_size driver value o (served_size own o s h whole);
+      tells = served_size;
     })
 
 -- what holds of the pair that was handed, and of all that were before, holds of all
@@ -261,6 +266,8 @@ module _ (law : OnlyHandingChangesPairs) where
               (q.command driver taker is around number a2 a3 own) (z.command driver taker is around number a2 a3 own);
           alarmed = λ now own. settles own _ (p.alarmed now own) (leave.alarmed now own) (q.alarmed now own)
               (z.alarmed now own);
+          edged = λ button state own. settles own _ (p.edged button state own) (leave.edged button state own)
+              (q.edged button state own) (z.edged button state own);
           taken = λ own. settles own _ (p.taken own) (leave.taken own) (q.taken own) (z.taken own);
           write_done = λ own. settles own _ (p.write_done own) (leave.write_done own) (q.write_done own)
               (z.write_done own);

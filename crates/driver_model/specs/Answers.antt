@@ -4,6 +4,7 @@ use Rattle.process_model.specs.Own.{Own}
 use Rattle.driver_model.specs.Steps.{own_after}
 use Rattle.driver_model.specs.Commands.{QueueName, Writes, Reads, Randoms, Stores, is_same}
 use Rattle.driver_model.specs.Alarm as alarm
+use Rattle.driver_model.specs.Buttons as buttons
 use Rattle.driver_model.specs.Console as console
 use Rattle.driver_model.specs.Random as random
 use Rattle.driver_model.specs.Storage as storage
@@ -27,7 +28,7 @@ pub record FollowsAnswer (left : QueueName → Bool) (own o : Own) : Type 0 wher
 abbrev pub queue_left_by : QueueName → Bool → QueueName → Bool
 queue_left_by here completed line = is_same here line && completed
 
--- so it is with each device's answer to a process; an alarm that fires leaves no list
+-- so it is with each device's answer to a process; an alarm that fires leaves no list, nor does an edge of a button
 pub record LinesFollowAnswers : Type 0 where
   pub writes : (flash : ℕ → ℕ) (own : Own) →
       let s = console.sent flash own in FollowsAnswer (queue_left_by Writes s.completed) own (own_after s.step)
@@ -39,6 +40,8 @@ pub record LinesFollowAnswers : Type 0 where
       let a = storage.answered fault flash bytes own in FollowsAnswer (queue_left_by Stores a.completed) own
       (own_after a.step)
   pub alarms : (now : ℕ) (own : Own) → FollowsAnswer (λ line. false) own (own_after (alarm.answered now own))
+  pub edges : (button : ℕ) (state : Bool) (own : Own) →
+      FollowsAnswer (λ line. false) own (own_after (buttons.edged button state own))
 
 -- What a process is told makes of it what the device's step did: a write had bytes taken, or completed; bytes came in
 -- for a read; a word was drawn for a request for random bytes, or none. The word that is drawn is the next one.

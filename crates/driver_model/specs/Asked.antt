@@ -2,6 +2,7 @@
 use Rattle.std.specs.Prelude.{◌≡◌, ◌⊎◌, ℕ, List, [], ◌∷◌}
 use Rattle.process_model.specs.Own.{Own}
 use Rattle.driver_model.specs.Alarm as alarm
+use Rattle.driver_model.specs.Buttons as buttons
 use Rattle.driver_model.specs.Commands.{Waits, Leaves, Lights, On, Off, Toggle, Writes, Reads, Randoms, Stores}
 use Rattle.driver_model.specs.Console as console
 use Rattle.driver_model.specs.Leds as leds
@@ -13,10 +14,12 @@ abbrev pub OneOf : {X : Type 0} → X → List X → Type 0
 OneOf x [] = ⊥
 OneOf x (y ∷ ys) = (x ≡ y) ⊎ OneOf x ys
 
--- the alarm asks for nothing; the console that its caller begins to wait to write or to read, or stops to wait to read;
--- the LEDs that one is switched; the two others that their caller begins to wait
+-- the alarm and the buttons ask for nothing; the console that its caller begins to wait to write or to read, or stops
+-- to wait to read; the LEDs that one is switched; the two others that their caller begins to wait
 pub record AskTheirOwn : Type 0 where
   pub alarm : (now number a2 a3 : ℕ) (own : Own) → (alarm.command now number a2 a3 own).acts ≡ []
+  pub buttons : (count pressed number button : ℕ) (own : Own)
+      → (buttons.command count pressed number button own).acts ≡ []
   pub console : (number count : ℕ) (own : Own)
       → OneOf (console.command number count own).acts ([] ∷ (Waits Writes ∷ []) ∷ (Waits Reads ∷ [])
       ∷ (Leaves Reads ∷ []) ∷ [])

@@ -7,6 +7,7 @@ use Rattle.process_model.specs.Handed.{held}
 use Rattle.process_model.specs.Changes.{ChangesAt, IsInside, IsWhole, KeepsBytes}
 use Rattle.driver_model.specs.Steps.{own_after}
 use Rattle.driver_model.specs.Alarm as alarm
+use Rattle.driver_model.specs.Buttons as buttons
 use Rattle.driver_model.specs.Console as console
 use Rattle.driver_model.specs.Random as random
 use Rattle.driver_model.specs.Storage as storage
@@ -49,10 +50,11 @@ stored_buffer own = held ReadWrite storage.storage 0 own
 
 -- What a device answers to a process whose own is whole changes bytes inside the buffer alone that it held for the
 -- device: the clock as an alarm fires, bytes that came in, a random word, a storage request that was served. All other
--- answers change none. A storage request that fails writes nothing over the storage.
+-- answers change none, nor does an edge of a button. A storage request that fails writes nothing over the storage.
 pub record AnswersWriteInBuffers : Type 0 where
   pub alarmed : (now : ℕ) (own : Own) → IsWhole own →
       ChangesAt (IsInside (clock_buffer own)) own (own_after (alarm.answered now own))
+  pub edged : (button : ℕ) (state : Bool) (own : Own) → KeepsBytes own (own_after (buttons.edged button state own))
   pub taken : (own : Own) → KeepsBytes own (own_after (console.taken own))
   pub write_done : (own : Own) → KeepsBytes own (own_after (console.write_done own))
   pub input : (bytes : List ℕ) (own : Own) → IsWhole own →

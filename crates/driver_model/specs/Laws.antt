@@ -1,12 +1,11 @@
 -- Laws of the drivers' definitions.
-use Rattle.std.specs.Prelude.{◌≡◌, ◌↔◌, ◌<◌, ◌≤◌, ℕ, ◌+◌, ◌-◌, ◌%◌, ◌^◌, ◌==◌, Bool, false, if◌then◌else◌, List, length}
-use Rattle.std.specs.Prelude.{slice_index_or, slice_set, None, Some, Err, is_some, IfSome, IsTrue}
+use Rattle.std.specs.Prelude.{◌≡◌, ◌↔◌, ◌<◌, ◌≤◌, ℕ, ◌+◌, ◌-◌, ◌%◌, ◌^◌, List, length}
+use Rattle.std.specs.Prelude.{None, Some, Err, is_some, IfSome, IsTrue}
 use Rattle.tk_base.specs.declared.call.CallRule.{CallRule}
 use Rattle.grant_values.specs.declared.alarm.Armed.{Armed}
 use Rattle.process_model.specs.Own.{Own}
 use Rattle.driver_model.specs.Steps.{own_after}
 use Rattle.driver_model.specs.Alarm.{answered, due_slot, next_left, ticks_left}
-use Rattle.driver_model.specs.Leds.{led_bits, is_lit, with_led}
 use Rattle.driver_model.specs.Commands.{refusing}
 use Rattle.driver_model.specs.Drivers.{CommandContext, CommandHandler, handler_of}
 
@@ -72,17 +71,3 @@ AnAlarmLeavesTheRest =
     let o = own_after (answered now own) in
     (o ≡ record own { ram = o.ram; inbox = o.inbox; grants = o.grants })
     × (own.inbox.dropped ≤ o.inbox.dropped) × (o.inbox.dropped ≤ own.inbox.dropped + 1)
-
--- each LED of a list is a bit of their number
-abbrev pub EachLedIsItsBit : Type 0
-EachLedIsItsBit = (lit : List Bool) (n : ℕ) → slice_index_or lit n false ≡ is_lit (led_bits lit) n
-
--- to turn an LED of a list is to turn its bit of their number
-abbrev pub TurnedWithItsBit : Type 0
-TurnedWithItsBit =
-    (lit : List Bool) (n : ℕ) (on : Bool) → n < length lit →
-    led_bits (slice_set lit n on) ≡ with_led (led_bits lit) n on
-
--- of the LEDs with one turned, that one is as it was turned, and all others are as they were
-abbrev pub OneLedTurns : Type 0
-OneLedTurns = (leds n k : ℕ) (on : Bool) → is_lit (with_led leds n on) k ≡ (if k == n then on else is_lit leds k)

@@ -1,29 +1,13 @@
 -- The LEDs (Tock's driver 0x2): a process turns any LED of the board on or off. The driver keeps nothing of a process.
-use Rattle.std.specs.Prelude.{ℕ, ◌+◌, ◌-◌, ◌*◌, ◌/◌, ◌%◌, ◌^◌, ◌==◌, nat_lt, Bool, true, false, not, if◌then◌else◌}
+use Rattle.std.specs.Prelude.{ℕ, nat_lt, Bool, true, false, not, if◌then◌else◌}
 use Rattle.std.specs.Prelude.{List, [], ◌∷◌, Ok}
 use Rattle.tk_base.specs.declared.call.CallRule.TheVariants.{Range}
+use Rattle.tk_base.specs.Bits.{has_bit, with_bit}
 use Rattle.syscall_abi.specs.declared.reply.Reply.TheVariants.{Success, SuccessU32}
 use Rattle.process_model.specs.Own.{Own}
 use Rattle.driver_model.specs.Steps.{silently}
 use Rattle.driver_model.specs.Commands.{BoardRequest, Waits, Leaves, Lights, Switch, On, Off, Toggle, Commanded}
 use Rattle.driver_model.specs.Commands.{accepting, refusing, by_number}
-
--- the LEDs as one number: bit n is 1 where LED n is on
-abbrev pub bit_of : Bool → ℕ
-bit_of on = if on then 1 else 0
-
--- LEDs as one number, bit n for LED n
-abbrev pub led_bits : List Bool → ℕ
-led_bits [] = 0
-led_bits (on ∷ others) = bit_of on + 2 * led_bits others
-
--- whether an LED is on
-abbrev pub is_lit : ℕ → ℕ → Bool
-is_lit leds n = leds / 2 ^ n % 2 == 1
-
--- the LEDs with one on or off
-abbrev pub with_led : ℕ → ℕ → Bool → ℕ
-with_led leds n on = leds - leds / 2 ^ n % 2 * 2 ^ n + (if on then 2 ^ n else 0)
 
 -- whether an LED is on after it was switched, by whether it was before
 abbrev pub is_on_after : Switch → Bool → Bool
@@ -33,7 +17,7 @@ is_on_after Toggle lit = not lit
 
 -- the LEDs with one switched
 abbrev pub with_switched : ℕ → ℕ → Switch → ℕ
-with_switched leds n switch = with_led leds n (is_on_after switch (is_lit leds n))
+with_switched leds n switch = with_bit leds n (is_on_after switch (has_bit leds n))
 
 -- the LEDs after what the board is asked to do, one after another
 abbrev pub lit_by : BoardRequest → ℕ → ℕ

@@ -2,6 +2,7 @@ pub mod Steps
 pub mod Commands
 pub mod Alarm
 pub mod Leds
+pub mod Buttons
 pub mod Requests
 pub mod Console
 pub mod Random

@@ -4,11 +4,10 @@ ghost use Rattle.driver_model.specs.Bytes.{AnswersWriteInBuffers, CommandsWriteI
 ghost use Rattle.driver_model.specs.Laws.{AnAlarmLeavesTheRest, CommandsStayInPlace};
 ghost use Rattle.driver_model.specs.Laws.{DueSlotIsThere, IsDueWhereNoneAreLeft, QuietUntilNext};
 ghost use Rattle.driver_model.specs.Laws.{TimeBringsNearer};
-ghost use Rattle.driver_model.specs.Laws.{EachLedIsItsBit, OneLedTurns, TurnedWithItsBit};
 ghost use Rattle.driver_model.specs.Laws.{CommandDropsAtMostOne, RefusedByAnyDriver};
 ghost use Rattle.driver_model.specs.Keeping.{DriversKeep, DriversKeepSettled};
 ghost use Rattle.driver_model.specs.Pairs.{DriversLeavePairs};
-ghost use Rattle.driver_model.specs.Upcalls.{DriversScheduleHeld};
+ghost use Rattle.driver_model.specs.Upcalls.{DriversScheduleHeld, DriversScheduleTheirOwn};
 
 use process_model::{only_handing_changes_pairs, only_writes_change_bytes};
 
@@ -60,19 +59,6 @@ pub fn an_alarm_leaves_the_rest()
     ensures { AnAlarmLeavesTheRest }
 {}
 
-/// Each LED of a list is its bit of their number, and to turn it is to turn that bit.
-#[tactic(auto, using(crate::proofs::Bits::lit_is, crate::proofs::Bits::turned))]
-pub fn leds_are_bits()
-    ensures told { EachLedIsItsBit }
-    ensures turned { TurnedWithItsBit }
-{}
-
-/// Of the LEDs with one turned, that one is as it was turned, and all others are as they were.
-#[tactic(auto, using(crate::proofs::Bits::one_led_turns))]
-pub fn one_led_turns()
-    ensures { OneLedTurns }
-{}
-
 /// What the commands to each driver ask of the board concerns that driver alone: who waits for it,
 /// or an LED.
 pub fn drivers_ask_for_their_own()
@@ -85,6 +71,13 @@ pub fn drivers_ask_for_their_own()
 #[tactic(auto, using(crate::proofs::Upcalls::drivers_schedule_held))]
 pub fn drivers_schedule_what_is_held()
     ensures { DriversScheduleHeld }
+{}
+
+/// What a command has a driver schedule is an upcall of that driver, and so is what its device's
+/// answer schedules (TRD 104, "Subscribe", "Yield"). A command to the buttons schedules none.
+#[tactic(auto, using(crate::proofs::Upcalls::drivers_schedule_their_own))]
+pub fn drivers_schedule_their_own()
+    ensures { DriversScheduleTheirOwn }
 {}
 
 /// Neither a command to any driver nor what a device answers changes a pair that the process has

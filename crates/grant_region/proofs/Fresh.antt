@@ -41,6 +41,7 @@ zero_value driver = by_driver (driver_of driver)
     by_driver (Some of.Alarm) = refl
     by_driver (Some of.Console) = refl
     by_driver (Some of.Leds) = refl
+    by_driver (Some of.Buttons) = refl
     by_driver (Some of.Random) = refl
     by_driver (Some of.Storage) = refl
 
@@ -50,6 +51,7 @@ value_back None = refl
 value_back (Some of.Alarm) = refl
 value_back (Some of.Console) = refl
 value_back (Some of.Leds) = refl
+value_back (Some of.Buttons) = refl
 value_back (Some of.Random) = refl
 value_back (Some of.Storage) = refl
 

@@ -4,19 +4,20 @@ use Rattle.std.specs.Prelude.{ℕ, ◌+◌, ◌*◌, ◌/◌, ◌==◌, List, []
 use Rattle.tk_base.specs.declared.upcall.Counts.{Counts}
 use Rattle.tk_base.specs.Kinds.{pair_count}
 use Rattle.grant_values.specs.declared.drivers.Driver.{Driver}
-use Rattle.grant_values.specs.declared.drivers.Driver.TheVariants.{Alarm, Console, Leds, Random, Storage}
+use Rattle.grant_values.specs.declared.drivers.Driver.TheVariants.{Alarm, Buttons, Console, Leds, Random, Storage}
 
 -- each driver's number
 abbrev pub number_of_driver : Driver → ℕ
 number_of_driver Alarm = 0x0
 number_of_driver Console = 0x1
 number_of_driver Leds = 0x2
+number_of_driver Buttons = 0x3
 number_of_driver Random = 0x40001
 number_of_driver Storage = 0x50001
 
 -- all drivers
 unfoldable pub drivers : List Driver
-drivers = Alarm ∷ Console ∷ Leds ∷ Random ∷ Storage ∷ []
+drivers = Alarm ∷ Console ∷ Leds ∷ Buttons ∷ Random ∷ Storage ∷ []
 
 -- the driver of a number; none where there is no such driver
 abbrev pub driver_of : ℕ → Option Driver
@@ -31,6 +32,7 @@ abbrev pub counts_by : Driver → Counts
 counts_by Alarm = counting 1 0 0 1 24
 counts_by Console = counting 3 2 2 0 32
 counts_by Leds = counting 0 0 0 0 0
+counts_by Buttons = counting 1 0 0 0 16
 counts_by Random = counting 1 0 1 0 24
 counts_by Storage = counting 2 1 1 0 24
 

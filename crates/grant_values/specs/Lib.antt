@@ -1,6 +1,7 @@
 pub mod Words
 pub mod Requests
 pub mod Alarm
+pub mod Buttons
 pub mod Console
 pub mod Random
 pub mod Storage

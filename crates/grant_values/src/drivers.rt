@@ -3,6 +3,7 @@ ghost use Rattle.std.specs.Prelude.{◌≡◌, ◌<◌, ◌^◌, IfSome, Some};
 ghost use Rattle.grant_values.specs.Drivers.{cost_of, counting, counts_by, counts_of, driver_of, number_of_driver};
 
 use crate::alarm::Alarm;
+use crate::buttons::Buttons;
 use crate::console::Console;
 use crate::random::Random;
 use crate::storage::Storage;
@@ -17,6 +18,9 @@ const CONSOLE: u32 = 0x1;
 
 /// The number of the LEDs.
 const LEDS: u32 = 0x2;
+
+/// The number of the buttons.
+const BUTTONS: u32 = 0x3;
 
 /// The number of the source of random words.
 const RANDOM: u32 = 0x4_0001;
@@ -33,6 +37,8 @@ pub enum Driver {
     Console,
     /// The LEDs, which keep nothing of a process.
     Leds,
+    /// The buttons.
+    Buttons,
     /// The source of random words.
     Random,
     /// The storage of the slots.
@@ -49,6 +55,7 @@ impl Driver {
             ALARM => Some(Driver::Alarm),
             CONSOLE => Some(Driver::Console),
             LEDS => Some(Driver::Leds),
+            BUTTONS => Some(Driver::Buttons),
             RANDOM => Some(Driver::Random),
             STORAGE => Some(Driver::Storage),
             _ => None,
@@ -65,6 +72,7 @@ impl Driver {
             Driver::Alarm => ALARM,
             Driver::Console => CONSOLE,
             Driver::Leds => LEDS,
+            Driver::Buttons => BUTTONS,
             Driver::Random => RANDOM,
             Driver::Storage => STORAGE,
         }
@@ -79,6 +87,7 @@ impl Driver {
             Driver::Alarm => counting(1, 0, 0, 1, Alarm::SIZE),
             Driver::Console => counting(3, 2, 2, 0, Console::SIZE),
             Driver::Leds => counting(0, 0, 0, 0, 0),
+            Driver::Buttons => counting(1, 0, 0, 0, Buttons::SIZE),
             Driver::Random => counting(1, 0, 1, 0, Random::SIZE),
             Driver::Storage => counting(2, 1, 1, 0, Storage::SIZE),
         }

@@ -3,6 +3,7 @@
 #![tactic(auto)]
 
 mod alarm;
+mod buttons;
 mod console;
 mod drivers;
 mod laws;
@@ -12,6 +13,7 @@ mod value;
 mod words;
 
 pub use alarm::{Alarm, Armed};
+pub use buttons::Buttons;
 pub use console::{Console, WaitingRead, WaitingWrite};
 pub use drivers::{Driver, cost_of, counts};
 pub use laws::words_in_bytes;

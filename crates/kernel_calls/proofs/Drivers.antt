@@ -1,5 +1,5 @@
 -- What serving a call comes to, where it is for no driver to answer.
-use Rattle.std.proofs.Common.{◌≡◌, ℕ, Bool, true, false, ◌&&◌, if◌then◌else◌, List, [], Option, None, Some, is_some}
+use Rattle.std.proofs.Common.{◌≡◌, ℕ, Bool, true, false, ◌&&◌, if◌then◌else◌, [], Option, None, Some, is_some}
 use Rattle.std.proofs.Common.{refl, sym, ap, ◌∙◌}
 use Rattle.tk_base.specs.declared.call.CallRule.TheVariants.{NoDriver, Permission}
 use Rattle.syscall_abi.specs.declared.call.Call.{Call}
@@ -20,6 +20,7 @@ use Rattle.kernel_model.specs.Laws.{NoneIsLeft}
 use Rattle.process_model.specs.Flash.{object_in}
 use Rattle.kernel_calls.specs.Outcomes.{acts_for, ServingComesTo, ServesAt, is_for_driver, is_driver_command, is_taken}
 use Rattle.kernel_calls.specs.Outcomes.{record_of_slot}
+use Rattle.kernel_calls.specs.Own.{Beside}
 use Rattle.kernel_calls.proofs.Starts.{of_object}
 
 -- a command that no driver takes
@@ -36,15 +37,19 @@ no_driver around r form driver number a2 a3 is free =
 -- a call that is served is left to no driver
 comes_so : (law : NoneIsLeft) (strict : Bool) (slot : ℕ) (home home_after : Homes) (p q : Process) (call : Call)
     (o : Outcome) → is_for_driver strict (object_in home.flash p.object) call ≡ false
-    → ((around : CommandContext) (storage : List ℕ)
-    → ServingComesTo (served strict around (record_of_slot home slot p storage) call)
-    (record_of_slot home_after slot q storage) o)
+    → ((around : CommandContext) (beside : Beside)
+    → ServingComesTo (served strict around (record_of_slot home slot p beside) call)
+    (record_of_slot home_after slot q beside) o)
     → ServesAt strict slot home p call home_after q o
 comes_so law strict slot home home_after p q call ToDriver free comes =
-    absurd (law strict nothing (record_of_slot home slot p []) call (ap (λ (s : Served). s.outcome) (comes nothing [])))
+    absurd (law strict nothing (record_of_slot home slot p bare) call
+    (ap (λ (s : Served). s.outcome) (comes nothing bare)))
   where
+    bare : Beside
+    bare = record { storage = []; pressed = 0 }
+
     nothing : CommandContext
-    nothing = record { now = 0; leds = 0; storage = 0 }
+    nothing = record { now = 0; leds = 0; buttons = 0; pressed = 0; storage = 0 }
 comes_so law strict slot home home_after p q call (Replied reply rule) free comes =
     record { not_for_driver = free; comes = comes }
 comes_so law strict slot home home_after p q call Waits free comes = record { not_for_driver = free; comes = comes }
@@ -62,28 +67,28 @@ pub not_permitted : (law : NoneIsLeft) (strict : Bool) (slot : ℕ) (home : Home
 unfolding served
 not_permitted law strict slot home p q call o failure forbidden is same refuses =
     comes_so law strict slot home home p q call o (ap (λ (b : Bool). b && is_driver_command call) forbidden)
-    (λ around storage. let r = record_of_slot home slot p storage in
+    (λ around beside. let r = record_of_slot home slot p beside in
     ap (λ (b : Bool). if b then by_form around r (form_of call)
     else refused_with r Permission (failure_of (form_of call) Permission)) forbidden
     ∙ ap (refused_with r Permission) (sym is)
     ∙ refuses r
     ∙ ap (λ (s : Record). record { after = s; outcome = o; acts = acts_for o })
-    (of_object home.flash p q (own_of home slot) storage same))
+    (of_object home.flash p q (own_of home slot) beside same))
 
 -- one that is, of a form that is for no driver to answer
 pub permitted_so : (law : NoneIsLeft) (strict : Bool) (slot : ℕ) (home home_after : Homes) (p q : Process)
     (call : Call) (form : CallForm) (o : Outcome) → form ≡ form_of call
     → object_permits strict (object_in home.flash p.object) call ≡ true → is_taken form ≡ false
-    → ((around : CommandContext) (storage : List ℕ)
-    → ServingComesTo (by_form around (record_of_slot home slot p storage) form)
-    (record_of_slot home_after slot q storage) o)
+    → ((around : CommandContext) (beside : Beside)
+    → ServingComesTo (by_form around (record_of_slot home slot p beside) form)
+    (record_of_slot home_after slot q beside) o)
     → ServesAt strict slot home p call home_after q o
 unfolding served
 permitted_so law strict slot home home_after p q call form o is permitted free comes =
     comes_so law strict slot home home_after p q call o
     (ap (λ (b : Bool). b && is_driver_command call) permitted ∙ ap is_taken (sym is) ∙ free)
-    (λ around storage. let r = record_of_slot home slot p storage in
+    (λ around beside. let r = record_of_slot home slot p beside in
     ap (λ (b : Bool). if b then by_form around r (form_of call)
     else refused_with r Permission (failure_of (form_of call) Permission)) permitted
     ∙ ap (by_form around r) (sym is)
-    ∙ comes around storage)
+    ∙ comes around beside)

@@ -19,35 +19,35 @@ use Rattle.kernel_model.specs.Calls.{failed_swap, former_pair, own_swapped, refu
 use Rattle.kernel_model.specs.Calls.{swap_refusal, swapped}
 use Rattle.kernel_model.specs.Lives.{is_alive}
 use Rattle.process_model.specs.Flash.{object_in}
-use Rattle.kernel_calls.specs.Own.{HasStart, IsApplication, IsOwn, IsOwnObject, record_in}
+use Rattle.kernel_calls.specs.Own.{Beside, HasStart, IsApplication, IsOwn, IsOwnObject, record_in}
 use Rattle.kernel_calls.specs.Outcomes.{acts_for, IsOfSlot, KeepsSlot, ServingComesTo}
 use Rattle.kernel_calls.proofs.Starts.{of_object}
 
-pub swap_served : (flash flash' : List ℕ) (p q : Process) (own own' : Own) (storage : List ℕ) (swap : Swap)
+pub swap_served : (flash flash' : List ℕ) (p q : Process) (own own' : Own) (beside : Beside) (swap : Swap)
     (first second : ℕ) (o : Outcome)
     → None ≡ swap_refusal swap own → (first, second) ≡ former_pair swap own → own' ≡ own_swapped swap own
     → flash' ≡ flash → q.object ≡ p.object
     → ((r : Record) → ServingComesTo (replied (with_process r p) (SuccessU32U32 first second)) (with_process r q) o)
-    → ServingComesTo (swapped (record_in flash p own storage) swap) (record_in flash' q own' storage) o
-swap_served flash flash' p q own own' storage swap first second o none former handed same object gives =
-    let r = record_in flash p own storage in
+    → ServingComesTo (swapped (record_in flash p own beside) swap) (record_in flash' q own' beside) o
+swap_served flash flash' p q own own' beside swap first second o none former handed same object gives =
+    let r = record_in flash p own beside in
     ap (swap_by r swap) (sym none)
     ∙ ap₂ (λ (x : ℕ × ℕ) (y : Own). replied (record_with_own r y) (SuccessU32U32 x.0 x.1)) (sym former) (sym handed)
     ∙ gives (record_with_own r own')
     ∙ ap (λ (s : Record). record { after = s; outcome = o; acts = acts_for o })
-    (of_object flash p q own' storage object ∙ ap (λ (f : List ℕ). record_in f q own' storage) (sym same))
+    (of_object flash p q own' beside object ∙ ap (λ (f : List ℕ). record_in f q own' beside) (sym same))
 
-pub swap_refused : (flash : List ℕ) (p q : Process) (own : Own) (storage : List ℕ) (swap : Swap) (rule : CallRule)
+pub swap_refused : (flash : List ℕ) (p q : Process) (own : Own) (beside : Beside) (swap : Swap) (rule : CallRule)
     (failure : Reply) (o : Outcome)
     → Some rule ≡ swap_refusal swap own → failure ≡ failed_swap swap.pair rule → q.object ≡ p.object
     → ((r : Record) → ServingComesTo (refused_with (with_process r p) rule failure) (with_process r q) o)
-    → ServingComesTo (swapped (record_in flash p own storage) swap) (record_in flash q own storage) o
-swap_refused flash p q own storage swap rule failure o some fails object gives =
-    let r = record_in flash p own storage in
+    → ServingComesTo (swapped (record_in flash p own beside) swap) (record_in flash q own beside) o
+swap_refused flash p q own beside swap rule failure o some fails object gives =
+    let r = record_in flash p own beside in
     ap (swap_by r swap) (sym some)
     ∙ ap (refused_with r rule) (sym fails)
     ∙ gives r
-    ∙ ap (λ (s : Record). record { after = s; outcome = o; acts = acts_for o }) (of_object flash p q own storage object)
+    ∙ ap (λ (s : Record). record { after = s; outcome = o; acts = acts_for o }) (of_object flash p q own beside object)
 
 -- another mark moves no process's start
 still_starts : (address : ℕ) (e : Bounds) (m : ℕ) (read : Result Meaning HeaderFault)

@@ -14,39 +14,45 @@ use Rattle.process_record.specs.Process.{regs_from, restarted, restarted_with_re
 use Rattle.kernel_model.specs.Record.{Record, with_process}
 use Rattle.kernel_model.specs.Calls.{driver_answered, refused, exit, restart, restarted_by, restarted_main}
 use Rattle.process_model.specs.Flash.{object_in}
-use Rattle.kernel_calls.specs.Own.{StartsAs, record_in}
+use Rattle.kernel_calls.specs.Own.{Beside, StartsAs, record_in}
 use Rattle.kernel_calls.specs.Outcomes.{acts_for, ServingComesTo}
 
 -- a record that keeps its object
-pub of_object : (flash : List ℕ) (p q : Process) (own : Own) (storage : List ℕ) → q.object ≡ p.object
-    → with_process (record_in flash p own storage) q ≡ record_in flash q own storage
-of_object flash p q own storage same =
-    ap (λ (x : Object). record { process = q; object = object_in flash x; own = own; storage = storage }) (sym same)
+pub of_object : (flash : List ℕ) (p q : Process) (own : Own) (beside : Beside) → q.object ≡ p.object
+    → with_process (record_in flash p own beside) q ≡ record_in flash q own beside
+of_object flash p q own beside same =
+    ap (λ (x : Object). record {
+      process = q;
+      object = object_in flash x;
+      own = own;
+      storage = beside.storage;
+      pressed = beside.pressed;
+    }) (sym same)
 
 -- what a reply leaves of the record
-pub given : (flash : List ℕ) (p q : Process) (own : Own) (storage : List ℕ) (answer : Result Reply CallRule)
+pub given : (flash : List ℕ) (p q : Process) (own : Own) (beside : Beside) (answer : Result Reply CallRule)
     (o : Outcome) → q.object ≡ p.object
-    → ServingComesTo (driver_answered (with_process (record_in flash p own storage) p) answer)
-    (with_process (record_in flash p own storage) q) o
-    → ServingComesTo (driver_answered (record_in flash p own storage) answer) (record_in flash q own storage) o
-given flash p q own storage answer o same gives =
+    → ServingComesTo (driver_answered (with_process (record_in flash p own beside) p) answer)
+    (with_process (record_in flash p own beside) q) o
+    → ServingComesTo (driver_answered (record_in flash p own beside) answer) (record_in flash q own beside) o
+given flash p q own beside answer o same gives =
     gives ∙ ap (λ (s : Record). record { after = s; outcome = o; acts = acts_for o })
-    (of_object flash p q own storage same)
+    (of_object flash p q own beside same)
 
 pub no_exit : (r : Record) (kind code : ℕ) → kind ≢ 0 → kind ≢ 1 → exit r kind code ≡ refused r NoOperation
 unfolding exit
 no_exit r kind code zeroth first = grind (arith, nat_tests)
 
 -- a process starts as the header of its object says
-pub starts_again : (flash : List ℕ) (p q : Process) (own own_after : Own) (storage : List ℕ) (s : AppStart)
+pub starts_again : (flash : List ℕ) (p q : Process) (own own_after : Own) (beside : Beside) (s : AppStart)
     (e : LayoutView) (brk : ℕ) → StartsAs (object_in flash p.object) p.object.address s → e ≡ layout_of own
     → brk ≡ first_break e.start s.minimum_ram
     → q ≡ restarted_with_regs p (regs_from s.entry s.after_protected e.start (e.end - e.start) brk)
     → own_after ≡ own_restarted brk own
-    → record_in flash q own_after storage ≡ restart (record_in flash p own storage)
+    → record_in flash q own_after beside ≡ restart (record_in flash p own beside)
 unfolding restart
-starts_again flash p q own own_after storage s e brk k place at is left =
-    let r = record_in flash p own storage in
+starts_again flash p q own own_after beside s e brk k place at is left =
+    let r = record_in flash p own beside in
     let first = first_break own.layout.start k.m.minimum_ram in
     let brk_is : brk ≡ first =
     at ∙ ap (λ (x : AppStart). first_break e.start x.minimum_ram) k.is
@@ -57,12 +63,19 @@ starts_again flash p q own own_after storage s e brk k place at is left =
     ∙ ap (λ (x : LayoutView). restarted p k.h k.m x.start (x.end - x.start) brk) place
     ∙ ap (restarted p k.h k.m own.layout.start (own.layout.end - own.layout.start)) brk_is in
     let own_is : own_after ≡ own_restarted first own = left ∙ ap (λ (n : ℕ). own_restarted n own) brk_is in
-    ap (λ (o : Object). record { process = q; object = object_in flash o; own = own_after; storage = storage })
+    ap (λ (o : Object). record {
+      process = q;
+      object = object_in flash o;
+      own = own_after;
+      storage = beside.storage;
+      pressed = beside.pressed;
+    })
     (ap (λ (x : Process). x.object) is)
     ∙ ap₂ (λ (x : Process) (o : Own). record {
       process = x;
       object = object_in flash p.object;
       own = o;
-      storage = storage;
+      storage = beside.storage;
+      pressed = beside.pressed;
     }) process own_is
     ∙ sym (ap (restarted_by r) k.read ∙ ap (restarted_main r k.h) k.main)

@@ -21,7 +21,7 @@ use Rattle.upcall_queue.specs.declared.inbox.Delivery.TheVariants.{Function}
 use Rattle.upcall_queue.specs.Pending.{due, left_by, taken_at}
 use Rattle.kernel_model.specs.Calls.{Served, deliver, object_permits, served}
 use Rattle.process_model.specs.Flash.{object_in}
-use Rattle.kernel_calls.specs.Own.{IsOwn, record_in}
+use Rattle.kernel_calls.specs.Own.{Beside, IsOwn, record_in}
 
 -- what the board is to do for a call that the kernel serves itself, by what comes of it: one whose process ends or
 -- starts again waits in no list any more
@@ -38,9 +38,9 @@ acts_for Again = leaving_all
 abbrev pub ServingComesTo : Served → Record → Outcome → Type 0
 ServingComesTo served s outcome = served ≡ record { after = s; outcome = outcome; acts = acts_for outcome }
 
--- the record of the process in a slot, with its storage
-abbrev pub record_of_slot : Homes → ℕ → Process → List ℕ → Record
-record_of_slot home slot process storage = record_in home.flash process (own_of home slot) storage
+-- the record of the process in a slot, with what it has beside
+abbrev pub record_of_slot : Homes → ℕ → Process → Beside → Record
+record_of_slot home slot process beside = record_in home.flash process (own_of home slot) beside
 
 -- whether a form of calls is a command to a driver that takes commands
 abbrev pub is_taken : CallForm → Bool
@@ -63,13 +63,13 @@ pub record IsLeft (strict : Bool) (home home_after : Homes) (process process_aft
   pub process_stays : process_after ≡ process
 
 -- a call of the process in a slot that the kernel serves itself: it comes to what its definition says, whatever a
--- driver would see of the board, and whatever the process's storage is
+-- driver would see of the board, and whatever the process has beside
 pub record IsServed (strict : Bool) (slot : ℕ) (home home_after : Homes) (process process_after : Process)
     (call : Call) (outcome : Outcome) : Type 0 where
   pub not_for_driver : is_for_driver strict (object_in home.flash process.object) call ≡ false
-  pub comes : (around : CommandContext) (storage : List ℕ) →
-      ServingComesTo (served strict around (record_of_slot home slot process storage) call)
-      (record_of_slot home_after slot process_after storage) outcome
+  pub comes : (around : CommandContext) (beside : Beside) →
+      ServingComesTo (served strict around (record_of_slot home slot process beside) call)
+      (record_of_slot home_after slot process_after beside) outcome
 
 -- what holds where a call is left to its driver, and what at every other outcome
 abbrev pub LeftOrServed : Type 0 → (Outcome → Type 0) → Outcome → Type 0
@@ -124,12 +124,12 @@ pub record KeepsSlot (slot : ℕ) (home : Homes) (process : Process) (home_after
   pub lives_on : LivesOn (own_of home slot) (own_of home_after slot)
   pub rest : ChangesOnly slot home home_after
 
--- what a definition of a call says of the process in a slot, whatever its storage is, is what serving it comes to
+-- what a definition of a call says of the process in a slot, whatever it has beside, is what serving it comes to
 abbrev pub ComesAt : ℕ → Homes → Process → (Record → Served) → Homes → Process → Outcome → Type 0
 ComesAt slot home process served home_after process_after outcome =
-    (storage : List ℕ) →
-    ServingComesTo (served (record_of_slot home slot process storage))
-    (record_of_slot home_after slot process_after storage) outcome
+    (beside : Beside) →
+    ServingComesTo (served (record_of_slot home slot process beside))
+    (record_of_slot home_after slot process_after beside) outcome
 
 -- a pending upcall of a process is delivered, if there is one
 abbrev pub first_delivered : Record → Option Upcall → Record
@@ -141,9 +141,9 @@ abbrev pub deliver_due : Record → Option Delivery → Record
 deliver_due r None = r
 deliver_due r (Some delivery) = deliver r delivery (left_by delivery)
 
--- what a delivery leaves of the process in a slot, whatever its storage is
+-- what a delivery leaves of the process in a slot, whatever it has beside
 abbrev pub DeliversAt : ℕ → Homes → Process → Homes → Process → Type 0
 DeliversAt slot home process home_after process_after =
-    (storage : List ℕ) →
-    record_of_slot home_after slot process_after storage
-    ≡ deliver_due (record_of_slot home slot process storage) (due (own_of home slot).inbox)
+    (beside : Beside) →
+    record_of_slot home_after slot process_after beside
+    ≡ deliver_due (record_of_slot home slot process beside) (due (own_of home slot).inbox)

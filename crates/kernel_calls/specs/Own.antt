@@ -16,13 +16,20 @@ use Rattle.process_record.specs.declared.process.Process.{Process}
 use Rattle.kernel_model.specs.Record.{Record}
 use Rattle.kernel_model.specs.Lives.{is_alive}
 
--- the record that flash, a process, what is its own and its storage show
-abbrev pub record_in : List ℕ → Process → Own → List ℕ → Record
-record_in flash process own storage = record {
+-- what the kernel's calls neither read nor change of a record: the bytes of its storage, and a mask of the buttons that
+-- are pressed
+pub record Beside : Type 0 where
+  pub storage : List ℕ
+  pub pressed : ℕ
+
+-- the record that flash, a process, what is its own and what it has beside show
+abbrev pub record_in : List ℕ → Process → Own → Beside → Record
+record_in flash process own beside = record {
   process = process;
   object = object_in flash process.object;
   own = own;
-  storage = storage;
+  storage = beside.storage;
+  pressed = beside.pressed;
 }
 
 -- an application's start has addresses below 2^32, and its block holds the RAM that it needs at least

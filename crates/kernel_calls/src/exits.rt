@@ -1,8 +1,8 @@
 //! Exit: a process ends itself, or starts itself again (TRD 104, "Exit").
-ghost use Rattle.std.specs.Prelude.{◌≡◌, ◌+◌, ◌<◌, ◌^◌, ℕ, List, length};
+ghost use Rattle.std.specs.Prelude.{◌≡◌, ◌+◌, ◌<◌, ◌^◌, length};
 ghost use Rattle.grant_enter.specs.Homes.{own_of, ChangesOnly};
 ghost use Rattle.kernel_model.specs.Calls.{exit, restart};
-ghost use Rattle.kernel_calls.specs.Own.{IsOwn};
+ghost use Rattle.kernel_calls.specs.Own.{Beside, IsOwn};
 ghost use Rattle.kernel_calls.specs.Outcomes.{record_of_slot, ComesAt, IsOfSlot, KeepsSlot};
 ghost use Rattle.kernel_calls.specs.Outcomes.{LivesOn, KeepsObject};
 
@@ -18,8 +18,8 @@ pub fn restart_process(home: &mut Home, process: &mut Process, slot: Slot)
     requires own { IsOwn home.old.flash process.old (own_of home.old slot) }
     requires count { process.old.restarts + 1 < 2 ^ 32 }
     requires life { (own_of home.old slot).life + 1 < 2 ^ 32 }
-    ensures restarted { (storage : List ℕ) → record_of_slot home.new slot process.new storage
-        ≡ restart (record_of_slot home.old slot process.old storage) }
+    ensures restarted { (beside : Beside) → record_of_slot home.new slot process.new beside
+        ≡ restart (record_of_slot home.old slot process.old beside) }
     ensures own { IsOwn home.new.flash process.new (own_of home.new slot) }
     ensures stays { KeepsObject process.old process.new }
     ensures lives_on { LivesOn (own_of home.old slot) (own_of home.new slot) }

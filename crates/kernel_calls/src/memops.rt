@@ -1,11 +1,11 @@
 //! Memop: a process asks about its memory, or moves its break (TRD 104, "Memop").
-ghost use Rattle.std.specs.Prelude.{◌≡◌, ◌+◌, ◌<◌, ℕ, List, length};
+ghost use Rattle.std.specs.Prelude.{◌≡◌, ◌+◌, ◌<◌, length};
 ghost use Rattle.process_model.specs.Own.{Own};
 ghost use Rattle.grant_enter.specs.Homes.{own_of, ChangesOnly};
 ghost use Rattle.kernel_model.specs.Record.{Record, record_with_own};
 ghost use Rattle.kernel_model.specs.Calls.{driver_answered, break_moved, moved_by, region};
 ghost use Rattle.kernel_model.specs.Calls.{region_end, memop};
-ghost use Rattle.kernel_calls.specs.Own.{record_in, HasHeader, IsOwn};
+ghost use Rattle.kernel_calls.specs.Own.{Beside, HasHeader, IsOwn, record_in};
 ghost use Rattle.kernel_calls.specs.Outcomes.{as_address, record_of_slot, MovesBreak};
 
 use crate::headers::{region_count_of, region_of};
@@ -44,8 +44,8 @@ fn move_break(
 /// The address at which region n of a process's object starts, mod 2^32.
 fn region_start_of(flash: &[u8], process: &Process, n: u32) -> Result<Reply, CallRule>
     requires { HasHeader flash.now process.now.object }
-    ensures { (own : Own) (storage : List ℕ)
-        → let r = record_in flash.now process.now own storage in
+    ensures { (own : Own) (beside : Beside)
+        → let r = record_in flash.now process.now own beside in
         driver_answered r result ≡ region_end r (λ region. region.0) (region r n) }
 {
     let (offset, _) = region_of(flash, &process.object, n).ok_or(CallRule::Index)?;
@@ -56,8 +56,8 @@ fn region_start_of(flash: &[u8], process: &Process, n: u32) -> Result<Reply, Cal
 /// The address at which region n of a process's object ends, mod 2^32.
 fn region_end_of(flash: &[u8], process: &Process, n: u32) -> Result<Reply, CallRule>
     requires { HasHeader flash.now process.now.object }
-    ensures { (own : Own) (storage : List ℕ)
-        → let r = record_in flash.now process.now own storage in
+    ensures { (own : Own) (beside : Beside)
+        → let r = record_in flash.now process.now own beside in
         driver_answered r result ≡ region_end r (λ region. region.0 + region.1) (region r n) }
 {
     let (offset, size) = region_of(flash, &process.object, n).ok_or(CallRule::Index)?;
@@ -76,9 +76,9 @@ pub fn memop_call(
 ) -> Result<Reply, CallRule>
     requires slot { slot < length home.old.owns }
     requires own { IsOwn home.old.flash process.now (own_of home.old slot) }
-    ensures answer { (storage : List ℕ)
-        → driver_answered (record_of_slot home.new slot process.now storage) result
-        ≡ memop (record_of_slot home.old slot process.now storage) operation argument }
+    ensures answer { (beside : Beside)
+        → driver_answered (record_of_slot home.new slot process.now beside) result
+        ≡ memop (record_of_slot home.old slot process.now beside) operation argument }
     ensures stays { MovesBreak (own_of home.old slot) (own_of home.new slot) }
     ensures rest { ChangesOnly slot home.old home.new }
 {

@@ -1,10 +1,10 @@
 //! Yield, and the delivery of upcalls (TRD 104, "Yield").
-ghost use Rattle.std.specs.Prelude.{◌≡◌, ◌<◌, ℕ, List, length, slice_get, true};
+ghost use Rattle.std.specs.Prelude.{◌≡◌, ◌<◌, length, slice_get, true};
 ghost use Rattle.upcall_queue.specs.Pending.{place_of};
 ghost use Rattle.process_record.specs.Process.{after_call};
 ghost use Rattle.grant_enter.specs.Homes.{own_of, ChangesOnly};
 ghost use Rattle.kernel_model.specs.Calls.{flag_written, yield_for, yield_now, yielding};
-ghost use Rattle.kernel_calls.specs.Own.{IsOwn};
+ghost use Rattle.kernel_calls.specs.Own.{Beside, IsOwn};
 ghost use Rattle.kernel_calls.specs.Outcomes.{record_of_slot, ComesAt, DeliversAt, IsOfSlot};
 ghost use Rattle.kernel_calls.specs.Outcomes.{KeepsSlot, LivesOn, KeepsObject, first_delivered};
 
@@ -37,8 +37,8 @@ fn deliver_first(home: &mut Home, process: &mut Process, slot: Slot)
     requires slot { slot < length home.old.owns }
     requires own { IsOwn home.old.flash process.old (own_of home.old slot) }
     requires lives { (own_of home.old slot).lives ≡ true }
-    ensures delivers { (storage : List ℕ) → record_of_slot home.new slot process.new storage
-        ≡ first_delivered (record_of_slot home.old slot process.old storage)
+    ensures delivers { (beside : Beside) → record_of_slot home.new slot process.new beside
+        ≡ first_delivered (record_of_slot home.old slot process.old beside)
         (slice_get (own_of home.old slot).inbox.pending 0) }
     ensures own { IsOwn home.new.flash process.new (own_of home.new slot) }
     ensures stays { KeepsObject process.old process.new }
@@ -53,8 +53,8 @@ fn deliver_first(home: &mut Home, process: &mut Process, slot: Slot)
 /// Writes the flag of a yield of the process in a slot, and moves its pc past the `ecall`.
 fn flag(home: &mut Home, process: &mut Process, slot: Slot, at: Addr, byte: u8)
     requires { IsOfSlot slot home.old process.old }
-    ensures flags { (storage : List ℕ) → record_of_slot home.new slot process.new storage
-        ≡ flag_written (record_of_slot home.old slot process.old storage) at byte }
+    ensures flags { (beside : Beside) → record_of_slot home.new slot process.new beside
+        ≡ flag_written (record_of_slot home.old slot process.old beside) at byte }
     ensures own { IsOwn home.new.flash process.new (own_of home.new slot) }
     ensures lives { (own_of home.new slot).lives ≡ (own_of home.old slot).lives }
     ensures pending { (own_of home.new slot).inbox.pending ≡ (own_of home.old slot).inbox.pending }

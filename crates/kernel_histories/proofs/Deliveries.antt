@@ -568,7 +568,7 @@ module _ (promise : Promise) (settings : Settings) (time : ℕ) where
   of_fault r denial can = by_action (decision settings.policy r.process.restarts)
     where
       around : CommandContext
-      around = surroundings settings time
+      around = surroundings settings time r
 
       s : Record
       s = with_process r (after_fault r.process denial)
@@ -603,7 +603,7 @@ module _ (promise : Promise) (settings : Settings) (time : ℕ) where
       regs = r.process.regs
 
       around : CommandContext
-      around = surroundings settings time
+      around = surroundings settings time r
 
       Leaving : Option SystemCall → Type 0
       Leaving call = Leaves r (calls settings time r accesses call).after

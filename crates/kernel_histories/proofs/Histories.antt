@@ -29,9 +29,10 @@ abbrev with_more : List TurnTrace → List TurnTrace → List TurnTrace
 with_more more past = reverse more ++ past
 
 -- a process of which the pairs are those of before
-still : OnlyHandingChangesPairs → (past : List TurnTrace) (r : Record) (o : Own) (storage : List ℕ)
-    → HandsTheSame r.own o → Remembers past r → Remembers past (record r { own = o; storage = storage })
-still law past r o storage same remembers goes_on =
+still : OnlyHandingChangesPairs → (past : List TurnTrace) (r : Record) (o : Own) (storage : List ℕ) (pressed : ℕ)
+    → HandsTheSame r.own o → Remembers past r
+    → Remembers past (record r { own = o; storage = storage; pressed = pressed })
+still law past r o storage pressed same remembers goes_on =
     let k = remembers goes_on in
     record {
       shape = law.shape r.own o same k.shape;
@@ -44,7 +45,7 @@ module _ (law : OnlyHandingChangesPairs) (drivers : DriversLeavePairs) where
       → Remembers past r → Remembers past (apply settings event r)
   answer_known past settings event r is remembers =
       subst (Remembers past) (sym (answer_changes settings event r is))
-      (still law past r _ _ (of_answer HandsTheSame drivers settings event r is) remembers)
+      (still law past r _ _ _ (of_answer HandsTheSame drivers settings event r is) remembers)
 
   step_known : (w : World) (choice : Choice) (slot : ℕ) (past : List TurnTrace) → Known past (slice_get w.records slot)
       → Known (with_more (flat_map (turns_in slot) (labels w choice)) past) (slice_get (after w choice).records slot)

@@ -5,3 +5,4 @@ mod Takings
 mod Delivered
 mod Schedulings
 mod Waits
+mod EdgeRuns

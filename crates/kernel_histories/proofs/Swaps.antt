@@ -535,7 +535,7 @@ module _ (law : OnlyHandingChangesPairs) (drivers : DriversLeavePairs) where
       regs = r.process.regs
 
       around : CommandContext
-      around = surroundings settings time
+      around = surroundings settings time r
 
       on : (call : SystemCall) → Follows past (called r accesses call (by_form around r (form_of call)))
           → Follows past (calls settings time r accesses (Some call))

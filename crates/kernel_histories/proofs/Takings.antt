@@ -167,7 +167,7 @@ module _ (settings : Settings) (time : ℕ) (P : Takes → Record → Record →
         (other 5 (memop_in regs) refl) (other 6 (exit_in regs) refl) (each.nothing r _)
       where
         around : CommandContext
-        around = surroundings settings time
+        around = surroundings settings time counted
 
         other : (n : ℕ) (call : SystemCall) → (n == 0) ≡ false → class regs ≡ n
             → Takings None (calls settings time counted accesses (Some call))

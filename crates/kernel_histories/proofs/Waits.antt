@@ -1,6 +1,6 @@
 -- A process that waits for one upcall alone gets the arguments of the first scheduling of it.
-use Rattle.std.proofs.Common.{◌≡◌, ℕ, ◌+◌, ◌-◌, ◌==◌, nat_le, Bool, true, false, not, cond, List, [], ◌∷◌, ◌++◌, find, slice_get}
-use Rattle.std.proofs.Common.{slice_set, Option, None, Some, refl, sym, ap, ap₂, ◌∙◌, eqb-true, eq-eqb}
+use Rattle.std.proofs.Common.{◌≡◌, ◌≢◌, ℕ, ◌+◌, ◌==◌, Bool, true, false, cond, List, [], ◌∷◌, ◌++◌, find, slice_get}
+use Rattle.std.proofs.Common.{Option, None, Some, IfSome, refl, sym, ap, ap₂, ◌∙◌, eqb-true, eq-eqb}
 use Rattle.std.specs.Prelude.{All, filter_map, option_and_then, unwrap_or}
 use Rattle.std.specs.List.{cons_option, flat_map}
 use Rattle.std.specs.Option.{option_map}
@@ -15,23 +15,6 @@ use Rattle.rv32_model.specs.Laws.{CallsAreOfEcall}
 use Rattle.upcall_queue.specs.declared.inbox.Delivery.TheVariants.{Arguments}
 use Rattle.upcall_queue.specs.declared.inbox.Inbox.{Inbox}
 use Rattle.upcall_queue.specs.Pending.{awaits, due_by, has_room, is_of, place_of, scheduled}
-use Rattle.process_model.specs.Own.{Own}
-use Rattle.process_model.specs.Served.{ScheduledUpcall, own_scheduling, upcall_of}
-use Rattle.grant_values.specs.declared.alarm.Armed.{Armed}
-use Rattle.grant_values.specs.declared.console.WaitingRead.{WaitingRead}
-use Rattle.grant_values.specs.declared.console.WaitingWrite.{WaitingWrite}
-use Rattle.grant_values.specs.declared.random.RandomRequest.{RandomRequest}
-use Rattle.grant_values.specs.declared.storage.StorageKind.{StorageKind}
-use Rattle.grant_values.specs.declared.storage.StorageKind.TheVariants.{Read, Write}
-use Rattle.grant_values.specs.declared.storage.StorageRequest.{StorageRequest}
-use Rattle.driver_model.specs.Alarm.{answered as alarm_answered, due_alarm, fired_if}
-use Rattle.driver_model.specs.Console.{console_reads, console_writes, reading_in, taking, write_completing}
-use Rattle.driver_model.specs.Random.{advanced, answered as random_answered, completing, drawing, progress, randoms}
-use Rattle.driver_model.specs.Random.{unanswered as random_unanswered, wanted, with_word}
-use Rattle.driver_model.specs.Storage.{answered as storage_answered, moving, storage_answer_of, storage_served, storages}
-use Rattle.driver_model.specs.Storage.{unanswered as storage_unanswered}
-use Rattle.driver_model.specs.Requests.{waiting_in}
-use Rattle.driver_model.specs.Steps.{own_after, silently}
 use Rattle.driver_model.specs.Upcalls.{scheduled_if}
 use Rattle.process_record.specs.declared.process.Process.{Process}
 use Rattle.process_record.specs.declared.process.State.{State}
@@ -40,127 +23,21 @@ use Rattle.process_record.specs.Process.{after_turn, delivered}
 use Rattle.kernel_model.specs.Record.{Record}
 use Rattle.kernel_model.specs.declared.settings.Settings.{Settings}
 use Rattle.kernel_model.specs.Calls.{yield_for}
-use Rattle.kernel_model.specs.Laws.{one_answered}
-use Rattle.kernel_model.specs.Turn.{Event, Turn, Alarmed, Taken, WriteDone, Input, Word, NoWord, Stored, TurnTrace}
-use Rattle.kernel_model.specs.Turn.{apply, delivery, turn_counted, turn_in, turned}
-use Rattle.kernel_model.specs.World.{DeviceAnswer, Label, Stepped, World, after, carried_out, ran}
+use Rattle.kernel_model.specs.Turn.{Event, Turn, TurnTrace, apply, delivery, turn_counted, turn_in, turned}
+use Rattle.kernel_model.specs.World.{Answer, DeviceStep, Label, Stepped, World, after, carried_out, device_step_of}
+use Rattle.kernel_model.specs.World.{done}
+use Rattle.kernel_model.specs.World.{happens, labels_of, labels_told, ran}
 use Rattle.kernel_model.specs.Replay.{after_all}
 use Rattle.kernel_model.specs.Histories.{turns_in}
+use Rattle.kernel_laws.specs.Scheduled.{upcall_told}
 use Rattle.kernel_histories.specs.Deliveries.{FirstOf, Takes, takes, told_in, wait_in, wait_in_slot}
 use Rattle.kernel_histories.specs.Deliveries.{wait_of}
-use Rattle.kernel_histories.specs.Waits.{HasNoTurn, WaitsGetTheFirst, answer_step, awaited, upcall_told}
-use Rattle.kernel_histories.specs.Waits.{upcalls_since, upcalls_told}
-use Rattle.kernel_model.proofs.Places.{of_stepped, ran-other, set_own, slice_get-set_other}
-use Rattle.kernel_model.proofs.Steps.{IsAnswer, answer_changes, of_answers, of_step}
+use Rattle.kernel_histories.specs.Waits.{HasNoTurn, WaitsGetTheFirst, awaited, upcalls_since, upcalls_told}
+use Rattle.kernel_model.proofs.Places.{of_stepped, ran-other}
+use Rattle.kernel_model.proofs.Steps.{AnswersOnly, IsAnswer, answer_changes, device_answers, of_step}
+use Rattle.kernel_model.proofs.Told.{labels_at, told_at, told_there}
+use Rattle.kernel_laws.proofs.Scheduled.{told_inbox}
 use Rattle.kernel_histories.proofs.Takings.{OfTakings, step_takes}
-
--- What an answer leaves before its upcall is scheduled is what was scheduled before: of each kind of request
-read_inbox : (bytes : List ℕ) (own : Own) (o : Option WaitingRead)
-    → (unwrap_or (option_map (reading_in bytes own) o) (silently own)).own.inbox ≡ own.inbox
-read_inbox bytes own None = refl
-read_inbox bytes own (Some read) = refl
-
-taking_inbox : (own : Own) (o : Option WaitingWrite)
-    → (unwrap_or (option_map (taking own) o) (silently own)).own.inbox ≡ own.inbox
-taking_inbox own None = refl
-taking_inbox own (Some write) = refl
-
-write_inbox : (own : Own) (o : Option WaitingWrite)
-    → (unwrap_or (option_map (write_completing own) o) (silently own)).own.inbox ≡ own.inbox
-write_inbox own None = refl
-write_inbox own (Some write) = refl
-
-alarm_inbox : (now : ℕ) (own : Own) (o : Option Armed) → (fired_if now own o).own.inbox ≡ own.inbox
-alarm_inbox now own None = refl
-alarm_inbox now own (Some alarm) = refl
-
-progress_inbox : (word : Option ℕ) (request : RandomRequest) (own : Own)
-    → (progress word request own).step.own.inbox ≡ own.inbox
-progress_inbox word request own = by_wanted (nat_le (wanted request own) request.written)
-  where
-    left : ℕ
-    left = wanted request own - request.written
-
-    by_left : (drawn : ℕ) (b : Bool)
-        → (cond b (completing (Some drawn) 0 (request.written + left) (with_word drawn left request own))
-        (record {
-          rest = Some (record request { written = request.written + 4 });
-          step = silently (with_word drawn left request own);
-          drawn = Some drawn;
-        })).step.own.inbox ≡ own.inbox
-    by_left drawn true = refl
-    by_left drawn false = refl
-
-    by_word : (o : Option ℕ) → (drawing left request own o).step.own.inbox ≡ own.inbox
-    by_word None = refl
-    by_word (Some drawn) = by_left drawn (nat_le left 4)
-
-    by_wanted : (b : Bool) → (cond b (completing None 0 request.written own) (drawing left request own word)).step.own.inbox
-        ≡ own.inbox
-    by_wanted true = refl
-    by_wanted false = by_word word
-
-random_inbox : (word : Option ℕ) (own : Own) (o : Option RandomRequest)
-    → (unwrap_or (option_map (λ (request : RandomRequest). advanced (progress word request own)) o)
-    (random_unanswered own)).step.own.inbox ≡ own.inbox
-random_inbox word own None = refl
-random_inbox word own (Some request) = progress_inbox word request own
-
-served_inbox : (fault : Bool) (flash : ℕ → ℕ) (bytes : List ℕ) (request : StorageRequest) (own : Own)
-    → (storage_served fault flash bytes request own).step.own.inbox ≡ own.inbox
-served_inbox true flash bytes request own = refl
-served_inbox false flash bytes request own = by_kind request.kind
-  where
-    by_kind : (kind : StorageKind) → (moving kind flash bytes request own).step.own.inbox ≡ own.inbox
-    by_kind Read = refl
-    by_kind Write = refl
-
-storage_inbox : (fault : Bool) (flash : ℕ → ℕ) (bytes : List ℕ) (own : Own) (o : Option StorageRequest)
-    → (unwrap_or (option_map (λ (request : StorageRequest).
-    storage_answer_of (storage_served fault flash bytes request own)) o) (storage_unanswered own)).step.own.inbox
-    ≡ own.inbox
-storage_inbox fault flash bytes own None = refl
-storage_inbox fault flash bytes own (Some request) = served_inbox fault flash bytes request own
-
-answer_inbox : (event : Event) (r : Record) → (answer_step event r).own.inbox ≡ r.own.inbox
-unfolding answer_step alarm_answered random_answered storage_answered
-answer_inbox (Turn time) r = refl
-answer_inbox (Alarmed now) r = alarm_inbox now r.own (due_alarm now r.own)
-answer_inbox Taken r = taking_inbox r.own (waiting_in console_writes r.own)
-answer_inbox WriteDone r = write_inbox r.own (waiting_in console_writes r.own)
-answer_inbox (Input bytes) r = read_inbox bytes r.own (waiting_in console_reads r.own)
-answer_inbox (Word word) r = random_inbox (Some word) r.own (waiting_in randoms r.own)
-answer_inbox NoWord r = random_inbox None r.own (waiting_in randoms r.own)
-answer_inbox (Stored moved) r = storage_inbox (not moved) _ r.storage r.own (waiting_in storages r.own)
-
--- an answer is that step
-answer_own : (settings : Settings) (event : Event) (r : Record) → IsAnswer event
-    → (apply settings event r).own ≡ own_after (answer_step event r)
-unfolding apply answer_step
-answer_own settings (Turn time) r is = absurd (cc)
-answer_own settings (Alarmed now) r is = refl
-answer_own settings Taken r is = refl
-answer_own settings WriteDone r is = refl
-answer_own settings (Input bytes) r is = refl
-answer_own settings (Word word) r is = refl
-answer_own settings NoWord r is = refl
-answer_own settings (Stored moved) r is = refl
-
--- so what is scheduled then is what was, and its upcall
-told_inbox : (settings : Settings) (event : Event) (r : Record) → IsAnswer event
-    → (apply settings event r).own.inbox ≡ scheduled_if (upcall_told event r) r.own.inbox
-told_inbox settings event r is =
-    ap (λ (o : Own). o.inbox) (answer_own settings event r is)
-    ∙ by_upcall (answer_step event r).schedules
-  where
-    own : Own
-    own = (answer_step event r).own
-
-    by_upcall : (o : Option ScheduledUpcall)
-        → (own_scheduling o own).inbox
-        ≡ scheduled_if (option_map (λ u. upcall_of u.driver u.number u.args own) o) r.own.inbox
-    by_upcall None = answer_inbox event r
-    by_upcall (Some u) = ap (scheduled (upcall_of u.driver u.number u.args own)) (answer_inbox event r)
 
 -- what a process waits for after an upcall was scheduled for it, and after some
 abbrev wait_after : Wait → Scheduled → Wait
@@ -252,41 +129,54 @@ module _ (w : World) (slot : ℕ) where
           ap (option_and_then wait_of)
           (ran-other w other slot (Some r) (λ same. false≢true (sym e ∙ eq-eqb other slot (sym same)))) ∙ is
 
-  of_answered : (at : ℕ) (r : Record) → slice_get w.records at ≡ Some r → (a : DeviceAnswer)
-      → IsAnswer a.answer.event → Does (one_answered w at r a)
-  of_answered at r there a is none wait waits = by_slot (at == slot) refl
+  -- what a device's step tells it, if it tells it anything
+  of_deed : (o : Option DeviceStep) → IfSome o (λ deed. AnswersOnly deed.told) → Does (done w o)
+  of_deed None answers none wait is = is
+  of_deed (Some deed) answers none wait is =
+      ap (option_and_then wait_of) (told_at w.settings deed.told w.records slot)
+      ∙ by_record (slice_get w.records slot) refl is
+      ∙ ap (λ (us : List Scheduled). Some (over wait us)) (sym heard)
     where
-      s : Record
-      s = apply w.settings a.answer.event r
-
-      by_slot : (b : Bool) → (at == slot) ≡ b
-          → option_and_then wait_of (slice_get (slice_set w.records at s) slot)
-          ≡ Some (over wait (cons_option (cond b (option_and_then (upcall_told a.answer.event)
-          (slice_get w.records slot)) None) []))
-      by_slot true e =
-          let same : at ≡ slot = eqb-true at slot e in
-          let here : slice_get w.records slot ≡ Some r = ap (slice_get w.records) (sym same) ∙ there in
-          ap (option_and_then wait_of) (ap (slice_get (slice_set w.records at s)) (sym same)
-          ∙ set_own w.records at s r there)
-          ∙ after_answer w.settings a.answer.event r is wait (sym (ap (option_and_then wait_of) here) ∙ waits)
-          ∙ ap (λ (us : List Scheduled). Some (over wait us)) (as_listed (upcall_told a.answer.event r)
-          ∙ ap (λ (o : Option Record). cons_option (option_and_then (upcall_told a.answer.event) o) []) (sym here))
+      others : (label : Label) (us : List Scheduled) → label.slot ≢ slot → cons_option (told label) us ≡ us
+      others label us apart = by_slot (label.slot == slot) refl
         where
-          as_listed : (o : Option Scheduled) → listed o ≡ cons_option o []
-          as_listed None = refl
-          as_listed (Some u) = refl
-      by_slot false e =
-          ap (option_and_then wait_of) (slice_get-set_other w.records at slot s
-          (λ same. false≢true (sym e ∙ eq-eqb at slot (sym same)))) ∙ waits
+          by_slot : (b : Bool) → (label.slot == slot) ≡ b
+              → cons_option (cond b (option_and_then (upcall_told label.event) (slice_get w.records slot)) None) us ≡ us
+          by_slot true e = absurd (apart (eqb-true label.slot slot e))
+          by_slot false e = refl
+
+      heard : filter_map told (labels_told deed.told 0 w.records)
+          ≡ filter_map told (labels_of slot (told_there deed.told w.records slot slot))
+      heard =
+          labels_at (filter_map told) (λ label us. cons_option (told label) us) (λ label ls. refl) slot others deed.told
+          w.records
+
+      as_listed : (o : Option Scheduled) → listed o ≡ cons_option o []
+      as_listed None = refl
+      as_listed (Some u) = refl
+
+      by_answer : (r : Record) → slice_get w.records slot ≡ Some r → wait_of r ≡ Some wait → (o : Option Answer)
+          → deed.told slot ≡ o
+          → wait_of (happens w.settings o r) ≡ Some (over wait (filter_map told (labels_of slot o)))
+      by_answer r there waits None e = waits
+      by_answer r there waits (Some a) e =
+          after_answer w.settings a.event r (answers slot a e) wait waits
+          ∙ ap (λ (us : List Scheduled). Some (over wait us)) (as_listed (upcall_told a.event r)
+          ∙ ap (λ (o : Option Record). cons_option (option_and_then (upcall_told a.event) o) []) (sym there)
+          ∙ ap (λ (b : Bool). cons_option (cond b (option_and_then (upcall_told a.event)
+          (slice_get w.records slot)) None)
+          []) (sym (eq-eqb slot slot refl)))
+
+      by_record : (o : Option Record) → slice_get w.records slot ≡ o → option_and_then wait_of o ≡ Some wait
+          → option_and_then wait_of (option_map (happens w.settings (deed.told slot)) o)
+          ≡ Some (over wait (filter_map told (labels_of slot (option_and_then (λ (r : Record). deed.told slot) o))))
+      by_record None there waits = absurd (cc)
+      by_record (Some r) there waits = by_answer r there waits (deed.told slot) refl
 
   of_choice : (choice : Choice) → Does (carried_out w choice)
   unfolding carried_out
   of_choice (Run other) = of_ran other (slice_get w.records other) refl
-  of_choice (Device device) = of_answers w Does stays (λ devices. stays) of_answered device
-    where
-      stays : (none : ◌≡◌ {A = List TurnTrace} [] []) (wait : Wait) → option_and_then wait_of (slice_get w.records slot) ≡ Some wait
-          → option_and_then wait_of (slice_get w.records slot) ≡ Some wait
-      stays none wait is = is
+  of_choice (Device device) = of_deed (device_step_of w device) (device_answers w device)
   of_choice (Pass ticks) = λ none wait is. is
 
   pub step_waits : (choice : Choice) (wait : Wait) → wait_in_slot slot w ≡ Some wait → told_in slot w choice ≡ []
@@ -347,7 +237,8 @@ step_gives w slot choice r s args is left waits =
     (record {
       stays = λ x e. All-nil (Tells x);
       turn = λ q there x e.
-          All-cons (Tells x) (turned w.settings w.clock.time q).told [] (at_turn q x (same_record (slice_get w.records slot) q r there is) e)
+          All-cons (Tells x) (turned w.settings w.clock.time q).told [] (at_turn q x (same_record
+          (slice_get w.records slot) q r there is) e)
           (All-nil (Tells x));
       answer = λ q there event answers x e. All-nil (Tells x);
     })

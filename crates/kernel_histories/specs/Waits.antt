@@ -1,42 +1,19 @@
 -- What a process gets that waits for one upcall alone: the arguments of the first scheduling of it since it waits (TRD
 -- 104, "Yield").
-use Rattle.std.specs.Prelude.{◌≡◌, ℕ, ◌==◌, not, if◌then◌else◌, List, [], ◌∷◌, ◌++◌, find, filter_map, slice_get, All}
-use Rattle.std.specs.Prelude.{Option, None, Some, option_and_then, option_map, unwrap_or}
+use Rattle.std.specs.Prelude.{◌≡◌, ℕ, ◌==◌, if◌then◌else◌, List, [], ◌∷◌, ◌++◌, find, filter_map, slice_get, All}
+use Rattle.std.specs.Prelude.{None, Some, option_and_then, option_map, unwrap_or}
 use Rattle.tk_base.specs.declared.process.Choice.{Choice}
 use Rattle.tk_base.specs.declared.upcall.Upcall.{Upcall as Scheduled}
 use Rattle.tk_base.specs.declared.upcall.Wait.{Wait}
 use Rattle.tk_base.specs.declared.upcall.Wait.TheVariants.{For, Given}
 use Rattle.upcall_queue.specs.declared.inbox.Delivery.TheVariants.{Arguments}
 use Rattle.upcall_queue.specs.Pending.{is_of, place_of}
-use Rattle.process_model.specs.Served.{upcall_of}
-use Rattle.driver_model.specs.Alarm as alarm
-use Rattle.driver_model.specs.Console as console
-use Rattle.driver_model.specs.Random as random
-use Rattle.driver_model.specs.Storage as storage
-use Rattle.driver_model.specs.Steps.{DriverStep, silently}
 use Rattle.process_record.specs.Process.{after_turn, delivered}
 use Rattle.kernel_model.specs.Record.{Record}
-use Rattle.kernel_model.specs.Turn.{Event, Turn, Alarmed, Taken, WriteDone, Input, Word, NoWord, Stored, flash_of}
 use Rattle.kernel_model.specs.World.{Label, World, after, labels}
 use Rattle.kernel_model.specs.Replay.{after_all}
+use Rattle.kernel_laws.specs.Scheduled.{upcall_told}
 use Rattle.kernel_histories.specs.Deliveries.{FirstOf, takes, told_in, wait_in_slot, wait_of}
-
--- What a device's answer leaves of a process, and what it schedules; of a turn it is nothing.
-unfoldable pub answer_step : Event → Record → DriverStep
-answer_step (Turn time) r = silently r.own
-answer_step (Alarmed now) r = alarm.answered now r.own
-answer_step Taken r = console.taken r.own
-answer_step WriteDone r = console.write_done r.own
-answer_step (Input bytes) r = console.input bytes r.own
-answer_step (Word word) r = (random.answered (Some word) r.own).step
-answer_step NoWord r = (random.answered None r.own).step
-answer_step (Stored moved) r = (storage.answered (not moved) (flash_of r) r.storage r.own).step
-
--- the upcall that an answer schedules for its process, which may be the null upcall, or be dropped
-abbrev pub upcall_told : Event → Record → Option Scheduled
-upcall_told event r =
-    let step = answer_step event r in
-    option_map (λ upcall. upcall_of upcall.driver upcall.number upcall.args step.own) step.schedules
 
 -- what the answers in a step schedule for the process in a slot
 abbrev pub upcalls_told : ℕ → World → Choice → List Scheduled

@@ -8,7 +8,7 @@ use Rattle.board_devices.specs.Storage.{overwritten}
 use Rattle.driver_model.specs.Bytes.{AnswersWriteInBuffers}
 use Rattle.kernel_model.specs.Record.{Record}
 use Rattle.kernel_model.specs.declared.settings.Settings.{Settings}
-use Rattle.kernel_model.specs.Turn.{Event, Turn, Alarmed, Taken, WriteDone, Input, Word, NoWord, Stored, apply}
+use Rattle.kernel_model.specs.Turn.{Event, Turn, Alarmed, Edge, Taken, WriteDone, Input, Word, NoWord, Stored, apply}
 use Rattle.kernel_model.specs.Turn.{flash_of, written_over}
 use Rattle.kernel_model.specs.Causes.{AnswerHasCauses, AnswersHaveCauses, Covers, StorageChangesAt, served_write}
 use Rattle.kernel_model.proofs.Steps.{IsAnswer}
@@ -42,6 +42,12 @@ unfolding apply
 answer_has_causes law settings (Turn time) r is whole = absurd (cc)
 answer_has_causes law settings (Alarmed now) r is whole =
     record { own = law.alarmed now r.own whole; storage = λ k within. inl refl }
+answer_has_causes law settings (Edge button pressed) r is whole =
+    record {
+      own = λ at before after. inl (law.edged button pressed r.own at before after);
+      storage =
+          λ k within. inl refl;
+    }
 answer_has_causes law settings Taken r is whole =
     record { own = λ at before after. inl (law.taken r.own at before after); storage = λ k within. inl refl }
 answer_has_causes law settings WriteDone r is whole =
@@ -70,6 +76,7 @@ answer_has_causes law settings (Stored false) r is whole = record {
 is_answer : (event : Event) → ((time : ℕ) → event ≢ Turn time) → IsAnswer event
 is_answer (Turn time) none = absurd (none time refl)
 is_answer (Alarmed now) none = refl
+is_answer (Edge button pressed) none = refl
 is_answer Taken none = refl
 is_answer WriteDone none = refl
 is_answer (Input bytes) none = refl

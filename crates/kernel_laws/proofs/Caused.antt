@@ -1,11 +1,11 @@
 -- The cause of each change that a step makes of a process's bytes, among its labels.
-use Rattle.std.proofs.Common.{slice_set, ◌≡◌, ◌⊎◌, inl, inr, ℕ, zero, suc, ◌++◌, ◌==◌, Bool, true, false, List, []}
+use Rattle.std.proofs.Common.{◌≡◌, ◌⊎◌, inl, inr, ℕ, zero, suc, ◌+◌, ◌++◌, ◌==◌, Bool, true, false, List, []}
 use Rattle.std.proofs.Common.{◌∷◌, slice_get}
 use Rattle.std.proofs.Common.{slice_index, Option, None, Some, IfSome, is_some, refl, sym, ap, subst, ◌∙◌, arith}
 use Rattle.std.proofs.Common.{eqb-true}
 use Rattle.std.proofs.Common.{eq-eqb}
 use Rattle.std.proofs.Math.Logic.{⊎_map}
-use Rattle.std.specs.List.{Any}
+use Rattle.std.specs.List.{Any, Contains}
 use Rattle.std.specs.Prelude.{All}
 use Rattle.std.specs.Option.{option_map}
 use Rattle.std.proofs.lemmas.List.Elements.{All-nil, All-cons, All-head, All-tail}
@@ -17,8 +17,9 @@ use Rattle.driver_model.specs.Bytes.{AnswersWriteInBuffers}
 use Rattle.process_record.specs.declared.emit.CallMade.{CallMade}
 use Rattle.kernel_model.specs.Record.{Record}
 use Rattle.kernel_model.specs.Turn.{Event, Turned, apply, turned}
-use Rattle.kernel_model.specs.World.{Answer, DeviceAnswer, Label, Stepped, World, after, answer_label, carried_out}
-use Rattle.kernel_model.specs.World.{labels, ran, stepped, turn_label, unmade}
+use Rattle.kernel_model.specs.World.{Answer, DeviceStep, Label, Stepped, World, after, answer_label, carried_out}
+use Rattle.kernel_model.specs.World.{device_step_of, done, happens, labels, labels_of, labels_told, ran, records_told}
+use Rattle.kernel_model.specs.World.{stepped, turn_label, unmade}
 use Rattle.kernel_model.specs.Run.{next, on_choice, round, stays as stays_at, runs_on}
 use Rattle.kernel_model.specs.Stretch.{IsQuietTurn}
 use Rattle.kernel_model.specs.Replay.{chosen, events, replay}
@@ -26,14 +27,38 @@ use Rattle.kernel_laws.specs.Clock.{AsksNoClock, StepsWithoutClockHaveCauses, Tu
 use Rattle.kernel_model.specs.Causes.{AllHaveCauses, AnswerHasCauses, EachChangeHasACause, IsCause, IsDoneByTurn}
 use Rattle.kernel_model.specs.Causes.{IsStorageCause, StepsHaveCauses, StorageChangesAt, TurnHasCauses, TurnsHaveCauses}
 use Rattle.kernel_laws.proofs.Answered.{answer_has_causes}
-use Rattle.kernel_model.proofs.Places.{of_stepped, ran-other, ran-own, set_own, slice_get-set_other}
-use Rattle.kernel_model.specs.Laws.{one_answered}
+use Rattle.kernel_model.proofs.Places.{of_stepped, ran-other, ran-own}
 use Rattle.kernel_model.proofs.Replays.{one_step}
-use Rattle.kernel_model.proofs.Steps.{IsAnswer, of_answers}
+use Rattle.kernel_model.proofs.Steps.{AnswersOnly, IsAnswer, device_answers}
+use Rattle.kernel_model.proofs.Told.{told_at}
 
 -- two records at one place are one
 same_record : (o : Option Record) (x y : Record) → o ≡ Some x → o ≡ Some y → x ≡ y
 same_record o x y e f = let both : Some x ≡ Some y = sym e ∙ f in cc
+
+-- a label is in a list, where it is in its rest
+contains_past : (before ls : List Label) (label : Label) → Contains ls label → Contains (before ++ ls) label
+contains_past [] ls label found = found
+contains_past (x ∷ before) ls label found =
+    let rest = contains_past before ls label found in (suc rest.0, omega (arith, rest.1), rest.2)
+
+-- the label of what a process is told is among those of the step
+label_in : (told : ℕ → Option Answer) (from slot at : ℕ) (a : Answer) (rs : List Record) (r : Record)
+    → at ≡ from + slot → told at ≡ Some a → slice_get rs slot ≡ Some r
+    → Contains (labels_told told from rs) (answer_label at a)
+label_in told from slot at a [] r here is there = absurd (cc)
+label_in told from zero at a (x ∷ rs) r here is there =
+    let same : at ≡ from = omega (arith, here) in
+    subst (λ (n : ℕ). Contains (labels_of n (told n) ++ labels_told told (suc from) rs) (answer_label at a)) same
+    (subst (λ (o : Option Answer). Contains (labels_of at o ++ labels_told told (suc from) rs) (answer_label at a))
+    (sym is) (0, omega arith, refl))
+label_in told from (suc slot) at a (x ∷ rs) r here is there =
+    contains_past (labels_of from (told from)) (labels_told told (suc from) rs) (answer_label at a)
+    (label_in told (suc from) slot at a rs r (omega (arith, here)) is there)
+
+-- what holds of all labels holds of one among them
+holds_of : (P : Label → Type 0) (ls : List Label) (label : Label) → All P ls → Contains ls label → P label
+holds_of P ls label each found = subst P found.2 (each found.0 label found.1)
 
 -- what holds of a step's labels and of the record after it, where it does if the record stays, after its turn, and
 -- after an answer to it
@@ -43,9 +68,10 @@ module _ (w : World) (slot : ℕ) (r : Record) (is : slice_get w.records slot �
   abbrev ByTurn : Type 0
   ByTurn = let t = turned w.settings w.clock.time r in P (turn_label slot w.clock.time t.told ∷ []) t.after
 
-  -- after an answer to it
+  -- after an answer to it, which is among those that the step tells
   abbrev ByAnswer : Type 0
-  ByAnswer = (a : Answer) → IsAnswer a.event → P (answer_label slot a ∷ []) (apply w.settings a.event r)
+  ByAnswer = (labels : List Label) (a : Answer) → IsAnswer a.event → Contains labels (answer_label slot a)
+      → P labels (apply w.settings a.event r)
 
   abbrev Leads : Stepped → Type 0
   Leads x = (s : Record) → slice_get x.after.records slot ≡ Some s → P x.labels s
@@ -78,28 +104,25 @@ module _ (w : World) (slot : ℕ) (r : Record) (is : slice_get w.records slot �
           (same_record _ r q is at_slot) (turn same_is)))
       by_slot false e_is = at_record _ r s _ (ran-other w other slot (Some q) (apart other slot e_is) ∙ is) f (stays _)
 
-  of_one : ByAnswer → (at : ℕ) (q : Record) → slice_get w.records at ≡ Some q → (a : DeviceAnswer)
-      → IsAnswer a.answer.event → Leads (one_answered w at q a)
-  of_one answer at q there a tells s f = by_slot (at == slot) refl
+  -- a device's step, whatever it tells
+  of_deed : ByAnswer → (o : Option DeviceStep) → IfSome o (λ deed. AnswersOnly deed.told) → Leads (done w o)
+  of_deed answer None answers s f = at_record [] r s _ is f (stays [])
+  of_deed answer (Some deed) answers s f = by_told (deed.told slot) refl
     where
-      event : Event
-      event = a.answer.event
+      ls : List Label
+      ls = labels_told deed.told 0 w.records
 
-      records : List Record
-      records = slice_set w.records at (apply w.settings event q)
+      left : (o : Option Answer) → deed.told slot ≡ o
+          → slice_get (records_told w.settings deed.told w.records) slot ≡ Some (happens w.settings o r)
+      left o e =
+          told_at w.settings deed.told w.records slot ∙ ap (option_map (happens w.settings (deed.told slot))) is
+          ∙ ap (λ (x : Option Answer). Some (happens w.settings x r)) e
 
-      by_slot : (b : Bool) → (at == slot) ≡ b → P (answer_label at a.answer ∷ []) s
-      by_slot true same_is =
-          let same : at ≡ slot = eqb-true at slot same_is in
-          let at_slot : slice_get w.records slot ≡ Some q = ap (slice_get w.records) (sym same) ∙ there in
-          let left : slice_get records slot ≡ Some (apply w.settings event r) =
-          ap (slice_get records) (sym same) ∙ set_own w.records at (apply w.settings event q) q there
-          ∙ ap (λ (x : Record). Some (apply w.settings event x)) (sym (same_record _ r q is at_slot)) in
-          subst (λ (n : ℕ). P (answer_label n a.answer ∷ []) s) (sym same)
-          (at_record (answer_label slot a.answer ∷ []) (apply w.settings event r) s _ left f (answer a.answer tells))
-      by_slot false e =
-          at_record _ r s _
-          (slice_get-set_other w.records at slot (apply w.settings event q) (apart at slot e) ∙ is) f (stays _)
+      by_told : (o : Option Answer) → deed.told slot ≡ o → P ls s
+      by_told None e = at_record ls r s _ (left None e) f (stays ls)
+      by_told (Some a) e =
+          at_record ls (apply w.settings a.event r) s _ (left (Some a) e) f
+          (answer ls a (answers slot a e) (label_in deed.told 0 slot slot a w.records r (omega arith) e is))
 
   of_none : Leads (unmade w)
   of_none s f = at_record [] r s _ is f (stays [])
@@ -114,7 +137,7 @@ module _ (w : World) (slot : ℕ) (r : Record) (is : slice_get w.records slot �
   of_step turn answer (Run other) = of_run other (λ same. turn)
   of_step turn answer (Device device) =
       of_stepped Leads w (Device device) of_none
-      (λ ready. of_answers w Leads of_none (λ devices. of_none) (of_one answer) device)
+      (λ ready. of_deed answer (device_step_of w device) (device_answers w device))
   of_step turn answer (Pass ticks) = of_stepped Leads w (Pass ticks) of_none (λ ready. of_none)
 
 -- the first of some labels has the cause
@@ -141,15 +164,17 @@ caused_turn slot time r t causes = record {
     by_cause at (inl same) = inl same
     by_cause at (inr cause) = inr (first (IsCause slot r t.after at) (turn_label slot time t.told) [] (refl, inl cause))
 
-caused_answer : (slot : ℕ) (a : Answer) (r s : Record) → AnswerHasCauses a.event r s
-    → Caused slot r (answer_label slot a ∷ []) s
-caused_answer slot a r s causes = record {
+caused_answer : (slot : ℕ) (labels : List Label) (a : Answer) (r s : Record) → Contains labels (answer_label slot a)
+    → AnswerHasCauses a.event r s → Caused slot r labels s
+caused_answer slot labels a r s told causes = record {
   own = λ at before after.
-      ⊎_map (λ same. same) (λ inside. first (IsCause slot r s at) (answer_label slot a) [] (refl, inr inside))
-      (causes.own at before after);
-  storage = λ k within. ⊎_map (λ same. same)
-      (λ covers. first (IsStorageCause slot r k) (answer_label slot a) [] (refl, covers)) (causes.storage k within);
+      ⊎_map (λ same. same) (λ inside. found (IsCause slot r s at) (refl, inr inside)) (causes.own at before after);
+  storage = λ k within.
+      ⊎_map (λ same. same) (λ covers. found (IsStorageCause slot r k) (refl, covers)) (causes.storage k within);
 }
+  where
+    found : (P : Label → Type 0) → P (answer_label slot a) → Any P labels
+    found P holds = (told.0, answer_label slot a, told.1, told.2, holds)
 
 -- where the step is none of its events, its record stays
 stays_else : (w : World) (choice : Choice) (slot : ℕ) (r s : Record) → slice_get w.records slot ≡ Some r
@@ -172,7 +197,8 @@ quiet_step turns w choice quiet slot r s is left =
     (λ each. let t = turned w.settings w.clock.time r in
     caused_turn slot w.clock.time r t (turns w.settings w.clock.time r
     (λ calls. absurd (no_call t.told.call (each 0 (turn_label slot w.clock.time t.told) (omega arith)).2 calls))))
-    (λ a tells each. absurd (false≢true (sym tells ∙ (each 0 (answer_label slot a) (omega arith)).0)))
+    (λ ls a tells told each.
+    absurd (false≢true (sym tells ∙ (holds_of IsQuietTurn ls (answer_label slot a) each told).0)))
     choice s left quiet in
     record { own = caused.own; storage = caused.storage; others = stays_else w choice slot r s is left }
 
@@ -233,7 +259,8 @@ steps_have_causes turns answers = record {
         subst (λ (o : Option Record). IfSome o (λ x. IsWhole x.own))
         (ap (slice_get w.records) (eqb-true other slot same) ∙ is) whole
 
-    by_answer : (w : World) (slot : ℕ) (r : Record) → IsWhole r.own → (a : Answer) → IsAnswer a.event
-        → Caused slot r (answer_label slot a ∷ []) (apply w.settings a.event r)
-    by_answer w slot r whole a tells =
-        caused_answer slot a r _ (answer_has_causes answers w.settings a.event r tells whole)
+    by_answer : (w : World) (slot : ℕ) (r : Record) → IsWhole r.own → (labels : List Label) (a : Answer)
+        → IsAnswer a.event → Contains labels (answer_label slot a)
+        → Caused slot r labels (apply w.settings a.event r)
+    by_answer w slot r whole labels a tells told =
+        caused_answer slot labels a r _ told (answer_has_causes answers w.settings a.event r tells whole)

@@ -264,7 +264,7 @@ module _ (law : OnlyWritesChangeBytes) (commands : CommandsWriteInBuffers) (of_e
       → let t = calls settings time r accesses call in (asks_clock t.told.call ≡ true → IsWhole r.own) → Causes r t
   of_calls r accesses None is whole = of_fault settings r (unknown_call r.process)
   of_calls r accesses (Some call) is whole =
-      of_served law commands (surroundings settings time) r settings.strict call is whole
+      of_served law commands (surroundings settings time r) r settings.strict call is whole
 
   of_end : (r : Record) (accesses : List MemoryAccess) (end : TurnEnd)
       → let t = at_turn_end settings time r accesses end in

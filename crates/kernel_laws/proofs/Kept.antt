@@ -58,10 +58,10 @@ leaves_idle settings r = leaves_same settings r (idle r) (all_same r.own) refl
 
 leaves_call : (promise : DriversPromise) (settings : Settings) (time : ℕ) (r : Record) (accesses : List MemoryAccess)
     (call : SystemCall)
-    → Leaves settings r (called r accesses call (served settings.strict (surroundings settings time) r call))
+    → Leaves settings r (called r accesses call (served settings.strict (surroundings settings time r) r call))
 leaves_call promise settings time r accesses call =
-    of_call (λ s. Leaves settings r (called r accesses call s)) promise settings.strict (surroundings settings time) r
-    call
+    of_call (λ s. Leaves settings r (called r accesses call s)) promise settings.strict
+    (surroundings settings time r) r call
     (record {
       refused = λ rule.
           leaves_same settings r (called r accesses call (refused_with r rule (failure_of (form_of call) rule)))
@@ -181,7 +181,7 @@ quiet_calls : (settings : Settings) (time : ℕ) (r : Record) (accesses : List M
     → IsQuiet r (calls settings time r accesses call)
 quiet_calls settings time r accesses (Some call) none denial = absurd (no_call none)
   where
-    no_call : let s = served settings.strict (surroundings settings time) r call in
+    no_call : let s = served settings.strict (surroundings settings time r) r call in
         ◌≡◌ {A = Option CallMade} (Some (made r.process.regs s.outcome)) None → ⊥
     no_call e = cc
 quiet_calls settings time r accesses None call none = absurd (no_denial _ none)

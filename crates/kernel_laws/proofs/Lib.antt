@@ -8,3 +8,7 @@ mod Caused
 mod OneRun
 mod Tables
 mod Words
+mod Commands
+pub mod Scheduled
+pub mod EdgeSteps
+pub mod Arrivals

@@ -52,9 +52,9 @@ module _ (law : RefusedChangesNothingElse) (of_ecall : CallsAreOfEcall) (setting
       → Refuses r (calls settings time (turn_counted r) accesses call)
   of_calls r accesses None is rule e = absurd (no_rule rule e)
   of_calls r accesses (Some call) is rule e =
-      let same : served settings.strict (surroundings settings time) (turn_counted r) call
+      let same : served settings.strict (surroundings settings time (turn_counted r)) (turn_counted r) call
       ≡ refused_with (turn_counted r) rule (failure_of (form_of call) rule) =
-      law settings.strict (surroundings settings time) (turn_counted r) call rule e in
+      law settings.strict (surroundings settings time (turn_counted r)) (turn_counted r) call rule e in
       ((call, is, ap (λ (s : Served). s.after) same), ap (λ (s : Served). s.acts) same)
 
   of_end : (r s : Record) (accesses : List MemoryAccess) (end : TurnEnd) → (end ≡ ends.Call → s ≡ turn_counted r)

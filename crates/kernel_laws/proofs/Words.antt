@@ -1,22 +1,24 @@
 -- Which random words the steps tell, and which are left.
 use Rattle.std.proofs.Common.{◌≡◌, ℕ, Bool, true, false, cond, List, [], ◌∷◌, ◌++◌, slice_get}
-use Rattle.std.proofs.Common.{IfSome, Option, None, Some, refl, sym, ap, ◌∙◌}
+use Rattle.std.proofs.Common.{IfSome, Option, None, Some, refl, sym, ap, ap₂, ◌∙◌}
+use Rattle.std.specs.Prelude.{All}
 use Rattle.std.proofs.lemmas.List.{append_assoc, append-nil}
+use Rattle.std.proofs.lemmas.List.Elements.{All-head, All-tail}
 use Rattle.tk_base.specs.declared.process.Choice.{Choice}
 use Rattle.tk_base.specs.declared.process.Choice.TheVariants.{Run, Device, Pass}
 use Rattle.tk_base.specs.declared.process.Dev.{Dev}
+use Rattle.script_text.specs.Settings.{ScriptEvent as Arrival}
 use Rattle.driver_model.specs.Answers.{EventsTellSteps}
-use Rattle.driver_model.specs.Told.{drawn_told}
 use Rattle.driver_model.specs.Commands.{BoardRequest, Waits, Leaves, Lights, QueueName, Writes, Reads, Randoms, Stores}
 use Rattle.driver_model.specs.Console as console
 use Rattle.driver_model.specs.Random as random
 use Rattle.kernel_model.specs.Record.{Record}
 use Rattle.kernel_model.specs.Turn.{WriteDone, Taken, flash_of, turned}
-use Rattle.kernel_model.specs.World.{Devices, Label, Stepped, World, acted, after, as_events, carried_out}
+use Rattle.kernel_model.specs.World.{drawn_event, Answer, Devices, Label, Stepped, World, acted, after, carried_out}
 use Rattle.kernel_model.specs.World.{device_step_of, done, labels, ran, random_step, routed, stepped}
-use Rattle.kernel_model.specs.World.{queue_without, transmitting, with_queue}
-use Rattle.kernel_model.specs.Laws.{one_answered}
-use Rattle.kernel_model.proofs.Told.{of_device}
+use Rattle.kernel_model.specs.World.{queue_without, telling_edge, transmitting, with_queue}
+use Rattle.kernel_model.specs.Laws.{edge_done, edge_labels, one_answered}
+use Rattle.kernel_model.proofs.Told.{edge_answer, of_device, told_labels, with_rest}
 use Rattle.kernel_model.specs.Choices.{labels_of_all}
 use Rattle.kernel_model.specs.Replay.{after_all}
 use Rattle.kernel_laws.specs.Words.{WordsAreDrawnInOrder, word_in, word_told, words_told}
@@ -51,7 +53,7 @@ sent_none false = refl
 
 -- where the word that was drawn is the next one it is told, and the others are left
 drawn_is : (words : List ℕ) (drawn : Option ℕ) → IfSome drawn (λ word. slice_get words 0 ≡ Some word)
-    → words ≡ word_in (drawn_told as_events drawn) ++ random.words_after drawn words
+    → words ≡ word_in (drawn_event drawn) ++ random.words_after drawn words
 drawn_is words None next = refl
 drawn_is [] (Some word) next = cc
 drawn_is (first ∷ words) (Some word) next = ap (λ (w : ℕ). w ∷ words) (the_one first word next)
@@ -76,13 +78,29 @@ module _ (tell : EventsTellSteps) (w : World) where
       let drawn = (random.answered word r.own).drawn in
       drawn_is w.devices.words drawn (tell.drawn word r.own)
       ∙ ap (λ (words : List ℕ). words ++ random.words_after drawn w.devices.words)
-      (sym (append-nil (word_in (drawn_told as_events drawn))))
+      (sym (append-nil (word_in (drawn_event drawn))))
+
+  -- an edge of a button tells no word
+  tells_none : (ls : List Label) → All (λ label. word_told label ≡ []) ls → words_told ls ≡ []
+  tells_none [] none = refl
+  tells_none (label ∷ ls) none =
+      ap₂ (λ (first later : List ℕ). first ++ later) (All-head (λ label. word_told label ≡ []) label ls none)
+      (tells_none ls (All-tail (λ label. word_told label ≡ []) label ls none))
+
+  edges : (button : ℕ) (pressed : Bool) (rest : List Arrival)
+      → DrawsInOrder (edge_done w button pressed (with_rest w.devices rest))
+  edges button pressed rest =
+      sym (ap (λ (words : List ℕ). words ++ w.devices.words) (tells_none (edge_labels button pressed w)
+      (told_labels (λ label. word_told label ≡ []) (telling_edge button pressed w.records w.devices).told 0 w.records
+      (λ slot at r a here there is.
+      ap (λ (x : Answer). word_in x.event) (edge_answer button pressed (slice_get w.records at) a is)))))
 
   deed_draws : (device : Dev) → DrawsInOrder (done w (device_step_of w device))
   deed_draws device =
       of_device w DrawsInOrder (record {
         none = refl;
-        arrives = λ a rest. refl;
+        arrives = λ bytes rest. refl;
+        edges = edges;
         alarms = λ slot r is. refl;
         sends = λ slot r is. sends slot r;
         receives = λ slot r is. refl;

@@ -3,3 +3,4 @@ pub mod OneRun
 pub mod Tables
 pub mod Words
 pub mod Clock
+pub mod Scheduled

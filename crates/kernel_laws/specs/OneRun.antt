@@ -25,7 +25,7 @@ ChosenAreReady = (n : ℕ) (w : World) → w.clock.steps + n ≤ STEP_LIMIT → 
 abbrev pub HasNoAlarm : Record → Type 0
 HasNoAlarm r = r.own.lives ≡ true → alarm_in r.own ≡ None
 
--- Nothing is left to do: no process is ready and no device is, no bytes are still to come in, no process that lives has
+-- Nothing is left to do: no process is ready and no device is, nothing is still to come in, no process that lives has
 -- an alarm armed, and no write waits.
 pub record NothingIsLeft (w : World) : Type 0 where
   pub slots : (slot : ℕ) → can_run (slice_get w.records slot) ≡ false

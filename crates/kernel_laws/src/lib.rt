@@ -3,10 +3,12 @@
 #![tactic(auto)]
 
 mod bytes;
+mod edges;
 mod rounds;
 mod steps;
 
 pub use bytes::{answers_have_causes, steps_have_causes, turns_have_causes};
+pub use edges::edges_schedule_once;
 pub use rounds::{a_run_is_one_run, ready_processes_have_turns, round_is_stretch, rounds_join};
 pub use steps::{
     grants_change_at_calls, refusals_change_little, tables_name_the_same_drivers, turns_keep_lines,

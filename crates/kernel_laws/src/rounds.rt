@@ -37,7 +37,7 @@ pub fn ready_processes_have_turns()
 
 /// A run by the round robin is one run: it leads where its choices lead, and tells what their steps
 /// tell. Each of its choices is ready in its turn. On a board of no more processes than slots it is
-/// done exactly where no process and no device is ready, no bytes are still to come in, no process
+/// done exactly where no process and no device is ready, nothing is still to come in, no process
 /// that lives has an alarm armed, and no write waits.
 pub fn a_run_is_one_run()
     ensures one { OneRun }

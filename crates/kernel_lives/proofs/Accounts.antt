@@ -1,4 +1,4 @@
--- Each step is accounted for, by its three laws.
+-- Each step is accounted for, by its laws.
 use Rattle.std.proofs.Common.{List, [], ◌∷◌, Option, None, Some, slice_get, refl, sym, ◌∙◌}
 use Rattle.std.specs.Prelude.{All}
 use Rattle.std.proofs.lemmas.Bool.{false≢true}
@@ -16,6 +16,7 @@ use Rattle.kernel_model.specs.Accesses.{StepsAreGuarded}
 use Rattle.kernel_model.specs.Accounts.{IsAccountedFor, StepsAreAccountedFor}
 use Rattle.kernel_model.specs.Causes.{EachChangeHasACause, StepsHaveCauses}
 use Rattle.kernel_model.specs.Choices.{Throughout}
+use Rattle.kernel_model.specs.Edges.{StepsServeEdges}
 use Rattle.kernel_model.specs.Prints.{PrintsAreOfBuffers}
 use Rattle.kernel_model.specs.Refused.{RefusalsChangeLittle}
 use Rattle.kernel_model.specs.Replay.{chosen}
@@ -50,8 +51,8 @@ follows_throughout P Q each w (choice ∷ choices) all =
     (each w choice all.0, follows_throughout P Q each (after w choice) choices all.1)
 
 pub steps_are_accounted_for : StepsHaveCauses → StepsAreGuarded → RefusalsChangeLittle → PrintsAreOfBuffers
-    → StepsAreAccountedFor
-steps_are_accounted_for causes guarded refused prints = record {
+    → StepsServeEdges → StepsAreAccountedFor
+steps_are_accounted_for causes guarded refused prints edges = record {
   any = λ w choice whole. with_causes w choice (causes.any w choice whole);
   turn = λ w slot whole. with_causes w (Run slot) (causes.turn w slot whole);
   stretch = λ k w later is. follows_throughout EachChangeHasACause IsAccountedFor with_causes w (chosen k w)
@@ -66,4 +67,5 @@ steps_are_accounted_for causes guarded refused prints = record {
       shown = step_shown w choice;
       refused = refused w choice;
       prints = prints w [] choice;
+      edges = edges w choice;
     }

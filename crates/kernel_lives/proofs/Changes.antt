@@ -87,7 +87,8 @@ pub record IsKept (R : Own → Own → Type 0) (I J : Record → Type 0) : Type 
   pub done : (r : Record) → I r → J r
   pub regs : (r : Record) (regs : Registers) (refusal : Option RecordedRefusal) → I r → I (with_regs r regs refusal)
   pub waits : (r : Record) → is_alive r.process.state ≡ true → I r → I (with_process r (waiting r.process))
-  pub serves : (r : Record) (o : Own) (storage : List ℕ) → R r.own o → I r → I (record r { own = o; storage = storage })
+  pub serves : (r : Record) (o : Own) (storage : List ℕ) (pressed : ℕ) → R r.own o → I r
+      → I (record r { own = o; storage = storage; pressed = pressed })
   pub hands : (r : Record) (swap : Swap) → swap_refusal swap r.own ≡ None → I r
       → I (record_with_own r (own_swapped swap r.own))
   pub moves : (r : Record) (new : ℕ) → permits_break r.own.layout (kernel_break_of r.own) new ≡ true → I r
@@ -254,7 +255,7 @@ module _ (R : Own → Own → Type 0) (services : OfEachService R) (I J : Record
   by_command around r h driver number a2 a3 None is = by_plain r h NoDriver
   by_command around r h driver number a2 a3 (Some taker) is =
       let c = taker around number a2 a3 r.own in
-      by_answer r c (k.serves r (own_after c.step) r.storage
+      by_answer r c (k.serves r (own_after c.step) r.storage r.pressed
       (services.command driver taker is around number a2 a3 r.own) h) c.answer
 
   of_form : (around : CommandContext) (r : Record) → is_alive r.process.state ≡ true → I r → (form : CallForm)
@@ -285,7 +286,7 @@ module _ (R : Own → Own → Type 0) (services : OfEachService R) (I J : Record
   after_calls : (settings : Settings) (time : ℕ) (r : Record) → is_alive r.process.state ≡ true → I r
       → (accesses : List MemoryAccess) (call : Option SystemCall) → J (calls settings time r accesses call).after
   after_calls settings time r alive h accesses (Some call) =
-      after_call settings.strict (surroundings settings time) r alive h call
+      after_call settings.strict (surroundings settings time r) r alive h call
   after_calls settings time r alive h accesses None = after_denial settings r alive h _
 
   after_end : (settings : Settings) (time : ℕ) (r : Record) → is_alive r.process.state ≡ true → I r
@@ -322,7 +323,7 @@ module _ (R : Own → Own → Type 0) (services : OfEachService R) (I J : Record
   pub after_answer : (settings : Settings) (event : Event) (r : Record) → IsAnswer event → I r
       → I (apply settings event r)
   after_answer settings event r is h =
-      subst I (sym (answer_changes settings event r is)) (k.serves r _ _ (of_answer R services settings event r is) h)
+      subst I (sym (answer_changes settings event r is)) (k.serves r _ _ _ (of_answer R services settings event r is) h)
 
 -- what is so of a process in a slot is so after any choices, where it is after its turns and after answers
 pub over_choices : (I : Record → Type 0)

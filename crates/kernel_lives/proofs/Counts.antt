@@ -2,7 +2,7 @@
 use Rattle.std.proofs.Common.{◌≡◌, ◌<◌, ℕ, zero, suc, ◌+◌, ◌==◌, Bool, true, false, cond, not, ◌&&◌, nat_lt, List, []}
 use Rattle.std.proofs.Common.{◌∷◌}
 use Rattle.std.proofs.Common.{◌++◌, length, slice_get, slice_set, Option, None, Some, is_some, refl, sym, ap}
-use Rattle.std.proofs.Common.{subst, ◌∙◌, arith}
+use Rattle.std.proofs.Common.{subst, ◌∙◌, arith, ap₂, map}
 use Rattle.std.specs.Prelude.{All}
 use Rattle.std.specs.Option.{option_map}
 use Rattle.std.proofs.lemmas.Bool.{false≢true}
@@ -15,7 +15,9 @@ use Rattle.tk_base.specs.declared.process.Choice.TheVariants.{Run, Device, Pass}
 use Rattle.tk_base.specs.declared.process.Dev.{Dev}
 use Rattle.tk_base.specs.declared.process.Dev.TheVariants as dev
 use Rattle.board_devices.specs.Arriving.{is_time}
-use Rattle.script_text.specs.Settings.{ScriptEvent as Arrival}
+use Rattle.script_text.specs.Settings.{ScriptEvent as Arrival, EventKind}
+use Rattle.script_text.specs.Settings as script
+use Rattle.board_devices.specs.Arriving.{differs}
 use Rattle.process_model.specs.Own.{Own}
 use Rattle.driver_model.specs.Alarm.{due_slot}
 use Rattle.driver_model.specs.Laws.{DueSlotIsThere}
@@ -25,10 +27,10 @@ use Rattle.driver_model.specs.Services.{OfEachService}
 use Rattle.kernel_model.specs.Record.{Record}
 use Rattle.kernel_model.specs.declared.settings.Settings.{Settings}
 use Rattle.kernel_model.specs.Calls.{restart}
-use Rattle.kernel_model.specs.Turn.{Event, apply, may_turn, turned}
-use Rattle.kernel_model.specs.Laws.{queue_after_answer}
+use Rattle.kernel_model.specs.Turn.{Event, apply, edge_known, may_turn, turned}
+use Rattle.kernel_model.specs.Laws.{edge_heard, queue_after_answer}
 use Rattle.kernel_model.specs.World.{DeviceAnswer, DeviceStep, Devices, Stepped, World, acted, after, alarmed}
-use Rattle.kernel_model.specs.World.{answering}
+use Rattle.kernel_model.specs.World.{answering, coming_in}
 use Rattle.kernel_model.specs.World.{arrived, can_act, can_run, carried_out, device_step_of, done, is_ready}
 use Rattle.kernel_model.specs.World.{is_waited_for, may_be_made, now_in, owns_in, queue_without}
 use Rattle.kernel_model.specs.World.{ran}
@@ -51,6 +53,7 @@ any_service : OfEachService Any
 any_service = record {
   command = λ driver taker is around number a2 a3 own. tt;
   alarmed = λ now own. tt;
+  edged = λ button state own. tt;
   taken = λ own. tt;
   write_done = λ own. tt;
   input = λ bytes own. tt;
@@ -69,7 +72,7 @@ turns_kept n = record {
   done = λ r h. h;
   regs = λ r regs refusal h. h;
   waits = λ r alive h. h;
-  serves = λ r o storage s h. h;
+  serves = λ r o storage pressed s h. h;
   hands = λ r swap may h. h;
   moves = λ r new may h. h;
   flags = λ r at byte h. h;
@@ -182,10 +185,16 @@ module _ (law : DueSlotIsThere) (w : World) (h : AreThere (length w.records) w.d
   both false b e = absurd (false≢true e)
 
   arrival_made : (arrivals : List Arrival) → is_time w.clock.time arrivals ≡ true
-      → IsMade (length w.records) (arrived w.devices arrivals)
+      → IsMade (length w.records) (arrived w.records w.devices arrivals)
   unfolding IsMade
   arrival_made [] e = false≢true e
-  arrival_made (a ∷ rest) e = h
+  arrival_made (a ∷ rest) e = by_kind a.kind
+    where
+      by_kind : (kind : EventKind)
+          → AreThere (length w.records) (coming_in kind w.records (record w.devices { arrivals = rest })).devices
+      by_kind (script.Input bytes) = h
+      by_kind (script.Press button) = h
+      by_kind (script.Release button) = h
 
   alarm_made : (due : Option ℕ) → ((slot : ℕ) → due ≡ Some slot → slot < length w.records) → is_some due ≡ true
       → IsMade (length w.records) (serving w (λ slot r. alarmed w.settings w.clock.time w.devices) due)
@@ -218,11 +227,22 @@ module _ (law : DueSlotIsThere) (w : World) (h : AreThere (length w.records) w.d
       first_made (storing w.devices) (slots_in Stores w.devices.waiting) (h Stores) e (λ slot r. left_there Stores
       slot _)
 
--- an answer leaves the turns
+-- an edge leaves the turns, and so does an answer
+edge_turns : (button : ℕ) (pressed : Bool) (rs : List Record)
+    → turns_of_all (map (edge_heard button pressed) rs) ≡ turns_of_all rs
+edge_turns button pressed [] = refl
+edge_turns button pressed (r ∷ rs) =
+    ap₂ (λ (first rest : ℕ). first + rest) (by_test (differs r.pressed button pressed)) (edge_turns button pressed rs)
+  where
+    by_test : (b : Bool) → (cond b (edge_known button pressed r) r).process.turns ≡ r.process.turns
+    by_test true = refl
+    by_test false = refl
+
 told_turns : (w : World) (device : Dev)
     → turns_of_all (done w (device_step_of w device)).after.records ≡ turns_of_all w.records
 told_turns w device =
     of_answers w (λ (s : Stepped). turns_of_all s.after.records ≡ turns_of_all w.records) refl (λ devices. refl)
+    (λ button pressed devices. edge_turns button pressed w.records)
     (λ slot r there a is.
     let set = turns_set w.records slot r (apply w.settings a.answer.event r) there in
     let same = answer_counts w.settings a.answer.event r is in

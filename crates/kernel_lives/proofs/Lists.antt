@@ -3,10 +3,13 @@ use Rattle.std.proofs.Common.{◌≡◌, ◌≢◌, ℕ, ◌+◌, ◌==◌, Bool
 use Rattle.std.proofs.Common.{slice_get, slice_set, Option, None, Some, IfSome, refl, sym, ap, subst, ◌∙◌}
 use Rattle.std.proofs.Common.{eqb-true, eq-eqb}
 use Rattle.std.proofs.lemmas.Bool.{false≢true}
-use Rattle.std.proofs.lemmas.Option.{slice_get_within}
+use Rattle.std.specs.Option.{option_map}
+use Rattle.std.proofs.lemmas.Option.{slice_get-map, slice_get_within}
 use Rattle.tk_base.specs.declared.process.Choice.{Choice}
 use Rattle.tk_base.specs.declared.process.Choice.TheVariants.{Run, Device, Pass}
 use Rattle.tk_base.specs.declared.process.Dev.{Dev}
+use Rattle.script_text.specs.Settings.{ScriptEvent as Arrival}
+use Rattle.board_devices.specs.Arriving.{differs}
 use Rattle.board_devices.specs.Storage.{is_fault}
 use Rattle.process_model.specs.Own.{Own}
 use Rattle.driver_model.specs.Alarm as alarm
@@ -22,10 +25,9 @@ use Rattle.process_record.specs.declared.process.State.TheVariants.{Running, Yie
 use Rattle.kernel_model.specs.Record.{Record}
 use Rattle.kernel_model.specs.declared.settings.Settings.{Settings}
 use Rattle.kernel_model.specs.Turn.{Event, Turned, Alarmed, Taken, WriteDone, Input, Stored, apply, flash_of}
-use Rattle.kernel_model.specs.Turn.{turned, turn_in}
+use Rattle.kernel_model.specs.Turn.{edge_known, turned, turn_in}
 use Rattle.driver_model.specs.Steps.{DriverStep, own_after}
-use Rattle.driver_model.specs.Told.{drawn_told}
-use Rattle.kernel_model.specs.World.{as_events, DeviceAnswer, Devices, Stepped, World, acted, after, alarmed}
+use Rattle.kernel_model.specs.World.{drawn_event, DeviceAnswer, Devices, Stepped, World, acted, after, alarmed}
 use Rattle.kernel_model.specs.World.{carried_out, device_step_of, done, now_in, queue_without}
 use Rattle.kernel_model.specs.World.{ran, random_step, receive_step, routed, slots_in, storing, transmitting}
 use Rattle.kernel_model.specs.Laws.{queue_after_answer, TurnsKeepLines}
@@ -34,8 +36,8 @@ use Rattle.kernel_lives.specs.Lists.{ListsStay, asks_at, once_if, times_in}
 use Rattle.kernel_lives.proofs.Lives.{over_turn}
 use Rattle.kernel_model.proofs.Places.{of_stepped, queue_with, ran-other, set_own, slice_get-set_other}
 use Rattle.kernel_model.proofs.Places.{slice_get-set_same}
-use Rattle.kernel_model.specs.Laws.{one_answered}
-use Rattle.kernel_model.proofs.Told.{of_device}
+use Rattle.kernel_model.specs.Laws.{edge_done, edge_heard, one_answered}
+use Rattle.kernel_model.proofs.Told.{of_device, with_rest}
 
 -- a list with one more, and without one
 joined : (slot : ℕ) (xs : List ℕ) → times_in slot (xs ++ slot ∷ []) ≡ times_in slot xs + 1
@@ -316,7 +318,7 @@ sent_own settings r step true e = ap own_after (sym e)
 sent_own settings r step false e = ap own_after (sym e)
 
 drawn_own : (settings : Settings) (r : Record) (drawn : Option ℕ)
-    → (apply settings (drawn_told as_events drawn) r).own ≡ own_after (random.answered drawn r.own).step
+    → (apply settings (drawn_event drawn) r).own ≡ own_after (random.answered drawn r.own).step
 unfolding apply
 drawn_own settings r None = refl
 drawn_own settings r (Some word) = refl
@@ -410,11 +412,28 @@ module _ (follow : LinesFollowAnswers) (tell : EventsTellSteps) (w : World) (h :
       (alarmed_own w.settings r (now_in w))
       (follow.alarms (now_in w) r.own).lines)
 
+  edges : (button : ℕ) (pressed : Bool) (rest : List Arrival)
+      → AreLists (edge_done w button pressed (with_rest w.devices rest)).after
+  unfolding apply
+  edges button pressed rest queue k =
+      h queue k ∙ ap once_if (by_record (slice_get w.records k)
+      ∙ ap (asks_at queue) (sym (slice_get-map (edge_heard button pressed) w.records k)))
+    where
+      by_test : (b : Bool) (r : Record)
+          → has_waiting queue r.own ≡ has_waiting queue (cond b (edge_known button pressed r) r).own
+      by_test true r = sym ((follow.edges button pressed r.own).lines queue)
+      by_test false r = refl
+
+      by_record : (o : Option Record) → asks_at queue o ≡ asks_at queue (option_map (edge_heard button pressed) o)
+      by_record None = refl
+      by_record (Some r) = by_test (differs r.pressed button pressed) r
+
   deed_lists : (device : Dev) → AreLists (done w (device_step_of w device)).after
   deed_lists device =
       of_device w (λ (s : Stepped). AreLists s.after) (record {
         none = h;
-        arrives = λ a rest. h;
+        arrives = λ bytes rest. h;
+        edges = edges;
         alarms = fires;
         sends = sends;
         receives = receives;

@@ -6,6 +6,7 @@ use Rattle.std.proofs.lemmas.Bool.{false≢true, leb-true}
 use Rattle.tk_base.specs.Numbers.{rounded_up}
 use Rattle.tk_base.specs.declared.limits.TheConstants.{PENDING_LIMIT}
 use Rattle.tk_base.specs.declared.process.Choice.{Choice}
+use Rattle.tk_base.specs.Bits.{bit_of, has_bit, with_bit}
 use Rattle.tk_base.specs.declared.upcall.Upcall.{Upcall as Scheduled}
 use Rattle.tk_base.specs.Regs.{Registers}
 use Rattle.tbf_headers.specs.declared.fault.HeaderFault.{HeaderFault}
@@ -21,13 +22,14 @@ use Rattle.process_model.specs.Own.{Own, kernel_break_of}
 use Rattle.process_model.specs.Flag.{with_flag}
 use Rattle.process_model.specs.Handed.{lies_in_ram, still_pending}
 use Rattle.driver_model.specs.Alarm as alarm
+use Rattle.driver_model.specs.Buttons as buttons
 use Rattle.driver_model.specs.Console as console
 use Rattle.driver_model.specs.Console.{console_reads, console_writes}
 use Rattle.driver_model.specs.Random as random
 use Rattle.driver_model.specs.Random.{randoms}
 use Rattle.driver_model.specs.Storage as storage
 use Rattle.driver_model.specs.Storage.{storages}
-use Rattle.driver_model.specs.Steps.{silently}
+use Rattle.driver_model.specs.Steps.{scheduling, silently}
 use Rattle.driver_model.specs.Requests.{RequestKind, request_in, waiting_in}
 use Rattle.driver_model.specs.Laws.{StaysInPlace}
 use Rattle.driver_model.specs.Keeping.{DriversKeep, IsInOrder, KeepsLimit, KeepsOrder}
@@ -37,7 +39,7 @@ use Rattle.process_record.specs.declared.process.State.TheVariants.{Running, Yie
 use Rattle.kernel_model.specs.Record.{Record, record_with_step}
 use Rattle.kernel_model.specs.declared.settings.Settings.{Settings}
 use Rattle.kernel_model.specs.Calls.{restart, restarted_by, restarted_main, restarted_with, own_swapped}
-use Rattle.kernel_model.specs.Turn.{Event, Turn, Alarmed, Taken, WriteDone, Input, Word, NoWord, Stored, apply}
+use Rattle.kernel_model.specs.Turn.{Event, Turn, Alarmed, Edge, Taken, WriteDone, Input, Word, NoWord, Stored, apply}
 use Rattle.kernel_model.specs.Turn.{flash_of, turned, turn_in, written_over}
 use Rattle.kernel_model.specs.World.{World, after}
 use Rattle.kernel_model.specs.Replay.{after_all}
@@ -95,7 +97,7 @@ lives_kept = record {
   done = λ r h. h;
   regs = λ r regs refusal h. record { lives = h.lives; life = h.life; application = h.application };
   waits = λ r alive h. record { lives = h.lives ∙ alive; life = h.life; application = h.application };
-  serves = λ r o storage s h. record {
+  serves = λ r o storage pressed s h. record {
     lives = ap (λ (x : Own). x.lives) s ∙ h.lives;
     life =
         ap (λ (x : Own). x.life) s ∙ h.life;
@@ -126,7 +128,7 @@ lives_stay law =
     stays StaysInPlace law.places LivesAsItRuns lives_kept
     (λ r turns regs ram h. record { lives = h.lives; life = h.life; application = h.application })
 
--- an ended process has no turn, and no device tells it anything
+-- an ended process has no turn, and what devices tell it changes only which buttons it knows to be pressed
 pub over_turn : (settings : Settings) (time : ℕ) (r : Record) → is_alive r.process.state ≡ false
     → (turned settings time r).after ≡ r
 unfolding turned
@@ -143,12 +145,16 @@ none_waits : {R : Type 0} (request_kind : RequestKind R) (own : Own) → own.liv
 none_waits request_kind own over = ap (λ (b : Bool). cond b (request_in request_kind own) None) over
 
 over_answer : (settings : Settings) (event : Event) (r : Record) → r.own.lives ≡ false → IsAnswer event
-    → apply settings event r ≡ r
-unfolding apply alarm.answered random.answered storage.answered
+    → apply settings event r ≡ record r { pressed = (apply settings event r).pressed }
+unfolding apply alarm.answered buttons.edged random.answered storage.answered
 over_answer settings (Turn time) r over is = absurd (cc)
 over_answer settings (Alarmed now) r over is =
     ap (λ (b : Bool). record_with_step r (alarm.fired_if now r.own
     (cond b (alarm.if_due now (alarm.alarm_in r.own)) None))) over
+over_answer settings (Edge button pressed) r over is =
+    ap (λ (b : Bool). record (record_with_step r (cond (b && has_bit (buttons.enabled r.own) button)
+    (scheduling buttons.buttons 0 (button ∷ bit_of pressed ∷ 0 ∷ []) r.own) (silently r.own)))
+    { pressed = with_bit r.pressed button pressed }) over
 over_answer settings Taken r over is =
     ap (λ (b : Bool). record_with_step r (unwrap_or
     (option_map (console.taking r.own) (cond b (request_in console_writes r.own) None)) (silently r.own))) over
@@ -178,26 +184,32 @@ pub same_some : {X : Type 0} (x y : X) → Some x ≡ Some y → x ≡ y
 same_some x y e = cc
 
 ended_step : (w : World) (choice : Choice) (slot : ℕ) (r : Record) → is_alive r.process.state ≡ false
-    → r.own.lives ≡ false → slice_get w.records slot ≡ Some r → slice_get (after w choice).records slot ≡ Some r
+    → r.own.lives ≡ false → slice_get w.records slot ≡ Some r
+    → (pressed : ℕ) × (slice_get (after w choice).records slot ≡ Some (record r { pressed = pressed }))
 ended_step w choice slot r over ended is =
-    of_step w slot (λ tolds o. o ≡ Some r)
+    of_step w slot (λ tolds o. (pressed : ℕ) × (o ≡ Some (record r { pressed = pressed })))
     (record {
-      stays = is;
+      stays = (r.pressed, is);
       turn = λ s at.
-          let same = same_some s r (sym at ∙ is) in
-          ap (λ (x : Record). Some (turned w.settings w.clock.time x).after) same
-          ∙ ap Some (over_turn w.settings w.clock.time r over);
+          let same = same_some s r (sym at ∙ is) in (
+            r.pressed,
+            ap (λ (x : Record). Some (turned w.settings w.clock.time x).after) same
+                ∙ ap Some (over_turn w.settings w.clock.time r over),
+          );
       answer = λ s at event answers.
-          let same = same_some s r (sym at ∙ is) in
-          ap (λ (x : Record). Some (apply w.settings event x)) same
-          ∙ ap Some (over_answer w.settings event r ended answers);
+          let same = same_some s r (sym at ∙ is) in (
+            (apply w.settings event r).pressed,
+            ap (λ (x : Record). Some (apply w.settings event x)) same
+                ∙ ap Some (over_answer w.settings event r ended answers),
+          );
     })
     choice
 
 pub ended_stays : EndedStays
-ended_stays w [] slot r is over ended = is
+ended_stays w [] slot r is over ended = (r.pressed, is)
 ended_stays w (choice ∷ choices) slot r is over ended =
-    ended_stays (after w choice) choices slot r (ended_step w choice slot r over ended is) over ended
+    let step = ended_step w choice slot r over ended is in
+    ended_stays (after w choice) choices slot (record r { pressed = step.0 }) step.1 over ended
 
 -- where a process lies
 pub lies_on : (first r s : Record) → LiesAs first r → s.object ≡ r.object → s.process.object ≡ r.process.object
@@ -215,10 +227,11 @@ lies_on first r s h bytes object own_object flash_start flash_end start end = re
 }
 
 -- the same of a change of what is its own
-lies_own : (first r : Record) (o : Own) (storage : List ℕ) → LiesAs first r → o.object ≡ r.own.object → (m b : ℕ)
+lies_own : (first r : Record) (o : Own) (storage : List ℕ) (pressed : ℕ) → LiesAs first r → o.object ≡ r.own.object
+    → (m b : ℕ)
     → o.layout ≡ record r.own.layout { mark = m; brk = b }
-    → LiesAs first (record r { own = o; storage = storage })
-lies_own first r o storage h object m b layout =
+    → LiesAs first (record r { own = o; storage = storage; pressed = pressed })
+lies_own first r o storage pressed h object m b layout =
     lies_on first r _ h refl refl object (ap (λ (e : Bounds). e.flash_start) layout)
     (ap (λ (e : Bounds). e.flash_end) layout) (ap (λ (e : Bounds). e.start) layout)
     (ap (λ (e : Bounds). e.end) layout)
@@ -233,16 +246,16 @@ lies_kept law first = record {
   done = λ r h. h;
   regs = λ r regs refusal h. lies_on first r _ h refl refl refl refl refl refl refl;
   waits = λ r alive h. lies_on first r _ h refl refl refl refl refl refl refl;
-  serves = λ r o storage s h. lies_own first r o storage h (ap (λ (x : Own). x.object) s)
+  serves = λ r o storage pressed s h. lies_own first r o storage pressed h (ap (λ (x : Own). x.object) s)
       r.own.layout.mark r.own.layout.brk (ap (λ (x : Own). x.layout) s);
   hands = λ r swap may h.
       let p = law.handed_places swap.kind swap.driver swap.number swap.pair r.own in
       let o = own_swapped swap r.own in
-      lies_own first r o r.storage h (ap (λ (x : Own). x.object) p) o.layout.mark r.own.layout.brk
+      lies_own first r o r.storage r.pressed h (ap (λ (x : Own). x.object) p) o.layout.mark r.own.layout.brk
       (ap (λ (x : Own). x.layout) p);
   moves = λ r new may h. lies_on first r _ h refl refl refl refl refl refl refl;
   flags = λ r at byte h.
-      lies_own first r _ r.storage h (ap (λ (x : Own). x.object) (flag_rest at byte r.own))
+      lies_own first r _ r.storage r.pressed h (ap (λ (x : Own). x.object) (flag_rest at byte r.own))
       r.own.layout.mark r.own.layout.brk (ap (λ (x : Own). x.layout) (flag_rest at byte r.own));
   inboxes = λ r change takes h. lies_on first r _ h refl refl refl refl refl refl refl;
   delivers = λ r next alive h. lies_on first r _ h refl refl refl refl refl refl refl;
@@ -356,6 +369,7 @@ keep_both law = record {
     law.order.command driver taker is around number a2 a3 own,
   );
   alarmed = λ now own. (law.places.alarmed now own, law.order.alarmed now own);
+  edged = λ button state own. (law.places.edged button state own, law.order.edged button state own);
   taken = λ own. (law.places.taken own, law.order.taken own);
   write_done = λ own. (law.places.write_done own, law.order.write_done own);
   input = λ bytes own. (law.places.input bytes own, law.order.input bytes own);
@@ -369,7 +383,7 @@ order_kept law = record {
   done = λ r h. h;
   regs = λ r regs refusal h. record { places = h.places; least = h.least };
   waits = λ r alive h. record { places = h.places; least = h.least };
-  serves = λ r o storage s h. order_on r _ h refl (ap (λ (x : Own). x.layout.start) s.0)
+  serves = λ r o storage pressed s h. order_on r _ h refl (ap (λ (x : Own). x.layout.start) s.0)
       (ap (λ (x : Own). x.layout.end) s.0) (s.1 h.places);
   hands = λ r swap may h.
       let p = law.handed_places swap.kind swap.driver swap.number swap.pair r.own in
@@ -419,7 +433,7 @@ pending_kept = record {
   done = λ r h. h;
   regs = λ r regs refusal h. h;
   waits = λ r alive h. h;
-  serves = λ r o storage s h. s.limit h;
+  serves = λ r o storage pressed s h. s.limit h;
   hands = λ r swap may h. omega (arith, h, fewer swap.kind swap.driver swap.number r.own.inbox.pending);
   moves = λ r new may h. h;
   flags = λ r at byte h. subst (λ (o : Own). length o.inbox.pending ≤ PENDING_LIMIT) (sym (flag_rest at byte r.own)) h;

@@ -16,9 +16,9 @@ use Rattle.driver_model.specs.Requests.{request_in, waiting_in}
 use Rattle.kernel_model.specs.Record.{Record}
 use Rattle.kernel_model.specs.Turn.{Event, flash_of, turned}
 use Rattle.kernel_model.specs.World.{Label, Stepped, World, answer_label, carried_out, device_step_of, done, labels}
-use Rattle.kernel_model.specs.World.{ran, transmitting, turn_label}
-use Rattle.kernel_model.specs.Laws.{one_answered}
-use Rattle.kernel_model.proofs.Told.{of_device}
+use Rattle.kernel_model.specs.World.{Answer, ran, telling_edge, transmitting, turn_label}
+use Rattle.kernel_model.specs.Laws.{edge_labels, one_answered}
+use Rattle.kernel_model.proofs.Told.{edge_answer, of_device, told_labels}
 use Rattle.kernel_model.specs.Replay.{after_all}
 use Rattle.kernel_model.specs.Prints.{AreOfItsBuffer, PrintsAreOfBuffers, PrintsItsBuffer, buffer_bytes, console_buffer}
 use Rattle.kernel_model.proofs.Places.{of_stepped}
@@ -73,10 +73,11 @@ module _ (w : World) where
   Tells s = All (PrintsItsBuffer w) s.labels
 
   -- a label of which nothing is printed
+  prints_none : (label : Label) → label.printed ≡ [] → PrintsItsBuffer w label
+  prints_none label none some = absurd (omega (arith, some, ap length none))
+
   silent : (label : Label) → label.printed ≡ [] → All (PrintsItsBuffer w) (label ∷ [])
-  silent label none =
-      All-cons (PrintsItsBuffer w) label [] (λ some. absurd (omega (arith, some, ap length none)))
-      (All-nil (PrintsItsBuffer w))
+  silent label none = All-cons (PrintsItsBuffer w) label [] (prints_none label none) (All-nil (PrintsItsBuffer w))
 
   silently : (slot : ℕ) (event : Event)
       → All (PrintsItsBuffer w) (answer_label slot (record { event = event; printed = [] }) ∷ [])
@@ -90,11 +91,18 @@ module _ (w : World) where
       subst (λ (o : Option Record). (is_some o ≡ true) × IfSome o (AreOfItsBuffer bytes)) (sym is)
       (refl, sent_of r some)) (All-nil (PrintsItsBuffer w))
 
+  edges : (button : ℕ) (pressed : Bool) → All (PrintsItsBuffer w) (edge_labels button pressed w)
+  edges button pressed =
+      told_labels (PrintsItsBuffer w) (telling_edge button pressed w.records w.devices).told 0 w.records
+      (λ slot at r a here there is. prints_none (answer_label at a)
+      (ap (λ (x : Answer). x.printed) (edge_answer button pressed (slice_get w.records at) a is)))
+
   deed_tells : (device : Dev) → Tells (done w (device_step_of w device))
   deed_tells device =
       of_device w Tells (record {
         none = All-nil (PrintsItsBuffer w);
-        arrives = λ a rest. All-nil (PrintsItsBuffer w);
+        arrives = λ bytes rest. All-nil (PrintsItsBuffer w);
+        edges = λ button pressed rest. edges button pressed;
         alarms = λ slot r is. silently slot _;
         sends = sends;
         receives = λ slot r is. silently slot _;

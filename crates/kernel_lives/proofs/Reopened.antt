@@ -20,8 +20,8 @@ use Rattle.kernel_lives.proofs.Lives.{lies_kept, lies_on, places_stay, restart_b
 use Rattle.upcall_queue.specs.Pending.{cleared}
 use Rattle.kernel_model.proofs.Steps.{of_step}
 
--- what a start makes of a process that lies where another does, is what it makes of that, but for the counts and the
--- storage
+-- what a start makes of a process that lies where another does, is what it makes of that, but for the counts, the
+-- storage and the buttons that it knows to be pressed
 abbrev with_counts_of : Record → Record → Record
 with_counts_of x r = record {
   process = record x.process {
@@ -34,6 +34,7 @@ with_counts_of x r = record {
   object = x.object;
   own = record x.own { inbox = record x.own.inbox { dropped = r.own.inbox.dropped }; life = r.own.life + 1 };
   storage = r.storage;
+  pressed = r.pressed;
 }
 
 starts_as : (first r : Record) (h : Meaning) (m : Main) → LiesAs first r
@@ -67,6 +68,7 @@ starts_as first r h m l = λ i. record {
     lives = true;
   };
   storage = r.storage;
+  pressed = r.pressed;
 }
 
 as_first : (first x r : Record) → IsAsAtFirst first x → with_counts_of x r ≡ with_counts_of first r
@@ -103,7 +105,7 @@ module _ (law : DriversKeep) (first : Record) (at : IsAtFirst first) where
         done = λ r h ne. absurd (ne h.1);
         regs = λ r regs refusal h. (k.regs r regs refusal h.0, h.1);
         waits = λ r alive h. (k.waits r alive h.0, h.1);
-        serves = λ r o storage s h. (k.serves r o storage s h.0, h.1);
+        serves = λ r o storage pressed s h. (k.serves r o storage pressed s h.0, h.1);
         hands = λ r swap may h. (k.hands r swap may h.0, h.1);
         moves = λ r new may h. (k.moves r new may h.0, h.1);
         flags = λ r at byte h. (k.flags r at byte h.0, h.1);

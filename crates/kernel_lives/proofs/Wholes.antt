@@ -88,6 +88,7 @@ module _ (law : DriversKeep) (pairs : OnlyHandingChangesPairs) (settled : Driver
         command = λ driver taker is around number a2 a3 own.
             (both.command driver taker is around number a2 a3 own, s.command driver taker is around number a2 a3 own);
         alarmed = λ now own. (both.alarmed now own, s.alarmed now own);
+        edged = λ button state own. (both.edged button state own, s.edged button state own);
         taken = λ own. (both.taken own, s.taken own);
         write_done = λ own. (both.write_done own, s.write_done own);
         input = λ bytes own. (both.input bytes own, s.input bytes own);
@@ -122,7 +123,7 @@ module _ (law : DriversKeep) (pairs : OnlyHandingChangesPairs) (settled : Driver
         done = λ r h. h;
         regs = λ r regs refusal h. (k.regs r regs refusal h.0, h.1);
         waits = λ r alive h. (k.waits r alive h.0, h.1);
-        serves = λ r o storage s h. (k.serves r o storage s.0 h.0, s.1 h.1);
+        serves = λ r o storage pressed s h. (k.serves r o storage pressed s.0 h.0, s.1 h.1);
         hands = λ r swap may h.
             let is = is_handed swap r.own may in (
               k.hands r swap may h.0,

@@ -2,12 +2,13 @@
 ghost use Rattle.kernel_model.specs.Accounts.{StepsAreAccountedFor};
 
 use crate::certified::prints_are_of_buffers;
-use kernel_laws::{refusals_change_little, steps_have_causes};
+use kernel_laws::{edges_schedule_once, refusals_change_little, steps_have_causes};
 use kernel_model::each_access_is_permitted;
 
 /// What each step answers for: the cause of each byte that it changes, that its accesses were
-/// permitted and its denials due, that a refused call changes little, and that what it prints was
-/// in the buffer that its process then held.
+/// permitted and its denials due, that a refused call changes little, that what it prints was in
+/// the buffer that its process then held, and that an edge of a button schedules one upcall for
+/// each process that is told of it, and nothing else one of the buttons.
 pub fn steps_are_accounted_for()
     ensures { StepsAreAccountedFor }
 {
@@ -15,4 +16,5 @@ pub fn steps_are_accounted_for()
     each_access_is_permitted();
     refusals_change_little();
     prints_are_of_buffers();
+    edges_schedule_once();
 }

@@ -18,7 +18,7 @@ use process_model::only_handing_changes_pairs;
 
 /// Whatever choices are made: a process lives exactly while it is Running or Yielded, and its life
 /// is the number of its restarts, where that was so before; and the record of one that has ended
-/// changes no more.
+/// changes no more, but for the buttons that it knows to be pressed.
 pub fn processes_live_as_they_run()
     ensures lives { HoldsThroughout LivesAsItRuns }
     ensures ended { EndedStays }
@@ -53,8 +53,8 @@ pub fn time_steps_and_turns_add_up()
 }
 
 /// Whatever choices are made: a step that starts a process again leaves it as it was opened, but
-/// for its turns, its restarts and its life, its dropped upcalls, its last denial, its last refusal
-/// and its storage (TRD 104, "Exit").
+/// for its turns, its restarts and its life, its dropped upcalls, its last denial, its last
+/// refusal, its storage, and the buttons that it knows to be pressed (TRD 104, "Exit").
 pub fn restarts_are_as_opened()
     ensures { RestartsAsOpened }
 {

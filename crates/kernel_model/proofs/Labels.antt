@@ -1,25 +1,32 @@
--- The labels of a device's step: that of the one answer in it, or none. What labels show that was printed.
+-- The labels of a device's step: those of the answers in it, or none. What labels show that was printed.
 use Rattle.std.proofs.Common.{◌≡◌, ◌==◌, ◌||◌, not, ℕ, Bool, true, false, cond, List, [], ◌∷◌, ◌++◌, length, Some}
-use Rattle.std.proofs.Common.{slice_get}
+use Rattle.std.proofs.Common.{slice_get, Option, None, IfSome}
 use Rattle.std.proofs.Common.{refl, sym, ap, ◌∙◌, arith, eqb-true}
 use Rattle.std.specs.Prelude.{All}
-use Rattle.std.proofs.lemmas.List.Elements.{All-nil, All-cons}
+use Rattle.std.proofs.lemmas.List.Elements.{All-nil}
 use Rattle.tk_base.specs.declared.process.Dev.{Dev}
 use Rattle.kernel_model.specs.Record.{Record}
 use Rattle.kernel_model.specs.Run.{printed}
 use Rattle.kernel_model.specs.Shown.{shown_by}
 use Rattle.kernel_model.specs.Turn.{is_turn}
-use Rattle.kernel_model.specs.World.{Answer, Label, Stepped, World, answer_label, device_step_of, done}
-use Rattle.kernel_model.proofs.Steps.{IsAnswer, of_answers}
+use Rattle.kernel_model.specs.World.{Answer, DeviceStep, Label, World, answer_label, device_step_of, done}
+use Rattle.kernel_model.proofs.Steps.{AnswersOnly, IsAnswer, device_answers}
+use Rattle.kernel_model.proofs.Told.{told_labels}
 
 -- what holds of the label of each answer to a process that is there holds of them
 pub device_labels : (P : Label → Type 0) (w : World)
     → ((slot : ℕ) (r : Record) (a : Answer) → slice_get w.records slot ≡ Some r → IsAnswer a.event
     → P (answer_label slot a))
     → (device : Dev) → All P (done w (device_step_of w device)).labels
-device_labels P w answered device =
-    of_answers w (λ (s : Stepped). All P s.labels) (All-nil P) (λ devices. All-nil P)
-    (λ slot r there a is. All-cons P _ [] (answered slot r a.answer there is) (All-nil P)) device
+device_labels P w answered device = by_deed (device_step_of w device) (device_answers w device)
+  where
+    by_deed : (o : Option DeviceStep) → IfSome o (λ deed. AnswersOnly deed.told) → All P (done w o).labels
+    by_deed None answers = All-nil P
+    by_deed (Some deed) answers =
+        told_labels P deed.told 0 w.records
+        (λ slot at r a here there is.
+        let same : slot ≡ at = omega (arith, here) in
+        answered at r a (ap (slice_get w.records) (sym same) ∙ there) (answers at a is))
 
 -- nothing is in a list without elements
 pub none_in : {X : Type 0} (xs : List X) → (length xs == 0) ≡ true → xs ≡ []

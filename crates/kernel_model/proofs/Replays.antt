@@ -1,21 +1,21 @@
 -- A record after any choices, by the choices one after another.
 use Rattle.std.proofs.Common.{◌≡◌, ◌≢◌, ℕ, zero, suc, ◌==◌, Bool, true, false, cond, List, [], ◌∷◌, ◌++◌}
-use Rattle.std.proofs.Common.{slice_get, Option, None, Some, refl, sym, ap, subst, ◌∙◌, arith}
+use Rattle.std.proofs.Common.{slice_get, Option, None, Some, refl, sym, ap, subst, ◌∙◌, arith, eq-eqb, eqb-true}
 use Rattle.std.specs.List.{flat_map}
-use Rattle.std.specs.Option.{option_map}
+use Rattle.std.specs.Option.{option_and_then, option_map}
 use Rattle.std.proofs.lemmas.Bool.Decides.{nat_tests}
 use Rattle.tk_base.specs.declared.process.Choice.{Choice}
 use Rattle.tk_base.specs.declared.process.Choice.TheVariants.{Run, Device, Pass}
 use Rattle.kernel_model.specs.Record.{Record}
 use Rattle.kernel_model.specs.declared.settings.Settings.{Settings}
 use Rattle.kernel_model.specs.Turn.{Event, Turn, apply}
-use Rattle.kernel_model.specs.World.{DeviceAnswer, Stepped, World, after, carried_out, ran, stepped}
+use Rattle.kernel_model.specs.World.{Answer, DeviceStep, Label, Stepped, World, after, carried_out, device_step_of}
+use Rattle.kernel_model.specs.World.{done, happens, labels_of, labels_told, ran, stepped}
 use Rattle.kernel_model.specs.Run.{next, on_choice, round, stays, runs_on}
 use Rattle.kernel_model.specs.Replay.{after_all, chosen, events, happened, history, replay, RecordIsReplay}
 use Rattle.kernel_model.specs.Replay.{RoundFollowsChoices, SameHistorySameRecord}
-use Rattle.kernel_model.proofs.Places.{of_stepped, of_world, ran-other, ran-own, set_own, slice_get-set_other}
-use Rattle.kernel_model.specs.Laws.{one_answered}
-use Rattle.kernel_model.proofs.Told.{of_answered}
+use Rattle.kernel_model.proofs.Places.{of_stepped, of_world, ran-other, ran-own}
+use Rattle.kernel_model.proofs.Told.{labels_at, told_at, told_there}
 
 -- no step changes the settings
 pub kept_settings : (w : World) (choice : Choice) → (after w choice).settings ≡ w.settings
@@ -65,20 +65,42 @@ ran_replayed w other slot (Some r) e =
     (ran-own w other (Some r) e ∙ ap (option_map (apply w.settings (Turn w.clock.time))) (sym e))
     (λ s ne. ran-other w other s (Some r) ne)
 
-answer_replayed : (w : World) (slot at : ℕ) (r : Record) → slice_get w.records at ≡ Some r → (a : DeviceAnswer)
-    → replayed w slot (one_answered w at r a)
-answer_replayed w slot at r there a =
-    let event = a.answer.event in
-    lands w (one_answered w at r a).after.records at slot event
-    (set_own w.records at (apply w.settings event r) r there ∙ sym (ap (option_map (apply w.settings event)) there))
-    (λ other ne. slice_get-set_other w.records at other (apply w.settings event r) ne)
+-- a device's step, whatever it tells
+deed_replayed : (w : World) (slot : ℕ) (o : Option DeviceStep) → replayed w slot (done w o)
+deed_replayed w slot None = mapped_none w.settings (slice_get w.records slot)
+deed_replayed w slot (Some deed) =
+    told_at w.settings deed.told w.records slot ∙ by_record (slice_get w.records slot)
+    ∙ ap (λ (h : List Event). option_map (replay w.settings h) (slice_get w.records slot)) (sym heard)
+  where
+    others : (label : Label) (h : List Event) → label.slot ≢ slot → happened slot label ++ h ≡ h
+    others label h apart = by_slot (label.slot == slot) refl
+      where
+        by_slot : (b : Bool) → (label.slot == slot) ≡ b → cond b (label.event ∷ []) [] ++ h ≡ h
+        by_slot true e = absurd (apart (eqb-true label.slot slot e))
+        by_slot false e = refl
+
+    heard : flat_map (happened slot) (labels_told deed.told 0 w.records)
+        ≡ flat_map (happened slot) (labels_of slot (told_there deed.told w.records slot slot))
+    heard =
+        labels_at (flat_map (happened slot)) (λ label h. happened slot label ++ h) (λ label ls. refl) slot others
+        deed.told w.records
+
+    by_answer : (o : Option Answer) (r : Record)
+        → Some (happens w.settings o r) ≡ Some (replay w.settings (flat_map (happened slot) (labels_of slot o)) r)
+    by_answer None r = refl
+    by_answer (Some a) r =
+        ap (λ (b : Bool). Some (replay w.settings (cond b (a.event ∷ []) [] ++ []) r)) (sym (eq-eqb slot slot refl))
+
+    by_record : (o : Option Record) → option_map (happens w.settings (deed.told slot)) o
+        ≡ option_map (replay w.settings (flat_map (happened slot) (labels_of slot
+        (option_and_then (λ (r : Record). deed.told slot) o)))) o
+    by_record None = refl
+    by_record (Some r) = by_answer (deed.told slot) r
 
 choice_replayed : (w : World) (choice : Choice) (slot : ℕ) → replayed w slot (carried_out w choice)
 unfolding carried_out
 choice_replayed w (Run other) slot = ran_replayed w other slot (slice_get w.records other) refl
-choice_replayed w (Device device) slot =
-    let same = mapped_none w.settings (slice_get w.records slot) in
-    of_answered w (replayed w slot) same (λ devices. same) (answer_replayed w slot) device
+choice_replayed w (Device device) slot = deed_replayed w slot (device_step_of w device)
 choice_replayed w (Pass ticks) slot = mapped_none w.settings (slice_get w.records slot)
 
 -- a step is the replay of what it does to the process

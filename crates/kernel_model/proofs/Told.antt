@@ -1,23 +1,31 @@
--- What a device's step leaves and tells, slot by slot: nothing but its devices where it tells nobody anything, and one
--- record and its labels where it answers one process.
+-- What a device's step leaves and tells, slot by slot: nothing but its devices where it tells nobody anything, one
+-- record and its labels where it answers one process, and each record by itself where it tells of an edge of a button.
 use Rattle.std.proofs.Common.{◌≡◌, ◌≢◌, inl, inr, ◌≤◌, ℕ, zero, suc, ◌+◌, ◌==◌, Bool, true, false, cond, List, []}
 use Rattle.std.proofs.Common.{◌∷◌, ◌++◌}
-use Rattle.std.proofs.Common.{length, slice_get, slice_set, Option, None, Some, refl, sym, ap, ap₂, subst, ◌∙◌, arith}
-use Rattle.std.proofs.Common.{eq-eqb, eqb-true}
-use Rattle.std.specs.Option.{option_map}
+use Rattle.std.proofs.Common.{length, map, slice_get, slice_set, Option, None, Some, refl, sym, ap, ap₂, subst, ◌∙◌}
+use Rattle.std.proofs.Common.{◌||◌, not, arith, eq-eqb, eqb-true}
+use Rattle.std.specs.Prelude.{All}
+use Rattle.std.specs.Option.{option_and_then, option_map}
 use Rattle.std.proofs.lemmas.List.{append-nil}
+use Rattle.std.proofs.lemmas.List.Elements.{All-nil, All-cons, All-head, All-tail}
 use Rattle.tk_base.specs.declared.process.Dev.{Dev}
 use Rattle.tk_base.specs.declared.process.Dev.TheVariants as dev
+use Rattle.board_devices.specs.Arriving.{differs}
 use Rattle.board_devices.specs.SerialLine.{with_input}
-use Rattle.script_text.specs.Settings.{ScriptEvent as Arrival}
+use Rattle.script_text.specs.Settings.{ScriptEvent as Arrival, EventKind}
+use Rattle.script_text.specs.Settings as script
+use Rattle.process_record.specs.declared.emit.Emit.{Emit}
+use Rattle.process_record.specs.Emit.{nothing}
 use Rattle.kernel_model.specs.Record.{Record}
 use Rattle.kernel_model.specs.declared.settings.Settings.{Settings}
-use Rattle.kernel_model.specs.Turn.{apply}
-use Rattle.kernel_model.specs.Laws.{ComesTo, DevicesAnswerOne, one_answered, quiet}
-use Rattle.kernel_model.specs.World.{Answer, DeviceAnswer, Devices, Label, Stepped, World, alarmed, answering}
-use Rattle.kernel_model.specs.World.{arrived, device_step_of, done, happens, labels_of, labels_told}
-use Rattle.kernel_model.specs.World.{random_step, receive_step, records_told, served_by, serving, storing, transmitting}
-use Rattle.kernel_model.specs.World.{unmade}
+use Rattle.kernel_model.specs.Turn.{Edge, apply, edge_known, is_turn}
+use Rattle.kernel_model.specs.Shown.{shown_by}
+use Rattle.kernel_model.specs.Laws.{ComesTo, DevicesAnswerOne, IsSilent, edge_done, edge_heard, edge_labels}
+use Rattle.kernel_model.specs.Laws.{one_answered, quiet}
+use Rattle.kernel_model.specs.World.{Answer, DeviceAnswer, Devices, Label, Stepped, World, alarmed, answer_label}
+use Rattle.kernel_model.specs.World.{answering, arrived, coming_in, device_step_of, done, edge_told, happens, labels_of}
+use Rattle.kernel_model.specs.World.{labels_told, random_step, receive_step, records_told, served_by, serving, storing}
+use Rattle.kernel_model.specs.World.{telling_edge, transmitting, unmade}
 
 -- there are as many records
 pub told_length : (settings : Settings) (told : ℕ → Option Answer) (rs : List Record)
@@ -84,9 +92,77 @@ labels_one told from (suc slot) at a (x ∷ rs) r here is none there =
     (none from (λ same. omega (arith, same, here)))
     ∙ labels_one told (suc from) slot at a rs r (omega (arith, here)) is none there
 
+-- what holds of the label of each thing that is told to a process which is there holds of all labels
+pub told_labels : (P : Label → Type 0) (told : ℕ → Option Answer) (from : ℕ) (rs : List Record)
+    → ((slot at : ℕ) (r : Record) (a : Answer) → at ≡ from + slot → slice_get rs slot ≡ Some r → told at ≡ Some a
+    → P (answer_label at a))
+    → All P (labels_told told from rs)
+told_labels P told from [] each = All-nil P
+told_labels P told from (r ∷ rs) each =
+    by_answer (told from) refl
+    (told_labels P told (suc from) rs (λ slot at q a here. each (suc slot) at q a (omega (arith, here))))
+  where
+    by_answer : (o : Option Answer) → told from ≡ o → All P (labels_told told (suc from) rs)
+        → All P (labels_of from o ++ labels_told told (suc from) rs)
+    by_answer None e later = later
+    by_answer (Some a) e later =
+        All-cons P (answer_label from a) (labels_told told (suc from) rs) (each 0 from r a (omega arith) refl e) later
+
+-- what the process in a slot is told, if there is one
+abbrev pub told_there : (ℕ → Option Answer) → List Record → ℕ → ℕ → Option Answer
+told_there told rs slot at = option_and_then (λ (r : Record). told at) (slice_get rs slot)
+
+-- What is read of labels one after another, so that those of other slots count nothing, is what is read of the one of
+-- this slot.
+module _ {Y : Type 0} (read : List Label → Y) (add : Label → Y → Y)
+    (adds : (label : Label) (ls : List Label) → read (label ∷ ls) ≡ add label (read ls)) (at : ℕ)
+    (others : (label : Label) (y : Y) → label.slot ≢ at → add label y ≡ y) where
+  -- the labels of a slot before others
+  read_of : (told : ℕ → Option Answer) (from : ℕ) (ls : List Label) → from ≢ at
+      → read (labels_of from (told from) ++ ls) ≡ read ls
+  read_of told from ls apart = by_answer (told from)
+    where
+      by_answer : (o : Option Answer) → read (labels_of from o ++ ls) ≡ read ls
+      by_answer None = refl
+      by_answer (Some a) = adds (answer_label from a) ls ∙ others (answer_label from a) (read ls) apart
+
+  -- of none of the labels from a later slot on
+  read_past : (told : ℕ → Option Answer) (from : ℕ) (rs : List Record) → suc at ≤ from
+      → read (labels_told told from rs) ≡ read []
+  read_past told from [] past = refl
+  read_past told from (r ∷ rs) past =
+      read_of told from (labels_told told (suc from) rs) (λ same. omega (arith, past, same))
+      ∙ read_past told (suc from) rs (omega (arith, past))
+
+  read_from : (told : ℕ → Option Answer) (from slot : ℕ) (rs : List Record) → at ≡ from + slot
+      → read (labels_told told from rs) ≡ read (labels_of at (told_there told rs slot at))
+  read_from told from slot [] here = refl
+  read_from told from zero (r ∷ rs) here =
+      let same : from ≡ at = omega (arith, here) in
+      ap (λ (n : ℕ). read (labels_of n (told n) ++ labels_told told (suc from) rs)) same
+      ∙ by_answer (told at) (read_past told (suc from) rs (omega (arith, here)))
+    where
+      by_answer : (o : Option Answer) → read (labels_told told (suc from) rs) ≡ read []
+          → read (labels_of at o ++ labels_told told (suc from) rs) ≡ read (labels_of at o)
+      by_answer None later = later
+      by_answer (Some a) later =
+          adds (answer_label at a) (labels_told told (suc from) rs) ∙ ap (add (answer_label at a)) later
+          ∙ sym (adds (answer_label at a) [])
+  read_from told from (suc slot) (r ∷ rs) here =
+      read_of told from (labels_told told (suc from) rs) (λ same. omega (arith, here, same))
+      ∙ read_from told (suc from) slot rs (omega (arith, here))
+
+  pub labels_at : (told : ℕ → Option Answer) (rs : List Record)
+      → read (labels_told told 0 rs) ≡ read (labels_of at (told_there told rs at at))
+  labels_at told rs = read_from told 0 at rs (omega arith)
+
 -- the devices once bytes came in
-abbrev pub with_arrived : Devices → Arrival → List Arrival → Devices
-with_arrived d a rest = record d { line = with_input a.bytes d.line; arrivals = rest }
+abbrev pub with_arrived : Devices → List ℕ → List Arrival → Devices
+with_arrived d bytes rest = record d { line = with_input bytes d.line; arrivals = rest }
+
+-- and once an edge did
+abbrev pub with_rest : Devices → List Arrival → Devices
+with_rest d rest = record d { arrivals = rest }
 
 -- that is what the definitions come to
 abbrev with_told : World → Devices → List Record → List Label → Stepped
@@ -120,10 +196,67 @@ done_one w slot a r there =
         by_test true e = absurd (apart (eqb-true other slot e))
         by_test false e = refl
 
+-- each record of which the process is told of an edge
+told_edges : (settings : Settings) (button : ℕ) (pressed : Bool) (rs : List Record)
+    → records_told settings (λ slot. option_and_then (edge_told button pressed) (slice_get rs slot)) rs
+    ≡ map (edge_heard button pressed) rs
+unfolding apply
+told_edges settings button pressed [] = refl
+told_edges settings button pressed (r ∷ rs) =
+    ap₂ (λ (x : Record) (xs : List Record). x ∷ xs) (by_test (differs r.pressed button pressed))
+    (told_edges settings button pressed rs)
+  where
+    by_test : (b : Bool)
+        → happens settings (cond b (Some (record { event = Edge button pressed; printed = [] })) None) r
+        ≡ cond b (edge_known button pressed r) r
+    by_test true = refl
+    by_test false = refl
+
+pub done_edge : (w : World) (button : ℕ) (pressed : Bool) (devices : Devices)
+    → done w (Some (telling_edge button pressed w.records devices)) ≡ edge_done w button pressed devices
+done_edge w button pressed devices =
+    ap (λ (records : List Record). with_told w devices records (edge_labels button pressed w))
+    (told_edges w.settings button pressed w.records)
+
+-- what a process is told of an edge is that
+pub edge_answer : (button : ℕ) (pressed : Bool) (o : Option Record) (a : Answer)
+    → option_and_then (edge_told button pressed) o ≡ Some a
+    → a ≡ record { event = Edge button pressed; printed = [] }
+edge_answer button pressed None a e = absurd (cc)
+edge_answer button pressed (Some r) a e = by_test (differs r.pressed button pressed) e
+  where
+    by_test : (b : Bool) → cond b (Some (record { event = Edge button pressed; printed = [] })) None ≡ Some a
+        → a ≡ record { event = Edge button pressed; printed = [] }
+    by_test true e = cc
+    by_test false e = absurd (cc)
+
+edge_silent : (w : World) (button : ℕ) (pressed : Bool) → All IsSilent (edge_labels button pressed w)
+edge_silent w button pressed =
+    told_labels IsSilent (telling_edge button pressed w.records w.devices).told 0 w.records
+    (λ slot at r a here there is.
+    let same = edge_answer button pressed (slice_get w.records at) a is in
+    record { no_turn = ap (λ (x : Answer). is_turn x.event) same; prints = ap (λ (x : Answer). x.printed) same })
+
+-- labels of no turn for which nothing was printed show nothing
+silence : (ls : List Label) → All IsSilent ls → shown_by ls ≡ nothing
+unfolding shown_by
+silence [] each = refl
+silence (label ∷ ls) each =
+    let silent = All-head IsSilent label ls each in
+    no_test (is_turn label.event) label.printed _ (shown_by ls) silent.no_turn silent.prints
+    ∙ silence ls (All-tail IsSilent label ls each)
+  where
+    no_test : (turn : Bool) (bytes : List ℕ) (x y : Emit) → turn ≡ false → bytes ≡ []
+        → cond (turn || not (length bytes == 0)) x y ≡ y
+    no_test turn bytes x y no_turn prints =
+        ap₂ (λ (t : Bool) (bs : List ℕ). cond (t || not (length bs == 0)) x y) no_turn prints
+
 -- what holds of each thing that a device's step may come to
 pub record OfEachDevice (w : World) (P : Stepped → Type 0) : Type 0 where
   pub none : P (unmade w)
-  pub arrives : (a : Arrival) (rest : List Arrival) → P (quiet w (with_arrived w.devices a rest))
+  pub arrives : (bytes : List ℕ) (rest : List Arrival) → P (quiet w (with_arrived w.devices bytes rest))
+  pub edges : (button : ℕ) (pressed : Bool) (rest : List Arrival)
+      → P (edge_done w button pressed (with_rest w.devices rest))
   pub alarms : (slot : ℕ) (r : Record) → slice_get w.records slot ≡ Some r
       → P (one_answered w slot r (alarmed w.settings w.clock.time w.devices))
   pub sends : (slot : ℕ) (r : Record) → slice_get w.records slot ≡ Some r
@@ -147,15 +280,27 @@ module _ (w : World) (P : Stepped → Type 0) (none : P (unmade w)) where
       by_record None e = none
       by_record (Some r) e = subst P (sym (done_one w slot (answer slot r) r e)) (each slot r e)
 
-  of_arrived : ((a : Arrival) (rest : List Arrival) → P (quiet w (with_arrived w.devices a rest)))
-      → (arrivals : List Arrival) → P (done w (arrived w.devices arrivals))
-  of_arrived each [] = none
-  of_arrived each (a ∷ rest) =
-      subst P (sym (done_quietly w (with_arrived w.devices a rest))) (each a rest)
+  of_arrived : ((bytes : List ℕ) (rest : List Arrival) → P (quiet w (with_arrived w.devices bytes rest)))
+      → ((button : ℕ) (pressed : Bool) (rest : List Arrival)
+      → P (edge_done w button pressed (with_rest w.devices rest)))
+      → (arrivals : List Arrival) → P (done w (arrived w.records w.devices arrivals))
+  of_arrived arrives edges [] = none
+  of_arrived arrives edges (a ∷ rest) = by_kind a.kind
+    where
+      by_edge : (button : ℕ) (pressed : Bool)
+          → P (done w (Some (telling_edge button pressed w.records (with_rest w.devices rest))))
+      by_edge button pressed =
+          subst P (sym (done_edge w button pressed (with_rest w.devices rest))) (edges button pressed rest)
+
+      by_kind : (kind : EventKind) → P (done w (Some (coming_in kind w.records (with_rest w.devices rest))))
+      by_kind (script.Input bytes) =
+          subst P (sym (done_quietly w (with_arrived w.devices bytes rest))) (arrives bytes rest)
+      by_kind (script.Press button) = by_edge button true
+      by_kind (script.Release button) = by_edge button false
 
 pub of_device : (w : World) (P : Stepped → Type 0) → OfEachDevice w P → (device : Dev)
     → P (done w (device_step_of w device))
-of_device w P each dev.Event = of_arrived w P each.none each.arrives w.devices.arrivals
+of_device w P each dev.Event = of_arrived w P each.none each.arrives each.edges w.devices.arrivals
 of_device w P each dev.Alarm =
     of_serving w P each.none (λ slot r. alarmed w.settings w.clock.time w.devices) each.alarms (served_by w dev.Alarm)
 of_device w P each dev.Uart =
@@ -165,26 +310,35 @@ of_device w P each dev.Receive =
 of_device w P each dev.Random = of_serving w P each.none (random_step w.devices) each.draws (served_by w dev.Random)
 of_device w P each dev.Store = of_serving w P each.none (storing w.devices) each.stores (served_by w dev.Store)
 
--- what holds whatever is answered
-pub of_answered : (w : World) (P : Stepped → Type 0) → P (unmade w) → ((devices : Devices) → P (quiet w devices))
-    → ((slot : ℕ) (r : Record) → slice_get w.records slot ≡ Some r → (a : DeviceAnswer) → P (one_answered w slot r a))
-    → (device : Dev) → P (done w (device_step_of w device))
-of_answered w P none quietly each device =
-    of_device w P (record {
-      none = none;
-      arrives = λ a rest. quietly (with_arrived w.devices a rest);
-      alarms = λ slot r is. each slot r is (alarmed w.settings w.clock.time w.devices);
-      sends = λ slot r is. each slot r is (transmitting w.clock.time w.devices slot r);
-      receives = λ slot r is. each slot r is (receive_step w.devices slot r);
-      draws = λ slot r is. each slot r is (random_step w.devices slot r);
-      stores = λ slot r is. each slot r is (storing w.devices slot r);
-    }) device
-
 -- so it is with each device's step
 comes_to : (w : World) (device : Dev) → ComesTo w (done w (device_step_of w device))
 comes_to w device =
-    of_answered w (ComesTo w) (inl refl) (λ devices. inr (inl (devices, refl)))
-    (λ slot r is a. inr (inr (record { slot = slot; there = r; is_there = is; answer = a; is = refl }))) device
+    of_device w (ComesTo w) (record {
+      none = inl refl;
+      arrives = λ bytes rest. inr (inl (with_arrived w.devices bytes rest, refl));
+      edges = λ button pressed rest. inr (inr (inr (record {
+        rest = rest;
+        button = button;
+        pressed = pressed;
+        is = sym (done_edge w button pressed (with_rest w.devices rest));
+      })));
+      alarms = λ slot r is. answers slot r is (alarmed w.settings w.clock.time w.devices);
+      sends = λ slot r is. answers slot r is (transmitting w.clock.time w.devices slot r);
+      receives = λ slot r is. answers slot r is (receive_step w.devices slot r);
+      draws = λ slot r is. answers slot r is (random_step w.devices slot r);
+      stores = λ slot r is. answers slot r is (storing w.devices slot r);
+    }) device
+  where
+    answers : (slot : ℕ) (r : Record) → slice_get w.records slot ≡ Some r → (a : DeviceAnswer)
+        → ComesTo w (one_answered w slot r a)
+    answers slot r is a = inr (inr (inl (record { slot = slot; there = r; is_there = is; answer = a; is = refl })))
 
 pub devices_answer_one : DevicesAnswerOne
-devices_answer_one = record { one = done_one; nobody = done_quietly; each = comes_to }
+devices_answer_one = record {
+  one = done_one;
+  nobody = done_quietly;
+  tells_edge = done_edge;
+  silent = edge_silent;
+  shows_nothing = λ w button pressed. silence (edge_labels button pressed w) (edge_silent w button pressed);
+  each = comes_to;
+}

@@ -185,7 +185,8 @@ memop r operation argument =
     unwrap_or (option_map (λ row. row.1) (find (λ row. row.0 == operation) (memops r argument))) (refused r NoOperation)
 
 -- A process that starts again: its block is zeroed, its layout and registers are those of its start, and its next life
--- begins. Its turns, its dropped upcalls, its last denial, its last refusal and its storage stay (TRD 104, "Exit").
+-- begins. Its turns, its dropped upcalls, its last denial, its last refusal, its storage and what it was told of
+-- buttons stay (TRD 104, "Exit").
 abbrev pub restarted_with : Record → Meaning → Main → Record
 restarted_with r h m =
     let e = r.own.layout in

@@ -1,6 +1,7 @@
 -- Laws over the definitions alone. The calls are those of TRD 104; what a step reaches is this board's own rule.
 use Rattle.std.specs.Prelude.{◌≡◌, ◌≢◌, ◌<◌, ◌==◌, ℕ, Bool, true, false, if◌then◌else◌, List, [], Option, None, Some}
-use Rattle.std.specs.Prelude.{is_some, IfSome, IsTrue, option_and_then, Result, Ok, Err, slice_get, slice_set, ◌⊎◌, ◌+◌}
+use Rattle.std.specs.Prelude.{is_some, All, IfSome, IsTrue, map, option_and_then, Result, Ok, Err, slice_get, slice_set}
+use Rattle.std.specs.Prelude.{◌⊎◌, ◌+◌}
 use Rattle.std.specs.Option.{option_map}
 use Rattle.tk_base.specs.declared.limits.TheConstants.{STEP_LIMIT}
 use Rattle.tk_base.specs.declared.process.Choice.{Choice}
@@ -10,6 +11,9 @@ use Rattle.tk_base.specs.declared.call.CallRule.{CallRule}
 use Rattle.tbf_headers.specs.declared.fault.HeaderFault.{HeaderFault}
 use Rattle.tbf_headers.specs.declared.program.Main.{Main}
 use Rattle.tbf_headers.specs.Meaning.{Meaning, header_reading}
+use Rattle.board_devices.specs.Arriving.{differs}
+use Rattle.script_text.specs.Settings.{ScriptEvent as Arrival}
+use Rattle.process_record.specs.Emit.{nothing}
 use Rattle.syscall_abi.specs.Call.{form_of}
 use Rattle.syscall_abi.specs.declared.call.Call.{Call as SystemCall}
 use Rattle.process_model.specs.Own.{Own}
@@ -24,9 +28,11 @@ use Rattle.process_record.specs.declared.outcome.Outcome.TheVariants.{ToDriver}
 use Rattle.kernel_model.specs.Record.{Record}
 use Rattle.kernel_model.specs.declared.settings.Settings.{Settings}
 use Rattle.kernel_model.specs.Calls.{served, refused_with, failure_of}
-use Rattle.kernel_model.specs.Turn.{Turn, apply, rule_shown, turned}
-use Rattle.kernel_model.specs.World.{World, Answer, DeviceAnswer, Devices, Stepped, after, answering, device_step_of}
-use Rattle.kernel_model.specs.World.{done, happens, is_ready, labels, labels_of, queue_without, unmade}
+use Rattle.kernel_model.specs.Turn.{Turn, apply, edge_known, is_turn, rule_shown, turned}
+use Rattle.kernel_model.specs.World.{World, Answer, DeviceAnswer, Devices, Label, Stepped, after, answering}
+use Rattle.kernel_model.specs.World.{device_step_of, done, happens, is_ready, labels, labels_of, labels_told}
+use Rattle.kernel_model.specs.World.{queue_without, telling_edge, unmade}
+use Rattle.kernel_model.specs.Shown.{shown_by}
 use Rattle.kernel_model.specs.Run.{next, next_time, ready_devices}
 use Rattle.turn_scheduler.specs.RoundRobin.{ready_device}
 
@@ -75,16 +81,53 @@ pub record IsOneAnswered (w : World) (s : Stepped) : Type 0 where
   pub answer : DeviceAnswer
   pub is : s ≡ one_answered w slot there answer
 
--- it is none, or one that tells nobody anything, or one that answers a process
-abbrev pub ComesTo : World → Stepped → Type 0
-ComesTo w s = (s ≡ unmade w) ⊎ (((devices : Devices) × (s ≡ quiet w devices)) ⊎ IsOneAnswered w s)
+-- the record of a process once a button is pressed, or released: it knows that, where it had another state for it
+abbrev pub edge_heard : ℕ → Bool → Record → Record
+edge_heard button pressed r = if differs r.pressed button pressed then edge_known button pressed r else r
 
--- A device's step that answers one process, or nobody, is that; and each is one of these, or none.
+-- what is told of a button that is pressed, or released, to the slots in order
+abbrev pub edge_labels : ℕ → Bool → World → List Label
+edge_labels button pressed w = labels_told (telling_edge button pressed w.records w.devices).told 0 w.records
+
+-- a step that tells each process of such an edge by its own record, and leaves these devices
+abbrev pub edge_done : World → ℕ → Bool → Devices → Stepped
+edge_done w button pressed devices = record {
+  after = record w {
+    records = map (edge_heard button pressed) w.records;
+    devices = devices;
+    clock = record w.clock { steps = w.clock.steps + 1 };
+  };
+  labels = edge_labels button pressed w;
+}
+
+-- a step is one that tells of an edge which was still to come in
+pub record IsEdgeTold (w : World) (s : Stepped) : Type 0 where
+  pub rest : List Arrival
+  pub button : ℕ
+  pub pressed : Bool
+  pub is : s ≡ done w (Some (telling_edge button pressed w.records (record w.devices { arrivals = rest })))
+
+-- it is none, or one that tells nobody anything, or one that answers a process, or one that tells of an edge
+abbrev pub ComesTo : World → Stepped → Type 0
+ComesTo w s =
+    (s ≡ unmade w) ⊎ (((devices : Devices) × (s ≡ quiet w devices)) ⊎ (IsOneAnswered w s ⊎ IsEdgeTold w s))
+
+-- a label is that of no turn, and tells of nothing printed
+pub record IsSilent (label : Label) : Type 0 where
+  pub no_turn : is_turn label.event ≡ false
+  pub prints : label.printed ≡ []
+
+-- A device's step that answers one process, or nobody, or that tells of an edge, is that; and each is one of these, or
+-- none. An edge prints nothing, and nothing is shown of it.
 pub record DevicesAnswerOne : Type 0 where
   pub one : (w : World) (slot : ℕ) (a : DeviceAnswer) (r : Record) → slice_get w.records slot ≡ Some r →
       done w (Some (answering slot a)) ≡ one_answered w slot r a
   pub nobody : (w : World) (devices : Devices) →
       done w (Some (record { told = λ slot. None; devices = devices })) ≡ quiet w devices
+  pub tells_edge : (w : World) (button : ℕ) (pressed : Bool) (devices : Devices) →
+      done w (Some (telling_edge button pressed w.records devices)) ≡ edge_done w button pressed devices
+  pub silent : (w : World) (button : ℕ) (pressed : Bool) → All IsSilent (edge_labels button pressed w)
+  pub shows_nothing : (w : World) (button : ℕ) (pressed : Bool) → shown_by (edge_labels button pressed w) ≡ nothing
   pub each : (w : World) (device : Dev) → ComesTo w (done w (device_step_of w device))
 
 -- below the limit of steps the next choice of the round robin may be made

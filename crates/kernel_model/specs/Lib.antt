@@ -13,6 +13,7 @@ pub mod Histories
 pub mod Worked
 pub mod Refused
 pub mod Causes
+pub mod Edges
 pub mod Accounts
 pub mod Lives
 pub mod Prints

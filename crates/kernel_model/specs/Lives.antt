@@ -33,11 +33,12 @@ pub record LivesAsItRuns (r : Record) : Type 0 where
   pub life : r.own.life ≡ r.process.restarts
   pub application : CanStartAgain r
 
--- once a process has ended, and does not live, no choices change its record
+-- once a process has ended, and does not live, no choices change its record, but for which buttons it was told are
+-- pressed
 abbrev pub EndedStays : Type 0
 EndedStays = (w : World) (choices : List Choice) (slot : ℕ) (r : Record) →
     slice_get w.records slot ≡ Some r → is_alive r.process.state ≡ false → r.own.lives ≡ false →
-    slice_get (after_all w choices).records slot ≡ Some r
+    (pressed : ℕ) × (slice_get (after_all w choices).records slot ≡ Some (record r { pressed = pressed }))
 
 -- a process has the object of another in the same place, and lies where that does: its accessible flash and its block
 pub record LiesAs (first now : Record) : Type 0 where
@@ -91,7 +92,7 @@ DropsOnlyWhereFull = (w : World) (choices : List Choice) (choice : Choice) (slot
     length before.own.inbox.pending < PENDING_LIMIT → now.own.inbox.dropped ≡ before.own.inbox.dropped
 
 -- A process is as another was, but for its turns, its restarts and its life, its dropped upcalls, its last denial, its
--- last refusal and its storage.
+-- last refusal, its storage, and which buttons it was told are pressed.
 abbrev pub IsAsAtFirst : Record → Record → Type 0
 IsAsAtFirst first now =
     now ≡ record {
@@ -107,6 +108,7 @@ IsAsAtFirst first now =
         life = now.own.life;
       };
       storage = now.storage;
+      pressed = now.pressed;
     }
 
 -- A process as it was opened: a start of it anew makes the same of it.

@@ -8,13 +8,14 @@ use Rattle.driver_model.specs.Steps.{DriverStep, own_after}
 use Rattle.process_model.specs.Instruction.{instruction_of, with_write}
 use Rattle.process_record.specs.declared.process.Process.{Process}
 
--- one process: its registers, state and counts, the bytes of its object, what the kernel keeps of it, and the bytes of
--- its storage
+-- one process: its registers, state and counts, the bytes of its object, what the kernel keeps of it, the bytes of its
+-- storage, and a mask of the buttons that are pressed, as far as it was told: bit n for button n
 pub record Record : Type 0 where
   pub process : Process
   pub object : List ℕ
   pub own : Own
   pub storage : List ℕ
+  pub pressed : ℕ
 
 -- the byte at an address: one of the process's RAM, or one of its object
 abbrev pub byte_at : Record → ℕ → ℕ

@@ -6,6 +6,7 @@ use Rattle.tk_base.specs.declared.access.Access.TheVariants.{Fetch}
 use Rattle.tk_base.specs.declared.access.Rule.TheVariants.{UnknownClass}
 use Rattle.tk_base.specs.declared.access.Denial.{Denial}
 use Rattle.tk_base.specs.declared.call.CallRule.{CallRule}
+use Rattle.tk_base.specs.Bits.{with_bit}
 use Rattle.tk_base.specs.Regs.{Registers}
 use Rattle.rv32_model.specs.declared.turn_end.TurnEnd.{TurnEnd}
 use Rattle.rv32_model.specs.declared.turn_end.TurnEnd.TheVariants.{Went, Call, Trap}
@@ -24,6 +25,7 @@ use Rattle.process_model.specs.Own.{own_ended as ended_own}
 use Rattle.board_devices.specs.Clock.{clock_at}
 use Rattle.board_devices.specs.Storage.{overwritten}
 use Rattle.driver_model.specs.Alarm as alarm
+use Rattle.driver_model.specs.Buttons as buttons
 use Rattle.driver_model.specs.Console as console
 use Rattle.driver_model.specs.Random as random
 use Rattle.driver_model.specs.Storage as storage
@@ -110,15 +112,20 @@ called r accesses call s =
     let told = record (only_accessed accesses) { call = shown; flag = yield_flag_of r (form_of call) } in
     record { after = s.after; told = told; acts = s.acts }
 
--- what a command sees of the board at a time
-abbrev pub surroundings : Settings → ℕ → CommandContext
-surroundings settings time =
-    record { now = clock_at settings.start time; leds = settings.leds; storage = settings.storage }
+-- what a command of a process sees of the board at a time, by its record
+abbrev pub surroundings : Settings → ℕ → Record → CommandContext
+surroundings settings time r = record {
+  now = clock_at settings.start time;
+  leds = settings.leds;
+  buttons = settings.buttons;
+  pressed = r.pressed;
+  storage = settings.storage;
+}
 
 -- the call that stands in the registers is served; an unknown class is a fault
 abbrev pub calls : Settings → ℕ → Record → List MemoryAccess → Option SystemCall → Turned
 calls settings time r accesses (Some call) =
-    called r accesses call (served settings.strict (surroundings settings time) r call)
+    called r accesses call (served settings.strict (surroundings settings time r) r call)
 calls settings time r accesses None = faulted settings r (unknown_call r.process)
 
 -- what the end of an instruction asks for, once its effect stands; a denied one had none
@@ -156,11 +163,12 @@ unfoldable pub turned : Settings → ℕ → Record → Turned
 turned settings time r = turn_in settings time r.process.state r
 
 -- What happens to a process: its turn at a time; and what devices tell it. Its alarm fires, when the clock shows a
--- tick. The UART took the next bytes of its write, or has taken all; bytes came in for its read. A random word was
--- drawn for it, or none; its storage request was served, or failed.
+-- tick. A button is pressed, or released. The UART took the next bytes of its write, or has taken all; bytes came in
+-- for its read. A random word was drawn for it, or none; its storage request was served, or failed.
 pub data Event : Type 0 where
   Turn : (time : ℕ) → Event
   Alarmed : (now : ℕ) → Event
+  Edge : (button : ℕ) (pressed : Bool) → Event
   Taken : Event
   WriteDone : Event
   Input : (bytes : List ℕ) → Event
@@ -187,10 +195,16 @@ stored moved r =
     let a = storage.answered (not moved) (flash_of r) r.storage r.own in
     record (record_with_step r a.step) { storage = written_over r.storage a.written }
 
+-- a process that is told whether a button is pressed
+abbrev pub edge_known : ℕ → Bool → Record → Record
+edge_known button pressed r =
+    record (record_with_step r (buttons.edged button pressed r.own)) { pressed = with_bit r.pressed button pressed }
+
 -- the record after an event; nothing else changes a record, and it reads no other process, list or device
 unfoldable pub apply : Settings → Event → Record → Record
 apply settings (Turn time) r = (turned settings time r).after
 apply settings (Alarmed now) r = record_with_step r (alarm.answered now r.own)
+apply settings (Edge button pressed) r = edge_known button pressed r
 apply settings Taken r = record_with_step r (console.taken r.own)
 apply settings WriteDone r = record_with_step r (console.write_done r.own)
 apply settings (Input bytes) r = record_with_step r (console.input bytes r.own)

@@ -42,6 +42,7 @@ standing object block regs = record {
     };
   });
   storage = [];
+  pressed = 0;
 }
 
 -- the process that asks for an operation with an argument, before its first turn: its object is the `ecall`
@@ -60,7 +61,7 @@ subscribes =
     standing object 64 (with_register (with_register (cleared FLASH_START) 14 1) 13 7)
 
 abbrev pub worked_settings : Settings
-worked_settings = record { leds = 0; start = 0; storage = 0; policy = Stop; strict = false }
+worked_settings = record { leds = 0; buttons = 0; start = 0; storage = 0; policy = Stop; strict = false }
 
 -- the key of its upcall
 abbrev pub alarm_upcall : PairKey

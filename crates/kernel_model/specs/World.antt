@@ -1,7 +1,7 @@
 -- The world only routes: a step finds whose turn it is, or whom a device answers, and applies that event to that one
 -- record. Which steps there are, and what the devices do, is this board's own rule.
-use Rattle.std.specs.Prelude.{ℕ, suc, ◌+◌, ◌==◌, Bool, false, not, ◌&&◌, nat_le, nat_lt, if◌then◌else◌, List, [], ◌∷◌}
-use Rattle.std.specs.Prelude.{◌++◌, unwrap_or}
+use Rattle.std.specs.Prelude.{ℕ, suc, ◌+◌, ◌==◌, Bool, true, false, not, ◌&&◌, nat_le, nat_lt, if◌then◌else◌, List}
+use Rattle.std.specs.Prelude.{[], ◌∷◌, ◌++◌, option_and_then, unwrap_or}
 use Rattle.std.specs.Prelude.{drop, filter, length, map, slice_get, slice_set, Option, None, Some, is_some}
 use Rattle.std.specs.Option.{option_map}
 use Rattle.tk_base.specs.declared.limits.TheConstants.{STEP_LIMIT}
@@ -13,11 +13,12 @@ use Rattle.process_record.specs.Summary.{Unplaced}
 use Rattle.turn_scheduler.specs.RoundRobin.{used_after}
 use Rattle.kernel_model.specs.Record.{Record}
 use Rattle.kernel_model.specs.declared.settings.Settings.{Settings}
-use Rattle.board_devices.specs.Arriving.{first_arrival_time, is_time}
+use Rattle.board_devices.specs.Arriving.{differs, first_arrival_time, is_time}
 use Rattle.board_devices.specs.Clock.{clock_at}
 use Rattle.board_devices.specs.SerialLine.{SerialLine, with_input}
 use Rattle.board_devices.specs.Storage.{is_fault}
-use Rattle.script_text.specs.Settings.{ScriptEvent as Arrival}
+use Rattle.script_text.specs.Settings.{ScriptEvent as Arrival, EventKind}
+use Rattle.script_text.specs.Settings as script
 use Rattle.process_model.specs.Own.{Own}
 use Rattle.driver_model.specs.Alarm as alarm
 use Rattle.driver_model.specs.Alarm.{nearer}
@@ -25,11 +26,9 @@ use Rattle.driver_model.specs.Console as console
 use Rattle.driver_model.specs.Random as random
 use Rattle.driver_model.specs.Storage as storage
 use Rattle.driver_model.specs.Leds.{with_switched}
-use Rattle.driver_model.specs.Told.{Telling, drawn_told, received_told, sent_told, stored_told}
 use Rattle.driver_model.specs.Commands.{BoardRequest, Waits, Leaves, Lights, QueueName, Writes, Reads, Randoms, Stores}
-use Rattle.kernel_model.specs.Turn.{Event, Turn, Alarmed, Taken, WriteDone, Input, Word, NoWord, Stored, TurnTrace}
-use Rattle.kernel_model.specs.Turn.{Turned}
-use Rattle.kernel_model.specs.Turn.{untraced}
+use Rattle.kernel_model.specs.Turn.{Event, Turn, Alarmed, Edge, Taken, WriteDone, Input, Word, NoWord, Stored}
+use Rattle.kernel_model.specs.Turn.{TurnTrace, Turned, untraced}
 use Rattle.kernel_model.specs.Turn.{apply, flash_of, turned, may_turn}
 
 -- what of the settings no process sees: how many turns a slice has
@@ -43,9 +42,9 @@ pub record WaitingSlots : Type 0 where
   pub randoms : List ℕ
   pub stores : List ℕ
 
--- What the devices hold: the slots that wait; the LEDs, bit n for LED n; the serial line; the bytes that are still to
--- come in, and when; the random words that are left; how many storage requests were served, and the numbers of those
--- that fail
+-- What the devices hold: the slots that wait; the LEDs, bit n for LED n; the serial line; what is still to come in, and
+-- when, bytes and edges of buttons; the random words that are left; how many storage requests were served, and the
+-- numbers of those that fail
 pub record Devices : Type 0 where
   pub waiting : WaitingSlots
   pub leds : ℕ
@@ -144,32 +143,20 @@ with_queue Stores change d = record d { waiting = record d.waiting { stores = ch
 abbrev pub after_answer : QueueName → Bool → ℕ → Devices → Devices
 after_answer name completed slot = with_queue name (λ slots. if completed then queue_without slot slots else slots)
 
--- what devices tell, as events of a process
-abbrev pub as_events : Telling Event
-as_events = record {
-  alarmed = Alarmed;
-  taken = Taken;
-  write_done = WriteDone;
-  input = Input;
-  word = Word;
-  no_word = NoWord;
-  stored = Stored;
-}
-
 -- it tells it something, and nothing is printed
 abbrev pub telling : Event → Devices → DeviceAnswer
 telling event d = record { answer = record { event = event; printed = [] }; devices = d }
 
 -- the alarm of a process fires at a time
 abbrev pub alarmed : Settings → ℕ → Devices → DeviceAnswer
-alarmed settings time d = telling (as_events.alarmed (clock_at settings.start time)) d
+alarmed settings time d = telling (Alarmed (clock_at settings.start time)) d
 
 -- the UART takes the next bytes of the write of the process in a slot, or the write completes
 abbrev pub transmitting : ℕ → Devices → ℕ → Record → DeviceAnswer
 transmitting time d slot r =
     let s = console.sent (flash_of r) r.own in
     record {
-      answer = record { event = sent_told as_events s; printed = s.printed };
+      answer = record { event = if s.completed then WriteDone else Taken; printed = s.printed };
       devices = record (after_answer Writes s.completed slot d) {
         line = record d.line { free = console.free_after time d.line.ticks s.printed d.line.free };
       };
@@ -180,14 +167,18 @@ abbrev pub receive_step : Devices → ℕ → Record → DeviceAnswer
 receive_step d slot r =
     let s = console.received d.line.ring r.own in
     let line = record d.line { ring = drop (length s.moved) d.line.ring } in
-    telling (received_told as_events s) (record (after_answer Reads s.completed slot d) { line = line })
+    telling (Input s.moved) (record (after_answer Reads s.completed slot d) { line = line })
+
+-- the event of a word that was drawn, or of none
+abbrev pub drawn_event : Option ℕ → Event
+drawn_event drawn = unwrap_or (option_map Word drawn) NoWord
 
 -- a word is drawn for the request of the process in a slot, or none
 abbrev pub random_step : Devices → ℕ → Record → DeviceAnswer
 random_step d slot r =
     let a = random.answered (slice_get d.words 0) r.own in
     let words = random.words_after a.drawn d.words in
-    telling (drawn_told as_events a.drawn) (record (after_answer Randoms a.completed slot d) { words = words })
+    telling (drawn_event a.drawn) (record (after_answer Randoms a.completed slot d) { words = words })
 
 -- the storage request of the process in a slot is served, or fails, by its number among all that were
 abbrev pub storing : Devices → ℕ → Record → DeviceAnswer
@@ -195,10 +186,9 @@ storing d slot r =
     let fails = is_fault d.faults (d.served + 1) in
     let a = storage.answered fails (flash_of r) r.storage r.own in
     let served = if a.completed then d.served + 1 else d.served in
-    telling (stored_told as_events fails) (record (after_answer Stores a.completed slot d) { served = served })
+    telling (Stored (not fails)) (record (after_answer Stores a.completed slot d) { served = served })
 
--- whom a device serves: the lowest slot whose alarm is due, or the first of those that wait; bytes that come in are
--- nobody's
+-- whom a device serves: the lowest slot whose alarm is due, or the first of those that wait; what comes in is nobody's
 abbrev pub served_by : World → Dev → Option ℕ
 served_by w dev.Event = None
 served_by w dev.Alarm = alarm.due_slot (now_in w) (owns_in w)
@@ -212,16 +202,32 @@ abbrev pub serving : World → (ℕ → Record → DeviceAnswer) → Option ℕ 
 serving w answer None = None
 serving w answer (Some slot) = option_map (λ r. answering slot (answer slot r)) (slice_get w.records slot)
 
--- bytes come in, if any are still to, which tells nobody anything: of those in the ring the newest are kept
-abbrev pub arrived : Devices → List Arrival → Option DeviceStep
-arrived d [] = None
-arrived d (arrival ∷ rest) =
-    let devices = record d { line = with_input arrival.bytes d.line; arrivals = rest } in
-    Some (record { told = λ slot. None; devices = devices })
+-- what a process is told of a button that is pressed, or released: nothing where it has that state for it already
+abbrev pub edge_told : ℕ → Bool → Record → Option Answer
+edge_told button pressed r =
+    if differs r.pressed button pressed then Some (record { event = Edge button pressed; printed = [] }) else None
+
+-- a button is pressed, or released, which the process in each slot is told by its own record
+abbrev pub telling_edge : ℕ → Bool → List Record → Devices → DeviceStep
+telling_edge button pressed rs d =
+    record { told = λ slot. option_and_then (edge_told button pressed) (slice_get rs slot); devices = d }
+
+-- what comes in: bytes, which tells nobody anything, and of those in the ring the newest are kept; or an edge of a
+-- button
+abbrev pub coming_in : EventKind → List Record → Devices → DeviceStep
+coming_in (script.Input bytes) rs d =
+    record { told = λ slot. None; devices = record d { line = with_input bytes d.line } }
+coming_in (script.Press button) rs d = telling_edge button true rs d
+coming_in (script.Release button) rs d = telling_edge button false rs d
+
+-- the first thing comes in that is still to, if there is one
+abbrev pub arrived : List Record → Devices → List Arrival → Option DeviceStep
+arrived rs d [] = None
+arrived rs d (arrival ∷ rest) = Some (coming_in arrival.kind rs (record d { arrivals = rest }))
 
 -- what a device does, where it is ready
 abbrev pub device_step_of : World → Dev → Option DeviceStep
-device_step_of w dev.Event = arrived w.devices w.devices.arrivals
+device_step_of w dev.Event = arrived w.records w.devices w.devices.arrivals
 device_step_of w dev.Alarm =
     serving w (λ slot r. alarmed w.settings w.clock.time w.devices) (served_by w dev.Alarm)
 device_step_of w dev.Uart = serving w (transmitting w.clock.time w.devices) (served_by w dev.Uart)
@@ -233,9 +239,9 @@ device_step_of w dev.Store = serving w (storing w.devices) (served_by w dev.Stor
 abbrev pub is_waited_for : List ℕ → Bool
 is_waited_for slots = not (length slots == 0)
 
--- Whether a device step is ready at a time, when the alarm's clock shows a tick: bytes are to come in; an alarm is due;
--- a write waits and the UART is free; a read waits and bytes came in; a request for random bytes waits; one for storage
--- waits.
+-- Whether a device step is ready at a time, when the alarm's clock shows a tick: something is to come in; an alarm is
+-- due; a write waits and the UART is free; a read waits and bytes came in; a request for random bytes waits; one for
+-- storage waits.
 abbrev pub can_act_at : ℕ → ℕ → List Own → Devices → Dev → Bool
 can_act_at time now owns d dev.Event = is_time time d.arrivals
 can_act_at time now owns d dev.Alarm = is_some (alarm.due_slot now owns)
@@ -249,7 +255,7 @@ abbrev pub sending_time : Devices → Option ℕ
 sending_time d = if is_waited_for (slots_in Writes d.waiting) then Some d.line.free else None
 
 -- What there is to do for the devices: which device steps are ready now; and the nearest time at which one becomes
--- ready by itself: bytes come in, an alarm becomes due, or the UART is free for a write that waits.
+-- ready by itself: something comes in, an alarm becomes due, or the UART is free for a write that waits.
 pub record Work : Type 0 where
   pub ready : Dev → Bool
   pub next : Option ℕ

@@ -31,8 +31,9 @@ pub fn only_its_own_events()
 {}
 
 /// A device's step that answers one process changes its record and the devices, and tells of it
-/// alone; one that answers nobody changes the devices alone. Each step of a device is one of these,
-/// or none.
+/// alone; one that answers nobody changes the devices alone. One that tells of an edge of a button
+/// changes the record of each process that had another state for that button; nothing is printed,
+/// and nothing shown of it. Each step of a device is one of these, or none.
 #[tactic(auto, using(crate::proofs::Told::devices_answer_one))]
 pub fn devices_answer_one()
     ensures { DevicesAnswerOne }

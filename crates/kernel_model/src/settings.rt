@@ -7,6 +7,8 @@ use fault_policy::Policy;
 pub struct Settings {
     /// How many LEDs there are.
     pub leds: u32,
+    /// How many buttons there are.
+    pub buttons: u32,
     /// What the alarm's clock shows at time 0, in ticks.
     pub start: u32,
     /// How many bytes of storage a slot has.

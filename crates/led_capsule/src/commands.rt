@@ -2,30 +2,31 @@
 ghost use Rattle.std.specs.Prelude.{◌≡◌, length, OnErr, OnSome};
 ghost use Rattle.process_model.specs.Own.{Own};
 ghost use Rattle.driver_model.specs.Commands.{Switch, Toggle};
-ghost use Rattle.driver_model.specs.Leds.{led_bits, command, is_lit, is_on_after, switching};
+ghost use Rattle.driver_model.specs.Leds.{command, is_on_after, switching};
+ghost use Rattle.tk_base.specs.Bits.{bits_of, has_bit};
 ghost use Rattle.led_capsule.specs.Obeys.{LedsObey, LedsReply};
 
 use board_devices::Leds;
-use driver_model::{leds_are_bits, reply_of};
+use driver_model::reply_of;
 use syscall_abi::Reply;
-use tk_base::CallRule;
+use tk_base::{CallRule, flags_are_bits};
 
 /// Whether an LED is on. One that there is not is off.
 fn is_on(leds: &Leds, led: u32) -> bool
-    ensures { result ≡ is_lit (led_bits leds.now) led }
+    ensures { result ≡ has_bit (bits_of leds.now) led }
 {
-    leds_are_bits();
+    flags_are_bits();
     led < leds.len() && leds.is_on(led)
 }
 
 /// Turns an LED on or off; it is refused where there is none of that number.
 fn light(leds: &mut Leds, led: u32, on: bool) -> Result<Reply, CallRule>
     ensures obeys { (own : Own) (switch : Switch)
-        → is_on_after switch (is_lit (led_bits leds.old) led) ≡ on
+        → is_on_after switch (has_bit (bits_of leds.old) led) ≡ on
         → LedsObey (switching (length leds.old) led switch own) leds.old result leds.new }
     ensures kept { OnErr result (leds.new ≡ leds.old) }
 {
-    leds_are_bits();
+    flags_are_bits();
     if led >= leds.len() {
         return Err(CallRule::Range);
     }

@@ -1,6 +1,6 @@
 //! The LEDs as one number.
 ghost use Rattle.std.specs.Prelude.{◌≡◌, ◌<◌, ◌^◌, if◌then◌else◌};
-ghost use Rattle.driver_model.specs.Leds.{led_bits};
+ghost use Rattle.tk_base.specs.Bits.{bits_of};
 
 use board_devices::Leds;
 
@@ -14,7 +14,7 @@ fn bit(led: u32, on: bool) -> u32
 
 /// The LEDs as one number: bit n is LED n.
 pub fn bits(leds: &Leds) -> u32
-    ensures { result ≡ led_bits leds.now }
+    ensures { result ≡ bits_of leds.now }
 {
     let mut bits = 0;
     for led in 0..leds.len() {

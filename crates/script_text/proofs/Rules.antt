@@ -5,11 +5,12 @@ use Rattle.std.specs.Option.{option_map_or}
 use Rattle.script_text.specs.declared.rule.ScriptRule.{ScriptRule}
 use Rattle.script_text.specs.declared.rule.ScriptRule.TheVariants.{UnknownWord, Words, BadNumber, BadHex, OutOfRange}
 use Rattle.script_text.specs.declared.rule.ScriptRule.TheVariants.{Repeated, Order, TooMany}
+use Rattle.script_text.specs.declared.line.Context.{Context}
 use Rattle.script_text.specs.declared.table.Form.{Form}
 use Rattle.script_text.specs.declared.table.Line.{Line}
 use Rattle.script_text.specs.Alone.{IsLine, broken_alone}
-use Rattle.script_text.specs.Rules.{skips, miscounts, misspells, has_bad_hex, is_outside, is_single, disorders, exceeds}
-use Rattle.script_text.specs.Rules.{breaks_rule, broken}
+use Rattle.script_text.specs.Rules.{skips, miscounts, misspells, has_bad_hex, context_of, is_outside, is_single}
+use Rattle.script_text.specs.Rules.{disorders, exceeds, breaks_rule, broken}
 use Rattle.script_text.specs.Said.{settings, stands}
 use Rattle.script_text.specs.Table.{row, line_of}
 use Rattle.script_text.specs.Text.{words}
@@ -53,7 +54,8 @@ broken_by : (before : List (List ℕ)) (text : List ℕ) (line : Line) → skips
     → line_of (words text) ≡ Some line
     → broken before text
     ≡ first_of false false (miscounts (row line).form (words text)) (misspells (row line).form (words text))
-    (has_bad_hex (row line).form (words text)) (is_outside (row line).form (words text))
+    (has_bad_hex (row line).form (words text))
+    (is_outside (context_of (settings before)) (row line).form (words text))
     (is_single line && stands line before) (disorders line (settings before) (words text))
     (exceeds line (settings before) (words text))
 broken_by before text line s l =
@@ -65,9 +67,10 @@ goes_on : (ws : List (List ℕ)) (w : List ℕ) (rest : List (List ℕ)) → ws 
     → skips ws ≡ false
 goes_on ws w rest h e = ap skips h ∙ e
 
-pub unknown_word : (text w : List ℕ) (rest : List (List ℕ)) → words text ≡ w ∷ rest → (slice_index w 0 == 35) ≡ false
-    → line_of (words text) ≡ None → (before : List (List ℕ)) → broken before text ≡ Some UnknownWord
-unknown_word text w rest h e l before =
+pub unknown_word : (text w : List ℕ) (rest : List (List ℕ)) (context : Context) → words text ≡ w ∷ rest
+    → (slice_index w 0 == 35) ≡ false → line_of (words text) ≡ None → (before : List (List ℕ))
+    → context_of (settings before) ≡ context → broken before text ≡ Some UnknownWord
+unknown_word text w rest context h e l before same =
     broken_is before text
     ∙ (ap (λ b. broken_at before (words text) b (line_of (words text))) (goes_on _ w rest h e)
     ∙ ap (broken_at before (words text) false) l)
@@ -93,28 +96,31 @@ breaks_no false false true o e = cc
 breaks_no false false false true e = cc
 breaks_no false false false false e = (refl, refl, refl, refl)
 
-pub bad_alone : (text w : List ℕ) (rest : List (List ℕ)) (line : Line) (form : Form) (rule : ScriptRule)
-    → words text ≡ w ∷ rest → (slice_index w 0 == 35) ≡ false → line_of (words text) ≡ Some line
-    → form ≡ (row line).form → broken_alone form (words text) ≡ Some rule → (before : List (List ℕ))
-    → broken before text ≡ Some rule
-bad_alone text w rest line form rule h e l f b before =
+pub bad_alone : (text w : List ℕ) (rest : List (List ℕ)) (line : Line) (form : Form) (context : Context)
+    (rule : ScriptRule) → words text ≡ w ∷ rest → (slice_index w 0 == 35) ≡ false → line_of (words text) ≡ Some line
+    → form ≡ (row line).form → broken_alone context form (words text) ≡ Some rule → (before : List (List ℕ))
+    → context_of (settings before) ≡ context → broken before text ≡ Some rule
+bad_alone text w rest line form context rule h e l f b before same =
+    let ws = words text in
     broken_by before text line (goes_on _ w rest h e) l
-    ∙ come_first _ _ _ _ _ _ _ rule (ap (λ k. broken_alone k (words text)) (sym f) ∙ b)
+    ∙ come_first _ _ _ _ _ _ _ rule (ap (λ k. broken_alone (context_of (settings before)) k ws) (sym f)
+    ∙ ap (λ (c : Context). broken_alone c form ws) same ∙ b)
 
-pub good_alone : (text w : List ℕ) (rest : List (List ℕ)) (line : Line) (form : Form) → words text ≡ w ∷ rest
-    → (slice_index w 0 == 35) ≡ false → line_of (words text) ≡ Some line → form ≡ (row line).form
-    → broken_alone form (words text) ≡ None → IsLine (words text) line
-good_alone text w rest line form h e l f b =
+pub good_alone : (text w : List ℕ) (rest : List (List ℕ)) (line : Line) (form : Form) (context : Context)
+    → words text ≡ w ∷ rest → (slice_index w 0 == 35) ≡ false → line_of (words text) ≡ Some line
+    → form ≡ (row line).form → broken_alone context form (words text) ≡ None → IsLine context (words text) line
+good_alone text w rest line form context h e l f b =
     let ws = words text in
     let none = breaks_no (miscounts (row line).form ws) (misspells (row line).form ws) (has_bad_hex (row line).form ws)
-    (is_outside (row line).form ws) (ap (λ k. broken_alone k ws) (sym f) ∙ b) in
+    (is_outside context (row line).form ws) (ap (λ k. broken_alone context k ws) (sym f) ∙ b) in
     record { goes_on = goes_on _ w rest h e; is = l; counted = none.0; spelled = none.1; hex = none.2; within = none.3 }
 
 -- a line of the table breaks one of the rules that look at those before it, or none
 abbrev pub last_of : Bool → Bool → Bool → Option ScriptRule
 last_of again order many = cond again (Some Repeated) (cond order (Some Order) (cond many (Some TooMany) None))
 
-pub broken_after : (before : List (List ℕ)) (text : List ℕ) (line : Line) → IsLine (words text) line
+pub broken_after : (before : List (List ℕ)) (text : List ℕ) (line : Line)
+    → IsLine (context_of (settings before)) (words text) line
     → broken before text
     ≡ last_of (is_single line && stands line before) (disorders line (settings before) (words text))
     (exceeds line (settings before) (words text))

@@ -11,13 +11,13 @@ use Rattle.std.specs.Option.{option_map_or}
 use Rattle.std.specs.Str.{bytes_eq}
 use Rattle.fault_policy.specs.declared.Policy.TheVariants as policies
 use Rattle.script_text.specs.declared.table.Line.{Line}
-use Rattle.script_text.specs.declared.table.Line.TheVariants.{Ram, Leds, Slice, Start, Uart, Storage}
+use Rattle.script_text.specs.declared.table.Line.TheVariants.{Ram, Leds, Buttons, Slice, Start, Uart, Storage}
 use Rattle.script_text.specs.declared.table.Line.TheVariants.{Stop, Restart, Threshold, FilterOpen, FilterStrict}
-use Rattle.script_text.specs.declared.table.Line.TheVariants.{StorageFault, Random, Input}
+use Rattle.script_text.specs.declared.table.Line.TheVariants.{StorageFault, Random, Input, Press, Release}
 use Rattle.script_text.specs.Progress.{with_line, stood_in}
 use Rattle.script_text.specs.Rules.{is_single, skips}
 use Rattle.script_text.specs.Said.{lines_of, stands, settings, number_on, policy_on, policy_by, is_strict}
-use Rattle.script_text.specs.Said.{words_on, event_on}
+use Rattle.script_text.specs.Said.{words_on, event_on, event_by}
 use Rattle.script_text.specs.Seats.{stood_at, stood_after}
 use Rattle.script_text.specs.Settings.{ScriptSettings}
 use Rattle.script_text.specs.Table.{row, line_table, is_key, line_fits, line_of}
@@ -40,11 +40,12 @@ lines_more line before text =
     (filter (λ t. bytes_eq (word (words t) 0) (row line).name) before)
 
 -- the settings from the lines of each name
-abbrev assembled : (ram leds slice start uart storage policies filters faults randoms inputs : List (List ℕ))
+abbrev assembled : (ram leds buttons slice start uart storage policies filters faults randoms events : List (List ℕ))
     → ScriptSettings
-assembled ram leds slice start uart storage policy filters faults randoms inputs = record {
+assembled ram leds buttons slice start uart storage policy filters faults randoms events = record {
   ram = slice_index_or (map number_on ram) 0 (row Ram).default;
   leds = slice_index_or (map number_on leds) 0 (row Leds).default;
+  buttons = slice_index_or (map number_on buttons) 0 (row Buttons).default;
   slice = slice_index_or (map number_on slice) 0 (row Slice).default;
   start = slice_index_or (map number_on start) 0 (row Start).default;
   uart = slice_index_or (map number_on uart) 0 (row Uart).default;
@@ -53,12 +54,13 @@ assembled ram leds slice start uart storage policy filters faults randoms inputs
   strict = slice_index_or (map (λ text. is_strict (line_of (words text))) filters) 0 false;
   faults = map number_on faults;
   words = flat_map words_on randoms;
-  events = map event_on inputs;
+  events = map event_on events;
 }
 
 abbrev settings_at : List (List ℕ) → List ℕ → List ℕ → ScriptSettings
 settings_at before text first =
     assembled (more text first Ram (lines_of Ram before)) (more text first Leds (lines_of Leds before))
+    (more text first Buttons (lines_of Buttons before))
     (more text first Slice (lines_of Slice before)) (more text first Start (lines_of Start before))
     (more text first Uart (lines_of Uart before)) (more text first Storage (lines_of Storage before))
     (more text first Stop (lines_of Stop before)) (more text first FilterOpen (lines_of FilterOpen before))
@@ -71,6 +73,7 @@ settings_more before text =
     rw (
       lines_more Ram before text,
       lines_more Leds before text,
+      lines_more Buttons before text,
       lines_more Slice before text,
       lines_more Start before text,
       lines_more Uart before text,
@@ -89,6 +92,7 @@ some xs = nat_lt 0 (length xs)
 abbrev stood_from : List (List ℕ) → List ℕ → List ℕ → List Bool
 stood_from before text first =
     some (more text first Ram (lines_of Ram before)) ∷ some (more text first Leds (lines_of Leds before))
+    ∷ some (more text first Buttons (lines_of Buttons before))
     ∷ some (more text first Slice (lines_of Slice before)) ∷ some (more text first Start (lines_of Start before))
     ∷ some (more text first Uart (lines_of Uart before)) ∷ some (more text first Storage (lines_of Storage before))
     ∷ some (more text first Stop (lines_of Stop before))
@@ -100,6 +104,7 @@ stood_more before text =
     rw (
       lines_more Ram before text,
       lines_more Leds before text,
+      lines_more Buttons before text,
       lines_more Slice before text,
       lines_more Start before text,
       lines_more Uart before text,
@@ -118,6 +123,7 @@ pub stood_is : (line : Line) (before : List (List ℕ))
     → stood_at line (stood_in before) ≡ (is_single line && stands line before)
 stood_is Ram before = refl
 stood_is Leds before = refl
+stood_is Buttons before = refl
 stood_is Slice before = refl
 stood_is Start before = refl
 stood_is Uart before = refl
@@ -130,6 +136,8 @@ stood_is FilterStrict before = ap some (one_name FilterOpen FilterStrict refl be
 stood_is StorageFault before = refl
 stood_is Random before = refl
 stood_is Input before = refl
+stood_is Press before = refl
+stood_is Release before = refl
 
 -- where a list had no line, the first is the one more
 none_yet : (xs : List (List ℕ)) → some xs ≡ false → xs ≡ []
@@ -186,6 +194,17 @@ by_name : (line : Line) (before : List (List ℕ)) (text : List ℕ) → line_of
     → settings (before ++ text ∷ []) ≡ settings_at before text (row line).name
 by_name line before text l = settings_more before text ∙ ap (settings_at before text) (named (words text) line l)
 
+-- the lines of events have one name, and each says the one that it gives
+one_event : (line : Line) (before : List (List ℕ)) (text : List ℕ) → (row line).name ≡ (row Input).name
+    → line_of (words text) ≡ Some line
+    → settings (before ++ text ∷ [])
+    ≡ record (settings before) { events = (settings before).events ++ event_by line (words text) ∷ [] }
+one_event line before text name l =
+    by_name line before text l ∙ ap (settings_at before text) name
+    ∙ ap (λ es. record (settings before) { events = es })
+    (map-append event_on (lines_of Input before) (text ∷ [])
+    ∙ ap (λ e. map event_on (lines_of Input before) ++ e ∷ []) (rw l refl))
+
 -- what one more says
 pub settings_with : (line : Line) (before : List (List ℕ)) (text : List ℕ) → line_of (words text) ≡ Some line
     → (is_single line && stands line before) ≡ false
@@ -196,6 +215,9 @@ settings_with Ram before text l s =
 settings_with Leds before text l s =
     by_name Leds before text l
     ∙ ap (λ n. record (settings before) { leds = n }) (first_number Leds before text s)
+settings_with Buttons before text l s =
+    by_name Buttons before text l
+    ∙ ap (λ n. record (settings before) { buttons = n }) (first_number Buttons before text s)
 settings_with Slice before text l s =
     by_name Slice before text l
     ∙ ap (λ n. record (settings before) { slice = n }) (first_number Slice before text s)
@@ -232,9 +254,9 @@ settings_with Random before text l s =
     ∙ ap (λ ws. record (settings before) { words = ws })
     (flat_map-append words_on (lines_of Random before) (text ∷ [])
     ∙ ap (λ ws. flat_map words_on (lines_of Random before) ++ ws) (append-nil (words_on text)))
-settings_with Input before text l s =
-    by_name Input before text l
-    ∙ ap (λ es. record (settings before) { events = es }) (map-append event_on (lines_of Input before) (text ∷ []))
+settings_with Input before text l s = one_event Input before text refl l
+settings_with Press before text l s = one_event Press before text refl l
+settings_with Release before text l s = one_event Release before text refl l
 
 -- which stand with a line of the table more, by its name
 stood_by_name : (line : Line) (before : List (List ℕ)) (text : List ℕ) → line_of (words text) ≡ Some line
@@ -245,6 +267,8 @@ pub stood_with : (line : Line) (before : List (List ℕ)) (text : List ℕ) → 
     → stood_in (before ++ text ∷ []) ≡ stood_after line (stood_in before)
 stood_with Ram before text l = stood_by_name Ram before text l ∙ rw (stands_now (lines_of Ram before) text) refl
 stood_with Leds before text l = stood_by_name Leds before text l ∙ rw (stands_now (lines_of Leds before) text) refl
+stood_with Buttons before text l =
+    stood_by_name Buttons before text l ∙ rw (stands_now (lines_of Buttons before) text) refl
 stood_with Slice before text l = stood_by_name Slice before text l ∙ rw (stands_now (lines_of Slice before) text) refl
 stood_with Start before text l = stood_by_name Start before text l ∙ rw (stands_now (lines_of Start before) text) refl
 stood_with Uart before text l = stood_by_name Uart before text l ∙ rw (stands_now (lines_of Uart before) text) refl
@@ -262,6 +286,8 @@ stood_with FilterStrict before text l =
 stood_with StorageFault before text l = stood_by_name StorageFault before text l
 stood_with Random before text l = stood_by_name Random before text l
 stood_with Input before text l = stood_by_name Input before text l
+stood_with Press before text l = stood_by_name Press before text l
+stood_with Release before text l = stood_by_name Release before text l
 
 -- a line that is skipped begins with no name
 begins_not : (w name : List ℕ) → ((bytes : List ℕ) → bytes_eq (35 ∷ bytes) name ≡ false)
@@ -283,6 +309,7 @@ settings_skipped before text h =
     ∙ rw (
       not_named ws Ram (λ b. refl) refl h,
       not_named ws Leds (λ b. refl) refl h,
+      not_named ws Buttons (λ b. refl) refl h,
       not_named ws Slice (λ b. refl) refl h,
       not_named ws Start (λ b. refl) refl h,
       not_named ws Uart (λ b. refl) refl h,
@@ -302,6 +329,7 @@ stood_skipped before text h =
     ∙ rw (
       not_named ws Ram (λ b. refl) refl h,
       not_named ws Leds (λ b. refl) refl h,
+      not_named ws Buttons (λ b. refl) refl h,
       not_named ws Slice (λ b. refl) refl h,
       not_named ws Start (λ b. refl) refl h,
       not_named ws Uart (λ b. refl) refl h,

@@ -1,36 +1,45 @@
 -- Settings stay in their ranges, and lists in their order.
 use Rattle.std.proofs.Common.{◌≡◌, ◌≤◌, ◌<◌, ◌+◌, ◌-◌, ◌/◌, ◌||◌, not, nat_lt, nat_le, ℕ, Bool, true, false, cond, List}
-use Rattle.std.proofs.Common.{[], ◌∷◌, ◌++◌, map, length, find, drop, slice_index, Option, Some, None, is_some, inl}
-use Rattle.std.proofs.Common.{inr, refl, sym, ap, subst, ◌∙◌, arith, length-append}
+use Rattle.std.proofs.Common.{[], ◌∷◌, ◌++◌, map, length, find, drop, slice_index, slice_index_or, Option, Some, None}
+use Rattle.std.proofs.Common.{is_some, inl, inr, refl, sym, ap, subst, ◌∙◌, arith, length-append}
 use Rattle.std.proofs.lemmas.Bool.{eqb-true, ltb-false, leb-false}
 use Rattle.std.proofs.lemmas.Bool.Decides.{nat_tests}
 use Rattle.std.proofs.lemmas.Bool.{cases_lt}
 use Rattle.std.proofs.lemmas.List.{get_or_append_left, get_or-append-add, drop_more, length-map, map-append}
 use Rattle.std.proofs.lemmas.List.Elements.{All-append, All-cons, All-nil, filter_passes}
 use Rattle.std.specs.List.{slice_split}
+use Rattle.std.specs.Option.{option_map_or}
 use Rattle.tk_base.specs.Limits.{IsRamSize}
-use Rattle.tk_base.specs.declared.limits.TheConstants.{BYTE_TICKS_LIMIT, EVENT_LIMIT, FAULT_LIMIT, INPUT_LIMIT}
+use Rattle.tk_base.specs.declared.limits.TheConstants.{BUTTON_LIMIT, BYTE_TICKS_LIMIT, EVENT_LIMIT, FAULT_LIMIT}
+use Rattle.tk_base.specs.declared.limits.TheConstants.{INPUT_LIMIT}
 use Rattle.tk_base.specs.declared.limits.TheConstants.{LED_LIMIT, RAM_LEAST, RAM_LIMIT, RAM_UNIT, SLICE_LIMIT}
 use Rattle.tk_base.specs.declared.limits.TheConstants.{STORAGE_LIMIT, WORD_LIMIT}
 use Rattle.fault_policy.specs.declared.Policy.{Policy}
 use Rattle.fault_policy.specs.declared.Policy.TheVariants as policies
 use Rattle.decimal_number.specs.Number.{number}
+use Rattle.script_text.specs.declared.line.Context.{Context}
 use Rattle.script_text.specs.declared.table.Line.{Line}
-use Rattle.script_text.specs.declared.table.Line.TheVariants.{Ram, Leds, Slice, Start, Uart, Storage}
+use Rattle.script_text.specs.declared.table.Line.TheVariants.{Ram, Leds, Buttons, Slice, Start, Uart, Storage}
 use Rattle.script_text.specs.declared.table.Line.TheVariants.{Stop, Restart, Threshold, FilterOpen, FilterStrict}
-use Rattle.script_text.specs.declared.table.Line.TheVariants.{StorageFault, Random, Input}
+use Rattle.script_text.specs.declared.table.Line.TheVariants.{StorageFault, Random, Input, Press, Release}
 use Rattle.script_text.specs.Alone.{IsLine}
 use Rattle.script_text.specs.Progress.{with_line, stood_in}
-use Rattle.script_text.specs.Rules.{disorders, exceeds, is_hex}
-use Rattle.script_text.specs.Said.{settings, lines_of, last, hex_word, hex_bytes}
-use Rattle.script_text.specs.Settings.{ScriptSettings, ScriptEvent, AreSound, AreFaults, AreEvents, NeverFalls}
-use Rattle.script_text.specs.Table.{in_range}
+use Rattle.script_text.specs.Rules.{context_of, disorders, exceeds, is_hex}
+use Rattle.script_text.specs.Said.{settings, lines_of, last, hex_word, hex_bytes, event_by}
+use Rattle.script_text.specs.Settings as kinds
+use Rattle.script_text.specs.Settings.{EventKind, ScriptSettings, ScriptEvent, AreSound, AreFaults, AreEvents}
+use Rattle.script_text.specs.Settings.{IsKind, EachIsKind, NeverFalls}
+use Rattle.script_text.specs.Table.{row, in_range}
 use Rattle.script_text.specs.Text.{words, word, is_blank, is_empty}
 use Rattle.script_text.proofs.HexDigits.{length-hex_bytes}
 
 permitted : (b : Bool) → not b ≡ false → b ≡ true
 permitted true h = refl
 permitted false h = cc
+
+allowed : (a b : Bool) → (not a || b) ≡ false → a ≡ true
+allowed true b h = refl
+allowed false b h = cc
 
 ram_size : (n : ℕ) → in_range (record { least = RAM_LEAST; most = RAM_LIMIT; multiple = RAM_UNIT }) n ≡ true
     → IsRamSize n
@@ -84,21 +93,52 @@ faults_more ks k some few above h = record {
   rising = neighbours (λ a b. a < b) ks k h.rising (λ n. omega (arith, leb-false k (last ks) above));
 }
 
--- the bytes of an event
-abbrev has_bytes : ScriptEvent → Type 0
-has_bytes e = (1 ≤ length e.bytes) × (length e.bytes ≤ INPUT_LIMIT)
+-- the kind of an event
+abbrev is_kind : ℕ → ScriptEvent → Type 0
+is_kind buttons e = IsKind buttons e.kind
 
-events_more : (es : List ScriptEvent) (e : ScriptEvent) → 1 ≤ length e.bytes → length e.bytes ≤ INPUT_LIMIT
-    → nat_le EVENT_LIMIT (length es) ≡ false → nat_lt e.time (last (map (λ v. v.time) es)) ≡ false → AreEvents es
-    → AreEvents (es ++ e ∷ [])
-events_more es e some most few after h =
+events_more : (buttons : ℕ) (es : List ScriptEvent) (e : ScriptEvent) → IsKind buttons e.kind
+    → nat_le EVENT_LIMIT (length es) ≡ false → nat_lt e.time (last (map (λ v. v.time) es)) ≡ false
+    → AreEvents buttons es → AreEvents buttons (es ++ e ∷ [])
+events_more buttons es e kind few after h =
     let times = neighbours (λ a b. a ≤ b) (map (λ (v : ScriptEvent). v.time) es) e.time h.in_time
     (λ n. omega (arith, ltb-false e.time (last (map (λ (v : ScriptEvent). v.time) es)) after)) in
     record {
       few = omega (arith, length-append es (e ∷ []), leb-false EVENT_LIMIT (length es) few);
       in_time = subst NeverFalls (sym (map-append (λ (v : ScriptEvent). v.time) es (e ∷ []))) times;
-      bytes = All-append has_bytes es (e ∷ []) h.bytes (All-cons has_bytes e [] (some, most) (All-nil has_bytes));
+      kinds = All-append (is_kind buttons) es (e ∷ []) h.kinds
+          (All-cons (is_kind buttons) e [] kind (All-nil (is_kind buttons)));
     }
+
+-- no events are those of any board
+none_yet : (buttons : ℕ) (es : List ScriptEvent) → nat_lt 0 (length es) ≡ false → AreEvents buttons es
+none_yet buttons [] h = record {
+  few = omega arith;
+  in_time = λ i l. absurd (omega arith);
+  kinds = All-nil (is_kind buttons);
+}
+none_yet buttons (e ∷ es) h = absurd (omega (arith, ltb-false 0 (length (e ∷ es)) h))
+
+-- there is such a button
+one_of : (buttons n : ℕ) → nat_le buttons n ≡ false → n < buttons
+one_of buttons n h = omega (arith, leb-false buttons n h)
+
+-- the button of a line is one of the board
+pub below : (context : Context) (ws : List (List ℕ)) (line : Line) → IsLine context ws line
+    → (row line).form.button ≡ Some 3 → number (word ws 3) < context.buttons
+below context ws line h e =
+    one_of context.buttons (number (word ws 3))
+    (ap (λ b. option_map_or (λ place. nat_le context.buttons (number (word ws place))) b false) (sym e)
+    ∙ (neither _ _ h.within).1)
+
+-- a board with more buttons has those that one with fewer has
+kind_on_more : (few many : ℕ) → few ≤ many → (kind : EventKind) → IsKind few kind → IsKind many kind
+kind_on_more few many h (kinds.Input bytes) k = k
+kind_on_more few many h (kinds.Press button) k = omega (arith, h, k)
+kind_on_more few many h (kinds.Release button) k = omega (arith, h, k)
+
+pub kinds_on_more : (few many : ℕ) (es : List ScriptEvent) → few ≤ many → EachIsKind few es → EachIsKind many es
+kinds_on_more few many es h each = λ i d l. kind_on_more few many h (slice_index_or es i d).kind (each i d l)
 
 -- a word has a byte
 filled_by : (w : List ℕ) → not (is_empty w) ≡ true → 1 ≤ length w
@@ -127,6 +167,7 @@ without_range : (s : ScriptSettings) (start : ℕ) (policy : Policy) (strict : B
 without_range s start policy strict a = record {
   ram = a.ram;
   leds = a.leds;
+  buttons = a.buttons;
   slice_least = a.slice_least;
   slice_most = a.slice_most;
   uart = a.uart;
@@ -136,14 +177,33 @@ without_range s start policy strict a = record {
   events = a.events;
 }
 
+-- the settings with an event more
+with_event : (s : ScriptSettings) (e : ScriptEvent) → IsKind s.buttons e.kind
+    → nat_le EVENT_LIMIT (length s.events) ≡ false
+    → nat_lt e.time (last (map (λ v. v.time) s.events)) ≡ false → AreSound s
+    → AreSound (record s { events = s.events ++ e ∷ [] })
+with_event s e kind few after a = record {
+  ram = a.ram;
+  leds = a.leds;
+  buttons = a.buttons;
+  slice_least = a.slice_least;
+  slice_most = a.slice_most;
+  uart = a.uart;
+  storage = a.storage;
+  faults = a.faults;
+  words = a.words;
+  events = events_more s.buttons s.events e kind few after a.events;
+}
+
 -- the settings with a line of the table more
-pub sound_with : (line : Line) (text : List ℕ) (s : ScriptSettings) → IsLine (words text) line
+pub sound_with : (line : Line) (text : List ℕ) (s : ScriptSettings) → IsLine (context_of s) (words text) line
     → disorders line s (words text) ≡ false → exceeds line s (words text) ≡ false → AreSound s
     → AreSound (with_line line (words text) s)
 sound_with Ram text s h d x a =
     record {
-      ram = ram_size (number (word (words text) 1)) (permitted _ h.within);
+      ram = ram_size (number (word (words text) 1)) (allowed _ _ h.within);
       leds = a.leds;
+      buttons = a.buttons;
       slice_least =
           a.slice_least;
       slice_most = a.slice_most;
@@ -158,7 +218,8 @@ sound_with Leds text s h d x a =
     record {
       ram = a.ram;
       leds =
-          at_most 0 LED_LIMIT (number (word (words text) 1)) (permitted _ h.within);
+          at_most 0 LED_LIMIT (number (word (words text) 1)) (allowed _ _ h.within);
+      buttons = a.buttons;
       slice_least = a.slice_least;
       slice_most =
           a.slice_most;
@@ -168,14 +229,28 @@ sound_with Leds text s h d x a =
       words = a.words;
       events = a.events;
     }
+sound_with Buttons text s h d x a =
+    record {
+      ram = a.ram;
+      leds = a.leds;
+      buttons = at_most 0 BUTTON_LIMIT (number (word (words text) 1)) (allowed _ _ h.within);
+      slice_least = a.slice_least;
+      slice_most = a.slice_most;
+      uart = a.uart;
+      storage = a.storage;
+      faults = a.faults;
+      words = a.words;
+      events = none_yet (number (word (words text) 1)) s.events d;
+    }
 sound_with Slice text s h d x a =
     record {
       ram = a.ram;
       leds = a.leds;
+      buttons = a.buttons;
       slice_least =
-          at_least 1 SLICE_LIMIT (number (word (words text) 1)) (permitted _ h.within);
+          at_least 1 SLICE_LIMIT (number (word (words text) 1)) (allowed _ _ h.within);
       slice_most =
-          at_most 1 SLICE_LIMIT (number (word (words text) 1)) (permitted _ h.within);
+          at_most 1 SLICE_LIMIT (number (word (words text) 1)) (allowed _ _ h.within);
       uart = a.uart;
       storage =
           a.storage;
@@ -188,10 +263,11 @@ sound_with Uart text s h d x a =
     record {
       ram = a.ram;
       leds = a.leds;
+      buttons = a.buttons;
       slice_least = a.slice_least;
       slice_most = a.slice_most;
       uart =
-          at_most 0 BYTE_TICKS_LIMIT (number (word (words text) 1)) (permitted _ h.within);
+          at_most 0 BYTE_TICKS_LIMIT (number (word (words text) 1)) (allowed _ _ h.within);
       storage = a.storage;
       faults =
           a.faults;
@@ -202,11 +278,12 @@ sound_with Storage text s h d x a =
     record {
       ram = a.ram;
       leds = a.leds;
+      buttons = a.buttons;
       slice_least = a.slice_least;
       slice_most = a.slice_most;
       uart =
           a.uart;
-      storage = at_most 0 STORAGE_LIMIT (number (word (words text) 1)) (permitted _ h.within);
+      storage = at_most 0 STORAGE_LIMIT (number (word (words text) 1)) (allowed _ _ h.within);
       faults =
           a.faults;
       words = a.words;
@@ -224,13 +301,14 @@ sound_with StorageFault text s h d x a =
     record {
       ram = a.ram;
       leds = a.leds;
+      buttons = a.buttons;
       slice_least = a.slice_least;
       slice_most = a.slice_most;
       uart =
           a.uart;
       storage = a.storage;
       faults =
-          faults_more s.faults n (at_least 1 4294967295 n (permitted _ h.within)) x after.1 a.faults;
+          faults_more s.faults n (at_least 1 4294967295 n (allowed _ _ h.within)) x after.1 a.faults;
       words =
           a.words;
       events = a.events;
@@ -246,6 +324,7 @@ sound_with Random text s h d x a =
     record {
       ram = a.ram;
       leds = a.leds;
+      buttons = a.buttons;
       slice_least = a.slice_least;
       slice_most = a.slice_most;
       uart =
@@ -265,27 +344,22 @@ sound_with Input text s h d x a =
     let some : 1 ≤ length (hex_bytes w) = omega (arith, pairs, filled text 3 (omega arith)) in
     let most : length (hex_bytes w) ≤ INPUT_LIMIT =
     omega (arith, pairs, ltb-false INPUT_LIMIT (length w / 2) limits.1) in
-    record {
-      ram = a.ram;
-      leds = a.leds;
-      slice_least = a.slice_least;
-      slice_most = a.slice_most;
-      uart =
-          a.uart;
-      storage = a.storage;
-      faults = a.faults;
-      words = a.words;
-      events =
-          events_more s.events (record { time = number (word ws 1); bytes = hex_bytes w }) some most limits.0 d
-          a.events;
-    }
+    with_event s (event_by Input ws) (some, most) limits.0 d a
+sound_with Press text s h d x a =
+    let ws = words text in
+    with_event s (event_by Press ws) (one_of s.buttons (number (word ws 3)) (neither _ _ h.within).1) x d a
+sound_with Release text s h d x a =
+    let ws = words text in
+    with_event s (event_by Release ws) (one_of s.buttons (number (word ws 3)) (neither _ _ h.within).1) x d a
 
 -- the settings of no lines
-pub said_at_first : (ram leds slice start uart storage : ℕ) (ks ws : List ℕ) (es : List ScriptEvent) → ram ≡ 65536
-    → leds ≡ 4 → slice ≡ 100 → start ≡ 0 → uart ≡ 1 → storage ≡ 512 → ks ≡ [] → ws ≡ [] → es ≡ []
+pub said_at_first : (ram leds buttons slice start uart storage : ℕ) (ks ws : List ℕ) (es : List ScriptEvent)
+    → ram ≡ 65536 → leds ≡ 4 → buttons ≡ 0
+    → slice ≡ 100 → start ≡ 0 → uart ≡ 1 → storage ≡ 512 → ks ≡ [] → ws ≡ [] → es ≡ []
     → ◌≡◌ {A = ScriptSettings} (record {
       ram = ram;
       leds = leds;
+      buttons = buttons;
       slice = slice;
       start = start;
       uart = uart;
@@ -298,9 +372,10 @@ pub said_at_first : (ram leds slice start uart storage : ℕ) (ks ws : List ℕ)
       events = es;
     }) (settings [])
 unfolding lines_of
-said_at_first ram leds slice start uart storage ks ws es a b c d e f k w v = rw (a, b, c, d, e, f, k, w, v) refl
+said_at_first ram leds buttons slice start uart storage ks ws es a b g c d e f k w v =
+    rw (a, b, g, c, d, e, f, k, w, v) refl
 
-pub none_at_first : stood_in [] ≡ false ∷ false ∷ false ∷ false ∷ false ∷ false ∷ false ∷ false ∷ []
+pub none_at_first : stood_in [] ≡ false ∷ false ∷ false ∷ false ∷ false ∷ false ∷ false ∷ false ∷ false ∷ []
 unfolding lines_of
 none_at_first = refl
 
@@ -309,11 +384,12 @@ unfolding lines_of
 sound_at_first = record {
   ram = record { least = omega arith; most = omega arith; multiple = refl };
   leds = omega arith;
+  buttons = omega arith;
   slice_least = omega arith;
   slice_most = omega arith;
   uart = omega arith;
   storage = omega arith;
   faults = record { few = omega arith; least = All-nil (λ n. 1 ≤ n); rising = λ i l. absurd (omega arith) };
   words = omega arith;
-  events = record { few = omega arith; in_time = λ i l. absurd (omega arith); bytes = All-nil has_bytes };
+  events = none_yet 0 [] refl;
 }

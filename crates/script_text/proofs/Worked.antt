@@ -6,7 +6,7 @@ use Rattle.fault_policy.specs.declared.Policy.TheVariants.{Stop, Restart, Thresh
 use Rattle.script_text.specs.declared.rule.ScriptRule.{ScriptRule}
 use Rattle.script_text.specs.declared.rule.ScriptRule.TheVariants.{UnknownWord, Words, BadNumber, BadHex, OutOfRange}
 use Rattle.script_text.specs.declared.rule.ScriptRule.TheVariants.{Repeated, Order, TooMany}
-use Rattle.script_text.specs.Settings.{ScriptSettings}
+use Rattle.script_text.specs.Settings.{ScriptSettings, Input, Press, Release}
 use Rattle.script_text.specs.Reading.{Fault, reading, faults}
 use Rattle.script_text.specs.Text.{lines, words}
 use Rattle.script_text.specs.Rules.{in_order, broken, name_of_rule}
@@ -18,6 +18,7 @@ nothing : ScriptSettings
 nothing = record {
   ram = 65536;
   leds = 4;
+  buttons = 0;
   slice = 100;
   start = 0;
   uart = 1;
@@ -71,12 +72,33 @@ lists =
       record nothing {
         faults = 1 ∷ 3 ∷ [];
         words = 0x1234567a ∷ 0xffffffff ∷ 0 ∷ [];
-        events = record { time = 5; bytes = 0xab ∷ 0xcd ∷ [] } ∷ record { time = 5; bytes = 0 ∷ [] } ∷ [];
+        events =
+            record { time = 5; kind = Input (0xab ∷ 0xcd ∷ []) } ∷ record { time = 5; kind = Input (0 ∷ []) } ∷ [];
       },
     )
     ∷ (
       codes "at 5 input " ++ replicate 128 48,
-      record nothing { events = record { time = 5; bytes = replicate 64 0 } ∷ [] },
+      record nothing { events = record { time = 5; kind = Input (replicate 64 0) } ∷ [] },
+    )
+    ∷ []
+
+-- buttons, and what becomes of them
+buttons : List (List ℕ × ScriptSettings)
+buttons =
+    (codes "buttons 0", nothing) ∷ (codes "buttons 16", record nothing { buttons = 16 })
+    ∷ (
+      codes "buttons 2\nat 30 press 1",
+      record nothing { buttons = 2; events = record { time = 30; kind = Press 1 } ∷ [] },
+    )
+    ∷ (
+      codes "buttons 3\nleds 1\nat 0 press 0\nat 5 input 41\nat 5 release 00\nat 4294967295 press 2",
+      record nothing {
+        leds = 1;
+        buttons = 3;
+        events =
+            record { time = 0; kind = Press 0 } ∷ record { time = 5; kind = Input (0x41 ∷ []) }
+            ∷ record { time = 5; kind = Release 0 } ∷ record { time = 4294967295; kind = Press 2 } ∷ [];
+      },
     )
     ∷ []
 
@@ -86,28 +108,36 @@ refused_for UnknownWord =
     (1, codes "rom 4096") ∷ (1, codes "Ram 4096") ∷ (1, codes "ra") ∷ (1, codes "ram\r4096")
     ∷ (4, codes "\n# x\r\nram 4096\r\nrams 1 2") ∷ (2, codes "ram 4096\n\u{b}\nx") ∷ (1, codes "policy go on now")
     ∷ (2, codes "leds 4\nat 5 output 00") ∷ (1, codes "filter closed") ∷ (1, codes "filter Open")
-    ∷ (1, codes "filter shut now") ∷ []
+    ∷ (1, codes "filter shut now")
+    ∷ (1, codes "at 5 hold 0") ∷ (1, codes "button 1") ∷ []
 refused_for Words =
     (1, codes "ram") ∷ (1, codes "ram 4096 # x") ∷ (2, codes "ram 4096\nram\r\n") ∷ (1, codes "policy")
     ∷ (1, codes "policy threshold") ∷ (1, codes "policy stop 1") ∷ (1, codes "storage-fault 1 2")
-    ∷ (1, codes "random") ∷ (1, codes "at 5 input") ∷ (1, codes "filter") ∷ (1, codes "filter strict # x") ∷ []
+    ∷ (1, codes "random") ∷ (1, codes "at 5 input") ∷ (1, codes "filter") ∷ (1, codes "filter strict # x")
+    ∷ (1, codes "at 5 press") ∷ (1, codes "buttons 1 2") ∷ (2, codes "buttons 1\nat 5 release 0 0") ∷ []
 refused_for BadNumber =
     (1, codes "ram +4096") ∷ (1, codes "ram 00000004096") ∷ (1, codes "ram 4096\r\r\n") ∷ (2, codes "ram 4096\nram x")
-    ∷ (1, codes "policy threshold -1") ∷ (1, codes "at 12345678901 input 41") ∷ []
+    ∷ (1, codes "policy threshold -1") ∷ (1, codes "at 12345678901 input 41")
+    ∷ (1, codes "at 5 press x") ∷ (2, codes "buttons 1\nat x release 1") ∷ []
 refused_for BadHex =
     (1, codes "at 5 input 0g") ∷ (1, codes "at 5 input aBc") ∷ (1, codes "random 11223344 1234567") ∷ []
 refused_for OutOfRange =
     (1, codes "ram 5000") ∷ (1, codes "ram 3072") ∷ (1, codes "ram 9999999999")
     ∷ (3, codes "ram 4096\r\n\r\nram 263168") ∷ (1, codes "slice 0") ∷ (1, codes "slice 1000001") ∷ (1, codes "leds 17")
     ∷ (1, codes "policy threshold 4294967296") ∷ (1, codes "start 4294967296") ∷ (1, codes "uart 1001")
-    ∷ (1, codes "storage 4097") ∷ (1, codes "storage-fault 0") ∷ (1, codes "at 4294967296 input 41") ∷ []
+    ∷ (1, codes "storage 4097") ∷ (1, codes "storage-fault 0") ∷ (1, codes "at 4294967296 input 41")
+    ∷ (1, codes "buttons 17") ∷ (2, codes "buttons 2\nat 5 press 2") ∷ (1, codes "at 5 press 0")
+    ∷ (1, codes "at 5 press 0\nbuttons 1") ∷ (2, codes "buttons 1\nat 4294967296 release 0") ∷ []
 refused_for Repeated =
     (2, codes "ram 8192\nram 8192") ∷ (3, codes "ram 65536\r\n#\r\nram 4096\r\nx")
     ∷ (2, codes "policy stop\npolicy restart") ∷ (3, codes "slice 1\nleds 4\nslice 1")
-    ∷ (2, codes "filter strict\nfilter strict") ∷ (2, codes "filter open\nfilter strict") ∷ []
+    ∷ (2, codes "filter strict\nfilter strict") ∷ (2, codes "filter open\nfilter strict")
+    ∷ (2, codes "buttons 1\nbuttons 1") ∷ []
 refused_for Order =
     (2, codes "storage-fault 2\nstorage-fault 2") ∷ (2, codes "at 5 input 41\nat 4 input 41")
-    ∷ (2, codes "at 5 input 41\nrandom 11223344") ∷ (2, codes "at 5 input 41\nfilter strict") ∷ []
+    ∷ (2, codes "at 5 input 41\nrandom 11223344") ∷ (2, codes "at 5 input 41\nfilter strict")
+    ∷ (3, codes "buttons 1\nat 5 press 0\nat 4 release 0") ∷ (2, codes "at 5 input 41\nbuttons 1")
+    ∷ (3, codes "buttons 1\nat 5 release 0\nleds 1") ∷ []
 refused_for TooMany =
     (1, codes "at 5 input " ++ replicate 130 48) ∷ []
 
@@ -126,6 +156,10 @@ numbers_are_read = refl
 lists_are_read : AreRead lists
 unfolding AreRead lists nothing reading faults lines words broken lines_of line_of hex_bytes decode_pairs
 lists_are_read = refl
+
+buttons_are_read : AreRead buttons
+unfolding AreRead buttons nothing reading faults lines words broken lines_of line_of hex_bytes decode_pairs
+buttons_are_read = refl
 
 refusal : ScriptRule → ℕ × List ℕ → Result ScriptSettings Fault
 refusal rule case = Err (record { line = case.0; rule = rule })

@@ -1,5 +1,6 @@
 pub mod Text
 pub mod Settings
+pub mod Kinds
 pub mod Shown
 pub mod Table
 pub mod Said

@@ -4,13 +4,14 @@ use Rattle.script_text.specs.declared.draft.Draft.TheInside.{Inside}
 use Rattle.script_text.specs.declared.draft.Trouble.{Trouble}
 use Rattle.script_text.specs.declared.draft.Trouble.TheVariants.{Breaks, Memory}
 use Rattle.script_text.specs.declared.table.Line.{Line}
-use Rattle.script_text.specs.declared.table.Line.TheVariants.{Ram, Leds, Slice, Start, Uart, Storage, Stop}
+use Rattle.script_text.specs.declared.table.Line.TheVariants.{Ram, Leds, Buttons, Slice, Start, Uart, Storage, Stop}
 use Rattle.script_text.specs.declared.table.Line.TheVariants.{FilterOpen, FilterStrict, StorageFault, Random, Input}
+use Rattle.script_text.specs.declared.table.Line.TheVariants.{Press, Release}
 use Rattle.decimal_number.specs.Number.{number}
 use Rattle.script_text.specs.Settings.{ScriptSettings, AreSound}
 use Rattle.script_text.specs.Text.{word}
 use Rattle.script_text.specs.Rules.{broken}
-use Rattle.script_text.specs.Said.{settings, stands, policy_by, hex_word, hex_bytes}
+use Rattle.script_text.specs.Said.{settings, stands, policy_by, hex_word, event_by}
 
 -- what the lines so far say, and which of those that may not repeat stand already
 pub record Drafted : Type 0 where
@@ -22,6 +23,7 @@ drafted_by d = record {
   said = record {
     ram = d.ram;
     leds = d.leds;
+    buttons = d.buttons;
     slice = d.slice;
     start = d.start;
     uart = d.uart;
@@ -38,8 +40,8 @@ drafted_by d = record {
 -- which of them stand among lines
 abbrev pub stood_in : List (List ℕ) → List Bool
 stood_in all =
-    stands Ram all ∷ stands Leds all ∷ stands Slice all ∷ stands Start all ∷ stands Uart all ∷ stands Storage all
-    ∷ stands Stop all ∷ stands FilterOpen all ∷ []
+    stands Ram all ∷ stands Leds all ∷ stands Buttons all ∷ stands Slice all ∷ stands Start all ∷ stands Uart all
+    ∷ stands Storage all ∷ stands Stop all ∷ stands FilterOpen all ∷ []
 
 -- a draft has what these lines say
 pub record DraftSays (before : List (List ℕ)) (draft : Drafted) : Type 0 where
@@ -51,6 +53,7 @@ pub record DraftSays (before : List (List ℕ)) (draft : Drafted) : Type 0 where
 abbrev pub with_line : Line → List (List ℕ) → ScriptSettings → ScriptSettings
 with_line Ram ws said = record said { ram = number (word ws 1) }
 with_line Leds ws said = record said { leds = number (word ws 1) }
+with_line Buttons ws said = record said { buttons = number (word ws 1) }
 with_line Slice ws said = record said { slice = number (word ws 1) }
 with_line Start ws said = record said { start = number (word ws 1) }
 with_line Uart ws said = record said { uart = number (word ws 1) }
@@ -59,9 +62,9 @@ with_line FilterOpen ws said = record said { strict = false }
 with_line FilterStrict ws said = record said { strict = true }
 with_line StorageFault ws said = record said { faults = said.faults ++ number (word ws 1) ∷ [] }
 with_line Random ws said = record said { words = said.words ++ map hex_word (drop 1 ws) }
-with_line Input ws said = record said {
-  events = said.events ++ record { time = number (word ws 1); bytes = hex_bytes (word ws 3) } ∷ [];
-}
+with_line Input ws said = record said { events = said.events ++ event_by Input ws ∷ [] }
+with_line Press ws said = record said { events = said.events ++ event_by Press ws ∷ [] }
+with_line Release ws said = record said { events = said.events ++ event_by Release ws ∷ [] }
 with_line line ws said = record said { policy = policy_by line ws }
 
 -- a line was added, or the first rule that it breaks was found

@@ -5,12 +5,13 @@ use Rattle.std.specs.Prelude.{is_none}
 use Rattle.std.specs.Option.{option_map_or}
 use Rattle.tk_base.specs.declared.limits.TheConstants.{EVENT_LIMIT, FAULT_LIMIT, INPUT_LIMIT, WORD_LIMIT}
 use Rattle.hex.specs.Hex.{is_hex_digit}
+use Rattle.script_text.specs.declared.line.Context.{Context}
 use Rattle.script_text.specs.declared.rule.ScriptRule.{ScriptRule}
 use Rattle.script_text.specs.declared.rule.ScriptRule.TheVariants.{UnknownWord, Words, BadNumber, BadHex, OutOfRange}
 use Rattle.script_text.specs.declared.rule.ScriptRule.TheVariants.{Repeated, Order, TooMany}
 use Rattle.script_text.specs.declared.table.Form.{Form}
 use Rattle.script_text.specs.declared.table.Line.{Line}
-use Rattle.script_text.specs.declared.table.Line.TheVariants.{StorageFault, Random, Input}
+use Rattle.script_text.specs.declared.table.Line.TheVariants.{StorageFault, Random, Input, Press, Release}
 use Rattle.decimal_number.specs.Number.{is_number, number}
 use Rattle.script_text.specs.Settings.{ScriptSettings}
 use Rattle.script_text.specs.Table.{row, in_range, line_of}
@@ -34,29 +35,45 @@ is_hex digits w = is_none (position (λ byte. not (is_hex_digit byte)) w) && has
 abbrev pub miscounts : Form → List (List ℕ) → Bool
 miscounts form ws = not (if form.more then nat_le form.words (length ws) else length ws == form.words)
 
--- a number is not written as one
+-- a number, or that of a button, is not written as one
 abbrev pub misspells : Form → List (List ℕ) → Bool
-misspells form ws = option_map_or (λ n. not (is_number (word ws n.place))) form.number false
+misspells form ws =
+    option_map_or (λ n. not (is_number (word ws n.place))) form.number false
+    || option_map_or (λ place. not (is_number (word ws place))) form.button false
 
 -- a word that has to be hex is not
 abbrev pub has_bad_hex : Form → List (List ℕ) → Bool
 has_bad_hex form ws =
     option_map_or (λ h. is_some (find (λ w. not (is_hex h.digits w)) (drop h.place ws))) form.hex false
 
--- a number is outside its range
-abbrev pub is_outside : Form → List (List ℕ) → Bool
-is_outside form ws = option_map_or (λ n. not (in_range n.range (number (word ws n.place)))) form.number false
+-- what a line is looked at by, where lines said this: how many buttons there are
+abbrev pub context_of : ScriptSettings → Context
+context_of said = record { buttons = said.buttons }
+
+-- a number is outside its range, or there is no such button
+abbrev pub is_outside : Context → Form → List (List ℕ) → Bool
+is_outside context form ws =
+    option_map_or (λ n. not (in_range n.range (number (word ws n.place)))) form.number false
+    || option_map_or (λ place. nat_le context.buttons (number (word ws place))) form.button false
 
 -- a line may not repeat
 abbrev pub is_single : Line → Bool
 is_single StorageFault = false
 is_single Random = false
 is_single Input = false
+is_single Press = false
+is_single Release = false
 is_single line = true
+
+-- a time lies before that of the last event
+abbrev pub is_late : ScriptSettings → List (List ℕ) → Bool
+is_late said ws = nat_lt (number (word ws 1)) (last (map (λ e. e.time) said.events))
 
 -- where lines said this: times do not fall, the numbers of faults rise, and no other line stands after an event
 abbrev pub disorders : Line → ScriptSettings → List (List ℕ) → Bool
-disorders Input said ws = nat_lt (number (word ws 1)) (last (map (λ e. e.time) said.events))
+disorders Input said ws = is_late said ws
+disorders Press said ws = is_late said ws
+disorders Release said ws = is_late said ws
 disorders StorageFault said ws = nat_lt 0 (length said.events) || nat_le (number (word ws 1)) (last said.faults)
 disorders line said ws = nat_lt 0 (length said.events)
 
@@ -65,6 +82,8 @@ abbrev pub exceeds : Line → ScriptSettings → List (List ℕ) → Bool
 exceeds StorageFault said ws = nat_le FAULT_LIMIT (length said.faults)
 exceeds Random said ws = nat_lt WORD_LIMIT (length said.words + length (drop 1 ws))
 exceeds Input said ws = nat_le EVENT_LIMIT (length said.events) || nat_lt INPUT_LIMIT (length (word ws 3) / 2)
+exceeds Press said ws = nat_le EVENT_LIMIT (length said.events)
+exceeds Release said ws = nat_le EVENT_LIMIT (length said.events)
 exceeds line said ws = false
 
 -- a line of the table breaks a rule with its words, where these lines stand before it
@@ -73,7 +92,7 @@ breaks_rule UnknownWord before ws line = false
 breaks_rule Words before ws line = miscounts (row line).form ws
 breaks_rule BadNumber before ws line = misspells (row line).form ws
 breaks_rule BadHex before ws line = has_bad_hex (row line).form ws
-breaks_rule OutOfRange before ws line = is_outside (row line).form ws
+breaks_rule OutOfRange before ws line = is_outside (context_of (settings before)) (row line).form ws
 breaks_rule Repeated before ws line = is_single line && stands line before
 breaks_rule Order before ws line = disorders line (settings before) ws
 breaks_rule TooMany before ws line = exceeds line (settings before) ws

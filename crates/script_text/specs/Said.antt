@@ -10,10 +10,11 @@ use Rattle.decimal_number.specs.Number.{number}
 use Rattle.fault_policy.specs.declared.Policy.{Policy}
 use Rattle.fault_policy.specs.declared.Policy.TheVariants as policies
 use Rattle.script_text.specs.declared.table.Line.{Line}
-use Rattle.script_text.specs.declared.table.Line.TheVariants.{Ram, Leds, Slice, Start, Uart, Storage}
+use Rattle.script_text.specs.declared.table.Line.TheVariants.{Ram, Leds, Buttons, Slice, Start, Uart, Storage}
 use Rattle.script_text.specs.declared.table.Line.TheVariants.{Stop, Restart, Threshold, FilterOpen, FilterStrict}
-use Rattle.script_text.specs.declared.table.Line.TheVariants.{StorageFault, Random, Input}
-use Rattle.script_text.specs.Settings.{ScriptSettings, ScriptEvent}
+use Rattle.script_text.specs.declared.table.Line.TheVariants.{StorageFault, Random, Input, Press, Release}
+use Rattle.script_text.specs.Settings as kinds
+use Rattle.script_text.specs.Settings.{ScriptSettings, ScriptEvent, EventKind}
 use Rattle.script_text.specs.Table.{row, line_of}
 use Rattle.script_text.specs.Text.{words, word}
 
@@ -60,19 +61,30 @@ hex_bytes w = result_unwrap_or (decode_of w) []
 abbrev pub hex_word : List ℕ → ℕ
 hex_word w = from_be_bytes w32 (hex_bytes w)
 
--- the words that a `random` line gives, and the event of an `at` line
+-- the words that a `random` line gives
 abbrev pub words_on : List ℕ → List ℕ
 words_on text = map hex_word (drop 1 (words text))
 
--- the event of an `at` line: its time, and the bytes that its hex digits write
+-- what comes by a line of an event: the bytes that its hex digits write, or what becomes of a button
+abbrev pub kind_by : Line → List (List ℕ) → EventKind
+kind_by Press ws = kinds.Press (number (word ws 3))
+kind_by Release ws = kinds.Release (number (word ws 3))
+kind_by line ws = kinds.Input (hex_bytes (word ws 3))
+
+-- the event of a line, at its time
+abbrev pub event_by : Line → List (List ℕ) → ScriptEvent
+event_by line ws = record { time = number (word ws 1); kind = kind_by line ws }
+
+-- the event of an `at` line
 abbrev pub event_on : List ℕ → ScriptEvent
-event_on text = record { time = number_on text; bytes = hex_bytes (word (words text) 3) }
+event_on text = option_map_or (λ line. event_by line (words text)) (line_of (words text)) (event_by Input [])
 
 -- the settings of all lines
 abbrev pub settings : List (List ℕ) → ScriptSettings
 settings all = record {
   ram = number_said Ram all;
   leds = number_said Leds all;
+  buttons = number_said Buttons all;
   slice = number_said Slice all;
   start = number_said Start all;
   uart = number_said Uart all;

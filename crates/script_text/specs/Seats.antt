@@ -3,27 +3,30 @@ use Rattle.std.specs.Prelude.{ℕ, true, false, Bool, List, slice_index_or, slic
 use Rattle.std.specs.Option.{option_map_or}
 use Rattle.script_text.specs.declared.table.Form.{Form}
 use Rattle.script_text.specs.declared.table.Line.{Line}
-use Rattle.script_text.specs.declared.table.Line.TheVariants.{Ram, Leds, Slice, Start, Uart, Storage}
+use Rattle.script_text.specs.declared.table.Line.TheVariants.{Ram, Leds, Buttons, Slice, Start, Uart, Storage}
 use Rattle.script_text.specs.declared.table.Line.TheVariants.{Stop, Restart, Threshold, FilterOpen, FilterStrict}
-use Rattle.script_text.specs.declared.table.Line.TheVariants.{StorageFault, Random, Input}
+use Rattle.script_text.specs.declared.table.Line.TheVariants.{StorageFault, Random, Input, Press, Release}
 use Rattle.script_text.specs.Table.{row}
 
 -- the place of a line among those that may not repeat
 abbrev pub seat : Line → Option ℕ
 seat Ram = Some 0
 seat Leds = Some 1
-seat Slice = Some 2
-seat Start = Some 3
-seat Uart = Some 4
-seat Storage = Some 5
-seat Stop = Some 6
-seat Restart = Some 6
-seat Threshold = Some 6
-seat FilterOpen = Some 7
-seat FilterStrict = Some 7
+seat Buttons = Some 2
+seat Slice = Some 3
+seat Start = Some 4
+seat Uart = Some 5
+seat Storage = Some 6
+seat Stop = Some 7
+seat Restart = Some 7
+seat Threshold = Some 7
+seat FilterOpen = Some 8
+seat FilterStrict = Some 8
 seat StorageFault = None
 seat Random = None
 seat Input = None
+seat Press = None
+seat Release = None
 
 abbrev pub stood_at : Line → List Bool → Bool
 stood_at line stood = option_map_or (λ n. slice_index_or stood n false) (seat line) false

@@ -1,15 +1,21 @@
 -- What a script says. It is this board's own.
 use Rattle.std.specs.Prelude.{ℕ, ◌+◌, ◌<◌, ◌≤◌, Bool, List, length, map, slice_index}
 use Rattle.std.specs.List.{All}
-use Rattle.tk_base.specs.declared.limits.TheConstants.{BYTE_TICKS_LIMIT, EVENT_LIMIT, FAULT_LIMIT, INPUT_LIMIT}
-use Rattle.tk_base.specs.declared.limits.TheConstants.{LED_LIMIT, SLICE_LIMIT, STORAGE_LIMIT, WORD_LIMIT}
+use Rattle.tk_base.specs.declared.limits.TheConstants.{BUTTON_LIMIT, BYTE_TICKS_LIMIT, EVENT_LIMIT, FAULT_LIMIT}
+use Rattle.tk_base.specs.declared.limits.TheConstants.{INPUT_LIMIT, LED_LIMIT, SLICE_LIMIT, STORAGE_LIMIT, WORD_LIMIT}
 use Rattle.fault_policy.specs.declared.Policy.{Policy}
 use Rattle.tk_base.specs.Limits.{IsRamSize}
 
--- bytes that the serial line gets, and when
+-- what comes at a time: bytes that the serial line gets; a button that is pressed, or released
+pub data EventKind : Type 0 where
+  Input : (bytes : List ℕ) → EventKind
+  Press : (button : ℕ) → EventKind
+  Release : (button : ℕ) → EventKind
+
+-- what comes, and when
 pub record ScriptEvent : Type 0 where
   pub time : ℕ
-  pub bytes : List ℕ
+  pub kind : EventKind
 
 -- what a script says, each setting by its line or by its default
 pub record ScriptSettings : Type 0 where
@@ -17,6 +23,8 @@ pub record ScriptSettings : Type 0 where
   pub ram : ℕ
   -- the number of LEDs
   pub leds : ℕ
+  -- the number of buttons
+  pub buttons : ℕ
   -- how many turns a process has before the next one
   pub slice : ℕ
   -- where the alarm's clock starts
@@ -48,20 +56,31 @@ pub record AreFaults (faults : List ℕ) : Type 0 where
   pub least : All (λ k. 1 ≤ k) faults
   pub rising : Rises faults
 
--- events, not too many, of 1 byte at least and not too many each, whose times never fall
-pub record AreEvents (events : List ScriptEvent) : Type 0 where
+-- on a board with so many buttons: 1 byte at least comes in, and not too many; a button is one of those
+abbrev pub IsKind : ℕ → EventKind → Type 0
+IsKind buttons (Input bytes) = (1 ≤ length bytes) × (length bytes ≤ INPUT_LIMIT)
+IsKind buttons (Press button) = button < buttons
+IsKind buttons (Release button) = button < buttons
+
+-- what comes at the time of each event is of a kind that a board with so many buttons has
+abbrev pub EachIsKind : ℕ → List ScriptEvent → Type 0
+EachIsKind buttons events = All (λ e. IsKind buttons e.kind) events
+
+-- the events of a board with so many buttons, not too many, whose times never fall
+pub record AreEvents (buttons : ℕ) (events : List ScriptEvent) : Type 0 where
   pub few : length events ≤ EVENT_LIMIT
   pub in_time : NeverFalls (map (λ e. e.time) events)
-  pub bytes : All (λ e. (1 ≤ length e.bytes) × (length e.bytes ≤ INPUT_LIMIT)) events
+  pub kinds : EachIsKind buttons events
 
 -- every setting is in its range, and every list in its order and within its limit
 pub record AreSound (s : ScriptSettings) : Type 0 where
   pub ram : IsRamSize s.ram
   pub leds : s.leds ≤ LED_LIMIT
+  pub buttons : s.buttons ≤ BUTTON_LIMIT
   pub slice_least : 1 ≤ s.slice
   pub slice_most : s.slice ≤ SLICE_LIMIT
   pub uart : s.uart ≤ BYTE_TICKS_LIMIT
   pub storage : s.storage ≤ STORAGE_LIMIT
   pub faults : AreFaults s.faults
   pub words : length s.words ≤ WORD_LIMIT
-  pub events : AreEvents s.events
+  pub events : AreEvents s.buttons s.events

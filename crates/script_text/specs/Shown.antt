@@ -6,6 +6,7 @@ abbrev pub settings_of : Inside → ScriptSettings
 settings_of s = record {
   ram = s.ram;
   leds = s.leds;
+  buttons = s.buttons;
   slice = s.slice;
   start = s.start;
   uart = s.uart;

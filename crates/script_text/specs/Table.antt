@@ -4,22 +4,24 @@ use Rattle.std.specs.Prelude.{ℕ, ◌%◌, ◌==◌, Bool, true, false, ◌&&�
 use Rattle.std.specs.Prelude.{Option, Some, None}
 use Rattle.std.specs.Option.{option_map_or}
 use Rattle.std.specs.Str.{bytes_eq}
-use Rattle.tk_base.specs.declared.limits.TheConstants.{BYTE_TICKS_LIMIT, LED_LIMIT, RAM_LEAST, RAM_LIMIT, RAM_UNIT}
-use Rattle.tk_base.specs.declared.limits.TheConstants.{SLICE_LIMIT, STORAGE_LIMIT}
+use Rattle.tk_base.specs.declared.limits.TheConstants.{BUTTON_LIMIT, BYTE_TICKS_LIMIT, LED_LIMIT, RAM_LEAST}
+use Rattle.tk_base.specs.declared.limits.TheConstants.{RAM_LIMIT, RAM_UNIT, SLICE_LIMIT, STORAGE_LIMIT}
 use Rattle.script_text.specs.declared.table.Form.{Form}
+use Rattle.script_text.specs.declared.table.HexFrom.{HexFrom}
 use Rattle.script_text.specs.declared.table.Key.{Key as KeyWord}
 use Rattle.script_text.specs.declared.table.Line.{Line}
-use Rattle.script_text.specs.declared.table.Line.TheVariants.{Ram, Leds, Slice, Start, Uart, Storage}
+use Rattle.script_text.specs.declared.table.Line.TheVariants.{Ram, Leds, Buttons, Slice, Start, Uart, Storage}
 use Rattle.script_text.specs.declared.table.Line.TheVariants.{Stop, Restart, Threshold, FilterOpen, FilterStrict}
-use Rattle.script_text.specs.declared.table.Line.TheVariants.{StorageFault, Random, Input}
+use Rattle.script_text.specs.declared.table.Line.TheVariants.{StorageFault, Random, Input, Press, Release}
 use Rattle.script_text.specs.declared.table.NumberAt.{NumberAt}
 use Rattle.script_text.specs.declared.table.Range.{Range}
 use Rattle.script_text.specs.Text.{word}
 
 -- the lines of the table, in its order
 abbrev pub line_table : List Line
-line_table = Ram ∷ Leds ∷ Slice ∷ Start ∷ Uart ∷ Storage ∷ Stop ∷ Restart ∷ Threshold ∷ FilterOpen ∷ FilterStrict
-    ∷ StorageFault ∷ Random ∷ Input ∷ []
+line_table =
+    Ram ∷ Leds ∷ Buttons ∷ Slice ∷ Start ∷ Uart ∷ Storage ∷ Stop ∷ Restart ∷ Threshold ∷ FilterOpen ∷ FilterStrict
+    ∷ StorageFault ∷ Random ∷ Input ∷ Press ∷ Release ∷ []
 
 -- the word that tells a line from others of its name, and its place
 pub record Key : Type 0 where
@@ -42,7 +44,13 @@ abbrev pub numbered : List ℕ → Range → ℕ → Row
 numbered name range default = record {
   name = name;
   key = None;
-  form = record { words = 2; more = false; number = Some (record { place = 1; range = range }); hex = None };
+  form = record {
+    words = 2;
+    more = false;
+    number = Some (record { place = 1; range = range });
+    button = None;
+    hex = None;
+  };
   default = default;
 }
 
@@ -51,7 +59,22 @@ abbrev pub chosen : List ℕ → List ℕ → ℕ → Option NumberAt → Row
 chosen name word words number = record {
   name = name;
   key = Some (record { place = 1; word = word });
-  form = record { words = words; more = false; number = number; hex = None };
+  form = record { words = words; more = false; number = number; button = None; hex = None };
+  default = 0;
+}
+
+-- a line of what comes at a time, which is told by its third word: its fourth one is hex, or the number of a button
+abbrev pub timed : List ℕ → Option ℕ → Option HexFrom → Row
+timed word button hex = record {
+  name = codes "at";
+  key = Some (record { place = 2; word = word });
+  form = record {
+    words = 4;
+    more = false;
+    number = Some (record { place = 1; range = from_to 0 4294967295 });
+    button = button;
+    hex = hex;
+  };
   default = 0;
 }
 
@@ -59,6 +82,7 @@ chosen name word words number = record {
 abbrev pub row : Line → Row
 row Ram = numbered (codes "ram") (record { least = RAM_LEAST; most = RAM_LIMIT; multiple = RAM_UNIT }) 65536
 row Leds = numbered (codes "leds") (from_to 0 LED_LIMIT) 4
+row Buttons = numbered (codes "buttons") (from_to 0 BUTTON_LIMIT) 0
 row Slice = numbered (codes "slice") (from_to 1 SLICE_LIMIT) 100
 row Start = numbered (codes "start") (from_to 0 4294967295) 0
 row Uart = numbered (codes "uart") (from_to 0 BYTE_TICKS_LIMIT) 1
@@ -73,20 +97,18 @@ row StorageFault = numbered (codes "storage-fault") (from_to 1 4294967295) 0
 row Random = record {
   name = codes "random";
   key = None;
-  form = record { words = 2; more = true; number = None; hex = Some (record { place = 1; digits = Some 8 }) };
-  default = 0;
-}
-row Input = record {
-  name = codes "at";
-  key = Some (record { place = 2; word = codes "input" });
   form = record {
-    words = 4;
-    more = false;
-    number = Some (record { place = 1; range = from_to 0 4294967295 });
-    hex = Some (record { place = 3; digits = None });
+    words = 2;
+    more = true;
+    number = None;
+    button = None;
+    hex = Some (record { place = 1; digits = Some 8 });
   };
   default = 0;
 }
+row Input = timed (codes "input") None (Some (record { place = 3; digits = None }))
+row Press = timed (codes "press") (Some 3) None
+row Release = timed (codes "release") (Some 3) None
 
 -- a number may stand in a line
 abbrev pub in_range : Range → ℕ → Bool

@@ -1,15 +1,16 @@
 //! What the lines so far say.
-ghost use Rattle.std.specs.Prelude.{◌≡◌, ◌≤◌, ◌++◌, ◌*◌, ◌/◌, true, false, nat_lt, length, map, drop, Some, None, IfOk};
+ghost use Rattle.std.specs.Prelude.{◌≡◌, ◌<◌, ◌≤◌, ◌++◌, ◌∷◌, ◌*◌, ◌/◌, true, false, nat_lt, length, map, drop, [], Some, None, IfOk};
 ghost use Rattle.tk_base.specs.declared.limits.TheConstants.{INPUT_LIMIT};
 ghost use Rattle.decimal_number.specs.Number.{is_number, number};
+ghost use Rattle.script_text.specs.Kinds.{kind_of};
 ghost use Rattle.script_text.specs.Said.{hex_bytes, hex_word};
 ghost use Rattle.script_text.specs.Rules.{is_hex, has_bad_hex};
 ghost use Rattle.script_text.specs.Seats.{seat, random_form};
 ghost use Rattle.script_text.specs.Text.{words, word};
 
-use crate::line::{read_line, written_at};
+use crate::line::{Context, read_line, written_at};
 use crate::rule::ScriptRule;
-use crate::script::{EventList, Script, TimedEvent};
+use crate::script::{EventKind, EventList, Script, TimedEvent};
 use crate::table::Line;
 use crate::text::{word_at, word_count, words_from};
 use arrayvec::ArrayVec;
@@ -34,6 +35,7 @@ pub enum Trouble {
 pub struct Draft {
     ram: u32,
     leds: u32,
+    buttons: u32,
     slice: u32,
     start: u32,
     uart: u32,
@@ -43,7 +45,7 @@ pub struct Draft {
     faults: ArrayVec<u32, FAULT_LIMIT>,
     words: Vec<u32>,
     events: Vec<TimedEvent>,
-    stood: [bool; 8],
+    stood: [bool; 9],
 }
 
 impl Model for Draft {
@@ -63,13 +65,14 @@ impl Line {
         match self {
             Line::Ram => Some(0),
             Line::Leds => Some(1),
-            Line::Slice => Some(2),
-            Line::Start => Some(3),
-            Line::Uart => Some(4),
-            Line::Storage => Some(5),
-            Line::Stop | Line::Restart | Line::Threshold => Some(6),
-            Line::FilterOpen | Line::FilterStrict => Some(7),
-            Line::StorageFault | Line::Random | Line::Input => None,
+            Line::Buttons => Some(2),
+            Line::Slice => Some(3),
+            Line::Start => Some(4),
+            Line::Uart => Some(5),
+            Line::Storage => Some(6),
+            Line::Stop | Line::Restart | Line::Threshold => Some(7),
+            Line::FilterOpen | Line::FilterStrict => Some(8),
+            Line::StorageFault | Line::Random | Line::Input | Line::Press | Line::Release => None,
         }
     }
 }
@@ -121,6 +124,20 @@ fn add_words(list: &mut Vec<u32>, text: &[u8]) -> Result<(), AllocError>
     Ok(())
 }
 
+/// Appends an event, at the time that its line gives.
+fn add_event(list: &mut Vec<TimedEvent>, text: &[u8], kind: EventKind) -> Result<(), AllocError>
+    requires digits { is_number (word (words text.now) 1) ≡ true }
+    requires small { number (word (words text.now) 1) ≤ 4294967295 }
+    ensures { IfOk result (λ _. list.new.items ≡ list.old.items
+        ++ record { time = number (word (words text.now) 1); kind = kind_of kind } ∷ []) }
+{
+    list.push(TimedEvent {
+        time: small_at(text, 1),
+        kind,
+    })?;
+    Ok(())
+}
+
 /// Whether hex digits write more bytes than an event has at most.
 fn is_long(word: &[u8]) -> bool
     ensures { result ≡ nat_lt INPUT_LIMIT (length word.now / 2) }
@@ -144,10 +161,19 @@ fn small_at(text: &[u8], place: usize) -> u32
     written_at(text, place) as u32
 }
 
+/// The button of a line, which is one of so many.
+fn button_at(text: &[u8], count: u32) -> u32
+    requires digits { is_number (word (words text.now) 3) ≡ true }
+    requires below { number (word (words text.now) 3) < count }
+    ensures { result ≡ number (word (words text.now) 3) }
+{
+    written_at(text, 3) as u32
+}
+
 impl Draft {
     ghost use Rattle.std.specs.Prelude.{◌≡◌, ◌≤◌, true, false, ℕ, List, [], IfOk};
     ghost use Rattle.script_text.specs.Alone.{IsLine};
-    ghost use Rattle.script_text.specs.Rules.{disorders, exceeds};
+    ghost use Rattle.script_text.specs.Rules.{context_of, disorders, exceeds};
     ghost use Rattle.script_text.specs.Settings.{AreSound};
     ghost use Rattle.script_text.specs.Text.{words};
     ghost use Rattle.script_text.specs.Seats.{stood_at, stood_after};
@@ -160,6 +186,7 @@ impl Draft {
         Draft {
             ram: Line::Ram.row().default,
             leds: Line::Leds.row().default,
+            buttons: Line::Buttons.row().default,
             slice: Line::Slice.row().default,
             start: Line::Start.row().default,
             uart: Line::Uart.row().default,
@@ -169,7 +196,7 @@ impl Draft {
             faults: ArrayVec::new(),
             words: Vec::new(alloc),
             events: Vec::new(alloc),
-            stood: [false; 8],
+            stood: [false; 9],
         }
     }
 
@@ -183,13 +210,22 @@ impl Draft {
         }
     }
 
+    /// What is needed of the lines so far to look at the next one.
+    fn context(&self) -> Context
+        ensures { result ≡ context_of self.now.said }
+    {
+        Context {
+            buttons: self.buttons,
+        }
+    }
+
     /// Whether the line may not stand after those so far.
     fn disorders(&self, line: Line, text: &[u8]) -> bool
-        requires { IsLine (words text.now) line }
+        requires { IsLine (context_of self.now.said) (words text.now) line }
         ensures { result ≡ disorders line self.now.said (words text.now) }
     {
         match line {
-            Line::Input => match self.events.last() {
+            Line::Input | Line::Press | Line::Release => match self.events.last() {
                 Some(event) => is_before(written_at(text, 1), event),
                 None => false,
             },
@@ -206,13 +242,14 @@ impl Draft {
 
     /// Whether there are too many of what the line gives.
     fn exceeds(&self, line: Line, text: &[u8]) -> bool
-        requires { IsLine (words text.now) line }
+        requires { IsLine (context_of self.now.said) (words text.now) line }
         ensures { result ≡ exceeds line self.now.said (words text.now) }
     {
         match line {
             Line::StorageFault => self.faults.is_full(),
             Line::Random => self.words.len() + word_count(text) > WORD_LIMIT + 1,
             Line::Input => self.events.len() >= EVENT_LIMIT || is_long(word_at(text, 3)),
+            Line::Press | Line::Release => self.events.len() >= EVENT_LIMIT,
             _ => false,
         }
     }
@@ -229,7 +266,7 @@ impl Draft {
 
     /// Takes what the line says. It fails where there is no memory for it.
     fn take(&mut self, line: Line, text: &[u8]) -> Result<(), AllocError>
-        requires line { IsLine (words text.now) line }
+        requires line { IsLine (context_of self.old.said) (words text.now) line }
         requires few { exceeds line self.old.said (words text.now) ≡ false }
         ensures said { IfOk result (λ _.
             self.new.said ≡ with_line line (words text.now) self.old.said) }
@@ -238,6 +275,7 @@ impl Draft {
         match line {
             Line::Ram => self.ram = small_at(text, 1),
             Line::Leds => self.leds = small_at(text, 1),
+            Line::Buttons => self.buttons = small_at(text, 1),
             Line::Slice => self.slice = small_at(text, 1),
             Line::Start => self.start = small_at(text, 1),
             Line::Uart => self.uart = small_at(text, 1),
@@ -249,10 +287,18 @@ impl Draft {
             Line::FilterStrict => self.strict = true,
             Line::StorageFault => self.faults.push(small_at(text, 1)),
             Line::Random => add_words(&mut self.words, text)?,
-            Line::Input => self.events.push(TimedEvent {
-                time: small_at(text, 1),
-                bytes: hex_bytes(word_at(text, 3)),
-            })?,
+            Line::Input => {
+                let kind = EventKind::Input(hex_bytes(word_at(text, 3)));
+                add_event(&mut self.events, text, kind)?
+            }
+            Line::Press => {
+                let kind = EventKind::Press(button_at(text, self.buttons));
+                add_event(&mut self.events, text, kind)?
+            }
+            Line::Release => {
+                let kind = EventKind::Release(button_at(text, self.buttons));
+                add_event(&mut self.events, text, kind)?
+            }
         }
         Ok(())
     }
@@ -263,7 +309,7 @@ impl Draft {
         ensures { (before : List (List ℕ)) → DraftSays before self.old
             → Adds before text.now self.new result }
     {
-        let line = match read_line(text) {
+        let line = match read_line(text, self.context()) {
             Ok(Some(line)) => line,
             Ok(None) => return Ok(()),
             Err(rule) => return Err(Trouble::Breaks(rule)),
@@ -292,6 +338,7 @@ impl Draft {
         Script {
             ram: self.ram,
             leds: self.leds,
+            buttons: self.buttons,
             slice: self.slice,
             start: self.start,
             uart: self.uart,

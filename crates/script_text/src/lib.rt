@@ -11,4 +11,4 @@ mod text;
 
 pub use read::read_script;
 pub use rule::{ScriptError, ScriptRule};
-pub use script::{EventList, Script, TimedEvent};
+pub use script::{EventKind, EventList, Script, TimedEvent};

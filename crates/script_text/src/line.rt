@@ -12,6 +12,13 @@ use crate::table::{Form, Line, Range, line_in};
 use crate::text::{Words, word_at, word_count, words_from};
 use decimal_number::number_in;
 
+/// What the lines before one say that is needed to look at it.
+#[derive(Clone, Copy)]
+pub struct Context {
+    /// The number of buttons.
+    pub buttons: u32,
+}
+
 /// Whether a word begins a comment.
 fn is_comment(word: &[u8]) -> bool
     ensures { result ≡ (slice_index word.now 0 == 35) }
@@ -88,14 +95,19 @@ impl Form {
         }
     }
 
-    /// Whether a line's number is not written as one.
+    /// Whether a line's number, or that of a button, is not written as one.
     fn misspells(self, line: &[u8]) -> bool
         ensures { result ≡ misspells self (words line.now) }
     {
-        match self.number {
-            Some(number) => number_in(word_at(line, number.place)).is_none(),
+        let number = match self.number {
+            Some(number) => is_misspelt(line, number.place),
             None => false,
-        }
+        };
+        let button = match self.button {
+            Some(place) => is_misspelt(line, place),
+            None => false,
+        };
+        number || button
     }
 
     /// Whether a line has a word that has to be hex and is not.
@@ -108,22 +120,28 @@ impl Form {
         }
     }
 
-    /// Whether a line's number, which is written as one, is outside its range.
-    fn is_outside(self, line: &[u8]) -> bool
+    /// Whether a line's number, which is written as one, is outside its range, or it has the
+    /// number of no button.
+    fn is_outside(self, context: Context, line: &[u8]) -> bool
         requires spelled { misspells self (words line.now) ≡ false }
         requires some { IfSome self.number (λ n. 0 < n.range.multiple) }
-        ensures { result ≡ is_outside self (words line.now) }
+        ensures { result ≡ is_outside context self (words line.now) }
     {
-        match self.number {
+        let number = match self.number {
             Some(number) => !number.range.permits(written_at(line, number.place)),
             None => false,
-        }
+        };
+        let button = match self.button {
+            Some(place) => u64::from(context.buttons) <= written_at(line, place),
+            None => false,
+        };
+        number || button
     }
 
-    /// The first rule that a line breaks where it is looked at alone.
-    pub fn broken_alone(self, line: &[u8]) -> Option<ScriptRule>
+    /// The first rule that a line breaks where it is looked at alone in a context.
+    pub fn broken_alone(self, context: Context, line: &[u8]) -> Option<ScriptRule>
         requires { IfSome self.number (λ n. 0 < n.range.multiple) }
-        ensures { result ≡ broken_alone self (words line.now) }
+        ensures { result ≡ broken_alone context self (words line.now) }
     {
         if self.miscounts(line) {
             Some(ScriptRule::Words)
@@ -131,12 +149,19 @@ impl Form {
             Some(ScriptRule::BadNumber)
         } else if self.has_bad_hex(line) {
             Some(ScriptRule::BadHex)
-        } else if self.is_outside(line) {
+        } else if self.is_outside(context, line) {
             Some(ScriptRule::OutOfRange)
         } else {
             None
         }
     }
+}
+
+/// Whether a word of a line writes no number.
+fn is_misspelt(line: &[u8], place: usize) -> bool
+    ensures { result ≡ not (is_number (word (words line.now) place)) }
+{
+    number_in(word_at(line, place)).is_none()
 }
 
 /// The number that a word of a line writes.
@@ -150,11 +175,11 @@ pub fn written_at(line: &[u8], place: usize) -> u64
     }
 }
 
-/// The line of the table that a text is where it is looked at alone, or the first rule that it breaks
-/// then. None where it is skipped.
+/// The line of the table that a text is where it is looked at alone in a context, or the first
+/// rule that it breaks then. None where it is skipped.
 #[tactic(auto, using(crate::proofs::Rules::refusals))]
-pub fn read_line(text: &[u8]) -> Result<Option<Line>, ScriptRule>
-    ensures { Says text.now result }
+pub fn read_line(text: &[u8], context: Context) -> Result<Option<Line>, ScriptRule>
+    ensures { Says context text.now result }
 {
     let Some(first) = Words::of(text).next() else {
         return Ok(None);
@@ -165,7 +190,7 @@ pub fn read_line(text: &[u8]) -> Result<Option<Line>, ScriptRule>
     let Some(line) = line_in(text) else {
         return Err(ScriptRule::UnknownWord);
     };
-    match line.row().form.broken_alone(text) {
+    match line.row().form.broken_alone(context, text) {
         Some(rule) => Err(rule),
         None => Ok(Some(line)),
     }

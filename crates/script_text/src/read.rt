@@ -27,6 +27,7 @@ fn bad(line: u32, rule: ScriptRule) -> ScriptError
 /// |---|---|---|
 /// | `ram N` | 4096 to 262144, multiples of 1024 | 65536 |
 /// | `leds N` | 0 to 16 | 4 |
+/// | `buttons N` | 0 to 16 | 0 |
 /// | `slice N` | 1 to 1000000 | 100 |
 /// | `start N` | 0 to 4294967295 | 0 |
 /// | `uart N` | 0 to 1000 | 1 |
@@ -35,9 +36,12 @@ fn bad(line: u32, rule: ScriptRule) -> ScriptError
 /// | `filter open`, `filter strict` | | `open` |
 /// | `storage-fault K`, at most 64, rising | 1 to 4294967295 | none |
 /// | `random W ..`, at most 4096 words of 8 hex digits | | none |
-/// | `at T input H`, at most 4096, with 1 to 64 bytes in hex; T never falls | 0 to 4294967295 | none |
+/// | `at T input H`, with 1 to 64 bytes in hex | 0 to 4294967295 | none |
+/// | `at T press B`, `at T release B`, B below the number of buttons | 0 to 4294967295 | none |
 ///
-/// The last three may repeat, and nothing but `at` stands after an `at`.
+/// How many buttons there are, an earlier `buttons` line says. There are at most 4096 `at` lines,
+/// and T never falls from one to the next. They may repeat, and so may `storage-fault` and `random`;
+/// nothing but `at` stands after an `at`.
 ///
 /// [`ScriptError::Bad`] names the first line that breaks a rule, and the first rule that it breaks,
 /// in the order of [`ScriptRule`](crate::ScriptRule)'s variants. [`ScriptError::Memory`] comes only

@@ -15,7 +15,7 @@ pub enum ScriptRule {
     BadNumber,
     /// A word is not written in hex, or has too few or too many digits for what it is.
     BadHex,
-    /// A number is outside its range.
+    /// A number is outside its range, or there is no such button.
     OutOfRange,
     /// A setting stands twice.
     Repeated,

@@ -6,22 +6,35 @@ use fault_policy::Policy;
 use std::marker::Model;
 use tk_base::{FAULT_LIMIT, INPUT_LIMIT, WordList};
 
-/// Bytes that the serial line gets, and when. Contracts see the time and the list of bytes.
+/// What comes at a time.
+#[derive(Drop)]
+pub enum EventKind {
+    /// The serial line gets these bytes, the first one first.
+    Input(ArrayVec<u8, INPUT_LIMIT>),
+    /// The button of this number is pressed.
+    Press(u32),
+    /// It is released.
+    Release(u32),
+}
+
+/// What comes, and when, in ticks. Contracts see the time and the kind, with the bytes as a list.
 #[derive(Drop)]
 pub struct TimedEvent {
     pub time: u32,
-    pub bytes: ArrayVec<u8, INPUT_LIMIT>,
+    pub kind: EventKind,
 }
 
 impl Model for TimedEvent {
     ghost use Rattle.script_text.specs.Settings.{ScriptEvent};
+    ghost use Rattle.script_text.specs.Kinds.{kind_of};
 
     ghost Value = { ScriptEvent };
 
-    ghost view = { λ e. record { time = e.time; bytes = e.bytes.items } };
+    ghost view = { λ e. record { time = e.time; kind = kind_of e.kind } };
 }
 
-/// Events, the first one first. Contracts see the list.
+/// Events, the first one first. Contracts see the list. Each is of a kind that some board has:
+/// bytes, as many as may come in at once, or a button below [`tk_base::BUTTON_LIMIT`].
 #[derive(Drop)]
 pub struct EventList {
     events: Vec<TimedEvent>,
@@ -29,16 +42,23 @@ pub struct EventList {
 
 impl Model for EventList {
     ghost use Rattle.std.specs.Prelude.{List};
-    ghost use Rattle.script_text.specs.Settings.{ScriptEvent};
+    ghost use Rattle.tk_base.specs.declared.limits.TheConstants.{BUTTON_LIMIT};
+    ghost use Rattle.script_text.specs.Settings.{ScriptEvent, EachIsKind};
 
     ghost Value = { List ScriptEvent };
 
     ghost view = { λ l. l.events.items };
+
+    ghost invariant = { λ l. EachIsKind BUTTON_LIMIT l.events.items };
 }
 
 impl EventList {
+    ghost use Rattle.tk_base.specs.declared.limits.TheConstants.{BUTTON_LIMIT};
+    ghost use Rattle.script_text.specs.Settings.{EachIsKind};
+
     /// The list of the events of a `Vec`. It takes no memory.
     pub fn new(events: Vec<TimedEvent>) -> EventList
+        requires { EachIsKind BUTTON_LIMIT events.items }
         ensures { result ≡ events.items }
     {
         EventList { events }
@@ -46,7 +66,8 @@ impl EventList {
 
     /// The events, the first one first.
     pub fn as_slice(&self) -> &[TimedEvent]
-        ensures { result.now ≡ self.now }
+        ensures list { result.now ≡ self.now }
+        ensures kinds { EachIsKind BUTTON_LIMIT self.now }
     {
         &self.events
     }
@@ -68,6 +89,8 @@ pub struct Script {
     pub ram: u32,
     /// The number of LEDs.
     pub leds: u32,
+    /// The number of buttons.
+    pub buttons: u32,
     /// How many turns a process has before the next one.
     pub slice: u32,
     /// Where the alarm's clock starts.

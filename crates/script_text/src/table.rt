@@ -1,11 +1,12 @@
 //! The table of lines.
 ghost use Rattle.std.specs.Prelude.{◌≡◌, ◌<◌, false, Some, None, option_map, IfSome};
-ghost use Rattle.script_text.specs.Table.{row, key_of, line_fits, line_of};
+ghost use Rattle.script_text.specs.Table.{row, timed, key_of, line_fits, line_of};
 ghost use Rattle.script_text.specs.Text.{words};
 
 use crate::text::{word_at, word_count};
 use tk_base::{
-    BYTE_TICKS_LIMIT, LED_LIMIT, RAM_LEAST, RAM_LIMIT, RAM_UNIT, SLICE_LIMIT, STORAGE_LIMIT,
+    BUTTON_LIMIT, BYTE_TICKS_LIMIT, LED_LIMIT, RAM_LEAST, RAM_LIMIT, RAM_UNIT, SLICE_LIMIT,
+    STORAGE_LIMIT,
 };
 
 /// A line of the table.
@@ -15,6 +16,8 @@ pub enum Line {
     Ram,
     /// `leds N`: the number of LEDs.
     Leds,
+    /// `buttons N`: the number of buttons.
+    Buttons,
     /// `slice N`: how many turns a process has before the next one.
     Slice,
     /// `start N`: where the alarm's clock starts.
@@ -39,12 +42,17 @@ pub enum Line {
     Random,
     /// `at T input H`: bytes that the serial line gets, and when.
     Input,
+    /// `at T press B`: a button is pressed then.
+    Press,
+    /// `at T release B`: it is released.
+    Release,
 }
 
 /// The lines of the table, in its order.
-const TABLE: [Line; 14] = [
+const TABLE: [Line; 17] = [
     Line::Ram,
     Line::Leds,
+    Line::Buttons,
     Line::Slice,
     Line::Start,
     Line::Uart,
@@ -57,6 +65,8 @@ const TABLE: [Line; 14] = [
     Line::StorageFault,
     Line::Random,
     Line::Input,
+    Line::Press,
+    Line::Release,
 ];
 
 /// Which numbers may stand in a line.
@@ -96,6 +106,8 @@ pub struct Form {
     /// Whether more may follow.
     pub more: bool,
     pub number: Option<NumberAt>,
+    /// The place of the number of a button, which has to be there.
+    pub button: Option<usize>,
     pub hex: Option<HexFrom>,
 }
 
@@ -127,6 +139,7 @@ const fn name_and_number(range: Range) -> Form
       words = 2;
       more = false;
       number = Some (record { place = 1; range = range });
+      button = None;
       hex = None;
     } }
 {
@@ -134,6 +147,7 @@ const fn name_and_number(range: Range) -> Form
         words: 2,
         more: false,
         number: Some(NumberAt { place: 1, range }),
+        button: None,
         hex: None,
     }
 }
@@ -146,6 +160,7 @@ const fn numbered(name: &'static [u8], range: Range, default: u32) -> Row
       words = 2;
       more = false;
       number = Some (record { place = 1; range = range });
+      button = None;
       hex = None;
     } }
     ensures default { result.default ≡ default }
@@ -168,7 +183,7 @@ const fn chosen(
     ensures name { result.name.now ≡ name.now }
     ensures key { option_map key_of result.key ≡ Some (record { place = 1; word = word.now }) }
     ensures form { result.form
-        ≡ record { words = words; more = false; number = number; hex = None } }
+        ≡ record { words = words; more = false; number = number; button = None; hex = None } }
     ensures default { result.default ≡ 0 }
 {
     Row {
@@ -178,7 +193,33 @@ const fn chosen(
             words,
             more: false,
             number,
+            button: None,
             hex: None,
+        },
+        default: 0,
+    }
+}
+
+/// A line of what comes at a time, which is told by its third word. Its fourth one is hex, or the
+/// number of a button.
+const fn timed(word: &'static [u8], button: Option<usize>, hex: Option<HexFrom>) -> Row
+    ensures name { result.name.now ≡ (timed word.now button hex).name }
+    ensures key { option_map key_of result.key ≡ (timed word.now button hex).key }
+    ensures form { result.form ≡ (timed word.now button hex).form }
+    ensures default { result.default ≡ 0 }
+{
+    Row {
+        name: b"at",
+        key: Some(Key { place: 2, word }),
+        form: Form {
+            words: 4,
+            more: false,
+            number: Some(NumberAt {
+                place: 1,
+                range: from_to(0, 4_294_967_295),
+            }),
+            button,
+            hex,
         },
         default: 0,
     }
@@ -204,6 +245,7 @@ impl Line {
                 65536,
             ),
             Line::Leds => numbered(b"leds", from_to(0, LED_LIMIT as u64), 4),
+            Line::Buttons => numbered(b"buttons", from_to(0, BUTTON_LIMIT as u64), 0),
             Line::Slice => numbered(b"slice", from_to(1, SLICE_LIMIT as u64), 100),
             Line::Start => numbered(b"start", from_to(0, 4_294_967_295), 0),
             Line::Uart => numbered(b"uart", from_to(0, BYTE_TICKS_LIMIT as u64), 1),
@@ -229,6 +271,7 @@ impl Line {
                     words: 2,
                     more: true,
                     number: None,
+                    button: None,
                     hex: Some(HexFrom {
                         place: 1,
                         digits: Some(8),
@@ -236,26 +279,16 @@ impl Line {
                 },
                 default: 0,
             },
-            Line::Input => Row {
-                name: b"at",
-                key: Some(Key {
-                    place: 2,
-                    word: b"input",
+            Line::Input => timed(
+                b"input",
+                None,
+                Some(HexFrom {
+                    place: 3,
+                    digits: None,
                 }),
-                form: Form {
-                    words: 4,
-                    more: false,
-                    number: Some(NumberAt {
-                        place: 1,
-                        range: from_to(0, 4_294_967_295),
-                    }),
-                    hex: Some(HexFrom {
-                        place: 3,
-                        digits: None,
-                    }),
-                },
-                default: 0,
-            },
+            ),
+            Line::Press => timed(b"press", Some(3), None),
+            Line::Release => timed(b"release", Some(3), None),
         }
     }
 

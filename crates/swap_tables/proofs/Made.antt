@@ -6,7 +6,7 @@ use Rattle.std.proofs.lemmas.List.{take_at, drop_at, length-take-le, length-drop
 use Rattle.tk_base.specs.declared.upcall.Counts.{Counts}
 use Rattle.process_layout.specs.LayoutView.{LayoutView}
 use Rattle.grant_values.specs.declared.drivers.Driver.{Driver}
-use Rattle.grant_values.specs.declared.drivers.Driver.TheVariants.{Alarm, Console, Leds, Random, Storage}
+use Rattle.grant_values.specs.declared.drivers.Driver.TheVariants.{Alarm, Buttons, Console, Leds, Random, Storage}
 use Rattle.grant_values.specs.Drivers.{cost_of, counts_by, counts_of, driver_of}
 use Rattle.grant_model.specs.Grants.{Grant, grant_of, with_grant, entering, fresh, pair_of, with_pair}
 use Rattle.grant_model.specs.Encoding.{EncodesGrants, Tells, decode_grants}
@@ -21,6 +21,7 @@ fits : (driver : Driver) → cost_of (counts_by driver) < 2 ^ 32
 fits Alarm = omega arith
 fits Console = omega arith
 fits Leds = omega arith
+fits Buttons = omega arith
 fits Random = omega arith
 fits Storage = omega arith
 

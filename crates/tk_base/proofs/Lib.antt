@@ -1,3 +1,4 @@
+mod Bits
 pub mod Ranks
 mod Puts
 mod Stores

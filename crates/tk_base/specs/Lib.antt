@@ -1,4 +1,5 @@
 pub mod Access
+pub mod Bits
 pub mod Bus
 pub mod Bytes
 pub mod Call

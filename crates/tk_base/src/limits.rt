@@ -42,6 +42,9 @@ pub const SENDING_LIMIT: u64 = PRINT_LIMIT as u64 * BYTE_TICKS_LIMIT as u64;
 /// How many LEDs a board has at most.
 pub const LED_LIMIT: usize = 16;
 
+/// How many buttons a board has at most.
+pub const BUTTON_LIMIT: usize = 16;
+
 /// How many bytes of storage each slot has at most.
 pub const STORAGE_LIMIT: u32 = 4_096;
 

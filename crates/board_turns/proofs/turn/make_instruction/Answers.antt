@@ -1,4 +1,4 @@
-use Rattle.std.proofs.Common.{◌≡◌, [], ap, ap₂, subst, sym, ◌∙◌}
+use Rattle.std.proofs.Common.{◌≡◌, ap, ap₂, subst, sym, ◌∙◌}
 use Rattle.rv32_model.specs.UserTurn.{UserTurn}
 use Rattle.process_model.specs.Own.{Own}
 use Rattle.process_model.specs.Instruction.{instruction_of, with_write}
@@ -10,7 +10,7 @@ use Rattle.grant_enter.specs.Homes.{own_of}
 use Rattle.kernel_calls.specs.Own.{record_in}
 use Rattle.kernel_model.specs.Record.{byte_at}
 use Rattle.board_drivers.specs.Residents.{Resident, resident}
-use Rattle.board_turns.specs.Turning.{IsMade, next_instruction}
+use Rattle.board_turns.specs.Turning.{IsMade, next_instruction, nothing_beside}
 use Rattle.board_turns.proofs.Sight.{sees_record}
 use Rattle.board_turns.proofs.Turns.{in_turn}
 use Rattle.board_turns.proofs.turn.make_instruction.Goals as goal
@@ -27,7 +27,7 @@ made : (c : After-instruct) → let t = next_instruction c.args.home.now.flash (
 made c =
     let flash = c.args.home.now.flash in
     let own = (before c).1 in
-    let r = record_in flash c.args.process.now own [] in
+    let r = record_in flash c.args.process.now own nothing_beside in
     let m = c.instruct.ensures.made (byte_at r)
     (sees_record flash (before c) c.requires.turn.seated.own.object c.instruct.ensures.place) in
     let same : instruction_of own (byte_at r) c.count_turn.new.self.regs ≡ next_instruction flash (before c) =

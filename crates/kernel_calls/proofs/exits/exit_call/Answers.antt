@@ -6,9 +6,9 @@ use Rattle.kernel_calls.proofs.Starts.{of_object, no_exit}
 use Rattle.kernel_calls.proofs.exits.exit_call.Goals as goal
 
 pub returns-in_default-clause-serves : goal.returns-in_default-clause-serves
-returns-in_default-clause-serves c = λ storage.
-    let r = record_of_slot c.args.home.now c.args.slot c.args.process.now storage in
+returns-in_default-clause-serves c = λ beside.
+    let r = record_of_slot c.args.home.now c.args.slot c.args.process.now beside in
     no_exit r c.args.kind c.args.code (omega arith) (omega arith) ∙ c.give.ensures.gives r
     ∙ ap (λ s. record { after = s; outcome = c.give.result; acts = acts_for c.give.result })
     (of_object c.args.home.now.flash c.args.process.now c.give.new.process (own_of c.args.home.now c.args.slot)
-    storage (ap (λ (p : Process). p.object) c.give.ensures.stays))
+    beside (ap (λ (p : Process). p.object) c.give.ensures.stays))

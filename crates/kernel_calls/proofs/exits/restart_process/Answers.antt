@@ -7,15 +7,15 @@ use Rattle.kernel_calls.proofs.Starts.{starts_again}
 use Rattle.kernel_calls.proofs.exits.restart_process.Goals as goal
 
 pub returns-clause-restarted : goal.returns-clause-restarted
-returns-clause-restarted c = λ storage.
+returns-clause-restarted c = λ beside.
     let home = c.args.home.now in
     let p = c.args.process.now in
     let flash : c.restart-2.new.self.flash ≡ home.flash = ap (λ (h : Homes). h.flash) c.restart-2.ensures.rest in
     let start = subst (λ (f : List ℕ). StartsAs (object_in f p.object) p.object.address c.start_of-start.result)
     c.flash.ensures c.start_of-start.ensures in
-    ap (λ (f : List ℕ). record_in f c.restart.new.self (own_of c.restart-2.new.self c.args.slot) storage) flash
+    ap (λ (f : List ℕ). record_in f c.restart.new.self (own_of c.restart-2.new.self c.args.slot) beside) flash
     ∙ starts_again home.flash p c.restart.new.self (own_of home c.args.slot)
-    (own_of c.restart-2.new.self c.args.slot) storage c.start_of-start.result _ c.first_break-brk.result start
+    (own_of c.restart-2.new.self c.args.slot) beside c.start_of-start.result _ c.first_break-brk.result start
     (c.layout.view_is ∙ c.layout-layout.ensures)
     (c.first_break-brk.ensures
     ∙ ap (λ (e : LayoutView). first_break e.start c.start_of-start.result.minimum_ram) (sym c.layout.view_is))

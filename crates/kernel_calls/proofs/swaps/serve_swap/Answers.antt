@@ -7,24 +7,24 @@ use Rattle.kernel_calls.proofs.Handed.{keeps_handed, swap_refused, swap_served}
 use Rattle.kernel_calls.proofs.swaps.serve_swap.Goals as goal
 
 pub returns-in-Ok-clause-serves : goal.returns-in-Ok-clause-serves
-returns-in-Ok-clause-serves c = λ storage.
+returns-in-Ok-clause-serves c = λ beside.
     let home = c.args.home.now in
     swap_served home.flash c.hand.new.home.flash c.args.process.now c.give.new.process (own_of home c.args.slot)
-    (own_of c.hand.new.home c.args.slot) storage c.args.swap c.in-Ok.first c.in-Ok.second
+    (own_of c.hand.new.home c.args.slot) beside c.args.swap c.in-Ok.first c.in-Ok.second
     c.give.result
     c.in-Ok.ensures.refusal c.in-Ok.ensures.former c.in-Ok.ensures.handed
     (ap (λ (h : Homes). h.flash) c.hand.ensures.rest) (ap (λ (p : Process). p.object) c.give.ensures.stays)
     c.give.ensures.gives
 
 pub returns-in-Err-clause-serves : goal.returns-in-Err-clause-serves
-returns-in-Err-clause-serves c = λ storage.
+returns-in-Err-clause-serves c = λ beside.
     let home = c.args.home.now in
-    swap_refused home.flash c.args.process.now c.refuse.new.process (own_of home c.args.slot) storage c.args.swap
+    swap_refused home.flash c.args.process.now c.refuse.new.process (own_of home c.args.slot) beside c.args.swap
     c.in-Err.rule c.failed_swap.result c.refuse.result
     c.in-Err.ensures.refusal c.failed_swap.ensures (ap (λ (p : Process). p.object) c.refuse.ensures.stays)
     c.refuse.ensures.refuses
     ∙ ap (λ (h : Homes). record {
-      after = record_of_slot h c.args.slot c.refuse.new.process storage;
+      after = record_of_slot h c.args.slot c.refuse.new.process beside;
       outcome =
           c.refuse.result;
       acts = acts_for c.refuse.result;

@@ -8,18 +8,18 @@ use Rattle.kernel_calls.proofs.AtOnce.{changes_twice, now_none, now_some, stays_
 use Rattle.kernel_calls.proofs.yields.yield_at_once.Goals as goal
 
 pub returns-then-is_empty-clause-serves : goal.returns-then-is_empty-clause-serves
-returns-then-is_empty-clause-serves c = λ storage.
-    now_none (record_of_slot c.args.home.now c.args.slot c.args.process.now storage) c.args.at
+returns-then-is_empty-clause-serves c = λ beside.
+    now_none (record_of_slot c.args.home.now c.args.slot c.args.process.now beside) c.args.at
     (own_of c.args.home.now c.args.slot).inbox.pending (search rules)
-    ∙ ap (λ (x : Record). comes_to x GoesOn) (sym (c.flag.ensures.flags storage))
+    ∙ ap (λ (x : Record). comes_to x GoesOn) (sym (c.flag.ensures.flags beside))
 
 pub returns-clause-serves : goal.returns-clause-serves
-returns-clause-serves c = λ storage.
-    now_some (record_of_slot c.args.home.now c.args.slot c.args.process.now storage)
-    (record_of_slot c.flag-2.new.home c.args.slot c.flag-2.new.process storage) c.args.at
+returns-clause-serves c = λ beside.
+    now_some (record_of_slot c.args.home.now c.args.slot c.args.process.now beside)
+    (record_of_slot c.flag-2.new.home c.args.slot c.flag-2.new.process beside) c.args.at
     (own_of c.args.home.now c.args.slot).inbox.pending (own_of c.flag-2.new.home c.args.slot).inbox.pending
-    (search rules) (c.flag-2.ensures.flags storage) c.flag-2.ensures.pending
-    ∙ ap (λ (x : Record). comes_to x Delivered) (sym (c.deliver_first.ensures.delivers storage))
+    (search rules) (c.flag-2.ensures.flags beside) c.flag-2.ensures.pending
+    ∙ ap (λ (x : Record). comes_to x Delivered) (sym (c.deliver_first.ensures.delivers beside))
 
 pub returns-clause-keeps : goal.returns-clause-keeps
 returns-clause-keeps c = record {

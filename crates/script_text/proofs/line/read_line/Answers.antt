@@ -5,6 +5,6 @@ use Rattle.script_text.proofs.line.read_line.Goals as goal
 pub returns-in-Some-broken_alone : goal.returns-in-Some-broken_alone
 returns-in-Some-broken_alone c =
     bad_alone c.args.text.now c.in-Some.first.now c.next.new.self c.in-Some-line_in.line c.row.result.form
-    c.in-Some-broken_alone.rule (sym c.of.ensures ∙ c.in-Some.ensures.steps)
+    c.args.context c.in-Some-broken_alone.rule (sym c.of.ensures ∙ c.in-Some.ensures.steps)
     (sym c.is_comment.ensures ∙ c.if-is_comment.false) (sym c.line_in.ensures ∙ c.in-Some-line_in.is)
     c.row.ensures.form (sym c.broken_alone.ensures ∙ c.in-Some-broken_alone.is)

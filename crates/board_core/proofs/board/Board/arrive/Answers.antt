@@ -1,9 +1,11 @@
-use Rattle.std.proofs.Common.{◌≡◌, true, sym, ◌∙◌}
+use Rattle.std.proofs.Common.{◌≡◌, true, sym, ◌∙◌, arith}
 use Rattle.tk_base.specs.declared.process.Choice.TheVariants.{Device}
 use Rattle.tk_base.specs.declared.process.Dev.TheVariants.{Event}
 use Rattle.board_devices.specs.Arriving.{is_time}
+use Rattle.board_drivers.proofs.Edges.{arrived_alarms, may_be_told, some_left}
+use Rattle.board_core.specs.PartsOf.{parts_of}
 use Rattle.board_core.specs.Shows.{world_of}
-use Rattle.board_core.proofs.Arrivals.{arrived_board, arrived_shown, some_left, soon, world_arrived}
+use Rattle.board_core.proofs.Arrivals.{arrived_board, arrived_shown, parts_then, world_arrived}
 use Rattle.board_core.proofs.Devices.{below_shown, made_so, may_act, not_acting, refused_so}
 use Rattle.board_core.proofs.board.Board.arrive.Goals as goal
 
@@ -14,22 +16,37 @@ returns-then-not-is_time c =
     c.self.view_is
     (not_acting (world_of b) Event (sym c.is_time.ensures ∙ c.if-not-is_time.true))
 
-pub arrive-requires : goal.arrive-requires
-arrive-requires c =
+pub arrive-requires-clause-left : goal.arrive-requires-clause-left
+arrive-requires-clause-left c =
     some_left c.self.inside.machine.moment.time c.self.inside.machine.drivers.arrivals
     (sym c.is_time.ensures ∙ c.if-not-is_time.false)
 
+pub arrive-requires-clause-dropped : goal.arrive-requires-clause-dropped
+arrive-requires-clause-dropped c =
+    may_be_told c.self.inside.machine.moment.steps c.self.inside.machine.home.owns c.self.invariant.lost
+    (below_shown c.self.inside c.args.self.now c.self.view_is c.requires)
+
+pub arrive-requires-clause-slots : goal.arrive-requires-clause-slots
+arrive-requires-clause-slots c = omega (arith, c.len-slots.ensures, c.self.invariant.owns)
+
+pub arrive-requires-clause-few : goal.arrive-requires-clause-few
+arrive-requires-clause-few c = omega (arith, c.len-slots.ensures, c.self.invariant.few)
+
+pub look_ahead-self-inside-requires-clause-alarms : goal.look_ahead-self-inside-requires-clause-alarms
+look_ahead-self-inside-requires-clause-alarms c =
+    arrived_alarms (parts_of c.self.inside) c.lines_follow_answers.ensures c.arrive.new.home c.arrive.new.self
+    c.arrive.ensures c.self.inside.alarms c.self.invariant.alarms
+
 pub look_ahead-self-inside-requires-clause-free : goal.look_ahead-self-inside-requires-clause-free
 look_ahead-self-inside-requires-clause-free c =
-    soon c.self.inside c.arrive.new.self c.arrive.new.uart (sym c.is_time.ensures ∙ c.if-not-is_time.false)
-    c.arrive.ensures.left c.arrive.ensures.line c.self.invariant.driven.free
+    (parts_then c.self.inside c.arrive.new.home c.arrive.new.self c.arrive.ensures c.lines_follow_answers.ensures
+    c.self.invariant (below_shown c.self.inside c.args.self.now c.self.view_is c.requires)).driven.free
 
 pub invariant_of-self : goal.invariant_of-self
 invariant_of-self c =
-    arrived_board c.self.inside c.arrive.new.self c.arrive.new.uart (sym c.is_time.ensures ∙ c.if-not-is_time.false)
-    c.arrive.ensures.left c.arrive.ensures.line c.self.invariant
-    c.look_ahead-self-inside.result (below_shown c.self.inside c.args.self.now c.self.view_is c.requires)
-    c.look_ahead-self-inside.ensures.calm
+    arrived_board c.self.inside c.arrive.new.home c.arrive.new.self c.arrive.ensures c.lines_follow_answers.ensures
+    c.self.invariant (below_shown c.self.inside c.args.self.now c.self.view_is c.requires)
+    c.look_ahead-self-inside.result c.look_ahead-self-inside.ensures.calm
 
 pub returns : goal.returns
 returns c =
@@ -38,8 +55,6 @@ returns c =
     ∙ c.if-not-is_time.false in
     made_so (world_of b) c.args.self.now _ (Device Event) c.args.emit.now c.hide.new.emit c.self.view_is
     (may_act (world_of b) Event (below_shown b c.args.self.now c.self.view_is c.requires) may)
-    (world_arrived b c.arrive.new.self c.arrive.new.uart may c.arrive.ensures.left c.arrive.ensures.line
-    c.devices_answer_one.ensures)
+    (world_arrived b c.arrive.new.home c.arrive.new.self c.arrive.ensures may c.devices_answer_one.ensures)
     (c.hide.ensures
-    ∙ arrived_shown b c.arrive.new.self c.arrive.new.uart may c.arrive.ensures.left c.arrive.ensures.line
-    c.devices_answer_one.ensures)
+    ∙ arrived_shown b c.arrive.new.home c.arrive.new.self c.arrive.ensures may c.devices_answer_one.ensures)

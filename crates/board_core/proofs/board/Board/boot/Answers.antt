@@ -140,6 +140,7 @@ returns-clause-world c =
     record {
       ram = script.ram;
       leds = script.leds;
+      buttons = script.buttons;
       slice = script.slice;
       start = script.start;
       uart =
@@ -164,7 +165,7 @@ returns-clause-world c =
     (shown ∙ ap (filter_map (record_placed script.storage flash)) (c.deref-3.ensures.0 ∙ placed))
     (c.unplaced.ensures ∙ ap (filter_map unplaced_at) (c.deref-5.ensures.0 ∙ placed))
     (c.settings_of.ensures
-    ∙ ap (λ (s : Script). visible_settings s.leds s.start s.storage s.policy s.strict) (sym c.script.view_is))
+    ∙ ap visible_settings (sym c.script.view_is))
     (subst (λ (s : Script). AreFresh s c.in_ok-drivers.drivers) (sym c.script.view_is) c.in_ok-drivers.ensures)
     ∙ ap (λ (s : _). opening s flash) c.script.view_is
 

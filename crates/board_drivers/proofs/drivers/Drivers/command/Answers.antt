@@ -1,14 +1,15 @@
-use Rattle.std.proofs.Common.{◌≡◌, ℕ, Some, rules, ap, sym, ◌∙◌}
-use Rattle.grant_values.specs.declared.drivers.Driver.TheVariants.{Alarm, Console, Leds, Random, Storage}
+use Rattle.std.proofs.Common.{◌≡◌, ℕ, Some, rules, ap, ap₂, sym, ◌∙◌}
+use Rattle.grant_values.specs.declared.drivers.Driver.TheVariants.{Alarm, Buttons, Console, Leds, Random, Storage}
 use Rattle.grant_values.specs.Drivers.{driver_of}
 use Rattle.driver_model.specs.Steps.{own_after}
 use Rattle.driver_model.specs.Commands.{Writes, Reads, Randoms, Stores}
 use Rattle.driver_model.specs.Replies.{reply_of}
+use Rattle.driver_model.specs.Buttons as buttons
 use Rattle.driver_model.specs.Storage as storage
 use Rattle.driver_requests.specs.Waiting.{queue_after}
 use Rattle.grant_enter.specs.Homes.{own_of}
-use Rattle.board_drivers.proofs.Orders.{alarm_drives, commands_by, console_drives, leds_drive, leds_keep, random_drives}
-use Rattle.board_drivers.proofs.Orders.{storage_drives}
+use Rattle.board_drivers.proofs.Orders.{commands_by, console_drives, leds_drive, leds_keep, random_drives}
+use Rattle.board_drivers.proofs.Orders.{storage_drives, unasked_drives}
 use Rattle.board_drivers.proofs.drivers.Drivers.command.Goals as goal
 
 pub command-requires-in-Some-Console-clause-writes : goal.command-requires-in-Some-Console-clause-writes
@@ -45,7 +46,7 @@ returns-in-Some-Alarm-clause-comes c =
     let is : driver_of c.args.order.now.driver ≡ Some Alarm = search rules in
     commands_by Alarm c.args.tick c.args.id c.args.order.now c.args.self.now c.args.self.now
     (own_of c.args.home.now c.args.id.slot) (own_of c.command.new.home c.args.id.slot) c.command.result is
-    (came.0, came.1, alarm_drives c.args.id c.args.self.now _ came.2)
+    (came.0, came.1, unasked_drives c.args.id c.args.self.now _ came.2)
 
 pub returns-in-Some-Console-clause-comes : goal.returns-in-Some-Console-clause-comes
 returns-in-Some-Console-clause-comes c =
@@ -72,6 +73,23 @@ returns-in-Some-Leds-clause-comes c =
       sym (leds_keep _ c.args.order.now.number c.args.order.now.a2 own),
       leds_drive c.args.id c.args.self.now c.command-in-Some-Leds.new.leds c.args.order.now.a2 _
           (c.drivers_ask_for_their_own.ensures.leds _ c.args.order.now.number c.args.order.now.a2 own) does.1 does.2,
+    )
+
+pub returns-in-Some-Buttons-clause-comes : goal.returns-in-Some-Buttons-clause-comes
+returns-in-Some-Buttons-clause-comes c =
+    let own = own_of c.args.home.now c.args.id.slot in
+    let came = c.command-in-Some-Buttons.ensures.answer in
+    let count : c.count-count.result ≡ c.args.self.now.buttons.count = c.count-count.ensures.number in
+    let pressed : c.pressed-pressed.result ≡ c.args.self.now.buttons.pressed = c.pressed-pressed.ensures in
+    let asks = λ (n mask : ℕ). buttons.command n mask c.args.order.now.number c.args.order.now.a2 own in
+    let is : driver_of c.args.order.now.driver ≡ Some Buttons = search rules in
+    commands_by Buttons c.args.tick c.args.id c.args.order.now c.args.self.now c.args.self.now own
+    (own_of c.command-in-Some-Buttons.new.home c.args.id.slot) c.command-in-Some-Buttons.result is (
+      came.0 ∙ ap₂ (λ (n mask : ℕ). reply_of (asks n mask).answer) count pressed,
+      came.1 ∙ ap₂ (λ (n mask : ℕ). own_after (asks n mask).step) count pressed,
+      unasked_drives c.args.id c.args.self.now _
+          (c.drivers_ask_for_their_own.ensures.buttons c.args.self.now.buttons.count c.args.self.now.buttons.pressed
+          c.args.order.now.number c.args.order.now.a2 own),
     )
 
 pub returns-in-Some-Random-clause-comes : goal.returns-in-Some-Random-clause-comes

@@ -17,10 +17,10 @@ returns-then-is_due-clause-turns c =
     woken c.args.self.now.moment c.args.slot home.flash (resident home c.args.slot c.args.process.now)
     (resident c.deliver.new.home c.args.slot c.deliver.new.process) drivers c.requires.waits
     (sym c.is_due.ensures ∙ c.if-is_due.true)
-    (λ storage.
-    ap (λ (f : List ℕ). record_in f c.deliver.new.process (own_of c.deliver.new.home c.args.slot) storage) (sym flash)
-    ∙ c.deliver.ensures.delivers storage
-    ∙ ap (λ (p : Process). deliver_due (record_in home.flash p own storage) (due own.inbox)) c.count_turn.ensures)
+    (λ beside.
+    ap (λ (f : List ℕ). record_in f c.deliver.new.process (own_of c.deliver.new.home c.args.slot) beside) (sym flash)
+    ∙ c.deliver.ensures.delivers beside
+    ∙ ap (λ (p : Process). deliver_due (record_in home.flash p own beside) (due own.inbox)) c.count_turn.ensures)
 
 pub returns-else-is_due-clause-turns : goal.returns-else-is_due-clause-turns
 returns-else-is_due-clause-turns c =

@@ -1,0 +1,3 @@
+mod Masks
+mod Rounds
+mod Visiting

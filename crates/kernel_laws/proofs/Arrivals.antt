@@ -1,0 +1,102 @@
+-- What comes in comes in the order in which it was to.
+use Rattle.std.proofs.Common.{◌≡◌, ℕ, Bool, true, false, cond, List, [], ◌∷◌, ◌++◌, slice_get, Option, None, Some}
+use Rattle.std.proofs.Common.{refl, sym, ap, ◌∙◌}
+use Rattle.std.specs.List.{cons_option}
+use Rattle.std.specs.Option.{option_map}
+use Rattle.tk_base.specs.declared.process.Choice.{Choice}
+use Rattle.tk_base.specs.declared.process.Choice.TheVariants.{Run, Device, Pass}
+use Rattle.tk_base.specs.declared.process.Dev.{Dev}
+use Rattle.tk_base.specs.declared.process.Dev.TheVariants as dev
+use Rattle.script_text.specs.Settings.{ScriptEvent as Arrival, EventKind}
+use Rattle.script_text.specs.Settings as script
+use Rattle.driver_model.specs.Commands.{BoardRequest, QueueName, Waits, Leaves, Lights, Writes, Reads, Randoms, Stores}
+use Rattle.kernel_model.specs.Record.{Record}
+use Rattle.kernel_model.specs.Turn.{turned}
+use Rattle.kernel_model.specs.World.{DeviceAnswer, Devices, Stepped, World, acted, after, alarmed, answering, arrived}
+use Rattle.kernel_model.specs.World.{carried_out}
+use Rattle.kernel_model.specs.World.{coming_in, device_step_of, done, is_ready, queue_without, ran, random_step}
+use Rattle.kernel_model.specs.World.{receive_step, routed, served_by, serving, storing, transmitting, with_queue}
+use Rattle.kernel_model.specs.Edges.{arrival_in, first_for}
+use Rattle.kernel_model.proofs.Places.{stepped_else, stepped_ready}
+
+-- what a turn asks of the board, and an answer to a request, lets nothing come in
+queue_arrivals : (name : QueueName) (change : List ℕ → List ℕ) (d : Devices)
+    → (with_queue name change d).arrivals ≡ d.arrivals
+queue_arrivals Writes change d = refl
+queue_arrivals Reads change d = refl
+queue_arrivals Randoms change d = refl
+queue_arrivals Stores change d = refl
+
+acted_arrivals : (slot : ℕ) (act : BoardRequest) (d : Devices) → (acted slot act d).arrivals ≡ d.arrivals
+acted_arrivals slot (Waits queue) d = queue_arrivals queue (λ slots. slots ++ slot ∷ []) d
+acted_arrivals slot (Leaves queue) d = queue_arrivals queue (queue_without slot) d
+acted_arrivals slot (Lights led switch) d = refl
+
+routed_arrivals : (slot : ℕ) (acts : List BoardRequest) (d : Devices) → (routed slot acts d).arrivals ≡ d.arrivals
+routed_arrivals slot [] d = refl
+routed_arrivals slot (act ∷ acts) d = routed_arrivals slot acts (acted slot act d) ∙ acted_arrivals slot act d
+
+module _ (w : World) where
+  serving_arrivals : (make : ℕ → Record → DeviceAnswer)
+      → ((slot : ℕ) (r : Record) → (make slot r).devices.arrivals ≡ w.devices.arrivals) → (served : Option ℕ)
+      → w.devices.arrivals ≡ (done w (serving w make served)).after.devices.arrivals
+  serving_arrivals make each None = refl
+  serving_arrivals make each (Some slot) = by_record (slice_get w.records slot)
+    where
+      by_record : (o : Option Record) → w.devices.arrivals
+          ≡ (done w (option_map (λ (r : Record). answering slot (make slot r)) o)).after.devices.arrivals
+      by_record None = refl
+      by_record (Some r) = sym (each slot r)
+
+  of_arrived : (arrivals : List Arrival) → w.devices.arrivals ≡ arrivals
+      → arrivals ≡ cons_option (slice_get arrivals 0) (done w
+      (arrived w.records w.devices arrivals)).after.devices.arrivals
+  of_arrived [] is = sym is
+  of_arrived (arrival ∷ rest) is = by_kind arrival.kind
+    where
+      by_kind : (kind : EventKind) → arrival ∷ rest
+          ≡ arrival ∷ (coming_in kind w.records (record w.devices { arrivals = rest })).devices.arrivals
+      by_kind (script.Input bytes) = refl
+      by_kind (script.Press button) = refl
+      by_kind (script.Release button) = refl
+
+  of_device : (device : Dev)
+      → w.devices.arrivals ≡ cons_option (first_for (Device device) w.devices.arrivals)
+      (done w (device_step_of w device)).after.devices.arrivals
+  of_device dev.Event = of_arrived w.devices.arrivals refl
+  of_device dev.Alarm =
+      serving_arrivals (λ slot r. alarmed w.settings w.clock.time w.devices) (λ slot r. refl) (served_by w dev.Alarm)
+  of_device dev.Uart =
+      serving_arrivals (transmitting w.clock.time w.devices) (λ slot r. refl)
+      (served_by w dev.Uart)
+  of_device dev.Receive =
+      serving_arrivals (receive_step w.devices) (λ slot r. refl) (served_by w dev.Receive)
+  of_device dev.Random =
+      serving_arrivals (random_step w.devices) (λ slot r. refl) (served_by w dev.Random)
+  of_device dev.Store =
+      serving_arrivals (storing w.devices) (λ slot r. refl) (served_by w dev.Store)
+
+  of_choice : (choice : Choice)
+      → w.devices.arrivals
+      ≡ cons_option (first_for choice w.devices.arrivals) (carried_out w choice).after.devices.arrivals
+  unfolding carried_out
+  of_choice (Run slot) = by_record (slice_get w.records slot)
+    where
+      by_record : (o : Option Record) → w.devices.arrivals ≡ (ran w slot o).after.devices.arrivals
+      by_record None = refl
+      by_record (Some r) = sym (routed_arrivals slot (turned w.settings w.clock.time r).acts w.devices)
+  of_choice (Device device) = of_device device
+  of_choice (Pass ticks) = refl
+
+  -- what was to come in is what comes in by a step, and then what is still to
+  pub arrives_in_order : (choice : Choice)
+      → w.devices.arrivals ≡ cons_option (arrival_in w choice) (after w choice).devices.arrivals
+  arrives_in_order choice = by_ready (is_ready w choice) refl
+    where
+      by_ready : (b : Bool) → is_ready w choice ≡ b
+          → w.devices.arrivals ≡ cons_option (cond b (first_for choice w.devices.arrivals) None)
+          (after w choice).devices.arrivals
+      by_ready true e =
+          of_choice choice ∙ ap (λ (s : Stepped). cons_option (first_for choice w.devices.arrivals)
+          s.after.devices.arrivals) (sym (stepped_ready w choice e))
+      by_ready false e = ap (λ (s : Stepped). s.after.devices.arrivals) (sym (stepped_else w choice e))

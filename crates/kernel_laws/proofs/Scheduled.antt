@@ -1,0 +1,590 @@
+-- What a turn of a process, and an answer to it, leaves of what was scheduled for it, and what it schedules.
+use Rattle.std.proofs.Common.{◌≡◌, ℕ, suc, ◌+◌, ◌-◌, ◌==◌, ◌&&◌, nat_le, not, Bool, true, false, cond, List, [], ◌∷◌}
+use Rattle.std.proofs.Common.{drop, filter}
+use Rattle.std.proofs.Common.{length, slice_get, Option, None, Some, Result, Ok, Err, refl, sym, ap, ap₂, subst, ◌∙◌}
+use Rattle.std.proofs.Common.{arith, eqb-true, unwrap_or}
+use Rattle.std.specs.Prelude.{is_none, option_and_then, remove, slice_set}
+use Rattle.std.specs.List.{position_or_len}
+use Rattle.std.specs.Option.{option_map}
+use Rattle.std.proofs.lemmas.Bool.{false≢true}
+use Rattle.std.proofs.Math.Seq.{drop-length}
+use Rattle.tk_base.specs.declared.access.Denial.{Denial}
+use Rattle.tk_base.specs.declared.call.CallRule.{CallRule}
+use Rattle.tk_base.specs.declared.call.CallRule.TheVariants.{NoDriver, Permission}
+use Rattle.tk_base.specs.declared.kinds.PairKind.{PairKind}
+use Rattle.tk_base.specs.declared.kinds.PairKind.TheVariants.{Upcall, ReadOnly, ReadWrite, Readable}
+use Rattle.tk_base.specs.Bits.{bit_of}
+use Rattle.tk_base.specs.Kinds.{is_buffer}
+use Rattle.tk_base.specs.declared.upcall.Upcall.{Upcall as Scheduled}
+use Rattle.tk_base.specs.Regs.{Registers}
+use Rattle.tbf_headers.specs.declared.fault.HeaderFault.{HeaderFault}
+use Rattle.tbf_headers.specs.declared.program.Main.{Main}
+use Rattle.tbf_headers.specs.Meaning.{Meaning, header_reading}
+use Rattle.rv32_model.specs.declared.turn_end.TurnEnd.{TurnEnd}
+use Rattle.rv32_model.specs.declared.turn_end.TurnEnd.TheVariants as ends
+use Rattle.rv32_model.specs.Laws.{CallsAreOfEcall}
+use Rattle.rv32_model.specs.UserTurn.{MemoryAccess}
+use Rattle.syscall_abi.specs.declared.call.Call.{Call as SystemCall}
+use Rattle.syscall_abi.specs.declared.form.Swap.{Swap}
+use Rattle.syscall_abi.specs.declared.form.CallForm.{CallForm}
+use Rattle.syscall_abi.specs.declared.reply.Reply.{Reply}
+use Rattle.syscall_abi.specs.Call.{a0, a1, a2, a3, call_of, class, form_of}
+use Rattle.fault_policy.specs.declared.Action.{Action}
+use Rattle.fault_policy.specs.declared.Action.TheVariants.{Stop, Restart}
+use Rattle.fault_policy.specs.Policy.{decision}
+use Rattle.upcall_queue.specs.declared.inbox.Delivery.{Delivery}
+use Rattle.upcall_queue.specs.declared.inbox.Delivery.TheVariants.{Function, Arguments}
+use Rattle.upcall_queue.specs.declared.inbox.Inbox.{Inbox}
+use Rattle.upcall_queue.specs.Pending.{cleared, due, is_of, left_by, place_of, scheduled, taken_at, without_key}
+use Rattle.grant_values.specs.declared.alarm.Armed.{Armed}
+use Rattle.grant_values.specs.declared.console.WaitingRead.{WaitingRead}
+use Rattle.grant_values.specs.declared.console.WaitingWrite.{WaitingWrite}
+use Rattle.grant_values.specs.declared.random.RandomRequest.{RandomRequest}
+use Rattle.grant_values.specs.declared.storage.StorageKind.{StorageKind}
+use Rattle.grant_values.specs.declared.storage.StorageKind.TheVariants.{Read, Write}
+use Rattle.grant_values.specs.declared.storage.StorageRequest.{StorageRequest}
+use Rattle.process_model.specs.Own.{Own}
+use Rattle.process_model.specs.Flag.{with_flag}
+use Rattle.process_model.specs.Handed.{lies_in_ram}
+use Rattle.process_model.specs.Permission.{denied}
+use Rattle.process_model.specs.Served.{ScheduledUpcall, own_scheduling, upcall_of}
+use Rattle.driver_model.specs.Alarm.{answered as alarm_answered, due_alarm, fired_if}
+use Rattle.driver_model.specs.Buttons.{buttons, edged, is_told}
+use Rattle.driver_model.specs.Commands.{Commanded}
+use Rattle.driver_model.specs.Console.{console_reads, console_writes, reading_in, taking, write_completing}
+use Rattle.driver_model.specs.Drivers.{CommandContext, CommandHandler, handler_of}
+use Rattle.driver_model.specs.Laws.{RefusedByAnyDriver}
+use Rattle.driver_model.specs.Random.{advanced, answered as random_answered, completing, drawing, progress, randoms}
+use Rattle.driver_model.specs.Random.{unanswered as random_unanswered, wanted, with_word}
+use Rattle.driver_model.specs.Requests.{waiting_in}
+use Rattle.driver_model.specs.Steps.{DriverStep, own_after, scheduling, silently}
+use Rattle.driver_model.specs.Storage.{answered as storage_answered, moving, storage_answer_of, storage_served}
+use Rattle.driver_model.specs.Storage.{storages}
+use Rattle.driver_model.specs.Storage.{unanswered as storage_unanswered}
+use Rattle.driver_model.specs.Upcalls.{scheduled_if}
+use Rattle.process_record.specs.declared.outcome.Outcome.TheVariants.{GoesOn, Waits}
+use Rattle.process_record.specs.declared.process.State.{State}
+use Rattle.process_record.specs.declared.process.State.TheVariants.{Running, Yielded, Faulted, Terminated}
+use Rattle.process_record.specs.Process.{after_call, after_fault, waiting}
+use Rattle.kernel_model.specs.Record.{Record, byte_at, instruction, record_with_step, with_effect, with_process}
+use Rattle.kernel_model.specs.declared.settings.Settings.{Settings}
+use Rattle.kernel_model.specs.Calls.{Served, by_form, comes_to, driver_answered, exit, failure_of, memop}
+use Rattle.kernel_model.specs.Calls.{object_permits}
+use Rattle.kernel_model.specs.Calls.{refused, refused_with, replied, restart, restarted_by, restarted_main, served}
+use Rattle.kernel_model.specs.Calls.{swap_by, swap_refusal}
+use Rattle.kernel_model.specs.Calls.{swapped, taken_by, yield_for, yield_now, yielding}
+use Rattle.kernel_model.specs.Edges.{IsRemainder, IsThenScheduled, is_of_edge}
+use Rattle.kernel_model.specs.Histories.{class_of}
+use Rattle.kernel_model.specs.Turn.{Event, Turn, Alarmed, Edge, Taken, WriteDone, Input, Word, NoWord, Stored, Turned}
+use Rattle.kernel_model.specs.Turn.{apply, at_turn_end, calls, delivery, faulted, made, rule_shown, settled}
+use Rattle.kernel_model.specs.Turn.{surroundings}
+use Rattle.kernel_model.specs.Turn.{turn_counted, turn_in, turned}
+use Rattle.kernel_model.proofs.Classes.{command_in, exit_in, memop_in, of_registers, swap_in, yield_in}
+use Rattle.kernel_model.proofs.Memops.{by_test, memop_gives}
+use Rattle.kernel_model.proofs.Steps.{IsAnswer}
+use Rattle.kernel_laws.specs.Scheduled.{answer_step, call_schedules, command_schedules, scheduled_by}
+use Rattle.kernel_laws.specs.Scheduled.{turn_schedules, upcall_told}
+use Rattle.kernel_laws.proofs.Commands.{command_leaves}
+use Rattle.kernel_laws.proofs.Refused.{only_counts}
+
+-- an element that is not the first is taken out
+later_removed : {X : Type 0} (x : X) (xs : List X) (n : ℕ) → remove (x ∷ xs) (1 + n) ≡ x ∷ remove xs n
+later_removed x xs n = let one_more : 1 + n ≡ suc n = omega arith in ap (remove (x ∷ xs)) one_more
+
+-- Of a list from which the first that passes a test is taken, and of one from which all that pass are: those that pass
+-- it, and those that pass another one, which no element passes that passes the first.
+module _ {X : Type 0} (q : X → Bool) where
+  first_gone : (xs : List X) → filter q (remove xs (position_or_len q xs)) ≡ drop 1 (filter q xs)
+  first_gone [] = refl
+  first_gone (x ∷ xs) = by_test_of (q x) refl (first_gone xs)
+    where
+      by_test_of : (b : Bool) → q x ≡ b → filter q (remove xs (position_or_len q xs)) ≡ drop 1 (filter q xs)
+          → filter q (remove (x ∷ xs) (cond (not b) (1 + position_or_len q xs) 0))
+          ≡ drop 1 (cond b (x ∷ filter q xs) (filter q xs))
+      by_test_of true e later = refl
+      by_test_of false e later =
+          ap (filter q) (later_removed x xs (position_or_len q xs))
+          ∙ ap (λ (b : Bool). let rest = filter q (remove xs (position_or_len q xs)) in cond b (x ∷ rest) rest) e
+          ∙ later
+
+  all_gone : (xs : List X) → filter q (filter (λ x. not (q x)) xs) ≡ []
+  all_gone [] = refl
+  all_gone (x ∷ xs) = by_test_of (q x) refl (all_gone xs)
+    where
+      by_test_of : (b : Bool) → q x ≡ b → filter q (filter (λ x. not (q x)) xs) ≡ []
+          → filter q (cond (not b) (x ∷ filter (λ x. not (q x)) xs) (filter (λ x. not (q x)) xs)) ≡ []
+      by_test_of true e later = later
+      by_test_of false e later =
+          ap (λ (b : Bool). let rest = filter q (filter (λ x. not (q x)) xs) in cond b (x ∷ rest) rest) e ∙ later
+
+  module _ (p : X → Bool) (apart : (x : X) → q x ≡ true → p x ≡ false) where
+    -- one more in front
+    in_front : (x : X) (xs ys : List X) → filter p xs ≡ filter p ys → filter p (x ∷ xs) ≡ filter p (x ∷ ys)
+    in_front x xs ys later = ap (λ (rest : List X). cond (p x) (x ∷ rest) rest) later
+
+    others_stay : (xs : List X) → filter p (remove xs (position_or_len q xs)) ≡ filter p xs
+    others_stay [] = refl
+    others_stay (x ∷ xs) = by_test_of (q x) refl (others_stay xs)
+      where
+        by_test_of : (b : Bool) → q x ≡ b → filter p (remove xs (position_or_len q xs)) ≡ filter p xs
+            → filter p (remove (x ∷ xs) (cond (not b) (1 + position_or_len q xs) 0)) ≡ filter p (x ∷ xs)
+        by_test_of true e later = sym (ap (λ (b : Bool). cond b (x ∷ filter p xs) (filter p xs)) (apart x e))
+        by_test_of false e later =
+            ap (filter p) (later_removed x xs (position_or_len q xs))
+            ∙ in_front x (remove xs (position_or_len q xs)) xs later
+
+    others_left : (xs : List X) → filter p (filter (λ x. not (q x)) xs) ≡ filter p xs
+    others_left [] = refl
+    others_left (x ∷ xs) = by_test_of (q x) refl (others_left xs)
+      where
+        by_test_of : (b : Bool) → q x ≡ b → filter p (filter (λ x. not (q x)) xs) ≡ filter p xs
+            → filter p (cond (not b) (x ∷ filter (λ x. not (q x)) xs) (filter (λ x. not (q x)) xs)) ≡ filter p (x ∷ xs)
+        by_test_of true e later = later ∙ sym (ap (λ (b : Bool). cond b (x ∷ filter p xs) (filter p xs)) (apart x e))
+        by_test_of false e later = in_front x (filter (λ x. not (q x)) xs) xs later
+
+-- the first of all, which passes or does not
+front_gone : {X : Type 0} (p : X → Bool) (xs : List X)
+    → (gone : ℕ) × (filter p (remove xs 0) ≡ drop gone (filter p xs))
+front_gone p [] = (0, refl)
+front_gone {X} p (x ∷ xs) = by_test_of (p x)
+  where
+    by_test_of : (b : Bool) → (gone : ℕ) × (filter p xs ≡ drop gone (cond b (x ∷ filter p xs) (filter p xs)))
+    by_test_of true = (1, refl)
+    by_test_of false = (0, refl)
+
+both_true : (a b : Bool) → (a && b) ≡ true → (a ≡ true) × (b ≡ true)
+both_true true b e = (refl, e)
+both_true false b e = absurd (false≢true e)
+
+-- an upcall of a driver and a number is of an edge as these are those of edges
+of_key : (driver number : ℕ) (u : Scheduled) → is_of driver number u ≡ true
+    → is_of_edge u ≡ is_of_edge (record u { driver = driver; number = number })
+of_key driver number u is =
+    let both = both_true (u.driver == driver) (u.number == number) is in
+    ap₂ (λ (d n : ℕ). is_of_edge (record u { driver = d; number = n })) (eqb-true u.driver driver both.0)
+    (eqb-true u.number number both.1)
+
+-- a driver and a number are those of edges, or no upcall of them is of an edge
+edge_key : (driver number : ℕ) (b : Bool) → (driver == buttons && number == 0) ≡ b
+    → (P : ℕ → ℕ → Type 0) → P buttons 0 → (((u : Scheduled) → is_of driver number u ≡ true → is_of_edge u ≡ false)
+    → P driver number) → P driver number
+edge_key driver number true is P same apart =
+    let both = both_true (driver == buttons) (number == 0) is in
+    subst (λ (d : ℕ). P d number) (sym (eqb-true driver buttons both.0))
+    (subst (λ (n : ℕ). P buttons n) (sym (eqb-true number 0 both.1)) same)
+edge_key driver number false is P same apart = apart (λ u e. of_key driver number u e ∙ is)
+
+-- what remains of what was scheduled: all; all, with something else that is waited for; all but the first, or the first
+-- of
+-- a driver and a number; all but those of a driver and a number; nothing
+pub all_remain : (inbox : Inbox) → IsRemainder inbox inbox
+all_remain inbox = record { dropped = refl; given = λ e. refl; gone = 0; pending = refl }
+
+taken_first : (inbox : Inbox) → IsRemainder inbox (taken_at 0 inbox)
+taken_first inbox =
+    let front = front_gone is_of_edge inbox.pending in
+    record { dropped = refl; given = λ e. refl; gone = front.0; pending = front.1 }
+
+taken_of : (driver number : ℕ) (inbox : Inbox)
+    → IsRemainder inbox (taken_at (place_of driver number inbox.pending) inbox)
+taken_of driver number inbox =
+    edge_key driver number _ refl (λ d n. IsRemainder inbox (taken_at (place_of d n inbox.pending) inbox))
+    (record { dropped = refl; given = λ e. refl; gone = 1; pending = first_gone is_of_edge inbox.pending })
+    (λ apart. record {
+      dropped = refl;
+      given = λ e. refl;
+      gone = 0;
+      pending = others_stay (is_of driver number) is_of_edge apart inbox.pending;
+    })
+
+without_remain : (driver number : ℕ) (inbox : Inbox)
+    → IsRemainder inbox (record inbox { pending = without_key driver number inbox.pending })
+without_remain driver number inbox =
+    edge_key driver number _ refl
+    (λ d n. IsRemainder inbox (record inbox { pending = without_key d n inbox.pending }))
+    (record {
+      dropped = refl;
+      given = λ e. refl;
+      gone = length (filter is_of_edge inbox.pending);
+      pending = all_gone is_of_edge inbox.pending ∙ sym (drop-length (filter is_of_edge inbox.pending));
+    })
+    (λ apart. record {
+      dropped = refl;
+      given = λ e. refl;
+      gone = 0;
+      pending = others_left (is_of driver number) is_of_edge apart inbox.pending;
+    })
+
+none_remain : (inbox : Inbox) → IsRemainder inbox (cleared inbox)
+none_remain inbox = record {
+  dropped = refl;
+  given = λ e. absurd (false≢true e);
+  gone = length (filter is_of_edge inbox.pending);
+  pending = sym (drop-length (filter is_of_edge inbox.pending));
+}
+
+delivered_remain : (next : Delivery) (inbox : Inbox) → IsRemainder inbox (left_by next inbox)
+delivered_remain (Function upcall) inbox = taken_first inbox
+delivered_remain (Arguments args) inbox =
+    record { dropped = refl; given = λ e. absurd (false≢true e); gone = 0; pending = refl }
+
+-- what a turn leaves of a process beside its bytes: what remains, and which buttons it knows to be pressed
+record Keeps (r s : Record) : Type 0 where
+  remains : IsRemainder r.own.inbox s.own.inbox
+  pressed : s.pressed ≡ r.pressed
+
+-- and with what it schedules
+pub record Schedules (upcall : Option Scheduled) (r s : Record) : Type 0 where
+  pub leaves : IsThenScheduled upcall r.own.inbox s.own.inbox
+  pub pressed : s.pressed ≡ r.pressed
+
+nothing_more : (r s : Record) → Keeps r s → Schedules None r s
+nothing_more r s k =
+    record { leaves = record { left = s.own.inbox; remains = k.remains; is = refl }; pressed = k.pressed }
+
+same_inbox : (r s : Record) → s.own.inbox ≡ r.own.inbox → s.pressed ≡ r.pressed → Keeps r s
+same_inbox r s inbox pressed =
+    record { remains = subst (IsRemainder r.own.inbox) (sym inbox) (all_remain r.own.inbox); pressed = pressed }
+
+flag_inbox : (at byte : ℕ) (own : Own) → (with_flag at byte own).inbox ≡ own.inbox
+flag_inbox at byte own = by_place (lies_in_ram own.layout at 1)
+  where
+    by_place : (b : Bool)
+        → (cond b (record own { ram = slice_set own.ram (at - own.layout.start) byte }) own).inbox ≡ own.inbox
+    by_place true = refl
+    by_place false = refl
+
+-- what a step of a driver leaves, which leaves what was scheduled
+step_inbox : (step : DriverStep) (inbox : Inbox) → step.own.inbox ≡ inbox
+    → (own_after step).inbox ≡ scheduled_if (scheduled_by step) inbox
+step_inbox step inbox same = by_upcall step.schedules
+  where
+    by_upcall : (o : Option ScheduledUpcall)
+        → (own_scheduling o step.own).inbox
+        ≡ scheduled_if (option_map (λ u. upcall_of u.driver u.number u.args step.own) o) inbox
+    by_upcall None = same
+    by_upcall (Some u) = ap (scheduled (upcall_of u.driver u.number u.args step.own)) same
+
+and_false : (b : Bool) → (b && false) ≡ false
+and_false true = refl
+and_false false = refl
+
+-- the turn of a process
+module _ (refuse : RefusedByAnyDriver) (settings : Settings) (time : ℕ) (r : Record) where
+  abbrev counted : Record
+  counted = turn_counted r
+
+  abbrev regs : Registers
+  regs = r.process.regs
+
+  abbrev around : CommandContext
+  around = surroundings settings time r
+
+  abbrev args : List ℕ
+  args = a0 regs ∷ a1 regs ∷ a2 regs ∷ a3 regs ∷ []
+
+  abbrev ByTurn : Turned → Type 0
+  ByTurn t = Schedules (option_and_then (call_schedules around r.own) t.told.call) r t.after
+
+  abbrev ByCall : Served → Type 0
+  ByCall s = Schedules (call_schedules around r.own (made regs s.outcome)) r s.after
+
+  abbrev Left : Served → Type 0
+  Left s = Keeps r s.after
+
+  -- where a call is no command, or was refused, it schedules nothing
+  no_command : (n : ℕ) (s : Served) → (n == 2) ≡ false → class regs ≡ n → Left s → ByCall s
+  no_command n s apart is left =
+      subst (λ (o : Option Scheduled). Schedules o r s.after)
+      (sym (ap (λ (b : Bool). cond (b && is_none (rule_shown s.outcome)) (command_schedules around r.own args) None)
+      (ap (λ (k : ℕ). k == 2) is ∙ apart)))
+      (nothing_more r s.after left)
+
+  was_refused : (s : Served) (rule : CallRule) → rule_shown s.outcome ≡ Some rule → Left s → ByCall s
+  was_refused s rule is left =
+      subst (λ (o : Option Scheduled). Schedules o r s.after)
+      (sym (ap (λ (o : Option CallRule). cond (class regs == 2 && is_none o)
+      (command_schedules around r.own args) None) is
+      ∙ ap (λ (b : Bool). cond b (command_schedules around r.own args) None) (and_false (class regs == 2))))
+      (nothing_more r s.after left)
+
+  same : (s : Record) → s.own.inbox ≡ r.own.inbox → s.pressed ≡ r.pressed → Keeps r s
+  same s inbox pressed = same_inbox r s inbox pressed
+
+  of_yield_now : (at : ℕ) (first : Option Scheduled) → Left (yield_now counted at first)
+  of_yield_now at None = same _ (flag_inbox at 0 r.own) refl
+  of_yield_now at (Some upcall) = record {
+    remains = subst (λ (inbox : Inbox). IsRemainder r.own.inbox (taken_at 0 inbox)) (sym (flag_inbox at 1 r.own))
+        (taken_first r.own.inbox);
+    pressed = refl;
+  }
+
+  of_yield_for : (driver number : ℕ) (first : Option Scheduled) → Left (yield_for counted driver number first)
+  of_yield_for driver number None = record {
+    remains = record { dropped = refl; given = λ e. absurd (false≢true e); gone = 0; pending = refl };
+    pressed = refl;
+  }
+  of_yield_for driver number (Some upcall) = record { remains = taken_of driver number r.own.inbox; pressed = refl }
+
+  of_yield : (number one two : ℕ) → Left (yielding counted number one two)
+  unfolding yielding
+  of_yield number one two =
+      let pending = r.own.inbox.pending in
+      by_test Left (number == 0) _ _ (of_yield_now one (slice_get pending 0))
+      (by_test Left (number == 1) (comes_to (with_process counted (waiting counted.process)) Waits) _
+      (same _ refl refl)
+      (by_test Left (number == 2) _ (comes_to (with_process counted (after_call counted.process)) GoesOn)
+      (of_yield_for one two (slice_get pending (place_of one two pending))) (same _ refl refl)))
+
+  of_swap : (swap : Swap) (o : Option CallRule) → Left (swap_by counted swap o)
+  of_swap swap None = record { remains = by_kind (is_buffer swap.kind); pressed = refl }
+    where
+      by_kind : (b : Bool) → IsRemainder r.own.inbox (record r.own.inbox
+          { pending = cond b r.own.inbox.pending (without_key swap.driver swap.number r.own.inbox.pending) })
+      by_kind true = all_remain r.own.inbox
+      by_kind false = without_remain swap.driver swap.number r.own.inbox
+  of_swap swap (Some rule) = same _ refl refl
+
+  of_memop : (operation argument : ℕ) → Left (memop counted operation argument)
+  of_memop operation argument =
+      memop_gives Left counted operation argument (λ rule. same _ refl refl) (λ reply. same _ refl refl)
+      (λ new reply. same _ refl refl)
+
+  of_restart : (s : Record) → s.own.inbox ≡ r.own.inbox → s.pressed ≡ r.pressed → Keeps r (restart s)
+  unfolding restart
+  of_restart s inbox pressed = by_reading (header_reading s.object)
+    where
+      by_main : (h : Meaning) (m : Option Main) → Keeps r (restarted_main s h m)
+      by_main h None = same s inbox pressed
+      by_main h (Some m) = record {
+        remains = subst (λ (i : Inbox). IsRemainder r.own.inbox (cleared i)) (sym inbox) (none_remain r.own.inbox);
+        pressed = pressed;
+      }
+
+      by_reading : (h : Result Meaning HeaderFault) → Keeps r (restarted_by s h)
+      by_reading (Ok h) = by_main h h.main
+      by_reading (Err fault) = same s inbox pressed
+
+  of_exit : (kind code : ℕ) → Left (exit counted kind code)
+  unfolding exit
+  of_exit kind code =
+      by_test Left (kind == 0) _ _ (record { remains = none_remain r.own.inbox; pressed = refl })
+      (by_test Left (kind == 1) _ _ (of_restart counted refl refl) (same _ refl refl))
+
+  -- a command that is replied to, or refused
+  of_answer : class regs ≡ 2 → (taker : CommandHandler) → handler_of (a0 regs) ≡ Some taker
+      → let c = taker around (a1 regs) (a2 regs) (a3 regs) r.own in (answer : Result Reply CallRule) → c.answer ≡ answer
+      → ByCall (record (driver_answered (record_with_step counted c.step) answer) { acts = c.acts })
+  of_answer is taker taken (Ok reply) answers =
+      subst (λ (o : Option Scheduled). Schedules o r (replied (record_with_step counted c.step) reply).after)
+      (sym (ap (λ (b : Bool). cond (b && true) (command_schedules around r.own args) None) (ap (λ (k : ℕ). k == 2) is)
+      ∙ ap (option_and_then (λ (t : CommandHandler). scheduled_by (t around (a1 regs) (a2 regs) (a3 regs) r.own).step))
+      taken))
+      (record {
+        leaves = record {
+          left = r.own.inbox;
+          remains = all_remain r.own.inbox;
+          is = step_inbox c.step r.own.inbox
+              (command_leaves (a0 regs) taker taken around (a1 regs) (a2 regs) (a3 regs) r.own);
+        };
+        pressed = refl;
+      })
+    where
+      c : Commanded
+      c = taker around (a1 regs) (a2 regs) (a3 regs) r.own
+  of_answer is taker taken (Err rule) answers =
+      let c = taker around (a1 regs) (a2 regs) (a3 regs) r.own in
+      let same_step = refuse (a0 regs) taker around (a1 regs) (a2 regs) (a3 regs) r.own rule taken answers in
+      let s = record (driver_answered (record_with_step counted c.step) (Err rule)) { acts = c.acts } in
+      was_refused s rule refl (same s.after (ap (λ (x : Commanded). (own_after x.step).inbox) same_step) refl)
+
+  of_commanded : class regs ≡ 2 → (o : Option CommandHandler) → handler_of (a0 regs) ≡ o
+      → ByCall (taken_by around (a1 regs) (a2 regs) (a3 regs) counted o)
+  of_commanded is None taken = was_refused (refused counted NoDriver) NoDriver refl (same _ refl refl)
+  of_commanded is (Some taker) taken = of_answer is taker taken _ refl
+
+  -- a call that its object permits, or does not
+  of_served : (call : SystemCall) → ByCall (by_form around counted (form_of call))
+      → ByCall (served settings.strict around counted call)
+  unfolding served
+  of_served call serves =
+      by_test ByCall (object_permits settings.strict r.object call) _ _ serves
+      (was_refused (refused_with counted Permission (failure_of (form_of call) Permission)) Permission refl
+      (same _ refl refl))
+
+  of_fault : (s : Record) (denial : Denial) → s.own.inbox ≡ r.own.inbox → s.pressed ≡ r.pressed
+      → ByTurn (faulted settings s denial)
+  of_fault s denial inbox pressed =
+      nothing_more r _ (by_action (decision settings.policy s.process.restarts))
+    where
+      t : Record
+      t = with_process s (after_fault s.process denial)
+
+      by_action : (action : Action) → Keeps r (settled t action)
+      by_action Stop = record {
+        remains = subst (λ (i : Inbox). IsRemainder r.own.inbox (cleared i)) (sym inbox) (none_remain r.own.inbox);
+        pressed = pressed;
+      }
+      by_action Restart = of_restart t inbox pressed
+
+  of_calls : (accesses : List MemoryAccess) → ByTurn (calls settings time counted accesses (call_of regs))
+  unfolding by_form
+  of_calls accesses =
+      of_registers (λ (o : Option SystemCall). ByTurn (calls settings time counted accesses o)) regs
+      (λ is. of_served (yield_in regs) (no_command 0 (formed (yield_in regs)) refl is (of_yield (a0 regs) (a1 regs)
+      (a2 regs))))
+      (λ kind call is swaps. of_served call
+      (subst (λ (form : CallForm). ByCall (by_form around counted form)) (sym swaps)
+      (no_command (class_of kind) (swapped counted (swap_in kind regs)) (no_swap kind) is
+      (of_swap (swap_in kind regs) (swap_refusal (swap_in kind regs) r.own)))))
+      (λ is. of_served (command_in regs) (of_commanded is (handler_of (a0 regs)) refl))
+      (λ is. of_served (memop_in regs) (no_command 5 (formed (memop_in regs)) refl is (of_memop (a0 regs) (a1 regs))))
+      (λ is. of_served (exit_in regs) (no_command 6 (formed (exit_in regs)) refl is (of_exit (a0 regs) (a1 regs))))
+      (of_fault counted _ refl refl)
+    where
+      formed : SystemCall → Served
+      formed call = by_form around counted (form_of call)
+
+      no_swap : (kind : PairKind) → (class_of kind == 2) ≡ false
+      no_swap Upcall = refl
+      no_swap ReadOnly = refl
+      no_swap ReadWrite = refl
+      no_swap Readable = refl
+
+  of_end : (s : Record) (accesses : List MemoryAccess) (end : TurnEnd) → (end ≡ ends.Call → s ≡ counted)
+      → s.own.inbox ≡ r.own.inbox → s.pressed ≡ r.pressed → ByTurn (at_turn_end settings time s accesses end)
+  of_end s accesses ends.Went calls inbox pressed = nothing_more r s (same s inbox pressed)
+  of_end s accesses ends.Call calls_it inbox pressed =
+      subst (λ (x : Record). ByTurn (calls settings time x accesses (call_of x.process.regs))) (sym (calls_it refl))
+      (of_calls accesses)
+  of_end s accesses (ends.Trap denial) calls inbox pressed = of_fault s denial inbox pressed
+
+  of_delivery : (next : Option Delivery) → ByTurn (delivery r next)
+  of_delivery None = nothing_more r r (same r refl refl)
+  of_delivery (Some next) = nothing_more r _ (record { remains = delivered_remain next r.own.inbox; pressed = refl })
+
+  of_state : CallsAreOfEcall → (state : State) → ByTurn (turn_in settings time state r)
+  of_state of_ecall Running =
+      let t = instruction r in
+      of_end (with_effect counted t) t.accesses t.end
+      (λ calls. let is = of_ecall (denied r.own.layout) (byte_at r) regs calls in only_counts r t is.1 is.2) refl refl
+  of_state of_ecall Yielded = of_delivery (due r.own.inbox)
+  of_state of_ecall Faulted = nothing_more r r (same r refl refl)
+  of_state of_ecall (Terminated code) = nothing_more r r (same r refl refl)
+
+-- the turn of a process leaves what remains of what was scheduled, and then schedules what its call does
+pub turn_leaves : RefusedByAnyDriver → CallsAreOfEcall → (settings : Settings) (time : ℕ) (r : Record)
+    → Schedules (turn_schedules settings time r) r (turned settings time r).after
+unfolding turned
+turn_leaves refuse of_ecall settings time r = of_state refuse settings time r of_ecall r.process.state
+
+-- What an answer leaves before its upcall is scheduled is what was scheduled before: of each kind of request
+read_inbox : (bytes : List ℕ) (own : Own) (o : Option WaitingRead)
+    → (unwrap_or (option_map (reading_in bytes own) o) (silently own)).own.inbox ≡ own.inbox
+read_inbox bytes own None = refl
+read_inbox bytes own (Some read) = refl
+
+taking_inbox : (own : Own) (o : Option WaitingWrite)
+    → (unwrap_or (option_map (taking own) o) (silently own)).own.inbox ≡ own.inbox
+taking_inbox own None = refl
+taking_inbox own (Some write) = refl
+
+write_inbox : (own : Own) (o : Option WaitingWrite)
+    → (unwrap_or (option_map (write_completing own) o) (silently own)).own.inbox ≡ own.inbox
+write_inbox own None = refl
+write_inbox own (Some write) = refl
+
+alarm_inbox : (now : ℕ) (own : Own) (o : Option Armed) → (fired_if now own o).own.inbox ≡ own.inbox
+alarm_inbox now own None = refl
+alarm_inbox now own (Some alarm) = refl
+
+progress_inbox : (word : Option ℕ) (request : RandomRequest) (own : Own)
+    → (progress word request own).step.own.inbox ≡ own.inbox
+progress_inbox word request own = by_wanted (nat_le (wanted request own) request.written)
+  where
+    left : ℕ
+    left = wanted request own - request.written
+
+    by_left : (drawn : ℕ) (b : Bool)
+        → (cond b (completing (Some drawn) 0 (request.written + left) (with_word drawn left request own))
+        (record {
+          rest = Some (record request { written = request.written + 4 });
+          step = silently (with_word drawn left request own);
+          drawn = Some drawn;
+        })).step.own.inbox ≡ own.inbox
+    by_left drawn true = refl
+    by_left drawn false = refl
+
+    by_word : (o : Option ℕ) → (drawing left request own o).step.own.inbox ≡ own.inbox
+    by_word None = refl
+    by_word (Some drawn) = by_left drawn (nat_le left 4)
+
+    by_wanted : (b : Bool)
+        → (cond b (completing None 0 request.written own) (drawing left request own word)).step.own.inbox
+        ≡ own.inbox
+    by_wanted true = refl
+    by_wanted false = by_word word
+
+random_inbox : (word : Option ℕ) (own : Own) (o : Option RandomRequest)
+    → (unwrap_or (option_map (λ (request : RandomRequest). advanced (progress word request own)) o)
+    (random_unanswered own)).step.own.inbox ≡ own.inbox
+random_inbox word own None = refl
+random_inbox word own (Some request) = progress_inbox word request own
+
+served_inbox : (fault : Bool) (flash : ℕ → ℕ) (bytes : List ℕ) (request : StorageRequest) (own : Own)
+    → (storage_served fault flash bytes request own).step.own.inbox ≡ own.inbox
+served_inbox true flash bytes request own = refl
+served_inbox false flash bytes request own = by_kind request.kind
+  where
+    by_kind : (kind : StorageKind) → (moving kind flash bytes request own).step.own.inbox ≡ own.inbox
+    by_kind Read = refl
+    by_kind Write = refl
+
+storage_inbox : (fault : Bool) (flash : ℕ → ℕ) (bytes : List ℕ) (own : Own) (o : Option StorageRequest)
+    → (unwrap_or (option_map (λ (request : StorageRequest).
+    storage_answer_of (storage_served fault flash bytes request own)) o) (storage_unanswered own)).step.own.inbox
+    ≡ own.inbox
+storage_inbox fault flash bytes own None = refl
+storage_inbox fault flash bytes own (Some request) = served_inbox fault flash bytes request own
+
+edged_inbox : (button : ℕ) (state : Bool) (own : Own) → (edged button state own).own.inbox ≡ own.inbox
+unfolding edged
+edged_inbox button state own = by_test_of (is_told button own)
+  where
+    by_test_of : (b : Bool)
+        → (cond b (scheduling buttons 0 (button ∷ bit_of state ∷ 0 ∷ []) own) (silently own)).own.inbox ≡ own.inbox
+    by_test_of true = refl
+    by_test_of false = refl
+
+answer_inbox : (event : Event) (r : Record) → (answer_step event r).own.inbox ≡ r.own.inbox
+unfolding answer_step alarm_answered random_answered storage_answered
+answer_inbox (Turn time) r = refl
+answer_inbox (Alarmed now) r = alarm_inbox now r.own (due_alarm now r.own)
+answer_inbox (Edge button pressed) r = edged_inbox button pressed r.own
+answer_inbox Taken r = taking_inbox r.own (waiting_in console_writes r.own)
+answer_inbox WriteDone r = write_inbox r.own (waiting_in console_writes r.own)
+answer_inbox (Input bytes) r = read_inbox bytes r.own (waiting_in console_reads r.own)
+answer_inbox (Word word) r = random_inbox (Some word) r.own (waiting_in randoms r.own)
+answer_inbox NoWord r = random_inbox None r.own (waiting_in randoms r.own)
+answer_inbox (Stored moved) r = storage_inbox (not moved) _ r.storage r.own (waiting_in storages r.own)
+
+-- an answer is that step
+answer_own : (settings : Settings) (event : Event) (r : Record) → IsAnswer event
+    → (apply settings event r).own ≡ own_after (answer_step event r)
+unfolding apply answer_step
+answer_own settings (Turn time) r is = absurd (cc)
+answer_own settings (Alarmed now) r is = refl
+answer_own settings (Edge button pressed) r is = refl
+answer_own settings Taken r is = refl
+answer_own settings WriteDone r is = refl
+answer_own settings (Input bytes) r is = refl
+answer_own settings (Word word) r is = refl
+answer_own settings NoWord r is = refl
+answer_own settings (Stored moved) r is = refl
+
+-- so what is scheduled then is what was, and its upcall
+pub told_inbox : (settings : Settings) (event : Event) (r : Record) → IsAnswer event
+    → (apply settings event r).own.inbox ≡ scheduled_if (upcall_told event r) r.own.inbox
+told_inbox settings event r is =
+    ap (λ (o : Own). o.inbox) (answer_own settings event r is)
+    ∙ step_inbox (answer_step event r) r.own.inbox (answer_inbox event r)

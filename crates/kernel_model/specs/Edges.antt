@@ -1,0 +1,132 @@
+-- What edges of buttons schedule, step by step (TRD 104, "Subscribe", "Yield"; the buttons are Tock's driver 0x3): an
+-- edge of which a process is told schedules one upcall for it, and nothing else schedules any. When edges come is this
+-- board's own rule.
+use Rattle.std.specs.Prelude.{◌≡◌, ◌≢◌, ◌≤◌, ◌⊎◌, ℕ, ◌+◌, Bool, true, false, if◌then◌else◌, List, [], ◌∷◌, ◌++◌, drop}
+use Rattle.std.specs.Prelude.{filter}
+use Rattle.std.specs.Prelude.{length, slice_get, Option, None, Some, IfSome, option_and_then}
+use Rattle.std.specs.List.{cons_option}
+use Rattle.tk_base.specs.Bits.{bit_of, with_bit}
+use Rattle.tk_base.specs.declared.limits.TheConstants.{PENDING_LIMIT}
+use Rattle.tk_base.specs.declared.process.Choice.{Choice}
+use Rattle.tk_base.specs.declared.process.Choice.TheVariants.{Device}
+use Rattle.tk_base.specs.declared.process.Dev.TheVariants as dev
+use Rattle.tk_base.specs.declared.upcall.Upcall.{Upcall as Scheduled}
+use Rattle.tk_base.specs.declared.upcall.Wait.{Wait}
+use Rattle.tk_base.specs.declared.upcall.Wait.TheVariants.{Given}
+use Rattle.script_text.specs.Settings.{ScriptEvent as Arrival}
+use Rattle.board_devices.specs.Arriving.{change_by}
+use Rattle.upcall_queue.specs.declared.inbox.Inbox.{Inbox}
+use Rattle.upcall_queue.specs.Pending.{awaits, has_room, is_of, scheduled}
+use Rattle.process_model.specs.Own.{Own, with_inbox}
+use Rattle.process_model.specs.Served.{upcall_of}
+use Rattle.driver_model.specs.Buttons.{buttons, is_told}
+use Rattle.driver_model.specs.Upcalls.{scheduled_if}
+use Rattle.kernel_model.specs.Record.{Record}
+use Rattle.kernel_model.specs.World.{World, after, is_ready}
+
+-- what comes in by a choice: the first thing that is still to, if it is the step that lets it in
+abbrev pub first_for : Choice → List Arrival → Option Arrival
+first_for (Device dev.Event) arrivals = slice_get arrivals 0
+first_for other arrivals = None
+
+-- what comes in by a step, if anything does
+abbrev pub arrival_in : World → Choice → Option Arrival
+arrival_in w choice = if is_ready w choice then first_for choice w.devices.arrivals else None
+
+-- the edge that a step is for a process: a button and the state that it then has, where it had another one for it
+abbrev pub edge_in : World → Choice → Record → Option (ℕ × Bool)
+edge_in w choice r = option_and_then (λ arrival. change_by arrival.kind r.pressed) (arrival_in w choice)
+
+-- what comes in by some choices, one after another
+abbrev pub arrivals_in : World → List Choice → List Arrival
+arrivals_in w [] = []
+arrivals_in w (choice ∷ choices) = cons_option (arrival_in w choice) (arrivals_in (after w choice) choices)
+
+-- an edge of which a process is told: it lives, and has enabled the button
+abbrev pub if_told : Own → ℕ × Bool → Option (ℕ × Bool)
+if_told own edge = if is_told edge.0 own then Some edge else None
+
+-- the edge of which a process is told in a step, if it is of one
+abbrev pub told_edge_in : World → Choice → Record → Option (ℕ × Bool)
+told_edge_in w choice r = option_and_then (if_told r.own) (edge_in w choice r)
+
+-- the upcall of an edge that a process now holds, with the button and its state, 1 for pressed
+abbrev pub edge_upcall : Own → ℕ × Bool → Scheduled
+edge_upcall own edge = upcall_of buttons 0 (edge.0 ∷ bit_of edge.1 ∷ 0 ∷ []) own
+
+-- whether an upcall that was scheduled is of an edge
+abbrev pub is_of_edge : Scheduled → Bool
+is_of_edge upcall = is_of buttons 0 upcall
+
+-- whether what a process waited for alone was given
+abbrev pub is_given : Wait → Bool
+is_given (Given args) = true
+is_given other = false
+
+-- What remains of what was scheduled for a process: no upcall more is dropped; nothing is given that was not given
+-- before; of the pending upcalls of edges the first ones, which were delivered or taken away, are gone, and the others
+-- stand as they stood.
+pub record IsRemainder (before left : Inbox) : Type 0 where
+  pub dropped : left.dropped ≡ before.dropped
+  pub given : is_given left.wait ≡ true → left.wait ≡ before.wait
+  pub gone : ℕ
+  pub pending : filter is_of_edge left.pending ≡ drop gone (filter is_of_edge before.pending)
+
+-- What is scheduled is what remains of what was before, and one upcall more, or none.
+pub record IsThenScheduled (upcall : Option Scheduled) (before later : Inbox) : Type 0 where
+  pub left : Inbox
+  pub remains : IsRemainder before left
+  pub is : later ≡ scheduled_if upcall left
+
+-- No upcall of an edge is scheduled: one upcall at most is, which is of another driver.
+pub record SchedulesNoEdge (before later : Inbox) : Type 0 where
+  pub upcall : Option Scheduled
+  pub other : IfSome upcall (λ u. u.driver ≢ buttons)
+  pub leaves : IsThenScheduled upcall before later
+
+-- an edge of which a process is told schedules its upcall, and changes nothing else of what is its own; where there is
+-- none no upcall of an edge is scheduled
+abbrev pub SchedulesEdge : Option (ℕ × Bool) → Own → Own → Type 0
+SchedulesEdge (Some edge) own o = o ≡ with_inbox (scheduled (edge_upcall own edge)) own
+SchedulesEdge None own o = SchedulesNoEdge own.inbox o.inbox
+
+-- which buttons are pressed after an edge, or after none
+abbrev pub pressed_by : Option (ℕ × Bool) → ℕ → ℕ
+pressed_by None mask = mask
+pressed_by (Some edge) mask = with_bit mask edge.0 edge.1
+
+-- which buttons are pressed after what came in
+abbrev pub pressed_after_all : List Arrival → ℕ → ℕ
+pressed_after_all [] mask = mask
+pressed_after_all (arrival ∷ arrivals) mask =
+    pressed_after_all arrivals (pressed_by (change_by arrival.kind mask) mask)
+
+-- what a step leaves of a process, which is told of its edge, if it is one, and knows then whether the button is
+-- pressed
+pub record ServesEdge (w : World) (choice : Choice) (r s : Record) : Type 0 where
+  pub schedules : SchedulesEdge (told_edge_in w choice r) r.own s.own
+  pub knows : s.pressed ≡ pressed_by (edge_in w choice r) r.pressed
+
+-- so it is with the process in each slot
+abbrev pub ServesEdges : World → Choice → Type 0
+ServesEdges w choice =
+    (slot : ℕ) (r s : Record) → slice_get w.records slot ≡ Some r → slice_get (after w choice).records slot ≡ Some s
+    → ServesEdge w choice r s
+
+-- in every step of every world
+abbrev pub StepsServeEdges : Type 0
+StepsServeEdges = (w : World) (choice : Choice) → ServesEdges w choice
+
+-- One upcall that is scheduled is one of three: it is given to a process that waits for it alone; it is put last; or,
+-- where as many are pending as may be, it is dropped, and counted.
+abbrev pub IsScheduledOnce : Scheduled → Inbox → Inbox → Type 0
+IsScheduledOnce u before now =
+    ((awaits before.wait u ≡ true) × (now ≡ record before { wait = Given u.args }))
+    ⊎ ((now ≡ record before { pending = before.pending ++ u ∷ [] })
+    ⊎ ((PENDING_LIMIT ≤ length before.pending) × (now ≡ record before { dropped = before.dropped + 1 })))
+
+-- so it is of each upcall for which its process waits, or which is not null
+abbrev pub EachIsScheduledOnce : Type 0
+EachIsScheduledOnce =
+    (u : Scheduled) (before : Inbox) → ((awaits before.wait u ≡ true) ⊎ (u.function ≢ 0))
+    → IsScheduledOnce u before (scheduled u before)
