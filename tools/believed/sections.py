@@ -6,7 +6,7 @@ is named by itself stands there, and the rest of its crate where the crate is na
 
 # The contract that the page is about, and how many lines a reader has to believe at most: what stands today fits.
 HEADLINE = ("tock_cli/serve.rt", "serve")
-LIMIT = 4150
+LIMIT = 4350
 
 SECTIONS = [
     ("What the program promises", [
@@ -14,16 +14,18 @@ SECTIONS = [
     ("The command line", ["tock_cli/Words", "decimal_number"]),
     ("The text of a run", [
         "board_runs/RunText", "board_report", "kernel_model/Shown", "process_record/Name", "process_record/Emit",
-        "process_record/Summary"]),
+        "process_record/Summary", "process_record/Lines"]),
     ("What holds of the run", [
         "tock_cli/Accounts", "board_opening/Certified", "board_opening/Alone", "kernel_model/Accounts",
-        "kernel_model/Causes", "kernel_model/Accesses", "kernel_model/Edges", "kernel_model/Prints", "kernel_model/Refused",
+        "kernel_model/Causes", "kernel_model/Accesses", "kernel_model/Prints", "kernel_model/Refused",
+        "kernel_model/Edges", "kernel_model/Console",
         "kernel_model/Replay", "kernel_model/Choices", "kernel_model/Histories", "process_model/Changes",
         "process_model/Flash", "process_model/Permission", "driver_model/Bytes", "rv32_model/Laws"]),
     ("Runs by round robin", ["kernel_model/Run", "turn_scheduler"]),
     ("The opening world, and one step", ["board_opening/Opening", "board_opening/Settings", "kernel_model/World"]),
     ("One process, and what happens to it", [
-        "kernel_model/Record", "kernel_model/Turn", "process_record/Process", "process_model/Own",
+        "kernel_model/Record", "kernel_model/Turn", "process_record/Process", "process_record/Operator",
+        "process_model/Own",
         "process_model/Instruction", "fault_policy", "process_layout/LayoutView", "process_layout/Interval"]),
     ("System calls", [
         "kernel_model/Calls", "syscall_abi", "syscall_filter", "tk_base/Call", "process_model", "upcall_queue",

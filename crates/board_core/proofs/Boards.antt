@@ -29,13 +29,13 @@ use Rattle.process_record.specs.declared.summary.Summary.{Summary}
 use Rattle.process_record.specs.Summary.{Unplaced}
 use Rattle.tk_base.specs.Bits.{bits_of}
 use Rattle.grant_enter.specs.Homes.{Homes, IsInPlace, nobody, own_of}
-use Rattle.kernel_model.specs.Record.{Record}
+use Rattle.kernel_model.specs.Record.{Record, slot_line_of}
 use Rattle.kernel_model.specs.Turn.{may_turn}
 use Rattle.kernel_model.specs.World.{World, is_ready, may_be_made, can_run}
 use Rattle.kernel_model.specs.Causes.{AreWhole}
 use Rattle.kernel_model.specs.Laws.{NextIsReady, NextLiesAhead}
 use Rattle.kernel_model.specs.Run.{next, next_time, ready_devices, ready_slots, situation_of}
-use Rattle.kernel_model.specs.Shown.{summary_of, slot_line_of}
+use Rattle.kernel_model.specs.Shown.{summary_of}
 use Rattle.board_core.specs.declared.board.Board.TheInside.{Inside}
 use Rattle.board_drivers.specs.Residents.{Resident, resident_turns, can_turn_in, line_in}
 use Rattle.board_core.specs.Shows.{IsBoard, recorded, world_of, residents}
@@ -111,6 +111,7 @@ pub line_is : (home : Homes) (ps : List Process) (p : Process) (slot known : ℕ
     → record {
       name = record { items = name };
       state = p.state;
+      held = p.held;
       wait = wait;
       denial = p.denial;
       turns = p.turns;

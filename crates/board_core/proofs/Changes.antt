@@ -1,6 +1,6 @@
 -- What a step changes of a board: its records, its world, and what always holds of it.
 use Rattle.std.proofs.Common.{◌≡◌, ℕ, ◌+◌, ◌≤◌, List, [], length, map, slice_get, slice_set, All}
-use Rattle.std.proofs.Common.{Option, Some, sym, ap, subst, ◌∙◌}
+use Rattle.std.proofs.Common.{Option, None, Some, sym, ap, subst, ◌∙◌}
 use Rattle.std.specs.List.{zip}
 use Rattle.std.proofs.lemmas.List.{length-set, map-set, set-get_or}
 use Rattle.std.proofs.lemmas.List.Elements.{All-set, All-weaker}
@@ -157,7 +157,13 @@ module _ (b : Inside) (slot : ℕ) (x : Machine) (processes : List Process) (sho
 
   -- what the turn shows
   pub turn_shown : (printed : ArrayVec ℕ) → printed.items ≡ []
-      → ◌≡◌ {A = Emit} (record { printed = printed; slot = Some slot; made = shown.call; denial = shown.denial })
+      → ◌≡◌ {A = Emit} (record {
+        printed = printed;
+        slot = Some slot;
+        act = None;
+        made = shown.call;
+        denial = shown.denial;
+      })
       (shown_by (carried_out (world_of b) (Run slot)).labels)
   unfolding carried_out shown_by
   turn_shown printed p =
@@ -165,6 +171,7 @@ module _ (b : Inside) (slot : ℕ) (x : Machine) (processes : List Process) (sho
       ap (λ (xs : List ℕ). record {
         printed = record { items = xs };
         slot = Some slot;
+        act = None;
         made = shown.call;
         denial =
             shown.denial;
@@ -172,6 +179,7 @@ module _ (b : Inside) (slot : ℕ) (x : Machine) (processes : List Process) (sho
       ∙ ap (λ (c : Option CallMade). record {
         printed = record { items = [] };
         slot = Some slot;
+        act = None;
         made = c;
         denial =
             shown.denial;
@@ -179,6 +187,7 @@ module _ (b : Inside) (slot : ℕ) (x : Machine) (processes : List Process) (sho
       ∙ ap (λ (d : Option Denial). record {
         printed = record { items = [] };
         slot = Some slot;
+        act = None;
         made =
             turn_made.told.call;
         denial = d;

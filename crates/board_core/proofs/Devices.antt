@@ -6,7 +6,7 @@ use Rattle.alarm_capsule.specs.Times.{OthersTell}
 use Rattle.std.proofs.Common.{◌≡◌, ℕ, zero, suc, ◌+◌, ◌==◌, ◌<◌, ◌≤◌, Bool, true, false, cond, not, ◌&&◌, ◌||◌, Option}
 use Rattle.std.proofs.Common.{nat_lt}
 use Rattle.std.proofs.Common.{if◌then◌else◌, List, [], ◌∷◌, ◌++◌, length, map, slice_get, slice_set, slice_index_or}
-use Rattle.std.proofs.Common.{All, None, Some, Ok, Err, IsTrue, refl, sym, ap, subst, ◌∙◌, arith, eq-eqb}
+use Rattle.std.proofs.Common.{All, None, Some, Ok, Err, IsTrue, refl, sym, ap, ap₂, subst, ◌∙◌, arith, eq-eqb}
 use Rattle.std.specs.List.{zip}
 use Rattle.std.proofs.lemmas.Bool.{false≢true}
 use Rattle.std.proofs.lemmas.Bool.Decides.{nat_tests}
@@ -31,12 +31,14 @@ use Rattle.driver_model.specs.Lines.{IsWithin, has_waiting}
 use Rattle.driver_requests.specs.Waiting.{waiting_still, without}
 use Rattle.grant_enter.specs.Homes.{Homes, ChangesOnly, nobody, own_of}
 use Rattle.kernel_model.specs.Record.{Record}
-use Rattle.kernel_model.specs.Turn.{Event}
+use Rattle.tk_base.specs.declared.process.Verb.{Verb}
+use Rattle.kernel_model.specs.Turn.{Act, Alarmed, Edge, Event, Input, NoWord, Stored, Taken, Turn, Word, WriteDone}
+use Rattle.kernel_model.specs.Turn.{is_act, is_turn}
 use Rattle.kernel_model.specs.World.{Answer, Label, Stepped, World, answer_label, can_act, carried_out, done}
 use Rattle.kernel_model.specs.World.{device_step_of, is_ready, may_be_made}
-use Rattle.kernel_model.proofs.Labels.{device_labels, none_in}
+use Rattle.kernel_model.proofs.Labels.{answer_labels, none_in}
 use Rattle.kernel_model.proofs.Steps.{IsAnswer}
-use Rattle.kernel_model.specs.Shown.{shown_by}
+use Rattle.kernel_model.specs.Shown.{act_shown, shown_by}
 use Rattle.kernel_model.specs.Laws.{DevicesAnswerOne, one_answered}
 use Rattle.board_core.specs.declared.board.Board.TheInside.{Inside}
 use Rattle.board_drivers.specs.declared.drivers.Drivers.{Drivers}
@@ -48,7 +50,7 @@ use Rattle.board_core.specs.Makes.{MakesStep, shown_printed}
 use Rattle.board_drivers.specs.Residents.{HasLost, IsResident, record_of}
 use Rattle.board_turns.specs.Turning.{ChangesSlot}
 use Rattle.board_core.specs.Shows.{IsBoard, recorded, world_of, residents}
-use Rattle.board_drivers.specs.Tells.{DeviceTold}
+use Rattle.board_drivers.specs.Tells.{DeviceTold, tells_one}
 use Rattle.board_drivers.proofs.Lines.{line_after}
 use Rattle.board_core.proofs.Changes.{a_step_later, as_many_owns, changed_records, found}
 use Rattle.board_drivers.proofs.Records.{beside, bytes_of}
@@ -117,16 +119,35 @@ printed_shown : (slot : ℕ) (a : Answer) → IsAnswer a.event
 unfolding shown_by
 printed_shown slot a is =
     by_length (length a.printed == 0) refl
-    ∙ sym (ap (λ (turn : Bool). if turn || not (length a.printed == 0) then shows (a.printed ++ []) else nothing) is)
+    ∙ sym (ap₂ (λ (shown : Bool) (act : Option (ℕ × Verb)).
+    if shown then shows act (a.printed ++ []) else nothing)
+    (shown_so (is_turn a.event) (is_act a.event) (not (length a.printed == 0)) is) (no_act a.event is))
   where
-    shows : List ℕ → Emit
-    shows bytes = record nothing { slot = Some slot; printed = record { items = bytes } }
+    shows : Option (ℕ × Verb) → List ℕ → Emit
+    shows act bytes = record nothing { slot = Some slot; act = act; printed = record { items = bytes } }
+
+    shown_so : (turn act some : Bool) → (turn || act) ≡ false → (turn || (act || some)) ≡ some
+    shown_so true act some e = absurd (false≢true (sym e))
+    shown_so false true some e = absurd (false≢true (sym e))
+    shown_so false false some e = refl
+
+    no_act : (event : Event) → IsAnswer event → act_shown slot event ≡ None
+    no_act (Turn time) e = refl
+    no_act (Alarmed now) e = refl
+    no_act (Edge button pressed) e = refl
+    no_act Taken e = refl
+    no_act WriteDone e = refl
+    no_act (Input bytes) e = refl
+    no_act (Word word) e = refl
+    no_act NoWord e = refl
+    no_act (Stored moved) e = refl
+    no_act (Act verb) e = absurd (false≢true (sym e))
 
     by_length : (none : Bool) → (length a.printed == 0) ≡ none
         → record nothing { slot = if none then None else Some slot; printed = record { items = a.printed } }
-        ≡ (if false || not none then shows (a.printed ++ []) else nothing)
+        ≡ (if not none then shows None (a.printed ++ []) else nothing)
     by_length true e = ap (λ (xs : List ℕ). record nothing { printed = record { items = xs } }) (none_in a.printed e)
-    by_length false e = ap shows (sym (append-nil a.printed))
+    by_length false e = ap (shows None) (sym (append-nil a.printed))
 
 -- A list is that of those with a request, after an answer to one of them.
 left_line : (queue : QueueName) (left : Bool) (ids ids' : List ProcessId) (owns : List Own) (slot : ℕ) (own o : Own)
@@ -215,19 +236,20 @@ module _ (b : Inside) (device : Dev) (slot : ℕ) (printed : List ℕ) (home : H
       (changed ∙ ap (slice_set w.records slot) (sym t.serves.tells))
       ∙ sym (ap (λ (s : Stepped). s.after) (answered_so law))
 
-  -- it is no turn
-  no_turn : DevicesAnswerOne → IsAnswer t.serves.event
-  no_turn law =
+  -- it is no turn, and no operator's act
+  no_turn : DevicesAnswerOne → tells_one device ≡ true → IsAnswer t.serves.event
+  no_turn law one =
       let w = world_of b in
       All-head (λ (label : Label). IsAnswer label.event) _ [] (subst (λ (s : Stepped).
       All (λ (label : Label). IsAnswer label.event) s.labels) (answered_so law)
-      (device_labels (λ label. IsAnswer label.event) w (λ slot r a there is. is) device))
+      (answer_labels (λ label. IsAnswer label.event) w (λ slot r a there is. is) device
+      (λ same. false≢true (sym (ap tells_one same) ∙ one))))
 
   -- what it shows
-  pub told_shown : DevicesAnswerOne → shown_printed slot printed
+  pub told_shown : DevicesAnswerOne → tells_one device ≡ true → shown_printed slot printed
       ≡ shown_by (carried_out (world_of b) (Device device)).labels
   unfolding carried_out
-  told_shown law = printed_shown slot (record { event = t.serves.event; printed = printed }) (no_turn law)
+  told_shown law one = printed_shown slot (record { event = t.serves.event; printed = printed }) (no_turn law one)
       ∙ sym (ap (λ (s : Stepped). shown_by s.labels) (answered_so law))
 
   -- it may be made below the limit of steps

@@ -8,3 +8,4 @@ pub mod TurnLines
 pub mod Plays
 pub mod Looks
 pub mod PartsOf
+pub mod Operating

@@ -30,6 +30,7 @@ use Rattle.kernel_model.specs.Stretch.{GoesOn, IsStretch, NoneActs, NoneIsStretc
 use Rattle.kernel_model.specs.Stretch.{PresentIsNextOnTheWay, PresentStaysOn, RoundIsStretch}
 use Rattle.kernel_model.specs.Stretch.{after_stretch, at_turn}
 use Rattle.kernel_model.specs.World.{World, owns_in}
+use Rattle.kernel_laws.proofs.Turns.{turn_is_free}
 use Rattle.board_drivers.specs.Calm.{AlarmsTell, HasCome, IsCalm, ServesNobody, work_in}
 use Rattle.board_core.specs.declared.board.Board.TheInside.{Inside}
 use Rattle.board_drivers.specs.declared.drivers.Drivers.{Drivers}
@@ -141,6 +142,12 @@ still_runs : (j : ℕ) (r : Record) → (after_instructions j r).process.state �
 unfolding after_instructions
 still_runs zero r = refl
 still_runs (suc j) r = still_runs j (instruction_made r)
+
+-- and one that is not held free
+still_free : (j : ℕ) (r : Record) → (after_instructions j r).process.held ≡ r.process.held
+unfolding after_instructions
+still_free zero r = refl
+still_free (suc j) r = still_free j (instruction_made r)
 
 module _ (b : Inside) (board : IsBoard b) where
   -- a board of which nobody is served at once, and no device step is to come by now, does not have one that is ready
@@ -273,12 +280,17 @@ module _ (b : Inside) (board : IsBoard b) where
         (until : b.machine.moment.time + k ≤ b.calm) (limit : b.machine.moment.steps + k ≤ STEP_LIMIT)
         (none : k ≡ 0 → (present ≡ b.present) × (used ≡ b.used))
         (some : 0 < k → (present ≡ Some slot) × (used ≡ first + k)) where
+      -- the process is not held, since it has the next turn
+      free : before.process.held ≡ false
+      free = turn_is_free (world_of b) slot before was_there f
+
       stretched : RoundIsStretch → PresentIsNextOnTheWay → 0 < k → IsStretch k (world_of b) world_then
       stretched law chooses more =
           subst (IsStretch k (world_of b)) (sym same)
           (law k slot (world_of b) before more limit f was_there (state_is q.at.before.0.state runs) lasts_so
           (q.quiet.go pressed storage)
-          (chooses k slot (at_turn (world_of b) slot) before refl was_there (state_is q.at.before.0.state runs) lasts_so
+          (chooses k slot (at_turn (world_of b) slot) before refl was_there (state_is q.at.before.0.state runs) free
+          lasts_so
           (none_acts until)))
         where
           lasts_so : (at_turn (world_of b) slot).present.used + k ≤ b.slice
@@ -321,6 +333,9 @@ module _ (b : Inside) (board : IsBoard b) where
       after_runs = ap (λ (r : Record). r.process.state) (q.quiet.leads pressed storage) ∙ still_runs k before
           ∙ state_is q.at.before.0.state runs
 
+      after_free : after.process.held ≡ false
+      after_free = ap (λ (r : Record). r.process.held) (q.quiet.leads pressed storage) ∙ still_free k before ∙ free
+
       -- who has the next turn then, where turns are left in the slice
       turn_stays : PresentStaysOn → (n : ℕ) → n ≡ k → first + k < b.slice → (other : ℕ)
           → next world_then ≡ Some (Run other) → slot ≡ other
@@ -330,7 +345,7 @@ module _ (b : Inside) (board : IsBoard b) where
       turn_stays law (suc n) e u other g =
           let there = some (omega (arith, e)) in
           let stays : next_slot (ready_slots world_then) present used b.slice ≡ Some slot =
-          law world_then slot after there.0 after_there after_runs (omega (arith, there.1, u)) in
+          law world_then slot after there.0 after_there after_runs after_free (omega (arith, there.1, u)) in
           let is : ◌≡◌ {A = Option ℕ} (Some slot) (Some other) = sym stays ∙ chosen_slot world_then other g in
           cc
 
@@ -344,7 +359,7 @@ module _ (b : Inside) (board : IsBoard b) where
           let more : 0 < k = omega (arith, e) in
           let there = some more in
           next_in_calm world_then (Some slot) (calm more)
-          (sym (law world_then slot after there.0 after_there after_runs (omega (arith, there.1, u more))))
+          (sym (law world_then slot after there.0 after_there after_runs after_free (omega (arith, there.1, u more))))
 
       pub next_stays : PresentStaysOn → (ticks left : ℕ) → ticks ≡ k → k ≤ left → (left ≤ k → left ≡ 0)
           → first + left ≤ b.slice

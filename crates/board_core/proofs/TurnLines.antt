@@ -4,7 +4,8 @@ use Rattle.board_devices.specs.Clock.{clock_at}
 use Rattle.alarm_capsule.proofs.KeptTimes.{all_later, kept_tell, others_tell}
 use Rattle.alarm_capsule.specs.Times.{OthersTell}
 use Rattle.driver_model.specs.Laws.{TimeBringsNearer}
-use Rattle.std.proofs.Common.{◌≡◌, ℕ, ◌+◌, ◌<◌, ◌≤◌, Bool, true, false, if◌then◌else◌, List, [], length, slice_get}
+use Rattle.std.proofs.Common.{◌≡◌, ℕ, ◌+◌, ◌<◌, ◌≤◌, ◌&&◌, not, Bool, true, false, if◌then◌else◌, List, [], length}
+use Rattle.std.proofs.Common.{slice_get}
 use Rattle.std.proofs.Common.{slice_set, is_some, Option, None, Some, Result, Ok, Err, refl, sym, ap, subst, ◌∙◌, arith}
 use Rattle.std.proofs.lemmas.List.Elements.{All-set}
 use Rattle.std.proofs.lemmas.Option.{slice_get_within, get_or_from_slice_get}
@@ -19,9 +20,10 @@ use Rattle.driver_model.specs.Commands.{BoardRequest, QueueName}
 use Rattle.driver_model.specs.Lines.{IsWithin, RequestOf, has_waiting, kind_in}
 use Rattle.driver_model.specs.Requests.{request_in}
 use Rattle.grant_enter.specs.Homes.{Homes, nobody, own_of}
-use Rattle.kernel_calls.specs.Own.{HasStart, IsApplication}
-use Rattle.kernel_model.specs.Lives.{is_alive}
-use Rattle.kernel_model.specs.Laws.{DropsAtMostOne, KeepsLines, TurnsActAtCalls, TurnsKeepLines, main_by}
+use Rattle.process_restart.specs.Own.{HasStart, IsApplication}
+use Rattle.process_record.specs.Process.{is_alive}
+use Rattle.kernel_model.specs.Laws.{DropsAtMostOne, KeepsLines, TurnsActAtCalls, TurnsKeepLines}
+use Rattle.tbf_headers.specs.Meaning.{main_by}
 use Rattle.kernel_model.specs.Record.{Record}
 use Rattle.tk_base.specs.declared.process.Choice.TheVariants.{Run}
 use Rattle.kernel_model.specs.World.{is_ready}
@@ -48,7 +50,7 @@ use Rattle.board_turns.proofs.Turns.{loses_one}
 use Rattle.board_turns.specs.declared.machine.Machine.{Machine}
 
 -- an application that started can start again
-can_start_again : (address : ℕ) (e : Bounds) (read : Result Meaning HeaderFault) → IsApplication address e read
+pub can_start_again : (address : ℕ) (e : Bounds) (read : Result Meaning HeaderFault) → IsApplication address e read
     → is_some (main_by read) ≡ true
 can_start_again address e (Err fault) a = absurd a
 can_start_again address e (Ok h) a = by_main h.main a
@@ -180,13 +182,18 @@ module _ (b : Inside) (slot : ℕ) (x : Machine) (processes : List Process) (sho
       let may : resident_turns t.at.before ≡ true =
       sym (ap can_turn_in (zip-get b.processes.items b.machine.home.owns slot t.at.before.0 t.at.before.1 t.at.was
       t.at.own_was)) ∙ can in
-      seat.own.lives ∙ by_state t.at.before.0.state may
+      seat.own.lives ∙ by_held t.at.before.0.held may
     where
       by_state : (s : State) → has_turn s (due t.at.before.1.inbox) ≡ true → is_alive s ≡ true
       by_state Running e = refl
       by_state Yielded e = refl
       by_state Faulted e = absurd (false≢true e)
       by_state (Terminated code) e = absurd (false≢true e)
+
+      by_held : (held : Bool) → (not held && has_turn t.at.before.0.state (due t.at.before.1.inbox)) ≡ true
+          → is_alive t.at.before.0.state ≡ true
+      by_held true e = absurd (false≢true e)
+      by_held false e = by_state t.at.before.0.state e
 
 -- A board whose tables, registers and drivers are then these: after the turn it is one again, and the slot is present.
 module _ (b a : Inside) (slot : ℕ) (shown : Shown) (h : IsBoard b)

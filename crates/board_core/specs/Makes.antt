@@ -1,12 +1,14 @@
 -- A step of a board that shows a world.
 use Rattle.std.specs.Prelude.{◌≡◌, ◌↔◌, ℕ, ◌==◌, if◌then◌else◌, Bool, List, length, map}
-use Rattle.std.specs.Prelude.{None, Some, Result, IsOk, IsTrue, OnOk, OnErr}
+use Rattle.std.specs.Prelude.{Option, None, Some, Result, IsOk, IsTrue, OnOk, OnErr, option_and_then, option_map}
+use Rattle.tk_base.specs.declared.process.Verb.{Verb}
 use Rattle.tk_base.specs.declared.process.Choice.{Choice}
 use Rattle.process_record.specs.declared.emit.Emit.{Emit}
 use Rattle.process_record.specs.Emit.{nothing}
 use Rattle.process_model.specs.Own.{Own}
 use Rattle.turn_scheduler.specs.RoundRobin.{device_order}
-use Rattle.kernel_model.specs.World.{World, after, is_ready, labels}
+use Rattle.board_devices.specs.Arriving.{first_act}
+use Rattle.kernel_model.specs.World.{World, after, is_ready, labels, slot_of_name}
 use Rattle.kernel_model.specs.Shown.{shown_by}
 use Rattle.tk_base.specs.declared.process.NotReady.{NotReady}
 use Rattle.board_drivers.specs.declared.drivers.Drivers.{Drivers}
@@ -28,6 +30,20 @@ shown_printed slot bytes = record nothing {
   slot = if length bytes == 0 then None else Some slot;
   printed = record { items = bytes };
 }
+
+-- what a step shows in which an operator acted on a slot's process, and these bytes were printed
+abbrev pub shown_act : ℕ → Verb → List ℕ → Emit
+shown_act slot verb bytes = record nothing {
+  slot = Some slot;
+  act = Some (slot, verb);
+  printed = record { items = bytes };
+}
+
+-- the act of an operator that is next to come in, with the slot of the process that it means, if it means one
+abbrev pub act_meant : World → Option (ℕ × Verb)
+act_meant w =
+    option_and_then (λ act. option_map (λ slot. (slot, act.0)) (slot_of_name act.1 w.records))
+    (first_act w.devices.arrivals)
 
 -- which device steps are ready at a moment
 abbrev pub ready_in : Moment → List Own → Drivers → List Bool

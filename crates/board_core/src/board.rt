@@ -13,7 +13,7 @@ ghost use Rattle.turn_scheduler.specs.Status.{situation_shown as status_situatio
 ghost use Rattle.process_record.specs.Emit.{nothing};
 ghost use Rattle.process_record.specs.Name.{name_of};
 ghost use Rattle.process_model.specs.Flash.{object_in};
-ghost use Rattle.kernel_model.specs.World.{is_ready, after, labels};
+ghost use Rattle.kernel_model.specs.World.{is_ready, after, labels, listed};
 ghost use Rattle.kernel_model.specs.Accounts.{IsAccountedFor};
 ghost use Rattle.kernel_model.specs.Causes.{AreWhole};
 ghost use Rattle.kernel_model.specs.Run.{next, situation_of};
@@ -24,7 +24,8 @@ ghost use Rattle.board_opening.specs.Settings.{visible_settings};
 ghost use Rattle.board_devices.specs.Clock.{clock_at};
 ghost use Rattle.alarm_capsule.specs.Times.{OthersTell};
 ghost use Rattle.board_drivers.specs.Calm.{AlarmsTell, IsCalm};
-ghost use Rattle.board_core.specs.Makes.{MakesStep, ready_in, shown_printed};
+ghost use Rattle.board_devices.specs.Arriving.{is_time};
+ghost use Rattle.board_core.specs.Makes.{MakesStep, act_meant, ready_in, shown_act, shown_printed};
 ghost use Rattle.board_drivers.specs.Tells.{tells_one};
 ghost use Rattle.board_drivers.specs.Residents.{InFlash, line_in, resident_turns, can_turn_in};
 ghost use Rattle.board_turns.specs.Turning.{nothing_shown, told_in_emit};
@@ -42,6 +43,7 @@ use kernel_model::{
     Settings, a_record_is_the_replay_of_its_events, devices_answer_one, next_is_ready,
 };
 use led_capsule::bits;
+use process_console::{find, list_line};
 use process_model::Object;
 use process_record::{Emit, Process, SlotLine, Summary, object_name};
 use script_text::Script;
@@ -50,7 +52,7 @@ use std::marker::Model;
 use tbf_headers::object_at;
 use tk_base::{
     Choice, Dev, FLASH_LIMIT, FLASH_START, NotReady, OBJECT_LIMIT, PRINT_LIMIT, PlaceFault,
-    SLOT_COUNT, STEP_LIMIT, Slot,
+    SLOT_COUNT, STEP_LIMIT, Slot, Verb,
 };
 use tk_outside::NoMemory;
 use turn_scheduler::{Situated, Status, next_choice_in, next_in_calm, used_after};
@@ -98,13 +100,16 @@ fn can_run(home: &Home, processes: &[Process], slot: Slot) -> bool
     }
 }
 
-/// Takes back what the last step told, but for whose turn it was. What it printed, a call or a
-/// denial is seldom there, and writing it takes time.
+/// Takes back what the last step told, but for whose turn it was. What it printed, an act, a call
+/// or a denial is seldom there, and writing it takes time.
 #[inline(always)]
 fn clear(emit: &mut Emit)
     ensures { emit.new ≡ record nothing { slot = emit.old.slot } }
 {
     emit.printed.clear();
+    if emit.act.is_some() {
+        emit.act = None;
+    }
     if emit.made.is_some() {
         emit.made = None;
     }
@@ -129,6 +134,16 @@ fn show(emit: &mut Emit, slot: Slot, printed: ArrayVec<u8, PRINT_LIMIT>)
     if !printed.is_empty() {
         emit.slot = Some(slot);
     }
+    emit.printed = printed;
+}
+
+/// An operator acted on a slot's process, and these bytes were printed.
+fn show_act(emit: &mut Emit, slot: Slot, verb: Verb, printed: ArrayVec<u8, PRINT_LIMIT>)
+    ensures { emit.new ≡ shown_act slot verb printed.items }
+{
+    hide(emit);
+    emit.slot = Some(slot);
+    emit.act = Some((slot, verb));
     emit.printed = printed;
 }
 
@@ -260,6 +275,7 @@ fn slot_lines(home: &Home, processes: &[Process]) -> ArrayVec<SlotLine, SLOT_COU
         lines.push(SlotLine {
             name: name_in(home.flash(), &process.object),
             state: process.state,
+            held: process.held,
             wait: home.wait(slot),
             denial: process.denial,
             turns: process.turns,
@@ -412,8 +428,61 @@ impl Board {
         Ok(())
     }
 
-    /// What is next to come in does: bytes on the serial line, or an edge of a button, which every
-    /// process is told that enabled it.
+    /// The act of an operator that is next to come in, with the slot of the process that it means.
+    /// None where something else is next, or nobody has that name.
+    #[tactic(auto, unfolding(kernel_model::specs::Shown::summary_of))]
+    fn act_meant(&self) -> Option<(Slot, Verb)>
+        ensures { result ≡ act_meant self.now }
+    {
+        let act = self.machine.drivers.arrivals.next_act()?;
+        let slot = find(&self.summary(), &act.name)?;
+        Some((slot, act.verb))
+    }
+
+    /// What an operator's act on the process in a slot prints: its line, where it is listed.
+    #[tactic(auto, unfolding(kernel_model::specs::Shown::summary_of))]
+    fn listing(&self, slot: Slot, verb: Verb) -> ArrayVec<u8, PRINT_LIMIT>
+        requires { slot < length self.now.records }
+        ensures { IfSome (slice_get self.now.records slot)
+            (λ r. result.items ≡ listed verb slot r) }
+    {
+        if verb != Verb::List {
+            return ArrayVec::new();
+        }
+        list_line(slot, &self.summary().slots[slot.index()])
+    }
+
+    /// An operator acts on the process in a slot, which is next to come in.
+    fn operate(&mut self, slot: Slot, verb: Verb, emit: &mut Emit) -> Result<(), NotReady>
+        requires limit { self.old.clock.steps < STEP_LIMIT }
+        requires ready { is_time self.old.clock.time self.old.devices.arrivals ≡ true }
+        requires meant { act_meant self.old ≡ Some (slot, verb) }
+        ensures { MakesStep (Device Event) self.old self.new emit.old emit.new result }
+    {
+        devices_answer_one();
+        lines_follow_answers();
+        let printed = self.listing(slot, verb);
+        let slots = self.processes.len();
+        self.machine.drivers.arrive(&mut self.machine.home, slots);
+        self.machine.operate_at(&mut self.processes, slot, verb);
+        show_act(emit, slot, verb, printed);
+        self.machine.moment.steps += 1;
+        self.alarms.note(
+            &self.machine.home,
+            slot,
+            self.machine.moment.tick(),
+            self.machine.moment.time,
+        );
+        self.calm = self
+            .machine
+            .moment
+            .look_ahead(&self.machine.home, &self.alarms, &self.machine.drivers);
+        Ok(())
+    }
+
+    /// What is next to come in does: bytes on the serial line, an edge of a button, which every
+    /// process is told that enabled it, or an operator's act, which changes nothing else where it
+    /// means nobody.
     fn arrive(&mut self, emit: &mut Emit) -> Result<(), NotReady>
         requires { self.old.clock.steps < STEP_LIMIT }
         ensures { MakesStep (Device Event) self.old self.new emit.old emit.new result }
@@ -427,6 +496,9 @@ impl Board {
             .is_time(self.machine.moment.time)
         {
             return Err(NotReady);
+        }
+        if let Some((slot, verb)) = self.act_meant() {
+            return self.operate(slot, verb, emit);
         }
         let slots = self.processes.len();
         self.machine.drivers.arrive(&mut self.machine.home, slots);
@@ -528,10 +600,13 @@ impl Board {
     /// Each byte of a process that the step changes, of its block and of its storage, has its cause
     /// among the labels; each access of a turn was permitted, and each denial was due, and is shown
     /// with its address and its rule; a call that was refused changes the process's reply and
-    /// counts alone; what is printed was in the read-only buffer that its process then held; an edge
-    /// of a button schedules one upcall for each process that is told of it, and nothing else
-    /// schedules any of the buttons. The record of each process is the replay of its own turn, or of
-    /// what the device answers it, and as it was where the step is neither.
+    /// counts alone; what is printed was in the read-only buffer that its process then held, or is
+    /// the line of a process that an operator lists; an edge of a button schedules one upcall for
+    /// each process that is told of it, and nothing else schedules any of the buttons; an
+    /// operator's act changes the record of the process that it names, that process's requests in
+    /// the waiting lists, what is still to come in and the count of steps, and nothing else of the
+    /// board. The record of each process is the replay of its own turn, or of what the device
+    /// answers it, and as it was where the step is neither.
     #[inline(always)]
     #[tactic(auto, unfolding(kernel_model::specs::World::may_be_made))]
     pub fn step(&mut self, choice: Choice, emit: &mut Emit) -> Result<(), NotReady>

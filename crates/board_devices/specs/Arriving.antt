@@ -1,8 +1,11 @@
--- What is still to come in: bytes on the serial line, and changes of buttons. Their times are this board's own.
+-- What is still to come in: bytes on the serial line, changes of buttons, and acts of an operator. Their times are this
+-- board's own.
 use Rattle.std.specs.Prelude.{ℕ, nat_le, Bool, true, false, not, if◌then◌else◌, List, [], ◌∷◌, Option, None, Some}
 use Rattle.std.specs.Prelude.{option_and_then}
 use Rattle.tk_base.specs.Bits.{has_bit, with_bit}
-use Rattle.script_text.specs.Settings.{ScriptEvent, EventKind, Input, Press, Release}
+use Rattle.tk_base.specs.declared.process.Verb.{Verb}
+use Rattle.script_text.specs.Settings.{ScriptEvent, EventKind, Input, Press, Release, Act}
+use Rattle.board_devices.specs.declared.arrivals.OperatorAct.{OperatorAct}
 use Rattle.board_devices.specs.SerialLine.{SerialLine, with_input}
 
 -- the time at which the first of them comes in
@@ -15,11 +18,13 @@ abbrev pub is_time : ℕ → List ScriptEvent → Bool
 is_time time [] = false
 is_time time (event ∷ rest) = nat_le event.time time
 
--- what an event tells of a button: which one, and whether it is pressed; nothing where bytes come in
+-- what an event tells of a button: which one, and whether it is pressed; nothing where bytes come in, or an operator
+-- acts
 abbrev pub edge_of : EventKind → Option (ℕ × Bool)
 edge_of (Input bytes) = None
 edge_of (Press button) = Some (button, true)
 edge_of (Release button) = Some (button, false)
+edge_of (Act verb name) = None
 
 -- the line after an event: of all bytes in the ring the newest are kept
 abbrev pub line_after : EventKind → SerialLine → SerialLine
@@ -62,3 +67,17 @@ pressed_after_first (event ∷ rest) mask = pressed_after event.kind mask
 abbrev pub change_by_first : List ScriptEvent → ℕ → Option (ℕ × Bool)
 change_by_first [] mask = None
 change_by_first (event ∷ rest) mask = change_by event.kind mask
+
+-- what an operator asks for by an event: a verb, and the name of the process that it is to be done to
+abbrev pub act_of : EventKind → Option (Verb × List ℕ)
+act_of (Act verb name) = Some (verb, name)
+act_of other = None
+
+-- what an operator asks for by the first of them
+abbrev pub first_act : List ScriptEvent → Option (Verb × List ℕ)
+first_act [] = None
+first_act (event ∷ rest) = act_of event.kind
+
+-- the same as code has it
+abbrev pub act_told : OperatorAct → Verb × List ℕ
+act_told act = (act.verb, act.name.items)

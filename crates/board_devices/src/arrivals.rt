@@ -5,15 +5,25 @@ ghost use Rattle.script_text.specs.Settings.{IsKind};
 ghost use Rattle.tk_base.specs.declared.limits.TheConstants.{BUTTON_LIMIT};
 ghost use Rattle.board_devices.specs.Arriving.{first_arrival_time, is_time, if_differs, change_by, with_edge};
 ghost use Rattle.board_devices.specs.Arriving.{line_after, pressed_after, with_first_arrived, pressed_after_first, change_by_first};
+ghost use Rattle.board_devices.specs.Arriving.{first_act, act_of, act_told};
 ghost use Rattle.board_devices.specs.Buttons.{told_by};
 
 use crate::buttons::{Buttons, Edge};
 use crate::uart::Uart;
+use arrayvec::ArrayVec;
 use script_text::{EventKind, EventList};
 use std::marker::Model;
+use tk_base::{NAME_LIMIT, Verb};
 
-/// What is still to come in, and when: bytes on the serial line, and changes of buttons. Contracts
-/// see the list of the events, the first one first.
+/// What an operator asks for: an act on the process of a name.
+#[derive(Drop)]
+pub struct OperatorAct {
+    pub verb: Verb,
+    pub name: ArrayVec<u8, NAME_LIMIT>,
+}
+
+/// What is still to come in, and when: bytes on the serial line, changes of buttons, and acts of an
+/// operator. Contracts see the list of the events, the first one first.
 #[derive(Drop)]
 pub struct Arrivals {
     events: EventList,
@@ -65,6 +75,31 @@ fn happen(kind: &EventKind, uart: &mut Uart, buttons: &mut Buttons) -> Option<Ed
         }
         EventKind::Press(button) => change(buttons, *button, true),
         EventKind::Release(button) => change(buttons, *button, false),
+        EventKind::Act(_, _) => None,
+    }
+}
+
+/// The same name again.
+fn copied(name: &ArrayVec<u8, NAME_LIMIT>) -> ArrayVec<u8, NAME_LIMIT>
+    ensures { result.items ≡ name.now.items }
+{
+    let mut copy = ArrayVec::new();
+    let Ok(()) = copy.try_extend_from_slice(name) else {
+        unreachable!()
+    };
+    copy
+}
+
+/// What an operator asks for by an event of a kind. None where it is no act.
+fn act_in(kind: &EventKind) -> Option<OperatorAct>
+    ensures { option_map act_told result ≡ act_of (kind_of kind.now) }
+{
+    match kind {
+        EventKind::Act(verb, name) => Some(OperatorAct {
+            verb: *verb,
+            name: copied(name),
+        }),
+        EventKind::Input(_) | EventKind::Press(_) | EventKind::Release(_) => None,
     }
 }
 
@@ -94,8 +129,17 @@ impl Arrivals {
         }
     }
 
+    /// What an operator asks for by the next event. None where none is left, or it is no act.
+    pub fn next_act(&self) -> Option<OperatorAct>
+        ensures { option_map act_told result ≡ first_act self.now }
+    {
+        let next = self.events.as_slice().get(self.come)?;
+        act_in(&next.kind)
+    }
+
     /// The next event comes in. Where it changes the state of a button, this change is answered. A
-    /// state that the button has already is no change. It asks that an event is left.
+    /// state that the button has already is no change, and an operator's act changes nothing here.
+    /// It asks that an event is left.
     pub fn arrive(&mut self, uart: &mut Uart, buttons: &mut Buttons) -> Option<Edge>
         requires { 0 < length self.old }
         ensures edge { option_map told_by result ≡ change_by_first self.old buttons.old.pressed }

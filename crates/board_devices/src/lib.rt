@@ -12,7 +12,7 @@ mod uart;
 mod words;
 
 pub use answer::{Answer, Kind};
-pub use arrivals::Arrivals;
+pub use arrivals::{Arrivals, OperatorAct};
 pub use buttons::{Buttons, Edge};
 pub use clock::Clock;
 pub use leds::Leds;

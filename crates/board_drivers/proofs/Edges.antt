@@ -10,7 +10,7 @@ use Rattle.tk_base.specs.Bits.{bit_of}
 use Rattle.tk_base.specs.declared.limits.TheConstants.{STEP_LIMIT}
 use Rattle.tk_base.specs.declared.process.Dev.TheVariants as dev
 use Rattle.tk_base.specs.declared.process.ProcessId.{ProcessId}
-use Rattle.script_text.specs.Settings.{EventKind, Input, Press, Release, ScriptEvent}
+use Rattle.script_text.specs.Settings.{Act, EventKind, Input, Press, Release, ScriptEvent}
 use Rattle.board_devices.specs.Arriving.{change_by, change_by_first, differs, is_time, line_after, pressed_after}
 use Rattle.board_devices.specs.Arriving.{pressed_after_first, with_edge, with_first_arrived}
 use Rattle.board_devices.specs.Clock.{clock_at}
@@ -28,7 +28,8 @@ use Rattle.kernel_model.specs.Record.{Record}
 use Rattle.kernel_model.specs.Turn.{edge_known}
 use Rattle.kernel_model.specs.Shown.{shown_by}
 use Rattle.kernel_model.specs.Laws.{DevicesAnswerOne, edge_heard}
-use Rattle.kernel_model.specs.World.{Devices, Stepped, World, arrived, coming_in, device_step_of, done}
+use Rattle.kernel_model.specs.World.{Devices, Stepped, World, acting_on, arrived, coming_in, device_step_of, done}
+use Rattle.kernel_model.specs.World.{slot_of_name}
 use Rattle.alarm_capsule.specs.Times.{AllTell, Tells}
 use Rattle.alarm_capsule.proofs.KeptTimes.{same_tells}
 use Rattle.board_drivers.specs.declared.drivers.Drivers.{Drivers}
@@ -204,6 +205,17 @@ abbrev records_by : EventKind → List Record → List Record
 records_by (Input bytes) rs = rs
 records_by (Press button) rs = map (edge_heard button true) rs
 records_by (Release button) rs = map (edge_heard button false) rs
+records_by (Act verb name) rs = rs
+
+-- an operator's act, if one comes in, means nobody
+abbrev pub MeansNobody : EventKind → List Record → Type 0
+MeansNobody (Act verb name) rs = slot_of_name name rs ≡ None
+MeansNobody other rs = Unit {0}
+
+-- nor does the first that comes in
+abbrev pub FirstMeansNobody : List ScriptEvent → List Record → Type 0
+FirstMeansNobody [] rs = Unit {0}
+FirstMeansNobody (event ∷ rest) rs = MeansNobody event.kind rs
 
 -- they are those of the processes with what is then their own
 records_then : (flash : List ℕ) (mask : ℕ) (kind : EventKind) (ps : List Process) (owns : List Own)
@@ -215,6 +227,7 @@ records_then flash mask (Press button) ps owns slots =
     heard flash mask button true (differs mask button true) refl ps owns slots
 records_then flash mask (Release button) ps owns slots =
     heard flash mask button false (differs mask button false) refl ps owns slots
+records_then flash mask (Act verb name) ps owns slots = refl
 
 -- the world a step later, with other records and devices
 abbrev later_with : World → List Record → Devices → World
@@ -225,24 +238,30 @@ later_with w records d = record w {
 }
 
 -- what a step in which something comes in leaves of a world
-came_in : DevicesAnswerOne → (w : World) (kind : EventKind) (d : Devices)
+came_in : DevicesAnswerOne → (w : World) (kind : EventKind) (d : Devices) → MeansNobody kind w.records
     → (done w (Some (coming_in kind w.records d))).after
     ≡ later_with w (records_by kind w.records) (record d { line = line_after kind d.line })
-came_in law w (Input bytes) d = ap (λ (s : Stepped). s.after) (law.nobody w (record d
+came_in law w (Input bytes) d nobody = ap (λ (s : Stepped). s.after) (law.nobody w (record d
     { line = line_after (Input bytes) d.line }))
-came_in law w (Press button) d = ap (λ (s : Stepped). s.after) (law.tells_edge w button true d)
-came_in law w (Release button) d = ap (λ (s : Stepped). s.after) (law.tells_edge w button false d)
+came_in law w (Press button) d nobody = ap (λ (s : Stepped). s.after) (law.tells_edge w button true d)
+came_in law w (Release button) d nobody = ap (λ (s : Stepped). s.after) (law.tells_edge w button false d)
+came_in law w (Act verb name) d nobody =
+    ap (λ (o : Option ℕ). (done w (Some (acting_on verb w.records d o))).after) nobody
+    ∙ ap (λ (s : Stepped). s.after) (law.nobody w d)
 
 -- and it shows nothing
-shows_none : DevicesAnswerOne → (w : World) (kind : EventKind) (d : Devices)
+shows_none : DevicesAnswerOne → (w : World) (kind : EventKind) (d : Devices) → MeansNobody kind w.records
     → shown_by (done w (Some (coming_in kind w.records d))).labels ≡ nothing
 unfolding shown_by
-shows_none law w (Input bytes) d = ap (λ (s : Stepped). shown_by s.labels) (law.nobody w (record d
+shows_none law w (Input bytes) d nobody = ap (λ (s : Stepped). shown_by s.labels) (law.nobody w (record d
     { line = line_after (Input bytes) d.line }))
-shows_none law w (Press button) d =
+shows_none law w (Press button) d nobody =
     ap (λ (s : Stepped). shown_by s.labels) (law.tells_edge w button true d) ∙ law.shows_nothing w button true
-shows_none law w (Release button) d =
+shows_none law w (Release button) d nobody =
     ap (λ (s : Stepped). shown_by s.labels) (law.tells_edge w button false d) ∙ law.shows_nothing w button false
+shows_none law w (Act verb name) d nobody =
+    ap (λ (o : Option ℕ). shown_by (done w (Some (acting_on verb w.records d o))).labels) nobody
+    ∙ ap (λ (s : Stepped). shown_by s.labels) (law.nobody w d)
 
 -- the serial line takes as long for a byte as before, and is free as it was
 line_keeps : (kind : EventKind) (line : SerialLine)
@@ -250,6 +269,7 @@ line_keeps : (kind : EventKind) (line : SerialLine)
 line_keeps (Input bytes) line = (refl, refl)
 line_keeps (Press button) line = (refl, refl)
 line_keeps (Release button) line = (refl, refl)
+line_keeps (Act verb name) line = (refl, refl)
 
 pub first_keeps : (events : List ScriptEvent) (line : SerialLine)
     → ((with_first_arrived events line).ticks ≡ line.ticks) × ((with_first_arrived events line).free ≡ line.free)
@@ -302,15 +322,16 @@ module _ (b : BoardParts) where
   -- What comes in makes the world that these parts make then, ..
   pub world_arrived : DevicesAnswerOne → (home : Homes) (d : Drivers) → Arrives b.home b.drivers home d
       → is_time b.moment.time b.drivers.arrivals ≡ true
+      → FirstMeansNobody b.drivers.arrivals (world_shown b).records
       → (done (world_shown b) (device_step_of (world_shown b) dev.Event)).after ≡ world_shown (parts_with b home d)
-  world_arrived law home d came may =
+  world_arrived law home d came may nobody =
       by_arrival (λ home d. (done w (device_step_of w dev.Event)).after ≡ world_shown (parts_with b home d)) home d came
-      (by_first b.drivers.arrivals may)
+      (by_first b.drivers.arrivals may nobody)
     where
       w : World
       w = world_shown b
 
-      by_first : (events : List ScriptEvent) → is_time b.moment.time events ≡ true
+      by_first : (events : List ScriptEvent) → is_time b.moment.time events ≡ true → FirstMeansNobody events w.records
           → (done w (arrived w.records w.devices events)).after
           ≡ later_with w (map (record_of b.home.flash (pressed_after_first events b.drivers.buttons.pressed))
           (zip (zip b.processes (owns_told (change_by_first events b.drivers.buttons.pressed) b.home.owns))
@@ -319,9 +340,9 @@ module _ (b : BoardParts) where
             line = with_first_arrived events b.drivers.uart;
             arrivals = drop 1 events;
           })
-      by_first [] e = absurd (false≢true e)
-      by_first (event ∷ rest) e =
-          came_in law w event.kind (record w.devices { arrivals = rest })
+      by_first [] e nobody = absurd (false≢true e)
+      by_first (event ∷ rest) e nobody =
+          came_in law w event.kind (record w.devices { arrivals = rest }) nobody
           ∙ ap (λ (rs : List Record). later_with w rs (record (devices_of b.drivers) {
             line = line_after event.kind b.drivers.uart;
             arrivals = rest;
@@ -331,16 +352,17 @@ module _ (b : BoardParts) where
 
   -- .. and shows nothing
   pub arrived_shown : DevicesAnswerOne → is_time b.moment.time b.drivers.arrivals ≡ true
+      → FirstMeansNobody b.drivers.arrivals (world_shown b).records
       → shown_by (done (world_shown b) (device_step_of (world_shown b) dev.Event)).labels ≡ nothing
-  arrived_shown law may = by_first b.drivers.arrivals may
+  arrived_shown law may nobody = by_first b.drivers.arrivals may nobody
     where
       w : World
       w = world_shown b
 
-      by_first : (events : List ScriptEvent) → is_time b.moment.time events ≡ true
+      by_first : (events : List ScriptEvent) → is_time b.moment.time events ≡ true → FirstMeansNobody events w.records
           → shown_by (done w (arrived w.records w.devices events)).labels ≡ nothing
-      by_first [] e = absurd (false≢true e)
-      by_first (event ∷ rest) e = shows_none law w event.kind (record w.devices { arrivals = rest })
+      by_first [] e nobody = absurd (false≢true e)
+      by_first (event ∷ rest) e nobody = shows_none law w event.kind (record w.devices { arrivals = rest }) nobody
 
   -- what holds of the parts of each board holds of them then
   pub arrived_parts : LinesFollowAnswers → AreBoardParts b → b.moment.steps < STEP_LIMIT → (home : Homes) (d : Drivers)

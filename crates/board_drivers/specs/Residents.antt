@@ -1,6 +1,6 @@
 -- A process with what is its own: the record that it shows. A board shows `record_of`; the rest is for
 -- proofs alone. It is this board's own.
-use Rattle.std.specs.Prelude.{ℕ, ◌+◌, ◌≤◌, Bool, false, List, length}
+use Rattle.std.specs.Prelude.{ℕ, ◌+◌, ◌≤◌, ◌&&◌, not, Bool, false, List, length}
 use Rattle.std.specs.Prelude.{Option, None, Some}
 use Rattle.tk_base.specs.declared.access.TheConstants.{FLASH_START}
 use Rattle.process_model.specs.Own.{Own}
@@ -12,7 +12,8 @@ use Rattle.kernel_model.specs.Record.{Record}
 use Rattle.upcall_queue.specs.Pending.{due}
 use Rattle.kernel_model.specs.Turn.{has_turn}
 use Rattle.process_model.specs.Flash.{object_in}
-use Rattle.kernel_calls.specs.Own.{IsOwn, record_in}
+use Rattle.kernel_calls.specs.Own.{record_in}
+use Rattle.process_restart.specs.Own.{IsOwn}
 use Rattle.tk_base.specs.declared.process.ProcessId.{ProcessId}
 
 -- a process with what is its own
@@ -50,7 +51,7 @@ HasLost steps own = own.inbox.dropped ≤ steps
 
 -- whether a process can have a turn, and whether that in a slot can, if there is one
 abbrev pub resident_turns : Resident → Bool
-resident_turns r = has_turn r.0.state (due r.1.inbox)
+resident_turns r = not r.0.held && has_turn r.0.state (due r.1.inbox)
 
 abbrev pub can_turn_in : Option Resident → Bool
 can_turn_in None = false
@@ -61,6 +62,7 @@ abbrev pub line_in : List ℕ → Resident → SlotLine
 line_in flash r = record {
   name = record { items = name_of (object_in flash r.0.object) };
   state = r.0.state;
+  held = r.0.held;
   wait = r.1.inbox.wait;
   denial = r.0.denial;
   turns = r.0.turns;

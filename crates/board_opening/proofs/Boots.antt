@@ -26,7 +26,7 @@ use Rattle.app_placement.specs.declared.application.Application.{Application}
 use Rattle.app_placement.specs.declared.placed.Filled.{Filled}
 use Rattle.kernel_model.specs.Record.{Record}
 use Rattle.kernel_model.specs.Calls.{restart, restarted_by, restarted_main}
-use Rattle.kernel_model.specs.Laws.{main_by}
+use Rattle.tbf_headers.specs.Meaning.{main_by}
 use Rattle.kernel_lives.specs.Counts.{CountsAddUp, WaitingAreThere, turns_of_all}
 use Rattle.driver_model.specs.Commands.{QueueName}
 use Rattle.driver_model.specs.Lines.{has_waiting}

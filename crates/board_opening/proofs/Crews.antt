@@ -40,8 +40,8 @@ use Rattle.process_record.specs.Process.{started}
 use Rattle.script_text.specs.Settings.{ScriptSettings as Script}
 use Rattle.grant_enter.specs.Homes.{Homes, CanMoveIn, FitsMemory, EndsBefore, FootprintBefore as StandsBefore}
 use Rattle.process_model.specs.Flash.{object_in}
-use Rattle.kernel_calls.specs.Own.{CanStart, HasStart, IsApplication}
-use Rattle.kernel_model.specs.Lives.{is_alive}
+use Rattle.process_restart.specs.Own.{CanStart, HasStart, IsApplication}
+use Rattle.process_record.specs.Process.{is_alive}
 use Rattle.kernel_model.specs.Record.{Record}
 use Rattle.kernel_model.specs.World.{World, Devices}
 use Rattle.board_drivers.specs.declared.drivers.Drivers.{Drivers}

@@ -20,7 +20,7 @@ use Rattle.app_placement.specs.declared.application.Application.{Application}
 use Rattle.app_placement.specs.declared.placed.Filled.{Filled}
 use Rattle.app_placement.specs.declared.placed.Placed.{Placed}
 use Rattle.kernel_model.specs.Record.{Record}
-use Rattle.kernel_model.specs.Laws.{main_by}
+use Rattle.tbf_headers.specs.Meaning.{main_by}
 use Rattle.kernel_model.specs.Histories.{HandedNothing}
 use Rattle.board_opening.specs.Opening.{opening_record, opened_by, opening, placed_applications, record_placed}
 use Rattle.board_opening.specs.Opening.{record_with_place}

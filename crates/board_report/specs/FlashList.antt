@@ -10,7 +10,8 @@ use Rattle.flash_walk.specs.declared.found.Verdict.{Verdict}
 use Rattle.flash_walk.specs.declared.found.Verdict.TheVariants.{Bad, Padding, Disabled, BadEntry, WrongFlash, App}
 use Rattle.flash_walk.specs.Image.{objects}
 use Rattle.process_record.specs.Name.{name_of}
-use Rattle.board_report.specs.Words.{newline, name_text}
+use Rattle.board_report.specs.Words.{newline}
+use Rattle.process_record.specs.Lines.{name_text}
 
 -- A walk lists no object that is too short or of another version: these two words stand nowhere in a list.
 abbrev pub bad_text : HeaderFault → List ℕ

@@ -1,5 +1,6 @@
 -- The text of the report. Its form is this tool's own.
-use Rattle.std.specs.Prelude.{ℕ, ◌+◌, ◌/◌, ◌%◌, ◌^◌, ◌==◌, if◌then◌else◌, List, [], ◌∷◌, ◌++◌, map, codes, decimal}
+use Rattle.std.specs.Prelude.{ℕ, ◌+◌, ◌/◌, ◌%◌, ◌^◌, ◌==◌, Bool, if◌then◌else◌, List, [], ◌∷◌, ◌++◌, map, codes}
+use Rattle.std.specs.Prelude.{decimal}
 use Rattle.std.specs.Prelude.{Option, None, Some}
 use Rattle.std.specs.List.{flat_map, range_with_len}
 use Rattle.tk_base.specs.declared.access.Denial.{Denial}
@@ -11,7 +12,8 @@ use Rattle.process_record.specs.declared.process.State.TheVariants.{Running, Yie
 use Rattle.process_record.specs.declared.summary.SlotLine.{SlotLine}
 use Rattle.process_record.specs.declared.summary.Summary.{Summary}
 use Rattle.process_record.specs.Summary.{Unplaced}
-use Rattle.board_report.specs.Words.{newline, access_text, rule_text, fault_text, name_text}
+use Rattle.board_report.specs.Words.{newline, access_text, rule_text, fault_text}
+use Rattle.process_record.specs.Lines.{name_text}
 use Rattle.board_report.specs.declared.report.End.{End}
 use Rattle.board_report.specs.declared.report.End.TheVariants.{Done, Turns}
 
@@ -28,13 +30,17 @@ wait_text No = codes "yielded"
 wait_text (For driver number) = codes "waiting " ++ (hex_digits 8 driver ++ (codes " " ++ decimal number))
 wait_text (Given arguments) = codes "awaited"
 
--- the state of a process: of one that has yielded with what it waits for, of one that faulted with its last denial, of
--- one that ended with its code
-abbrev pub state_text : State → Wait → Option Denial → List ℕ
-state_text Running wait denial = codes "running"
-state_text Yielded wait denial = wait_text wait
-state_text Faulted wait denial = codes "faulted" ++ denial_text denial
-state_text (Terminated code) wait denial = codes "terminated " ++ decimal code
+-- the state of a process that is not held: of one that has yielded with what it waits for, of one that faulted with its
+-- last denial, of one that ended with its code
+abbrev pub own_state_text : State → Wait → Option Denial → List ℕ
+own_state_text Running wait denial = codes "running"
+own_state_text Yielded wait denial = wait_text wait
+own_state_text Faulted wait denial = codes "faulted" ++ denial_text denial
+own_state_text (Terminated code) wait denial = codes "terminated " ++ decimal code
+
+-- the state of a process: one that an operator holds is stopped, whatever else it is
+abbrev pub state_text : Bool → State → Wait → Option Denial → List ℕ
+state_text held state wait denial = if held then codes "stopped" else own_state_text state wait denial
 
 -- how many upcalls were dropped, where any was
 abbrev pub dropped_text : ℕ → List ℕ
@@ -51,7 +57,7 @@ turns_text line = codes " turns " ++ (decimal line.turns ++ (codes " restarts " 
 -- the line of a slot
 unfoldable pub slot_text : ℕ → SlotLine → List ℕ
 slot_text slot line =
-    slot_head slot line ++ (state_text line.state line.wait line.denial
+    slot_head slot line ++ (state_text line.held line.state line.wait line.denial
     ++ (turns_text line ++ (dropped_text line.dropped ++ newline)))
 
 -- the lines of the slots from one on

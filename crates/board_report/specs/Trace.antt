@@ -1,9 +1,11 @@
--- The text of a trace: the lines of a step, which tell the call or the denial in it and what it printed. Its form is
--- this tool's own.
+-- The text of a trace: the lines of a step, which tell the call or the denial in it, an operator's act, and what it
+-- printed. Its form is this tool's own.
 use Rattle.std.specs.Prelude.{ℕ, ◌==◌, if◌then◌else◌, List, [], ◌++◌, length, codes, decimal, Option, None, Some}
 use Rattle.std.specs.List.{flat_map}
 use Rattle.tk_base.specs.declared.access.Denial.{Denial}
 use Rattle.tk_base.specs.declared.call.CallRule.{CallRule}
+use Rattle.tk_base.specs.declared.process.Verb.{Verb}
+use Rattle.tk_base.specs.Verbs.{verb_text}
 use Rattle.tk_outside.specs.Text.{hex_digits}
 use Rattle.process_record.specs.declared.emit.CallMade.{CallMade}
 use Rattle.process_record.specs.declared.emit.Emit.{Emit}
@@ -43,6 +45,10 @@ call_line time slot call =
 unfoldable pub denial_line : ℕ → ℕ → Denial → List ℕ
 denial_line time slot denial = line_head time slot (codes " denied") ++ (denial_text (Some denial) ++ newline)
 
+-- the line of an operator's act
+unfoldable pub act_line : ℕ → ℕ → Verb → List ℕ
+act_line time slot verb = line_head time slot (codes " act ") ++ (verb_text verb ++ newline)
+
 -- bytes, each in two digits of base 16
 abbrev pub bytes_text : List ℕ → List ℕ
 bytes_text bytes = flat_map (hex_digits 2) bytes
@@ -61,6 +67,11 @@ abbrev pub denied_text : ℕ → ℕ → Option Denial → List ℕ
 denied_text time slot None = []
 denied_text time slot (Some denial) = denial_line time slot denial
 
+-- the line of an operator's act, if there was one
+abbrev pub act_text : ℕ → Option (ℕ × Verb) → List ℕ
+act_text time None = []
+act_text time (Some act) = act_line time act.0 act.1
+
 -- the line of what was printed, if anything was
 abbrev pub out_text : ℕ → ℕ → List ℕ → List ℕ
 out_text time slot bytes = if length bytes == 0 then [] else out_line time slot bytes
@@ -72,7 +83,8 @@ turn_text time slot call denial = call_text time slot call ++ denied_text time s
 -- the lines of a step of a slot that began at a time
 abbrev pub lines_of_step : ℕ → Option ℕ → Emit → List ℕ
 lines_of_step time None step = []
-lines_of_step time (Some slot) step = turn_text time slot step.made step.denial ++ out_text time slot step.printed.items
+lines_of_step time (Some slot) step =
+    turn_text time slot step.made step.denial ++ (act_text time step.act ++ out_text time slot step.printed.items)
 
 -- the lines of a step that began at a time, by what it shows; a step of nobody has none
 unfoldable pub trace_text : ℕ → Emit → List ℕ

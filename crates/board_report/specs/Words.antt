@@ -1,5 +1,5 @@
 -- The words of the report and of the trace. They are this tool's own.
-use Rattle.std.specs.Prelude.{ℕ, ◌&&◌, nat_le, if◌then◌else◌, List, [], ◌∷◌, map, codes}
+use Rattle.std.specs.Prelude.{ℕ, List, [], ◌∷◌, codes}
 use Rattle.tk_base.specs.declared.access.Access.{Access}
 use Rattle.tk_base.specs.declared.access.Access.TheVariants.{Fetch, Load, Store}
 use Rattle.tk_base.specs.declared.access.Rule.{Rule}
@@ -52,12 +52,3 @@ call_rule_text calls.Busy = codes "busy"
 call_rule_text calls.Empty = codes "empty"
 call_rule_text calls.Nothing = codes "nothing"
 call_rule_text calls.Index = codes "index"
-
--- a byte of a name: what is no visible character of ASCII is shown as `?`
-abbrev pub glyph : ℕ → ℕ
-glyph b = if nat_le 0x21 b && nat_le b 0x7e then b else 63
-
--- a name; `-` where there is none
-abbrev pub name_text : List ℕ → List ℕ
-name_text [] = codes "-"
-name_text (b ∷ bs) = map glyph (b ∷ bs)

@@ -5,10 +5,9 @@ ghost use Rattle.flash_walk.specs.Image.{objects, IsObject};
 ghost use Rattle.board_report.specs.FlashList.{bad_text, verdict_text, object_text, object_texts};
 ghost use Rattle.board_report.specs.FlashList.{count_text, list_text};
 
-use crate::words::shown_name;
 use flash_walk::{Found, Verdict, objects_are_found};
 use itoa::Buffer;
-use process_record::object_name;
+use process_record::{object_name, shown_name};
 use tbf_headers::{HeaderFault, object_at};
 use tk_base::FLASH_LIMIT;
 use tk_outside::{Failed, Sink, put_pieces, writes_compose};

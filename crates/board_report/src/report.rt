@@ -10,9 +10,9 @@ ghost use Rattle.board_report.specs.Report.{turns_text, slot_text, slot_texts, u
 ghost use Rattle.board_report.specs.Report.{unplaced_texts, led_text, led_texts, led_list};
 ghost use Rattle.board_report.specs.Report.{leds_text, end_words, end_line, report_text};
 
-use crate::words::{access_word, fault_word, rule_word, shown_name};
+use crate::words::{access_word, fault_word, rule_word};
 use itoa::Buffer;
-use process_record::{SlotLine, State, Summary};
+use process_record::{SlotLine, State, Summary, shown_name};
 use tk_base::{Denial, PlaceFault, Wait};
 use tk_outside::{Failed, Sink, hex_text, put_all, put_number, put_pieces, writes_compose};
 
@@ -93,8 +93,11 @@ fn write_wait<K: Sink>(out: &mut K, wait: &Wait) -> Result<(), Failed>
 /// Writes the state of a process.
 fn write_state<K: Sink>(out: &mut K, line: &SlotLine) -> Result<(), Failed>
     ensures { Writes K.tells out.old out.new
-        (state_text line.now.state line.now.wait line.now.denial) result }
+        (state_text line.now.held line.now.state line.now.wait line.now.denial) result }
 {
+    if line.held {
+        return put_all(out, b"stopped");
+    }
     match line.state {
         State::Running => put_all(out, b"running"),
         State::Yielded => write_wait(out, &line.wait),

@@ -4,14 +4,16 @@ ghost use Rattle.tk_outside.specs.Writes.{Writes};
 ghost use Rattle.board_report.specs.Words.{newline};
 ghost use Rattle.board_report.specs.Trace.{line_head, register_text, registers_text, reply_text};
 ghost use Rattle.board_report.specs.Trace.{refusal_text, call_line, denial_line, bytes_text};
-ghost use Rattle.board_report.specs.Trace.{out_line, call_text, denied_text, out_text};
+ghost use Rattle.board_report.specs.Trace.{act_line, act_text, out_line, call_text, denied_text};
+ghost use Rattle.board_report.specs.Trace.{out_text, turn_text};
+ghost use Rattle.tk_base.specs.Verbs.{verb_text};
 ghost use Rattle.board_report.specs.Trace.{lines_of_step, trace_text};
 
 use crate::report::write_denial;
 use crate::words::call_rule_word;
 use itoa::Buffer;
 use process_record::{CallMade, Emit};
-use tk_base::{CallRule, Denial, Slot};
+use tk_base::{CallRule, Denial, Slot, Verb};
 use tk_outside::{
     Failed, Sink, hex_text, put_all, put_hex, put_number, put_pieces, writes_compose,
 };
@@ -149,6 +151,32 @@ fn write_denied<K: Sink>(out: &mut K, time: u64, slot: Slot, step: &Emit) -> Res
     }
 }
 
+/// Writes the word of a verb, and ends the line.
+fn write_verb<K: Sink>(out: &mut K, verb: Verb) -> Result<(), Failed>
+    ensures { Writes K.tells out.old out.new (verb_text verb ++ newline) result }
+{
+    put_pieces(out, &[verb.word(), b"\n"])
+}
+
+/// Writes the line of an operator's act.
+fn write_act_line<K: Sink>(out: &mut K, time: u64, slot: Slot, verb: Verb) -> Result<(), Failed>
+    ensures { Writes K.tells out.old out.new (act_line time slot verb) result }
+{
+    writes_compose::<K>();
+    write_head(out, time, slot, b" act ")?;
+    write_verb(out, verb)
+}
+
+/// Writes the line of an operator's act in a step, where there was one.
+fn write_act<K: Sink>(out: &mut K, time: u64, step: &Emit) -> Result<(), Failed>
+    ensures { Writes K.tells out.old out.new (act_text time step.now.act) result }
+{
+    match step.act {
+        Some((slot, verb)) => write_act_line(out, time, slot, verb),
+        None => Ok(()),
+    }
+}
+
 /// Writes the line of what a step printed, where it printed anything.
 fn write_out<K: Sink>(out: &mut K, time: u64, slot: Slot, step: &Emit) -> Result<(), Failed>
     ensures { Writes K.tells out.old out.new (out_text time slot step.now.printed.items) result }
@@ -159,22 +187,33 @@ fn write_out<K: Sink>(out: &mut K, time: u64, slot: Slot, step: &Emit) -> Result
     write_out_line(out, time, slot, &step.printed)
 }
 
+/// Writes the lines of a turn: the system call and the denial in a step.
+fn write_turn<K: Sink>(out: &mut K, time: u64, slot: Slot, step: &Emit) -> Result<(), Failed>
+    ensures { Writes K.tells out.old out.new
+        (turn_text time slot step.now.made step.now.denial) result }
+{
+    writes_compose::<K>();
+    write_call(out, time, slot, step)?;
+    write_denied(out, time, slot, step)
+}
+
 /// Writes the lines of a step of a slot.
 fn write_lines<K: Sink>(out: &mut K, time: u64, slot: Slot, step: &Emit) -> Result<(), Failed>
     ensures { Writes K.tells out.old out.new (lines_of_step time (Some slot) step.now) result }
 {
     writes_compose::<K>();
-    write_call(out, time, slot, step)?;
-    write_denied(out, time, slot, step)?;
+    write_turn(out, time, slot, step)?;
+    write_act(out, time, step)?;
     write_out(out, time, slot, step)
 }
 
 /// Writes the lines of the trace that tell a step which began at a time, in ticks: for each system
 /// call `@TIME SLOT call CLASS A0 A1 A2 A3`, where a reply was put into the registers ` = R0 R1 R2
 /// R3` after it, and where it was refused the word of the rule that it broke (TRD 104, "System Call
-/// API"); for a denial `@TIME SLOT denied ACCESS ADDRESS RULE`; for bytes that were printed `@TIME
-/// SLOT out HEX`. Class, time and slot are decimal; registers and addresses have eight digits of
-/// base 16, a byte has two. A step that shows none of these, or that was no slot's, has no line.
+/// API"); for a denial `@TIME SLOT denied ACCESS ADDRESS RULE`; for an operator's act `@TIME SLOT
+/// act VERB`; for bytes that were printed `@TIME SLOT out HEX`. Class, time and slot are decimal;
+/// registers and addresses have eight digits of base 16, a byte has two. A step that shows none of
+/// these, or that was no slot's, has no line.
 ///
 /// [`Failed`] comes only where the sink's count of faults rose; a part of the lines was written
 /// then that lacks at least one byte. No memory is taken.

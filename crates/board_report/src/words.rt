@@ -1,10 +1,8 @@
 //! The words of the report and of the trace.
-ghost use Rattle.std.specs.Prelude.{◌≡◌, ◌≤◌, length};
+ghost use Rattle.std.specs.Prelude.{◌≡◌};
 ghost use Rattle.board_report.specs.OwnWords.{RulesHaveWordsOfTheirOwn};
 ghost use Rattle.board_report.specs.Words.{access_text, rule_text, call_rule_text, fault_text};
-ghost use Rattle.board_report.specs.Words.{glyph, name_text};
 
-use arrayvec::ArrayVec;
 use tk_base::{Access, CallRule, PlaceFault, Rule};
 
 /// The word of an access.
@@ -64,33 +62,6 @@ pub fn fault_word(fault: PlaceFault) -> &'static [u8]
         PlaceFault::FixedTaken => b"fixed-taken",
         PlaceFault::NoRoom => b"no-room",
     }
-}
-
-/// A byte of a name, or `?` where it cannot be shown.
-fn shown(byte: u8) -> u8
-    ensures { result ≡ glyph byte }
-{
-    if (0x21..=0x7e).contains(&byte) {
-        byte
-    } else {
-        b'?'
-    }
-}
-
-/// The name of a process, or `-` where it has none.
-pub fn shown_name(name: &[u8]) -> ArrayVec<u8, 32>
-    requires { length name.now ≤ 32 }
-    ensures { result.items ≡ name_text name.now }
-{
-    let mut text = ArrayVec::new();
-    if name.is_empty() {
-        text.push(b'-');
-        return text;
-    }
-    for byte in name {
-        text.push(shown(*byte));
-    }
-    text
 }
 
 /// No two rules by which calls are refused share a word, and no two by which accesses are denied:

@@ -5,6 +5,8 @@ use Rattle.std.proofs.Common.{Option, None, Some, All, refl, sym, ap, ap₂, sub
 use Rattle.std.specs.List.{flat_map}
 use Rattle.std.proofs.lemmas.List.Elements.{All-cons, All-head, All-nil, All-tail}
 use Rattle.tk_base.specs.declared.access.Denial.{Denial}
+use Rattle.std.proofs.lemmas.Bool.{false≢true}
+use Rattle.tk_base.specs.declared.process.Verb.{Verb}
 use Rattle.tk_base.specs.declared.process.Choice.{Choice}
 use Rattle.tk_base.specs.declared.process.Choice.TheVariants.{Run, Device, Pass}
 use Rattle.process_record.specs.declared.emit.CallMade.{CallMade}
@@ -13,14 +15,15 @@ use Rattle.process_record.specs.declared.emit.Emit.{Emit}
 use Rattle.kernel_model.specs.Record.{Record}
 use Rattle.kernel_model.specs.World.{Answer, Label, Stepped, World, after}
 use Rattle.kernel_model.specs.World.{answer_label, carried_out, labels, ran, telling_edge}
-use Rattle.kernel_model.specs.Turn.{is_turn}
+use Rattle.kernel_model.specs.Turn.{Act, Alarmed, Edge, Event, Input, NoWord, Stored, Taken, Turn, Word, WriteDone}
+use Rattle.kernel_model.specs.Turn.{is_act, is_turn}
 use Rattle.kernel_model.proofs.Labels.{shown_by-printed}
 use Rattle.kernel_model.proofs.Told.{edge_answer, told_labels}
 use Rattle.kernel_model.specs.Laws.{ComesTo, DevicesAnswerOne, edge_labels}
 use Rattle.kernel_model.specs.Run.{Ran, next, printed, round}
 use Rattle.kernel_model.specs.Stretch.{IsQuietTurn, IsStretch}
-use Rattle.kernel_model.specs.Shown.{shown_by}
-use Rattle.board_report.specs.Trace.{out_line, out_text, trace_text, turn_text}
+use Rattle.kernel_model.specs.Shown.{act_shown, shown_by}
+use Rattle.board_report.specs.Trace.{act_text, out_line, out_text, trace_text, turn_text}
 use Rattle.board_runs.proofs.Runs.{of_stepped, printed-round, round-step, steps-step, steps-stop}
 use Rattle.board_runs.proofs.Runs.{steps-zero}
 use Rattle.board_runs.proofs.Tallies.{counting-tally_of}
@@ -66,20 +69,47 @@ trace_text-carried_out law time w (Device device) = by_case _ (law.each w device
     of_answer : (slot : ℕ) (a : Answer)
         → trace_text time (shown_by (answer_label slot a ∷ []))
         ≡ flat_map (label_lines time) (answer_label slot a ∷ [])
-    of_answer slot a = by_shown (is_turn a.event) (length a.printed == 0) refl
+    of_answer slot a = by_act a.event
       where
-        shows : List ℕ → Emit
-        shows bytes = record nothing { slot = Some slot; printed = record { items = bytes } }
+        shows : Option (ℕ × Verb) → List ℕ → Emit
+        shows act bytes = record nothing { slot = Some slot; act = act; printed = record { items = bytes } }
 
-        both : trace_text time (shows (a.printed ++ [])) ≡ out_text time slot a.printed ++ []
-        both = ap (out_text time slot) (append-nil a.printed) ∙ sym (append-nil (out_text time slot a.printed))
+        -- what is told of what was printed, behind what is told of an act, if there was one
+        lines : Option (ℕ × Verb) → List ℕ
+        lines act = act_text time act ++ out_text time slot a.printed
 
-        by_shown : (turn none : Bool) → (length a.printed == 0) ≡ none
-            → trace_text time (cond (turn || not none) (shows (a.printed ++ [])) nothing)
-            ≡ out_text time slot a.printed ++ []
-        by_shown true none e = both
-        by_shown false false e = both
-        by_shown false true e = sym (ap (λ (b : Bool). cond b [] (out_line time slot a.printed) ++ []) e)
+        both : (act : Option (ℕ × Verb)) → trace_text time (shows act (a.printed ++ [])) ≡ lines act ++ []
+        both act =
+            ap (λ (bytes : List ℕ). act_text time act ++ out_text time slot bytes) (append-nil a.printed)
+            ∙ sym (append-nil (lines act))
+
+        by_shown : (act : Option (ℕ × Verb)) (turn acts none : Bool) → (length a.printed == 0) ≡ none
+            → (acts ≡ false → act ≡ None)
+            → trace_text time (cond (turn || (acts || not none)) (shows act (a.printed ++ [])) nothing) ≡ lines act ++ []
+        by_shown act true acts none e no_act = both act
+        by_shown act false true none e no_act = both act
+        by_shown act false false false e no_act = both act
+        by_shown act false false true e no_act =
+            sym (ap₂ (λ (o : Option (ℕ × Verb)) (b : Bool).
+            (act_text time o ++ cond b [] (out_line time slot a.printed)) ++ []) (no_act refl) e)
+
+        no_acts : (event : Event) → is_act event ≡ false → act_shown slot event ≡ None
+        no_acts (Turn t) is = refl
+        no_acts (Alarmed now) is = refl
+        no_acts (Edge button pressed) is = refl
+        no_acts Taken is = refl
+        no_acts WriteDone is = refl
+        no_acts (Input bytes) is = refl
+        no_acts (Word word) is = refl
+        no_acts NoWord is = refl
+        no_acts (Stored moved) is = refl
+        no_acts (Act verb) is = absurd (false≢true (sym is))
+
+        by_act : (event : Event)
+            → trace_text time (cond (is_turn event || (is_act event || not (length a.printed == 0)))
+            (shows (act_shown slot event) (a.printed ++ [])) nothing) ≡ lines (act_shown slot event) ++ []
+        by_act event =
+            by_shown (act_shown slot event) (is_turn event) (is_act event) (length a.printed == 0) refl (no_acts event)
 
     by_case : (s : Stepped) → ComesTo w s
         → trace_text time (shown_by s.labels) ≡ flat_map (label_lines time) s.labels
@@ -164,6 +194,19 @@ text_in Soak n w end =
     ap (λ (t : List ℕ). t ++ (total_text (telling_of Soak (round n w).world (printed (round n w).labels)) ++ end))
     (silent (steps n w))
 
+-- a turn shows no act of an operator
+turn_shows_no_act : (slot : ℕ) (event : Event) → is_turn event ≡ true → act_shown slot event ≡ None
+turn_shows_no_act slot (Turn t) is = refl
+turn_shows_no_act slot (Alarmed now) is = refl
+turn_shows_no_act slot (Edge button pressed) is = refl
+turn_shows_no_act slot Taken is = refl
+turn_shows_no_act slot WriteDone is = refl
+turn_shows_no_act slot (Input bytes) is = refl
+turn_shows_no_act slot (Word word) is = refl
+turn_shows_no_act slot NoWord is = refl
+turn_shows_no_act slot (Stored moved) is = refl
+turn_shows_no_act slot (Act verb) is = absurd (false≢true is)
+
 -- quiet turns have no lines
 quiet_lines : (time : ℕ) (ls : List Label) → All IsQuietTurn ls → flat_map (label_lines time) ls ≡ []
 quiet_lines time [] all = refl
@@ -171,7 +214,9 @@ quiet_lines time (label ∷ ls) all =
     let quiet = All-head IsQuietTurn label ls all in
     ap (λ (t : List ℕ). label_lines time label ++ t) (quiet_lines time ls (All-tail IsQuietTurn label ls all))
     ∙ ap (λ (bytes : List ℕ). (turn_text time label.slot label.trace.call label.trace.denial
-    ++ out_text time label.slot bytes) ++ []) quiet.1
+    ++ (act_text time (act_shown label.slot label.event) ++ out_text time label.slot bytes)) ++ []) quiet.1
+    ∙ ap (λ (act : Option (ℕ × Verb)). (turn_text time label.slot label.trace.call label.trace.denial
+    ++ (act_text time act ++ [])) ++ []) (turn_shows_no_act label.slot label.event quiet.0)
     ∙ ap₂ (λ (call : Option CallMade) (denial : Option Denial). (turn_text time label.slot call denial ++ []) ++ [])
     quiet.2 quiet.4
 

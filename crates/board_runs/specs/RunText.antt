@@ -5,11 +5,11 @@ use Rattle.std.specs.List.{flat_map}
 use Rattle.tk_base.specs.declared.process.Choice.{Choice}
 use Rattle.kernel_model.specs.World.{World, Label, after, labels}
 use Rattle.kernel_model.specs.Run.{next, on_choice, round, printed}
-use Rattle.kernel_model.specs.Shown.{summary_of}
+use Rattle.kernel_model.specs.Shown.{act_shown, summary_of}
 use Rattle.board_report.specs.declared.report.End.{End}
 use Rattle.board_report.specs.declared.report.End.TheVariants.{Done, Turns}
 use Rattle.board_report.specs.Report.{report_text}
-use Rattle.board_report.specs.Trace.{turn_text, out_text}
+use Rattle.board_report.specs.Trace.{act_text, turn_text, out_text}
 use Rattle.board_runs.specs.declared.run.Mode.{Mode}
 use Rattle.board_runs.specs.declared.run.Mode.TheVariants.{Boot, Trace, Soak}
 use Rattle.board_runs.specs.declared.tally.Tally.{Tally}
@@ -36,10 +36,12 @@ unfoldable pub steps : ℕ → World → List Step
 steps zero w = []
 steps (suc n) w = on_choice [] (λ choice. step_of w choice ∷ steps n (after w choice)) (next w)
 
--- the lines of a label of a step that began at a time: the call or the denial in it, and what was printed
+-- the lines of a label of a step that began at a time: the call or the denial in it, or the operator's act that it
+-- tells, and what was printed
 abbrev pub label_lines : ℕ → Label → List ℕ
 label_lines time label =
-    turn_text time label.slot label.trace.call label.trace.denial ++ out_text time label.slot label.printed
+    turn_text time label.slot label.trace.call label.trace.denial
+    ++ (act_text time (act_shown label.slot label.event) ++ out_text time label.slot label.printed)
 
 -- the lines of a step
 abbrev pub step_lines : Step → List ℕ

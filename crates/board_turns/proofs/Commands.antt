@@ -26,8 +26,9 @@ use Rattle.kernel_model.specs.Record.{Record, record_with_own, with_process}
 use Rattle.kernel_model.specs.Calls.{Served, driver_answered, by_form, failure_of, object_permits}
 use Rattle.kernel_model.specs.Calls.{refused_with, served, taken_by}
 use Rattle.process_model.specs.Flash.{object_in}
-use Rattle.kernel_calls.specs.Own.{IsOwnObject, record_in}
-use Rattle.kernel_model.specs.Lives.{is_alive}
+use Rattle.kernel_calls.specs.Own.{record_in}
+use Rattle.process_restart.specs.Own.{IsOwnObject}
+use Rattle.process_record.specs.Process.{is_alive}
 use Rattle.kernel_calls.specs.Given.{given}
 use Rattle.kernel_calls.specs.Outcomes.{ServingComesTo, IsLeft, IsServed, ServesAt, acts_for, is_for_driver}
 use Rattle.kernel_calls.specs.Outcomes.{is_driver_command, record_of_slot}

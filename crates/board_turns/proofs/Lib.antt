@@ -1,4 +1,5 @@
 pub mod Tables
+pub mod Acting
 pub mod Commands
 pub mod Sight
 pub mod Turns

@@ -7,7 +7,8 @@ use Rattle.process_model.specs.Instruction.{with_write}
 use Rattle.process_record.specs.Process.{after_turn}
 use Rattle.process_record.specs.declared.process.Process.{Process}
 use Rattle.grant_enter.specs.Homes.{IsStopped, MakesAll}
-use Rattle.kernel_calls.specs.Own.{Beside, IsOwnObject, record_in}
+use Rattle.kernel_calls.specs.Own.{Beside, record_in}
+use Rattle.process_restart.specs.Own.{IsOwnObject}
 use Rattle.kernel_model.specs.Record.{Record, byte_at, instruction}
 use Rattle.kernel_model.specs.Stretch.{AllGo, after_instructions, instruction_made}
 use Rattle.board_drivers.specs.Residents.{IsResident, Resident, record_of}

@@ -7,7 +7,8 @@ use Rattle.tk_base.specs.declared.access.TheConstants.{FLASH_START}
 use Rattle.tbf_headers.specs.Objects.{object_at}
 use Rattle.process_model.specs.Instruction.{Sees}
 use Rattle.grant_enter.specs.Homes.{IsInPlace}
-use Rattle.kernel_calls.specs.Own.{IsOwnObject, record_in}
+use Rattle.kernel_calls.specs.Own.{record_in}
+use Rattle.process_restart.specs.Own.{IsOwnObject}
 use Rattle.kernel_model.specs.Record.{byte_at}
 use Rattle.board_drivers.specs.Residents.{Resident}
 use Rattle.board_turns.specs.Turning.{nothing_beside}

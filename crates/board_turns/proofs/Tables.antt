@@ -17,14 +17,14 @@ use Rattle.board_drivers.proofs.Pairs.{zip-get}
 module _ (turns slot index : ℕ) (x : Machine) (processes : List Process) (process : Process)
     (is : index ≡ slot) (found : process ≡ slice_index_or processes index process)
     (may : MayTurnAt turns slot x processes) where
-  here : slice_get processes slot ≡ Some process
+  pub here : slice_get processes slot ≡ Some process
   here = slice_get-get_or processes slot process may.within
       ∙ ap Some (ap (λ (k : ℕ). slice_index_or processes k process) (sym is) ∙ sym found)
 
   within_owns : slot < length x.home.owns
   within_owns = omega (arith, may.within, may.owns)
 
-  own_here : slice_get x.home.owns slot ≡ Some (own_of x.home slot)
+  pub own_here : slice_get x.home.owns slot ≡ Some (own_of x.home slot)
   own_here = slice_get-get_or x.home.owns slot nobody within_owns
 
   pub may_turn : MayTurnOn turns slot x process
@@ -42,7 +42,7 @@ module _ (turns slot index : ℕ) (x : Machine) (processes : List Process) (proc
     guard = may.guard;
   }
 
-  abbrev changed_at : (y : Machine) (after : Process) → ChangesOnly slot x.home y.home
+  abbrev pub changed_at : (y : Machine) (after : Process) → ChangesOnly slot x.home y.home
       → ChangesSlot slot x.home y.home processes (slice_set processes index after)
   changed_at y after only = record {
     before = resident x.home slot process;

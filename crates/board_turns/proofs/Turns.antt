@@ -18,8 +18,9 @@ use Rattle.process_model.specs.Own.{Own}
 use Rattle.process_record.specs.Process.{after_fault, after_turn}
 use Rattle.grant_enter.specs.Homes.{Homes, ChangesOnly, own_of, with_own}
 use Rattle.process_model.specs.Flash.{object_in}
-use Rattle.kernel_calls.specs.Own.{Beside, IsOwn, IsApplication, HasStart, record_in}
-use Rattle.kernel_model.specs.Lives.{is_alive}
+use Rattle.kernel_calls.specs.Own.{Beside, record_in}
+use Rattle.process_restart.specs.Own.{IsOwn, IsApplication, HasStart}
+use Rattle.process_record.specs.Process.{is_alive}
 use Rattle.kernel_model.specs.Record.{Record, with_process}
 use Rattle.upcall_queue.specs.declared.inbox.Delivery.{Delivery}
 use Rattle.upcall_queue.specs.Pending.{due}

@@ -1,3 +1,4 @@
 pub mod Guards
 pub mod Turning
 pub mod Quiet
+pub mod Operating

@@ -3,7 +3,7 @@ ghost use Rattle.std.specs.Prelude.{◌≡◌, ◌<◌, None, length};
 ghost use Rattle.process_layout.specs.Bounds.{bounds_of};
 ghost use Rattle.board_memory.specs.Registers.{Protect};
 ghost use Rattle.grant_enter.specs.Homes.{own_of};
-ghost use Rattle.board_turns.specs.Guards.{GuardsOnly, IsSetFor};
+ghost use Rattle.board_turns.specs.Guards.{GuardsOnly, GuardsOthers, IsSetFor};
 
 use grant_enter::Home;
 use pmp_regions::Pmp;
@@ -40,6 +40,18 @@ impl ActivePmp {
         if set != Some(slot) {
             home.protect(slot, &mut self.pmp);
             self.slot = Some(slot);
+        }
+    }
+
+    /// Sets the registers again where they are set for the process in a slot, whose layout may have
+    /// moved.
+    pub fn follow(&mut self, home: &Home, slot: Slot)
+        requires slot { slot < length home.now.owns }
+        requires others { GuardsOthers slot self.old home.now }
+        ensures { GuardsOnly self.new home.now }
+    {
+        if self.slot == Some(slot) {
+            home.protect(slot, &mut self.pmp);
         }
     }
 

@@ -4,6 +4,7 @@
 
 mod guard;
 mod machine;
+mod operating;
 mod quiet_turns;
 mod turn;
 

@@ -79,12 +79,15 @@ fn call_shown(before: &Regs, outcome: Outcome) -> CallMade
     }
 }
 
-/// Whether the process in a slot can have a turn: it runs, or it has yielded and something is due to
-/// it.
+/// Whether the process in a slot can have a turn: no operator holds it, and it runs, or it has
+/// yielded and something is due to it.
 pub fn can_turn(home: &Home, process: &Process, slot: Slot) -> bool
     requires { slot < length home.now.owns }
     ensures { result ≡ resident_turns (resident home.now slot process.now) }
 {
+    if process.held {
+        return false;
+    }
     match process.state {
         State::Running => true,
         State::Yielded => home.is_due(slot),

@@ -11,7 +11,8 @@ use Rattle.process_record.specs.Process.{after_call}
 use Rattle.grant_enter.specs.Homes.{Homes, ChangesOnly, own_of, with_own}
 use Rattle.kernel_model.specs.Record.{Record}
 use Rattle.kernel_model.specs.Calls.{comes_to, flag_written, yield_now}
-use Rattle.kernel_calls.specs.Outcomes.{ServingComesTo, KeepsObject, first_delivered}
+use Rattle.kernel_calls.specs.Outcomes.{ServingComesTo, first_delivered}
+use Rattle.process_restart.specs.Own.{KeepsObject}
 
 -- what changes one slot, and then the same one, changes that one alone
 pub changes_twice : (slot : ℕ) (a b c : Homes) → ChangesOnly slot a b → ChangesOnly slot b c → ChangesOnly slot a c

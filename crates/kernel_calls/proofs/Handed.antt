@@ -17,9 +17,10 @@ use Rattle.process_record.specs.declared.process.Process.{Process}
 use Rattle.kernel_model.specs.Record.{Record, record_with_own, with_process}
 use Rattle.kernel_model.specs.Calls.{failed_swap, former_pair, own_swapped, refused_with, replied, swap_by}
 use Rattle.kernel_model.specs.Calls.{swap_refusal, swapped}
-use Rattle.kernel_model.specs.Lives.{is_alive}
+use Rattle.process_record.specs.Process.{is_alive}
 use Rattle.process_model.specs.Flash.{object_in}
-use Rattle.kernel_calls.specs.Own.{Beside, HasStart, IsApplication, IsOwn, IsOwnObject, record_in}
+use Rattle.kernel_calls.specs.Own.{Beside, record_in}
+use Rattle.process_restart.specs.Own.{HasStart, IsApplication, IsOwn, IsOwnObject}
 use Rattle.kernel_calls.specs.Outcomes.{acts_for, IsOfSlot, KeepsSlot, ServingComesTo}
 use Rattle.kernel_calls.proofs.Starts.{of_object}
 

@@ -1,20 +1,19 @@
 -- A process that starts again, and records that keep their object.
-use Rattle.std.proofs.Common.{◌≡◌, ◌≢◌, ℕ, ◌-◌, List, Result, ap, ap₂, sym, ◌∙◌, arith}
+use Rattle.std.proofs.Common.{◌≡◌, ◌≢◌, ℕ, List, Result, ap, ap₂, sym, ◌∙◌, arith}
 use Rattle.std.proofs.lemmas.Bool.Decides.{nat_tests}
 use Rattle.tk_base.specs.declared.call.CallRule.{CallRule}
 use Rattle.tk_base.specs.declared.call.CallRule.TheVariants.{NoOperation}
-use Rattle.tbf_headers.specs.declared.app.AppStart.{AppStart}
-use Rattle.process_layout.specs.LayoutView.{LayoutView, first_break}
-use Rattle.process_model.specs.Own.{Own, layout_of, own_restarted}
+use Rattle.process_layout.specs.LayoutView.{first_break}
+use Rattle.process_model.specs.Own.{Own}
 use Rattle.syscall_abi.specs.declared.reply.Reply.{Reply}
 use Rattle.process_model.specs.declared.place.Object.{Object}
 use Rattle.process_record.specs.declared.outcome.Outcome.{Outcome}
 use Rattle.process_record.specs.declared.process.Process.{Process}
-use Rattle.process_record.specs.Process.{regs_from, restarted, restarted_with_regs}
 use Rattle.kernel_model.specs.Record.{Record, with_process}
 use Rattle.kernel_model.specs.Calls.{driver_answered, refused, exit, restart, restarted_by, restarted_main}
 use Rattle.process_model.specs.Flash.{object_in}
-use Rattle.kernel_calls.specs.Own.{Beside, StartsAs, record_in}
+use Rattle.kernel_calls.specs.Own.{Beside, record_in}
+use Rattle.process_restart.specs.Restarts.{StartsAgain}
 use Rattle.kernel_calls.specs.Outcomes.{acts_for, ServingComesTo}
 
 -- a record that keeps its object
@@ -43,26 +42,14 @@ pub no_exit : (r : Record) (kind code : ℕ) → kind ≢ 0 → kind ≢ 1 → e
 unfolding exit
 no_exit r kind code zeroth first = grind (arith, nat_tests)
 
--- a process starts as the header of its object says
-pub starts_again : (flash : List ℕ) (p q : Process) (own own_after : Own) (beside : Beside) (s : AppStart)
-    (e : LayoutView) (brk : ℕ) → StartsAs (object_in flash p.object) p.object.address s → e ≡ layout_of own
-    → brk ≡ first_break e.start s.minimum_ram
-    → q ≡ restarted_with_regs p (regs_from s.entry s.after_protected e.start (e.end - e.start) brk)
-    → own_after ≡ own_restarted brk own
+-- a process that starts again by its header has the record of one that does
+pub starts_again : (flash : List ℕ) (p q : Process) (own own_after : Own) (beside : Beside)
+    → StartsAgain (object_in flash p.object) (p, own) (q, own_after)
     → record_in flash q own_after beside ≡ restart (record_in flash p own beside)
 unfolding restart
-starts_again flash p q own own_after beside s e brk k place at is left =
+starts_again flash p q own own_after beside k =
     let r = record_in flash p own beside in
     let first = first_break own.layout.start k.m.minimum_ram in
-    let brk_is : brk ≡ first =
-    at ∙ ap (λ (x : AppStart). first_break e.start x.minimum_ram) k.is
-    ∙ ap (λ (x : LayoutView). first_break x.start k.m.minimum_ram) place in
-    let process : q ≡ restarted p k.h k.m own.layout.start (own.layout.end - own.layout.start) first
-    = is ∙ ap (λ (x : AppStart). restarted_with_regs p (regs_from x.entry x.after_protected e.start (e.end - e.start)
-    brk)) k.is
-    ∙ ap (λ (x : LayoutView). restarted p k.h k.m x.start (x.end - x.start) brk) place
-    ∙ ap (restarted p k.h k.m own.layout.start (own.layout.end - own.layout.start)) brk_is in
-    let own_is : own_after ≡ own_restarted first own = left ∙ ap (λ (n : ℕ). own_restarted n own) brk_is in
     ap (λ (o : Object). record {
       process = q;
       object = object_in flash o;
@@ -70,12 +57,12 @@ starts_again flash p q own own_after beside s e brk k place at is left =
       storage = beside.storage;
       pressed = beside.pressed;
     })
-    (ap (λ (x : Process). x.object) is)
+    (ap (λ (x : Process). x.object) k.process)
     ∙ ap₂ (λ (x : Process) (o : Own). record {
       process = x;
       object = object_in flash p.object;
       own = o;
       storage = beside.storage;
       pressed = beside.pressed;
-    }) process own_is
+    }) k.process k.own
     ∙ sym (ap (restarted_by r) k.read ∙ ap (restarted_main r k.h) k.main)

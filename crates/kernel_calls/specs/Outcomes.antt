@@ -21,7 +21,8 @@ use Rattle.upcall_queue.specs.declared.inbox.Delivery.TheVariants.{Function}
 use Rattle.upcall_queue.specs.Pending.{due, left_by, taken_at}
 use Rattle.kernel_model.specs.Calls.{Served, deliver, object_permits, served}
 use Rattle.process_model.specs.Flash.{object_in}
-use Rattle.kernel_calls.specs.Own.{Beside, IsOwn, record_in}
+use Rattle.kernel_calls.specs.Own.{Beside, record_in}
+use Rattle.process_restart.specs.Own.{IsOwn, KeepsObject, LivesOn}
 
 -- what the board is to do for a call that the kernel serves itself, by what comes of it: one whose process ends or
 -- starts again waits in no list any more
@@ -87,12 +88,6 @@ ServesAt strict slot home process call home_after process_after outcome =
     LeftOrServed (IsLeft strict home home_after process process_after call)
     (IsServed strict slot home home_after process process_after call) outcome
 
--- no call moves a process's object or is a turn; one may start the process again
-pub record KeepsObject (p q : Process) : Type 0 where
-  pub object : q.object ≡ p.object
-  pub turns : q.turns ≡ p.turns
-  pub restarts : q.restarts ≤ p.restarts + 1
-
 -- a number that is an address
 abbrev pub as_address : Option ℕ → Option ℕ
 as_address None = None
@@ -111,10 +106,6 @@ broken_by (Err rule) = Some rule
 pub record IsOfSlot (at : ℕ) (home : Homes) (process : Process) : Type 0 where
   pub slot : at < length home.owns
   pub own : IsOwn home.flash process (own_of home at)
-
--- a call begins at most one life
-abbrev pub LivesOn : Own → Own → Type 0
-LivesOn old new = new.life ≤ old.life + 1
 
 -- what serving a call leaves: the process is still that of the slot, and no other slot's own has changed
 pub record KeepsSlot (slot : ℕ) (home : Homes) (process : Process) (home_after : Homes)

@@ -2,17 +2,17 @@
 ghost use Rattle.std.specs.Prelude.{◌≡◌, ◌+◌, ◌<◌, ◌^◌, length};
 ghost use Rattle.grant_enter.specs.Homes.{own_of, ChangesOnly};
 ghost use Rattle.kernel_model.specs.Calls.{exit, restart};
-ghost use Rattle.kernel_calls.specs.Own.{Beside, IsOwn};
+ghost use Rattle.kernel_calls.specs.Own.{Beside};
 ghost use Rattle.kernel_calls.specs.Outcomes.{record_of_slot, ComesAt, IsOfSlot, KeepsSlot};
-ghost use Rattle.kernel_calls.specs.Outcomes.{LivesOn, KeepsObject};
+ghost use Rattle.process_restart.specs.Own.{IsOwn, KeepsObject, LivesOn};
 
-use crate::headers::start_of;
 use crate::replies::give;
 use grant_enter::Home;
 use process_record::{Outcome, Process};
 use tk_base::{CallRule, Slot};
 
-/// Starts the process in a slot again, over a block of zeros, by the header of its object.
+/// Starts the process in a slot again, over a block of zeros, by the header of its object: its
+/// record is then as one that starts again.
 pub fn restart_process(home: &mut Home, process: &mut Process, slot: Slot)
     requires slot { slot < length home.old.owns }
     requires own { IsOwn home.old.flash process.old (own_of home.old slot) }
@@ -25,11 +25,7 @@ pub fn restart_process(home: &mut Home, process: &mut Process, slot: Slot)
     ensures lives_on { LivesOn (own_of home.old slot) (own_of home.new slot) }
     ensures rest { ChangesOnly slot home.old home.new }
 {
-    let start = start_of(home.flash(), &process.object);
-    let layout = home.layout(slot);
-    let brk = layout.first_break(start.minimum_ram);
-    process.restart(start, layout.start, layout.end - layout.start, brk);
-    home.restart(slot, brk);
+    process_restart::restart_process(home, process, slot);
 }
 
 /// Ends the process in a slot with a completion code, starts it again, or refuses another kind of

@@ -5,7 +5,8 @@ ghost use Rattle.grant_enter.specs.Homes.{own_of, ChangesOnly};
 ghost use Rattle.kernel_model.specs.Record.{Record, record_with_own};
 ghost use Rattle.kernel_model.specs.Calls.{driver_answered, break_moved, moved_by, region};
 ghost use Rattle.kernel_model.specs.Calls.{region_end, memop};
-ghost use Rattle.kernel_calls.specs.Own.{Beside, HasHeader, IsOwn, record_in};
+ghost use Rattle.kernel_calls.specs.Own.{Beside, record_in};
+ghost use Rattle.process_restart.specs.Own.{HasHeader, IsOwn};
 ghost use Rattle.kernel_calls.specs.Outcomes.{as_address, record_of_slot, MovesBreak};
 
 use crate::headers::{region_count_of, region_of};

@@ -2,10 +2,10 @@
 ghost use Rattle.std.specs.Prelude.{◌≡◌};
 ghost use Rattle.kernel_model.specs.Calls.{object_permits};
 ghost use Rattle.process_model.specs.Flash.{object_in};
-ghost use Rattle.kernel_calls.specs.Own.{HasHeader};
+ghost use Rattle.process_restart.specs.Own.{HasHeader};
 
-use crate::headers::object_of;
 use process_model::Object;
+use process_restart::object_of;
 use syscall_abi::Call;
 use syscall_filter::filter;
 use tbf_headers::permissions_in;

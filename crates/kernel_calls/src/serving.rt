@@ -3,9 +3,11 @@ ghost use Rattle.std.specs.Prelude.{◌≡◌, ◌+◌, ◌<◌, ◌^◌, length
 ghost use Rattle.driver_model.specs.Drivers.{CommandContext};
 ghost use Rattle.grant_enter.specs.Homes.{own_of, ChangesOnly};
 ghost use Rattle.kernel_model.specs.Calls.{by_form, memop};
-ghost use Rattle.kernel_calls.specs.Own.{IsOwn};
-ghost use Rattle.kernel_calls.specs.Outcomes.{is_taken, ComesAt, IsOfSlot, KeepsSlot, LivesOn};
-ghost use Rattle.kernel_calls.specs.Outcomes.{ServesAt, KeepsObject};
+ghost use Rattle.process_restart.specs.Own.{IsOwn};
+ghost use Rattle.kernel_calls.specs.Outcomes.{is_taken, ComesAt, IsOfSlot, KeepsSlot};
+ghost use Rattle.process_restart.specs.Own.{LivesOn};
+ghost use Rattle.kernel_calls.specs.Outcomes.{ServesAt};
+ghost use Rattle.process_restart.specs.Own.{KeepsObject};
 
 use crate::exits::exit_call;
 use crate::memops::memop_call;

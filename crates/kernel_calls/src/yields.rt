@@ -4,9 +4,11 @@ ghost use Rattle.upcall_queue.specs.Pending.{place_of};
 ghost use Rattle.process_record.specs.Process.{after_call};
 ghost use Rattle.grant_enter.specs.Homes.{own_of, ChangesOnly};
 ghost use Rattle.kernel_model.specs.Calls.{flag_written, yield_for, yield_now, yielding};
-ghost use Rattle.kernel_calls.specs.Own.{Beside, IsOwn};
+ghost use Rattle.kernel_calls.specs.Own.{Beside};
+ghost use Rattle.process_restart.specs.Own.{IsOwn};
 ghost use Rattle.kernel_calls.specs.Outcomes.{record_of_slot, ComesAt, DeliversAt, IsOfSlot};
-ghost use Rattle.kernel_calls.specs.Outcomes.{KeepsSlot, LivesOn, KeepsObject, first_delivered};
+ghost use Rattle.kernel_calls.specs.Outcomes.{KeepsSlot, first_delivered};
+ghost use Rattle.process_restart.specs.Own.{LivesOn, KeepsObject};
 
 use grant_enter::Home;
 use process_record::{Outcome, Process};

@@ -222,7 +222,7 @@ module _ (law : OnlyHandingChangesPairs) where
       })
 
   -- nothing
-  leaves_none : (r s : Record) (left : List Scheduling → List Scheduling) → s.object ≡ r.object
+  pub leaves_none : (r s : Record) (left : List Scheduling → List Scheduling) → s.object ≡ r.object
       → s.own.inbox.pending ≡ []
       → (HasShape r.own → HasShape s.own) → ((waiting : List Scheduling) → left waiting ≡ []) → Leaves r s left
   leaves_none r s left object pending shape none =

@@ -1,5 +1,5 @@
 -- What waits after a run, step by step: it is what was scheduled, and neither delivered nor taken away.
-use Rattle.std.proofs.Common.{◌≡◌, ◌<◌, ◌≤◌, ℕ, ◌+◌, Bool, true, false, not, List, [], ◌∷◌, ◌++◌, drop, length}
+use Rattle.std.proofs.Common.{◌≡◌, ◌<◌, ◌≤◌, ℕ, ◌+◌, Bool, true, false, cond, not, List, [], ◌∷◌, ◌++◌, drop, length}
 use Rattle.std.proofs.Common.{slice_get, slice_index_or, Option, None, Some, IfSome, is_some, refl, sym, ap, subst, ◌∙◌}
 use Rattle.std.proofs.Common.{arith}
 use Rattle.std.specs.Prelude.{All}
@@ -14,30 +14,35 @@ use Rattle.std.proofs.Math.Seq.{drop-append_seam}
 use Rattle.tk_base.specs.declared.process.Choice.{Choice}
 use Rattle.tk_base.specs.declared.upcall.Upcall.{Upcall as Scheduled}
 use Rattle.tk_base.specs.declared.upcall.Wait.{Wait}
-use Rattle.tbf_headers.specs.Meaning.{header_reading}
+use Rattle.tk_base.specs.declared.process.Verb.{Verb}
+use Rattle.tbf_headers.specs.Meaning.{header_reading, main_by}
+use Rattle.process_model.specs.Own.{Own, own_ended}
+use Rattle.process_record.specs.Operator.{ends_by}
 use Rattle.rv32_model.specs.Laws.{CallsAreOfEcall}
-use Rattle.process_model.specs.Pairs.{HandsTheSame}
+use Rattle.process_model.specs.Pairs.{HandsTheSame, OnlyHandingChangesPairs}
 use Rattle.driver_model.specs.Upcalls.{SchedulesHeld}
 use Rattle.kernel_model.specs.Record.{Record}
 use Rattle.kernel_model.specs.declared.settings.Settings.{Settings}
-use Rattle.kernel_model.specs.Turn.{Event, TurnTrace, apply, turned}
-use Rattle.kernel_model.specs.Laws.{CanStartAgain, main_by}
+use Rattle.kernel_model.specs.Calls.{restarted_with}
+use Rattle.kernel_model.specs.Turn.{Event, TurnTrace, apply, operated, turned}
+use Rattle.kernel_model.specs.Laws.{CanStartAgain}
 use Rattle.kernel_model.specs.World.{World, after}
 use Rattle.kernel_model.specs.Replay.{after_all}
-use Rattle.kernel_model.specs.Histories.{HandedNothing}
+use Rattle.kernel_model.specs.Histories.{HandedNothing, is_ended_in}
 use Rattle.kernel_histories.specs.Deliveries.{DeliveriesAreOfTheLast, DeliversAt, IsDelivered, IsOfTheLast, IsSubscribed, Scheduling}
 use Rattle.kernel_histories.specs.Deliveries.{Takes, left_by_turn, pending_in, pending_of}
 use Rattle.kernel_histories.specs.Deliveries.{place_taken, removed, scheduled_in, schedulings, schedulings_after}
 use Rattle.kernel_histories.specs.Deliveries.{schedulings_from, schedulings_left_by, schedulings_left_in, takes}
 use Rattle.kernel_histories.specs.Deliveries.{takes_away, told_in, upcalls, wait_in_slot, wait_of}
 use Rattle.kernel_histories.proofs.Delivered.{LeavesTaken, step_delivers}
-use Rattle.kernel_histories.proofs.Deliveries.{Leaves, Promise, Sound, all_but, of_turn, schedules}
-use Rattle.kernel_model.proofs.Steps.{IsAnswer, answer_changes, of_answer, of_step}
+use Rattle.kernel_histories.proofs.Deliveries.{Leaves, Promise, Sound, all_but, leaves_none, of_turn, schedules}
+use Rattle.kernel_model.proofs.Restarts.{restarts}
+use Rattle.kernel_model.proofs.Steps.{IsAnswer, answer_changes, of_answer, of_operated, of_step}
 
 -- a process that can start again, and of which each upcall that waits is the one that is held
-record IsGood (r : Record) : Type 0 where
-  can : CanStartAgain r
-  sound : Sound r.own
+pub record IsGood (r : Record) : Type 0 where
+  pub can : CanStartAgain r
+  pub sound : Sound r.own
 
 still_good : (r o : Record) (left : List Scheduling → List Scheduling) → Leaves r o left → IsGood r → IsGood o
 still_good r o left leaves good = record {
@@ -45,16 +50,21 @@ still_good r o left leaves good = record {
   sound = leaves.sound good.sound;
 }
 
--- What a step leaves of what waits for the process in a slot, by what its turn tells: what is left, and then one upcall
--- more at most. Each is still the one that is held.
-record Follows (before : Option Record) (tolds : List TurnTrace) (o : Option Record) : Type 0 where
-  more : List Scheduled
-  pending : (waiting : List Scheduling) → upcalls waiting ≡ pending_of before
-      → pending_of o ≡ upcalls (schedulings_left_by (option_and_then wait_of before) tolds waiting) ++ more
-  one : length more ≤ 1
-  good : IfSome o IsGood
+-- what an operator's act leaves that ends a life, or none
+abbrev left_by_act : Bool → List Scheduling → List Scheduling
+left_by_act ended waiting = cond ended [] waiting
 
-follows_none : (o : Option Record) → IfSome o IsGood → Follows o [] o
+-- What a step leaves of what waits for the process in a slot, by whether an operator's act ended a life of it and by
+-- what its turn tells: what is left, and then one upcall more at most. Each is still the one that is held.
+pub record Follows (before : Option Record) (ended : Bool) (tolds : List TurnTrace) (o : Option Record) : Type 0 where
+  pub more : List Scheduled
+  pub pending : (waiting : List Scheduling) → upcalls waiting ≡ pending_of before
+      → pending_of o
+      ≡ upcalls (cond ended [] (schedulings_left_by (option_and_then wait_of before) tolds waiting)) ++ more
+  pub one : length more ≤ 1
+  pub good : IfSome o IsGood
+
+follows_none : (o : Option Record) → IfSome o IsGood → Follows o false [] o
 follows_none o good =
     record {
       more = [];
@@ -65,12 +75,12 @@ follows_none o good =
     }
 
 -- the record changes
-follows_some : (before : Option Record) (tolds : List TurnTrace) (r o : Record)
+follows_some : (before : Option Record) (ended : Bool) (tolds : List TurnTrace) (r o : Record)
     (left : List Scheduling → List Scheduling) → before ≡ Some r → Leaves r o left
-    → ((waiting : List Scheduling) → schedulings_left_by (wait_of r) tolds waiting ≡ left waiting)
-    → IsGood r → Follows before tolds (Some o)
-follows_some before tolds r o left is leaves same good =
-    subst (λ (x : Option Record). Follows x tolds (Some o)) (sym is)
+    → ((waiting : List Scheduling) → cond ended [] (schedulings_left_by (wait_of r) tolds waiting) ≡ left waiting)
+    → IsGood r → Follows before ended tolds (Some o)
+follows_some before ended tolds r o left is leaves same good =
+    subst (λ (x : Option Record). Follows x ended tolds (Some o)) (sym is)
     (record {
       more = leaves.more;
       pending = λ waiting e. leaves.pending waiting e
@@ -87,21 +97,53 @@ answer_leaves promise settings event r is =
     (of_answer HandsTheSame promise.leave settings event r is)
     (of_answer SchedulesHeld promise.schedule settings event r is) (λ waiting. refl)
 
+-- nothing changes of what waits
+all_left : (r s : Record) → s.object ≡ r.object → s.own ≡ r.own → Leaves r s (λ waiting. left_by_act false waiting)
+all_left r s object own = record {
+  object = object;
+  more = [];
+  pending = λ waiting is.
+      ap (λ (o : Own). o.inbox.pending) own ∙ sym is ∙ sym (append-nil (upcalls waiting));
+  one = omega arith;
+  sound = λ sound. subst Sound (sym own) sound;
+}
+
+-- an operator's act leaves what waits, or nothing of it
+act_leaves : Promise → (verb : Verb) (r : Record) → CanStartAgain r
+    → Leaves r (operated verb r) (λ waiting. left_by_act (ends_by verb r.process) waiting)
+act_leaves promise verb r can =
+    of_operated (λ ended s. Leaves r s (λ waiting. left_by_act ended waiting)) r (all_left r r refl refl)
+    (λ held. all_left r _ refl refl)
+    (λ lives. leaves_none law r _ (λ waiting. left_by_act true waiting) refl refl
+    (law.shape r.own (own_ended r.own) (law.grants r.own (own_ended r.own) refl)) (λ waiting. refl))
+    (restarts (λ s. Leaves r s (λ waiting. left_by_act true waiting)) r can
+    (λ h m. leaves_none law r (restarted_with r h m) (λ waiting. left_by_act true waiting) refl refl
+    (λ shape. (law.none (restarted_with r h m).own refl).shape) (λ waiting. refl)))
+    verb
+  where
+    law : OnlyHandingChangesPairs
+    law = promise.pairs
+
 module _ (promise : Promise) where
-  step_follows : (slot : ℕ) (w : World) (choice : Choice) → IfSome (slice_get w.records slot) IsGood
-      → Follows (slice_get w.records slot) (told_in slot w choice) (slice_get (after w choice).records slot)
+  pub step_follows : (slot : ℕ) (w : World) (choice : Choice) → IfSome (slice_get w.records slot) IsGood
+      → Follows (slice_get w.records slot) (is_ended_in slot w choice) (told_in slot w choice)
+      (slice_get (after w choice).records slot)
   step_follows slot w choice good =
       of_step w slot (Follows (slice_get w.records slot))
       (record {
         stays = follows_none (slice_get w.records slot) good;
         turn = λ r is.
             let g = good_at r is in
-            follows_some (slice_get w.records slot) _ r _
+            follows_some (slice_get w.records slot) false _ r _
             (left_by_turn (wait_of r) (turned w.settings w.clock.time r).told) is
             (of_turn promise w.settings w.clock.time r g.can) (λ waiting. refl) g;
         answer = λ r is event answers.
-            follows_some (slice_get w.records slot) [] r _ (λ waiting. waiting) is
+            follows_some (slice_get w.records slot) false [] r _ (λ waiting. waiting) is
             (answer_leaves promise w.settings event r answers) (λ waiting. refl) (good_at r is);
+        act = λ r is verb.
+            follows_some (slice_get w.records slot) (ends_by verb r.process) [] r _
+            (λ waiting. left_by_act (ends_by verb r.process) waiting) is
+            (act_leaves promise verb r (good_at r is).can) (λ waiting. refl) (good_at r is);
       })
       choice
     where
@@ -117,7 +159,7 @@ numbered : (step : ℕ) (us : List Scheduled) → upcalls (scheduled_in step us)
 numbered step [] = refl
 numbered step (u ∷ us) = ap (λ (rest : List Scheduled). u ∷ rest) (numbered step us)
 
-abbrev GoodIn : ℕ → World → Type 0
+abbrev pub GoodIn : ℕ → World → Type 0
 GoodIn slot w = IfSome (slice_get w.records slot) IsGood
 
 module _ (promise : Promise) (slot : ℕ) where
@@ -158,7 +200,7 @@ module _ (promise : Promise) (slot : ℕ) where
       omega (arith, all, mapped, f.one)
 
 -- where nothing was handed
-begins_good : Promise → (o : Option Record) → IfSome o HandedNothing → IfSome o IsGood
+pub begins_good : Promise → (o : Option Record) → IfSome o HandedNothing → IfSome o IsGood
 begins_good promise None nothing = tt
 begins_good promise (Some r) nothing = record {
   can = nothing.application;
@@ -185,6 +227,12 @@ left_keeps P wait (told ∷ rest) waiting all =
     by_place : (o : Option ℕ) → All P (removed o waiting)
     by_place None = all
     by_place (Some place) = all_but P place waiting all
+
+-- an act that ends a life leaves none
+act_keeps : (P : Scheduling → Type 0) (ended : Bool) (waiting : List Scheduling) → All P waiting
+    → All P (cond ended [] waiting)
+act_keeps P true waiting all = All-nil P
+act_keeps P false waiting all = all
 
 -- what holds of each holds of the one that is got
 each_got : {X : Type 0} (P : X → Type 0) (xs : List X) (i : ℕ) (x : X) → slice_get xs i ≡ Some x → All P xs → P x
@@ -234,30 +282,48 @@ module _ (slot : ℕ) where
       let P : Scheduling → Type 0 = λ s. s.step < m → Q s in
       carried Q m choices (step + 1) (after w choice) (schedulings_after slot step w choice waiting) (omega (arith, le))
       (All-append P (schedulings_left_in slot w choice waiting) _
-      (left_keeps P (wait_in_slot slot w) (told_in slot w choice) waiting all)
+      (act_keeps P (is_ended_in slot w choice) _ (left_keeps P (wait_in_slot slot w) (told_in slot w choice) waiting all))
       (scheduled_later Q m step _ le))
+
+  -- a step takes it away neither by a turn nor by an operator's act
+  abbrev StaysIn : World → Choice → Scheduling → Type 0
+  StaysIn w choice s = All (StaysAfter s) (told_in slot w choice) × (is_ended_in slot w choice ≡ false)
+
+  -- of those that a step leaves
+  left_in : (w : World) (choice : Choice) (waiting : List Scheduling)
+      → All (StaysIn w choice) (schedulings_left_in slot w choice waiting)
+  left_in w choice waiting = by_test (is_ended_in slot w choice) refl
+    where
+      left : List Scheduling
+      left = schedulings_left_by (wait_in_slot slot w) (told_in slot w choice) waiting
+
+      by_test : (b : Bool) → is_ended_in slot w choice ≡ b → All (StaysIn w choice) (cond b [] left)
+      by_test true e = All-nil (StaysIn w choice)
+      by_test false e =
+          All-weaker (λ s. All (StaysAfter s) (told_in slot w choice)) (StaysIn w choice) (λ s h. (h, e)) left
+          (left_stays (wait_in_slot slot w) (told_in slot w choice) waiting)
 
   -- no step since the one that scheduled an upcall took it away, of steps from a number on
   abbrev IsOfTheLastFrom : ℕ → World → List Choice → Scheduling → Type 0
   IsOfTheLastFrom step w choices s =
       (early late : List Choice) (choice : Choice) → choices ≡ early ++ (choice ∷ late) → s.step < step + length early →
-      All (StaysAfter s) (told_in slot (after_all w early) choice)
+      StaysIn (after_all w early) choice s
 
   no_split : (early late : List Choice) (choice : Choice) → [] ≡ early ++ (choice ∷ late) → ⊥
   no_split [] late choice e = cc
   no_split (x ∷ early) late choice e = cc
 
   by_split : (step : ℕ) (w : World) (c : Choice) (cs : List Choice) (s : Scheduling)
-      → (s.step < step → All (StaysAfter s) (told_in slot w c)) → IsOfTheLastFrom (step + 1) (after w c) cs s
+      → (s.step < step → StaysIn w c s) → IsOfTheLastFrom (step + 1) (after w c) cs s
       → (early late : List Choice) (choice : Choice) → c ∷ cs ≡ early ++ (choice ∷ late) → s.step < step + length early
-      → All (StaysAfter s) (told_in slot (after_all w early) choice)
+      → StaysIn (after_all w early) choice s
   by_split step w c cs s first then [] late choice e below =
       let same : c ≡ choice = cc in
-      subst (λ (x : Choice). All (StaysAfter s) (told_in slot w x)) same (first (omega (arith, below)))
+      subst (λ (x : Choice). StaysIn w x s) same (first (omega (arith, below)))
   by_split step w c cs s first then (x ∷ early) late choice e below =
       let same : c ≡ x = cc in
       let rest : cs ≡ early ++ (choice ∷ late) = cc in
-      subst (λ (y : Choice). All (StaysAfter s) (told_in slot (after_all (after w y) early) choice)) same
+      subst (λ (y : Choice). StaysIn (after_all (after w y) early) choice s) same
       (then early late choice rest (omega (arith, below)))
 
   last_from : (choices : List Choice) (step : ℕ) (w : World) (waiting : List Scheduling)
@@ -269,15 +335,16 @@ module _ (slot : ℕ) where
       let yielded = wait_in_slot slot w in
       let left = schedulings_left_in slot w c waiting in
       let next = schedulings_after slot step w c waiting in
-      let Q : Scheduling → Type 0 = λ s. All (StaysAfter s) (told_in slot w c) in
+      let Q : Scheduling → Type 0 = StaysIn w c in
       let first = carried Q step cs (step + 1) (after w c) next (omega arith)
       (All-append (λ s. s.step < step → Q s) left _
       (All-weaker Q (λ s. s.step < step → Q s) (λ s h below. h) left
-      (left_stays yielded (told_in slot w c) waiting)) (scheduled_later Q step step _ (omega arith))) in
+      (left_in w c waiting)) (scheduled_later Q step step _ (omega arith))) in
       let then = last_from cs (step + 1) (after w c) next
       (All-append (λ s. s.step < step + 1) left _
       (All-weaker (λ s. s.step < step) (λ s. s.step < step + 1) (λ s h. omega (arith, h)) left
-      (left_keeps (λ s. s.step < step) yielded (told_in slot w c) waiting all))
+      (act_keeps (λ s. s.step < step) (is_ended_in slot w c) _
+      (left_keeps (λ s. s.step < step) yielded (told_in slot w c) waiting all)))
       (All-map (λ s. s.step < step + 1) (λ u. record { step = step; upcall = u }) _
       (every (λ (u : Scheduled). step < step + 1) _ (λ u. omega arith)))) in
       both (λ s. s.step < step → Q s) (IsOfTheLastFrom (step + 1) (after w c) cs) (IsOfTheLastFrom step w (c ∷ cs))

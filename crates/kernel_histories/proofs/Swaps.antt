@@ -55,7 +55,8 @@ use Rattle.upcall_queue.specs.Pending.{due, place_of}
 use Rattle.kernel_model.specs.Turn.{TurnTrace, Turned, arguments, called, calls, turn_counted, delivery, at_turn_end}
 use Rattle.kernel_model.specs.Turn.{faulted, yield_flag_of, idle, instructed, made, settled, surroundings, turned}
 use Rattle.kernel_model.specs.Turn.{turn_in, unknown_call}
-use Rattle.kernel_model.specs.Laws.{CanStartAgain, main_by}
+use Rattle.kernel_model.specs.Laws.{CanStartAgain}
+use Rattle.tbf_headers.specs.Meaning.{main_by}
 use Rattle.kernel_model.specs.Histories.{PairKey, class_of, handed_by, is_exit, is_swap, last_pair, swap_reply}
 use Rattle.kernel_model.proofs.Classes.{command_in, exit_in, memop_in, of_registers, swap_in, yield_in}
 use Rattle.kernel_model.proofs.Handed.{is_handed}

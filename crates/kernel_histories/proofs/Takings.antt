@@ -222,14 +222,15 @@ step_takes P each of_ecall w slot choice r s is left =
           All-cons (Tells x) t.told []
           (at_turn q x (same_record (slice_get w.records slot) q r q_is is) e) (All-nil (Tells x));
       answer = λ q q_is event answers x e. All-nil (Tells x);
+      act = λ q q_is verb x e. All-nil (Tells x);
     })
     choice s left
   where
     Tells : Record → TurnTrace → Type 0
     Tells x told = P (takes (wait_of r) told.call) r x
 
-    Of : List TurnTrace → Option Record → Type 0
-    Of tolds o = (x : Record) → o ≡ Some x → All (Tells x) tolds
+    Of : Bool → List TurnTrace → Option Record → Type 0
+    Of ended tolds o = (x : Record) → o ≡ Some x → All (Tells x) tolds
 
     same_record : (o : Option Record) (x y : Record) → o ≡ Some x → o ≡ Some y → x ≡ y
     same_record o x y e f = let both : Some x ≡ Some y = sym e ∙ f in cc

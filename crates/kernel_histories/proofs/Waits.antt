@@ -2,12 +2,13 @@
 use Rattle.std.proofs.Common.{◌≡◌, ◌≢◌, ℕ, ◌+◌, ◌==◌, Bool, true, false, cond, List, [], ◌∷◌, ◌++◌, find, slice_get}
 use Rattle.std.proofs.Common.{Option, None, Some, IfSome, refl, sym, ap, ap₂, ◌∙◌, eqb-true, eq-eqb}
 use Rattle.std.specs.Prelude.{All, filter_map, option_and_then, unwrap_or}
-use Rattle.std.specs.List.{cons_option, flat_map}
+use Rattle.std.specs.List.{cons_option, flat_map, list_any}
 use Rattle.std.specs.Option.{option_map}
 use Rattle.std.proofs.lemmas.Bool.{false≢true}
 use Rattle.std.proofs.lemmas.List.Elements.{All-nil, All-cons, All-weaker}
 use Rattle.tk_base.specs.declared.process.Choice.{Choice}
 use Rattle.tk_base.specs.declared.process.Choice.TheVariants.{Run, Device, Pass}
+use Rattle.tk_base.specs.declared.process.Verb.{Verb}
 use Rattle.tk_base.specs.declared.upcall.Upcall.{Upcall as Scheduled}
 use Rattle.tk_base.specs.declared.upcall.Wait.{Wait}
 use Rattle.tk_base.specs.declared.upcall.Wait.TheVariants.{For, Given}
@@ -23,18 +24,21 @@ use Rattle.process_record.specs.Process.{after_turn, delivered}
 use Rattle.kernel_model.specs.Record.{Record}
 use Rattle.kernel_model.specs.declared.settings.Settings.{Settings}
 use Rattle.kernel_model.specs.Calls.{yield_for}
-use Rattle.kernel_model.specs.Turn.{Event, Turn, TurnTrace, apply, delivery, turn_counted, turn_in, turned}
+use Rattle.kernel_model.specs.Turn.{Act, Event, Turn, TurnTrace, apply, delivery, is_turn, turn_counted, turn_in}
+use Rattle.kernel_model.specs.Turn.{turned}
 use Rattle.kernel_model.specs.World.{Answer, DeviceStep, Label, Stepped, World, after, carried_out, device_step_of}
 use Rattle.kernel_model.specs.World.{done}
 use Rattle.kernel_model.specs.World.{happens, labels_of, labels_told, ran}
-use Rattle.kernel_model.specs.Replay.{after_all}
-use Rattle.kernel_model.specs.Histories.{turns_in}
-use Rattle.kernel_laws.specs.Scheduled.{upcall_told}
+use Rattle.process_record.specs.Operator.{ends_by}
+use Rattle.kernel_model.specs.Replay.{after_all, happened}
+use Rattle.kernel_model.specs.Histories.{is_end, is_ended_in, turns_in}
+use Rattle.kernel_laws.specs.Scheduled.{answer_step, upcall_told}
 use Rattle.kernel_histories.specs.Deliveries.{FirstOf, Takes, takes, told_in, wait_in, wait_in_slot}
 use Rattle.kernel_histories.specs.Deliveries.{wait_of}
 use Rattle.kernel_histories.specs.Waits.{HasNoTurn, WaitsGetTheFirst, awaited, upcalls_since, upcalls_told}
 use Rattle.kernel_model.proofs.Places.{of_stepped, ran-other}
-use Rattle.kernel_model.proofs.Steps.{AnswersOnly, IsAnswer, answer_changes, device_answers, of_step}
+use Rattle.kernel_model.proofs.Steps.{IsAnswer, TellsNoTurn, answer_changes, device_answers, ended_told, of_operated}
+use Rattle.kernel_model.proofs.Steps.{of_step, of_told}
 use Rattle.kernel_model.proofs.Told.{labels_at, told_at, told_there}
 use Rattle.kernel_laws.proofs.Scheduled.{told_inbox}
 use Rattle.kernel_histories.proofs.Takings.{OfTakings, step_takes}
@@ -104,20 +108,40 @@ after_answer settings event r is wait waits =
     ∙ waits_on r.process.state r.own.inbox.wait _ wait (listed (upcall_told event r)) waits
     (ap (λ (i : Inbox). i.wait) (told_inbox settings event r is) ∙ wait_if (upcall_told event r) r.own.inbox)
 
--- of a step in which the process in a slot has no turn
+-- after an operator's act that ends no life
+after_act : (settings : Settings) (verb : Verb) (r : Record) → ends_by verb r.process ≡ false → (wait : Wait)
+    → wait_of r ≡ Some wait
+    → wait_of (apply settings (Act verb) r) ≡ Some (over wait (listed (upcall_told (Act verb) r)))
+unfolding apply answer_step
+after_act settings verb r none wait waits =
+    of_operated (λ ended s. ended ≡ false → wait_of s ≡ wait_of r) r (λ e. refl) (λ held e. refl)
+    (λ lives e. absurd (false≢true (sym e))) (λ e. absurd (false≢true (sym e))) verb none ∙ waits
+
+-- so it is after whatever else happens to it that is no turn
+after_told : (settings : Settings) (event : Event) (r : Record) → is_turn event ≡ false
+    → is_end (Some r) event ≡ false → (wait : Wait) → wait_of r ≡ Some wait
+    → wait_of (apply settings event r) ≡ Some (over wait (listed (upcall_told event r)))
+after_told settings event r is none wait waits =
+    of_told (λ (e : Event). is_end (Some r) e ≡ false
+    → wait_of (apply settings e r) ≡ Some (over wait (listed (upcall_told e r))))
+    (λ e answers goes_on. after_answer settings e r answers wait waits)
+    (λ verb goes_on. after_act settings verb r goes_on wait waits) event is none
+
+-- of a step in which the process in a slot has no turn, and no operator's act ends a life of it
 module _ (w : World) (slot : ℕ) where
   abbrev told : Label → Option Scheduled
   told label =
       cond (label.slot == slot) (option_and_then (upcall_told label.event) (slice_get w.records slot)) None
 
   abbrev Does : Stepped → Type 0
-  Does s = flat_map (turns_in slot) s.labels ≡ [] → (wait : Wait)
+  Does s = flat_map (turns_in slot) s.labels ≡ []
+      → list_any (is_end (slice_get w.records slot)) (flat_map (happened slot) s.labels) ≡ false → (wait : Wait)
       → option_and_then wait_of (slice_get w.records slot) ≡ Some wait
       → option_and_then wait_of (slice_get s.after.records slot) ≡ Some (over wait (filter_map told s.labels))
 
   of_ran : (other : ℕ) (o : Option Record) → slice_get w.records other ≡ o → Does (ran w other o)
-  of_ran other None there none wait is = is
-  of_ran other (Some r) there none wait is = by_slot (other == slot) refl none
+  of_ran other None there none goes_on wait is = is
+  of_ran other (Some r) there none goes_on wait is = by_slot (other == slot) refl none
     where
       by_slot : (b : Bool) → (other == slot) ≡ b
           → cond b ((turned w.settings w.clock.time r).told ∷ []) [] ++ [] ≡ []
@@ -130,9 +154,9 @@ module _ (w : World) (slot : ℕ) where
           (ran-other w other slot (Some r) (λ same. false≢true (sym e ∙ eq-eqb other slot (sym same)))) ∙ is
 
   -- what a device's step tells it, if it tells it anything
-  of_deed : (o : Option DeviceStep) → IfSome o (λ deed. AnswersOnly deed.told) → Does (done w o)
-  of_deed None answers none wait is = is
-  of_deed (Some deed) answers none wait is =
+  of_deed : (o : Option DeviceStep) → IfSome o (λ deed. TellsNoTurn deed.told) → Does (done w o)
+  of_deed None answers none goes_on wait is = is
+  of_deed (Some deed) answers none goes_on wait is =
       ap (option_and_then wait_of) (told_at w.settings deed.told w.records slot)
       ∙ by_record (slice_get w.records slot) refl is
       ∙ ap (λ (us : List Scheduled). Some (over wait us)) (sym heard)
@@ -160,7 +184,8 @@ module _ (w : World) (slot : ℕ) where
           → wait_of (happens w.settings o r) ≡ Some (over wait (filter_map told (labels_of slot o)))
       by_answer r there waits None e = waits
       by_answer r there waits (Some a) e =
-          after_answer w.settings a.event r (answers slot a e) wait waits
+          after_told w.settings a.event r (answers slot a e) (sym (ended_told w slot deed r a there e) ∙ goes_on) wait
+          waits
           ∙ ap (λ (us : List Scheduled). Some (over wait us)) (as_listed (upcall_told a.event r)
           ∙ ap (λ (o : Option Record). cons_option (option_and_then (upcall_told a.event) o) []) (sym there)
           ∙ ap (λ (b : Bool). cons_option (cond b (option_and_then (upcall_told a.event)
@@ -177,12 +202,13 @@ module _ (w : World) (slot : ℕ) where
   unfolding carried_out
   of_choice (Run other) = of_ran other (slice_get w.records other) refl
   of_choice (Device device) = of_deed (device_step_of w device) (device_answers w device)
-  of_choice (Pass ticks) = λ none wait is. is
+  of_choice (Pass ticks) = λ none goes_on wait is. is
 
   pub step_waits : (choice : Choice) (wait : Wait) → wait_in_slot slot w ≡ Some wait → told_in slot w choice ≡ []
+      → is_ended_in slot w choice ≡ false
       → wait_in_slot slot (after w choice) ≡ Some (over wait (upcalls_told slot w choice))
-  step_waits choice wait is none =
-      of_stepped Does w choice (λ none wait is. is) (λ ready. of_choice choice) none wait is
+  step_waits choice wait is none goes_on =
+      of_stepped Does w choice (λ none goes_on wait is. is) (λ ready. of_choice choice) none goes_on wait is
 
 -- and of all steps since it waits
 since_waits : (since : List Choice) (slot : ℕ) (w : World) (wait : Wait) → wait_in_slot slot w ≡ Some wait
@@ -190,7 +216,7 @@ since_waits : (since : List Choice) (slot : ℕ) (w : World) (wait : Wait) → w
 since_waits [] slot w wait is none = is
 since_waits (choice ∷ since) slot w wait is none =
     since_waits since slot (after w choice) (over wait (upcalls_told slot w choice))
-    (step_waits w slot choice wait is none.0) none.1
+    (step_waits w slot choice wait is none.0 none.1) none.2
     ∙ ap Some (sym (over_both wait (upcalls_told slot w choice) (upcalls_since slot (after w choice) since)))
 
 -- a call that asks for one upcall alone, of which none waits, waits for it
@@ -241,14 +267,15 @@ step_gives w slot choice r s args is left waits =
           (slice_get w.records slot) q r there is) e)
           (All-nil (Tells x));
       answer = λ q there event answers x e. All-nil (Tells x);
+      act = λ q there verb x e. All-nil (Tells x);
     })
     choice s left
   where
     Tells : Record → TurnTrace → Type 0
     Tells x told = x.process ≡ delivered (Arguments args) (after_turn r.process)
 
-    Of : List TurnTrace → Option Record → Type 0
-    Of tolds o = (x : Record) → o ≡ Some x → All (Tells x) tolds
+    Of : Bool → List TurnTrace → Option Record → Type 0
+    Of ended tolds o = (x : Record) → o ≡ Some x → All (Tells x) tolds
 
     same_record : (o : Option Record) (x y : Record) → o ≡ Some x → o ≡ Some y → x ≡ y
     same_record o x y e f = let both : Some x ≡ Some y = sym e ∙ f in cc

@@ -23,7 +23,7 @@ use Rattle.kernel_model.specs.Record.{Record}
 use Rattle.kernel_model.specs.Turn.{TurnTrace}
 use Rattle.kernel_model.specs.World.{World, after, labels}
 use Rattle.kernel_model.specs.Replay.{after_all}
-use Rattle.kernel_model.specs.Histories.{HandedNothing, PairKey, ends_life, handed_by, turns_in}
+use Rattle.kernel_model.specs.Histories.{HandedNothing, PairKey, ends_life, handed_by, is_ended_in, turns_in}
 
 -- whether a process has yielded
 abbrev pub is_yielded : State → Bool
@@ -124,10 +124,11 @@ pending_in slot w = pending_of (slice_get w.records slot)
 abbrev pub told_in : ℕ → World → Choice → List TurnTrace
 told_in slot w choice = flat_map (turns_in slot) (labels w choice)
 
--- what a step leaves of what waits for the process in a slot
+-- what a step leaves of what waits for the process in a slot: nothing where an operator's act ends a life of it
 abbrev pub schedulings_left_in : ℕ → World → Choice → List Scheduling → List Scheduling
 schedulings_left_in slot w choice waiting =
-    schedulings_left_by (wait_in_slot slot w) (told_in slot w choice) waiting
+    if is_ended_in slot w choice then []
+    else schedulings_left_by (wait_in_slot slot w) (told_in slot w choice) waiting
 
 -- What waits after a step of a number: what it leaves, and then what it scheduled, which stands after that.
 abbrev pub scheduled_in : ℕ → List Scheduled → List Scheduling
@@ -149,11 +150,13 @@ schedulings_from slot step w (choice ∷ choices) waiting =
 abbrev pub schedulings : ℕ → World → List Choice → List Scheduling
 schedulings slot w choices = schedulings_from slot 0 w choices []
 
--- no step of a run after the one that scheduled an upcall took it away
+-- no step of a run after the one that scheduled an upcall took it away: no turn did, and no operator's act that ends a
+-- life
 abbrev pub IsOfTheLast : ℕ → World → List Choice → Scheduling → Type 0
 IsOfTheLast slot w choices s =
     (early late : List Choice) (choice : Choice) → choices ≡ early ++ (choice ∷ late) → s.step < length early →
-    All (λ told. takes_away told s.upcall ≡ false) (told_in slot (after_all w early) choice)
+    let v = after_all w early in
+    All (λ told. takes_away told s.upcall ≡ false) (told_in slot v choice) × (is_ended_in slot v choice ≡ false)
 
 -- an upcall that waits is the one that its process now holds of its driver and number, and not the null upcall
 abbrev pub IsSubscribed : Own → Scheduled → Type 0

@@ -1,7 +1,7 @@
 -- What a process gets that waits for one upcall alone: the arguments of the first scheduling of it since it waits (TRD
 -- 104, "Yield").
 use Rattle.std.specs.Prelude.{◌≡◌, ℕ, ◌==◌, if◌then◌else◌, List, [], ◌∷◌, ◌++◌, find, filter_map, slice_get, All}
-use Rattle.std.specs.Prelude.{None, Some, option_and_then, option_map, unwrap_or}
+use Rattle.std.specs.Prelude.{false, None, Some, option_and_then, option_map, unwrap_or}
 use Rattle.tk_base.specs.declared.process.Choice.{Choice}
 use Rattle.tk_base.specs.declared.upcall.Upcall.{Upcall as Scheduled}
 use Rattle.tk_base.specs.declared.upcall.Wait.{Wait}
@@ -12,6 +12,7 @@ use Rattle.process_record.specs.Process.{after_turn, delivered}
 use Rattle.kernel_model.specs.Record.{Record}
 use Rattle.kernel_model.specs.World.{Label, World, after, labels}
 use Rattle.kernel_model.specs.Replay.{after_all}
+use Rattle.kernel_model.specs.Histories.{is_ended_in}
 use Rattle.kernel_laws.specs.Scheduled.{upcall_told}
 use Rattle.kernel_histories.specs.Deliveries.{FirstOf, takes, told_in, wait_in_slot, wait_of}
 
@@ -33,15 +34,16 @@ abbrev pub awaited : ℕ → ℕ → List Scheduled → Wait
 awaited driver number upcalls =
     unwrap_or (option_map (λ upcall. Given upcall.args) (find (is_of driver number) upcalls)) (For driver number)
 
--- no step is a turn of the process in a slot
+-- no step is a turn of the process in a slot, or an operator's act that ends a life of it
 abbrev pub HasNoTurn : ℕ → World → List Choice → Type 0
 HasNoTurn slot w [] = Unit
-HasNoTurn slot w (choice ∷ choices) = (told_in slot w choice ≡ []) × HasNoTurn slot (after w choice) choices
+HasNoTurn slot w (choice ∷ choices) =
+    (told_in slot w choice ≡ []) × (is_ended_in slot w choice ≡ false) × HasNoTurn slot (after w choice) choices
 
 -- Of a world and a slot: any choices are made. A turn whose call asks for the upcall of a driver and a number alone, of
--- which none waits, has the process wait for it. While it has no turn then, it waits for it still exactly where none of
--- the driver and number was scheduled for it since, null or not and dropped or not; else it has the arguments of the
--- first. Its next turn delivers these.
+-- which none waits, has the process wait for it. While it has no turn then, and no operator ends a life of it, it waits
+-- for it still exactly where none of the driver and number was scheduled for it since, null or not and dropped or not;
+-- else it has the arguments of the first. Its next turn delivers these.
 pub record GivesTheFirst (w : World) (slot : ℕ) : Type 0 where
   pub calls : (choices : List Choice) (choice : Choice) (r s : Record) (driver number : ℕ) →
       let v = after_all w choices in

@@ -12,7 +12,7 @@ use rv32_model::denials_are_due;
 /// of the first scheduling that waits, or of the first of the driver and number for which it asks:
 /// it stands in the registers then. What waits is what was scheduled and neither delivered nor
 /// taken away since: by a subscribe of the same driver and number, or by the end of that life of
-/// the process (TRD 104, "Subscribe", "Yield", "Exit").
+/// the process, by itself or by an operator's act (TRD 104, "Subscribe", "Yield", "Exit").
 pub fn deliveries_are_of_the_last()
     ensures { DeliveriesAreOfTheLast }
 {

@@ -1,17 +1,27 @@
 -- What an answer of a device changes of a process's bytes.
-use Rattle.std.proofs.Common.{◌≡◌, ◌≢◌, ◌⊎◌, inl, inr, ◌<◌, ◌≤◌, ℕ, ◌+◌, true, false, List, length, slice_index, Option}
-use Rattle.std.proofs.Common.{None, Some, refl, ap, arith}
+use Rattle.std.proofs.Common.{◌≡◌, ◌≢◌, ◌⊎◌, inl, inr, ◌<◌, ◌≤◌, ℕ, ◌+◌, Bool, true, false, cond, List, length}
+use Rattle.std.proofs.Common.{slice_index, Option, None, Some, Result, Ok, Err, refl, ap, arith}
+use Rattle.std.proofs.Math.Logic.{⊎_map}
 use Rattle.std.proofs.lemmas.Bool.{cases_lt}
 use Rattle.std.proofs.lemmas.List.{places}
-use Rattle.process_model.specs.Changes.{IsWhole}
+use Rattle.tk_base.specs.declared.process.Verb.{Verb}
+use Rattle.tk_base.specs.declared.process.Verb.TheVariants as verbs
+use Rattle.tbf_headers.specs.declared.fault.HeaderFault.{HeaderFault}
+use Rattle.tbf_headers.specs.declared.program.Main.{Main}
+use Rattle.tbf_headers.specs.Meaning.{Meaning, header_reading}
+use Rattle.process_model.specs.Changes.{ChangesAt, IsInside, IsWhole}
+use Rattle.process_model.specs.Own.{own_ended}
+use Rattle.process_record.specs.Process.{after_end, is_alive}
 use Rattle.board_devices.specs.Storage.{overwritten}
 use Rattle.driver_model.specs.Bytes.{AnswersWriteInBuffers}
 use Rattle.kernel_model.specs.Record.{Record}
 use Rattle.kernel_model.specs.declared.settings.Settings.{Settings}
-use Rattle.kernel_model.specs.Turn.{Event, Turn, Alarmed, Edge, Taken, WriteDone, Input, Word, NoWord, Stored, apply}
-use Rattle.kernel_model.specs.Turn.{flash_of, written_over}
-use Rattle.kernel_model.specs.Causes.{AnswerHasCauses, AnswersHaveCauses, Covers, StorageChangesAt, served_write}
-use Rattle.kernel_model.proofs.Steps.{IsAnswer}
+use Rattle.kernel_model.specs.Calls.{restart, restarted_by, restarted_main}
+use Rattle.kernel_model.specs.Turn.{Act, Event, Turn, Alarmed, Edge, Taken, WriteDone, Input, Word, NoWord, Stored}
+use Rattle.kernel_model.specs.Turn.{apply, flash_of, is_turn, operated, written_over}
+use Rattle.kernel_model.specs.Causes.{AnswerHasCauses, AnswersHaveCauses, Covers, Overwrites, StorageChangesAt}
+use Rattle.kernel_model.specs.Causes.{buffer_for, served_write}
+use Rattle.kernel_model.proofs.Steps.{IsAnswer, of_told}
 
 -- what is written over bytes changes its own places alone
 overwritten_other : (bytes written : List ℕ) (offset k : ℕ) → k < length bytes
@@ -36,54 +46,103 @@ overwrites bytes (Some written) k within = by_start (cases_lt k written.0)
     by_start (inl below) = inl (overwritten_other bytes written.1 written.0 k within (inl below))
     by_start (inr above) = by_end above (cases_lt k (written.0 + length written.1))
 
-pub answer_has_causes : AnswersWriteInBuffers → (settings : Settings) (event : Event) (r : Record) → IsAnswer event
-    → IsWhole r.own → AnswerHasCauses event r (apply settings event r)
+-- a device's answer changes bytes inside the buffer that is held for it
+record AnswerIsInBuffer (event : Event) (r s : Record) : Type 0 where
+  own : ChangesAt (IsInside (buffer_for event r.own)) r.own s.own
+  storage : StorageChangesAt (Overwrites event r) r.storage s.storage
+
+answer_in_buffer : AnswersWriteInBuffers → (settings : Settings) (event : Event) (r : Record) → IsAnswer event
+    → IsWhole r.own → AnswerIsInBuffer event r (apply settings event r)
 unfolding apply
-answer_has_causes law settings (Turn time) r is whole = absurd (cc)
-answer_has_causes law settings (Alarmed now) r is whole =
+answer_in_buffer law settings (Turn time) r is whole = absurd (cc)
+answer_in_buffer law settings (Alarmed now) r is whole =
     record { own = law.alarmed now r.own whole; storage = λ k within. inl refl }
-answer_has_causes law settings (Edge button pressed) r is whole =
+answer_in_buffer law settings (Edge button pressed) r is whole =
     record {
       own = λ at before after. inl (law.edged button pressed r.own at before after);
       storage =
           λ k within. inl refl;
     }
-answer_has_causes law settings Taken r is whole =
+answer_in_buffer law settings Taken r is whole =
     record { own = λ at before after. inl (law.taken r.own at before after); storage = λ k within. inl refl }
-answer_has_causes law settings WriteDone r is whole =
+answer_in_buffer law settings WriteDone r is whole =
     record { own = λ at before after. inl (law.write_done r.own at before after); storage = λ k within. inl refl }
-answer_has_causes law settings (Input bytes) r is whole =
+answer_in_buffer law settings (Input bytes) r is whole =
     record { own = law.input bytes r.own whole; storage = λ k within. inl refl }
-answer_has_causes law settings (Word word) r is whole =
+answer_in_buffer law settings (Word word) r is whole =
     record { own = law.word _ r.own whole; storage = λ k within. inl refl }
-answer_has_causes law settings NoWord r is whole =
+answer_in_buffer law settings NoWord r is whole =
     record {
       own = λ at before after. inl (law.no_word r.own at before after);
       storage =
           λ k within. inl refl;
     }
-answer_has_causes law settings (Stored true) r is whole = record {
+answer_in_buffer law settings (Stored true) r is whole = record {
   own = law.stored false (flash_of r) r.storage r.own whole;
   storage = overwrites r.storage (served_write r);
 }
-answer_has_causes law settings (Stored false) r is whole = record {
+answer_in_buffer law settings (Stored false) r is whole = record {
   own = law.stored true (flash_of r) r.storage r.own whole;
   storage = λ k within. inl (ap (λ (o : Option (ℕ × List ℕ)). slice_index (written_over r.storage o) k)
       (law.failed (flash_of r) r.storage r.own));
 }
+answer_in_buffer law settings (Act verb) r is whole = absurd (cc)
 
--- an event that is no turn is an answer
-is_answer : (event : Event) → ((time : ℕ) → event ≢ Turn time) → IsAnswer event
-is_answer (Turn time) none = absurd (none time refl)
-is_answer (Alarmed now) none = refl
-is_answer (Edge button pressed) none = refl
-is_answer Taken none = refl
-is_answer WriteDone none = refl
-is_answer (Input bytes) none = refl
-is_answer (Word word) none = refl
-is_answer NoWord none = refl
-is_answer (Stored moved) none = refl
+answer_has_causes : AnswersWriteInBuffers → (settings : Settings) (event : Event) (r : Record) → IsAnswer event
+    → IsWhole r.own → AnswerHasCauses event r (apply settings event r)
+answer_has_causes law settings event r is whole =
+    let causes = answer_in_buffer law settings event r is whole in
+    record {
+      own = λ at before after. ⊎_map (λ same. same) (λ inside. inl inside) (causes.own at before after);
+      storage = causes.storage;
+    }
+
+-- an operator's act changes bytes only where it starts the process again
+act_has_causes : (verb : Verb) (r : Record) → AnswerHasCauses (Act verb) r (operated verb r)
+unfolding restart
+act_has_causes verbs.List r = record { own = λ at before after. inl refl; storage = λ k within. inl refl }
+act_has_causes verbs.Stop r = record { own = λ at before after. inl refl; storage = λ k within. inl refl }
+act_has_causes verbs.Start r = record { own = λ at before after. inl refl; storage = λ k within. inl refl }
+act_has_causes verbs.Terminate r = by_test (is_alive r.process.state)
+  where
+    by_test : (b : Bool) → AnswerHasCauses (Act verbs.Terminate) r (record r {
+      process = cond b (after_end r.process 0) r.process;
+      own = cond b (own_ended r.own) r.own;
+    })
+    by_test true = record { own = λ at before after. inl refl; storage = λ k within. inl refl }
+    by_test false = record { own = λ at before after. inl refl; storage = λ k within. inl refl }
+act_has_causes verbs.Restart r = by_reading (header_reading r.object)
+  where
+    by_main : (h : Meaning) (m : Option Main) → AnswerHasCauses (Act verbs.Restart) r (restarted_main r h m)
+    by_main h None = record { own = λ at before after. inl refl; storage = λ k within. inl refl }
+    by_main h (Some m) =
+        record { own = λ at before after. inr (inr (refl, refl)); storage = λ k within. inl refl }
+
+    by_reading : (h : Result Meaning HeaderFault) → AnswerHasCauses (Act verbs.Restart) r (restarted_by r h)
+    by_reading (Ok h) = by_main h h.main
+    by_reading (Err fault) = record { own = λ at before after. inl refl; storage = λ k within. inl refl }
+
+-- so what a process is told, or an operator does to it, has its causes
+pub told_has_causes : AnswersWriteInBuffers → (settings : Settings) (event : Event) (r : Record)
+    → is_turn event ≡ false → IsWhole r.own → AnswerHasCauses event r (apply settings event r)
+unfolding apply
+told_has_causes law settings event r is whole =
+    of_told (λ (e : Event). AnswerHasCauses e r (apply settings e r))
+    (λ e answers. answer_has_causes law settings e r answers whole) (λ verb. act_has_causes verb r) event is
+
+-- an event that is none at any time is no turn
+no_turn : (event : Event) → ((time : ℕ) → event ≢ Turn time) → is_turn event ≡ false
+no_turn (Turn time) none = absurd (none time refl)
+no_turn (Alarmed now) none = refl
+no_turn (Edge button pressed) none = refl
+no_turn Taken none = refl
+no_turn WriteDone none = refl
+no_turn (Input bytes) none = refl
+no_turn (Word word) none = refl
+no_turn NoWord none = refl
+no_turn (Stored moved) none = refl
+no_turn (Act verb) none = refl
 
 pub answers_have_causes : AnswersWriteInBuffers → AnswersHaveCauses
 answers_have_causes law settings event r none whole =
-    answer_has_causes law settings event r (is_answer event none) whole
+    told_has_causes law settings event r (no_turn event none) whole

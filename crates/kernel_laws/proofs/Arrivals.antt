@@ -3,6 +3,8 @@ use Rattle.std.proofs.Common.{◌≡◌, ℕ, Bool, true, false, cond, List, [],
 use Rattle.std.proofs.Common.{refl, sym, ap, ◌∙◌}
 use Rattle.std.specs.List.{cons_option}
 use Rattle.std.specs.Option.{option_map}
+use Rattle.std.specs.Prelude.{unwrap_or}
+use Rattle.tk_base.specs.declared.process.Verb.{Verb}
 use Rattle.tk_base.specs.declared.process.Choice.{Choice}
 use Rattle.tk_base.specs.declared.process.Choice.TheVariants.{Run, Device, Pass}
 use Rattle.tk_base.specs.declared.process.Dev.{Dev}
@@ -15,7 +17,8 @@ use Rattle.kernel_model.specs.Turn.{turned}
 use Rattle.kernel_model.specs.World.{DeviceAnswer, Devices, Stepped, World, acted, after, alarmed, answering, arrived}
 use Rattle.kernel_model.specs.World.{carried_out}
 use Rattle.kernel_model.specs.World.{coming_in, device_step_of, done, is_ready, queue_without, ran, random_step}
-use Rattle.kernel_model.specs.World.{receive_step, routed, served_by, serving, storing, transmitting, with_queue}
+use Rattle.kernel_model.specs.World.{acting_on, acts_of, operating, receive_step, routed, served_by, serving}
+use Rattle.kernel_model.specs.World.{slot_of_name, storing, telling_nobody, transmitting, with_queue}
 use Rattle.kernel_model.specs.Edges.{arrival_in, first_for}
 use Rattle.kernel_model.proofs.Places.{stepped_else, stepped_ready}
 
@@ -35,6 +38,18 @@ acted_arrivals slot (Lights led switch) d = refl
 routed_arrivals : (slot : ℕ) (acts : List BoardRequest) (d : Devices) → (routed slot acts d).arrivals ≡ d.arrivals
 routed_arrivals slot [] d = refl
 routed_arrivals slot (act ∷ acts) d = routed_arrivals slot acts (acted slot act d) ∙ acted_arrivals slot act d
+
+-- nor does an operator's act let anything in beside itself
+acting_arrivals : (verb : Verb) (rs : List Record) (d : Devices) (o : Option ℕ)
+    → (acting_on verb rs d o).devices.arrivals ≡ d.arrivals
+acting_arrivals verb rs d None = refl
+acting_arrivals verb rs d (Some slot) = by_record (slice_get rs slot)
+  where
+    by_record : (o : Option Record) → (unwrap_or
+        (option_map (λ (r : Record). answering slot (operating verb d slot r)) o) (telling_nobody d)).devices.arrivals
+        ≡ d.arrivals
+    by_record None = refl
+    by_record (Some r) = routed_arrivals slot (acts_of verb r) d
 
 module _ (w : World) where
   serving_arrivals : (make : ℕ → Record → DeviceAnswer)
@@ -59,6 +74,9 @@ module _ (w : World) where
       by_kind (script.Input bytes) = refl
       by_kind (script.Press button) = refl
       by_kind (script.Release button) = refl
+      by_kind (script.Act verb name) =
+          ap (λ (arrivals : List Arrival). arrival ∷ arrivals) (sym (acting_arrivals verb w.records
+          (record w.devices { arrivals = rest }) (slot_of_name name w.records)))
 
   of_device : (device : Dev)
       → w.devices.arrivals ≡ cons_option (first_for (Device device) w.devices.arrivals)

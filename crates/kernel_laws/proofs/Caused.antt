@@ -16,7 +16,7 @@ use Rattle.process_model.specs.Changes.{ChangesAt, IsWhole}
 use Rattle.driver_model.specs.Bytes.{AnswersWriteInBuffers}
 use Rattle.process_record.specs.declared.emit.CallMade.{CallMade}
 use Rattle.kernel_model.specs.Record.{Record}
-use Rattle.kernel_model.specs.Turn.{Event, Turned, apply, turned}
+use Rattle.kernel_model.specs.Turn.{Event, Turned, apply, is_turn, turned}
 use Rattle.kernel_model.specs.World.{Answer, DeviceStep, Label, Stepped, World, after, answer_label, carried_out}
 use Rattle.kernel_model.specs.World.{device_step_of, done, happens, labels, labels_of, labels_told, ran, records_told}
 use Rattle.kernel_model.specs.World.{stepped, turn_label, unmade}
@@ -26,10 +26,10 @@ use Rattle.kernel_model.specs.Replay.{chosen, events, replay}
 use Rattle.kernel_laws.specs.Clock.{AsksNoClock, StepsWithoutClockHaveCauses, TurnsWithoutClockHaveCauses}
 use Rattle.kernel_model.specs.Causes.{AllHaveCauses, AnswerHasCauses, EachChangeHasACause, IsCause, IsDoneByTurn}
 use Rattle.kernel_model.specs.Causes.{IsStorageCause, StepsHaveCauses, StorageChangesAt, TurnHasCauses, TurnsHaveCauses}
-use Rattle.kernel_laws.proofs.Answered.{answer_has_causes}
+use Rattle.kernel_laws.proofs.Answered.{told_has_causes}
 use Rattle.kernel_model.proofs.Places.{of_stepped, ran-other, ran-own}
 use Rattle.kernel_model.proofs.Replays.{one_step}
-use Rattle.kernel_model.proofs.Steps.{AnswersOnly, IsAnswer, device_answers}
+use Rattle.kernel_model.proofs.Steps.{TellsNoTurn, device_answers}
 use Rattle.kernel_model.proofs.Told.{told_at}
 
 -- two records at one place are one
@@ -70,7 +70,7 @@ module _ (w : World) (slot : ℕ) (r : Record) (is : slice_get w.records slot �
 
   -- after an answer to it, which is among those that the step tells
   abbrev ByAnswer : Type 0
-  ByAnswer = (labels : List Label) (a : Answer) → IsAnswer a.event → Contains labels (answer_label slot a)
+  ByAnswer = (labels : List Label) (a : Answer) → is_turn a.event ≡ false → Contains labels (answer_label slot a)
       → P labels (apply w.settings a.event r)
 
   abbrev Leads : Stepped → Type 0
@@ -105,7 +105,7 @@ module _ (w : World) (slot : ℕ) (r : Record) (is : slice_get w.records slot �
       by_slot false e_is = at_record _ r s _ (ran-other w other slot (Some q) (apart other slot e_is) ∙ is) f (stays _)
 
   -- a device's step, whatever it tells
-  of_deed : ByAnswer → (o : Option DeviceStep) → IfSome o (λ deed. AnswersOnly deed.told) → Leads (done w o)
+  of_deed : ByAnswer → (o : Option DeviceStep) → IfSome o (λ deed. TellsNoTurn deed.told) → Leads (done w o)
   of_deed answer None answers s f = at_record [] r s _ is f (stays [])
   of_deed answer (Some deed) answers s f = by_told (deed.told slot) refl
     where
@@ -260,7 +260,7 @@ steps_have_causes turns answers = record {
         (ap (slice_get w.records) (eqb-true other slot same) ∙ is) whole
 
     by_answer : (w : World) (slot : ℕ) (r : Record) → IsWhole r.own → (labels : List Label) (a : Answer)
-        → IsAnswer a.event → Contains labels (answer_label slot a)
+        → is_turn a.event ≡ false → Contains labels (answer_label slot a)
         → Caused slot r labels (apply w.settings a.event r)
     by_answer w slot r whole labels a tells told =
-        caused_answer slot labels a r _ told (answer_has_causes answers w.settings a.event r tells whole)
+        caused_answer slot labels a r _ told (told_has_causes answers w.settings a.event r tells whole)

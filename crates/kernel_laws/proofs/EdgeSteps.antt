@@ -2,7 +2,8 @@
 use Rattle.std.proofs.Common.{◌≡◌, ◌≢◌, ◌⊎◌, inl, inr, ℕ, ◌+◌, ◌==◌, ◌&&◌, Bool, true, false, cond, List, [], ◌∷◌}
 use Rattle.std.proofs.Common.{◌++◌, filter, slice_get, Option, None, Some, IfSome, refl, sym, ap, subst, ◌∙◌, arith}
 use Rattle.std.proofs.Common.{eqb-true, eq-eqb}
-use Rattle.std.specs.Prelude.{is_none, option_and_then}
+use Rattle.std.specs.Prelude.{is_none, option_and_then, unwrap_or}
+use Rattle.tk_base.specs.declared.process.Verb.{Verb}
 use Rattle.std.specs.List.{cons_option}
 use Rattle.std.specs.Option.{option_map}
 use Rattle.std.proofs.lemmas.Bool.{false≢true}
@@ -40,15 +41,16 @@ use Rattle.kernel_model.specs.Edges.{StepsServeEdges, arrival_in, edge_in, edge_
 use Rattle.kernel_model.specs.Edges.{pressed_after_all, pressed_by, told_edge_in}
 use Rattle.kernel_model.specs.Laws.{OnlyItsOwnEvents, answer_by}
 use Rattle.kernel_model.specs.Turn.{Event, Turn, Alarmed, Edge, Taken, WriteDone, Input, Word, NoWord, Stored}
-use Rattle.kernel_model.specs.Turn.{apply, surroundings, turned}
-use Rattle.kernel_model.specs.World.{drawn_event, Answer, DeviceAnswer, DeviceStep, World, after, alarmed, answering, arrived}
-use Rattle.kernel_model.specs.World.{coming_in, edge_told, happens, is_ready, random_step, receive_step}
-use Rattle.kernel_model.specs.World.{served_by, serving, storing, transmitting}
+use Rattle.kernel_model.specs.Turn.{Act, apply, surroundings, turned}
+use Rattle.kernel_model.specs.World.{Answer, DeviceAnswer, DeviceStep, Devices, World, acting_on, after, alarmed}
+use Rattle.kernel_model.specs.World.{answering, arrived, drawn_event}
+use Rattle.kernel_model.specs.World.{coming_in, edge_told, happens, is_ready, operating, random_step, receive_step}
+use Rattle.kernel_model.specs.World.{served_by, serving, slot_of_name, storing, telling_nobody, transmitting}
 use Rattle.kernel_laws.specs.Scheduled.{answer_schedules, answer_step, call_schedules, command_schedules}
 use Rattle.kernel_laws.specs.Scheduled.{event_schedules, scheduled_by}
 use Rattle.kernel_laws.specs.Scheduled.{upcall_told}
 use Rattle.kernel_model.proofs.Steps.{IsAnswer}
-use Rattle.kernel_laws.proofs.Scheduled.{all_remain, told_inbox, turn_leaves}
+use Rattle.kernel_laws.proofs.Scheduled.{act_leaves, all_remain, told_inbox, turn_leaves}
 
 -- an upcall is of another driver than the buttons
 abbrev pub OfAnother : Option Scheduled → Type 0
@@ -129,12 +131,19 @@ module _ (law : DriversScheduleTheirOwn) where
       by_driver random.random (λ e. cc) (answer_step NoWord r) (law.drawn None r.own)
   others settings (Stored moved) r is =
       by_driver storage.storage (λ e. cc) (answer_step (Stored moved) r) (law.stored _ _ _ r.own)
+  others settings (Act verb) r is = tt
 
 -- what happens to a process leaves what remains of what was scheduled, and then what it schedules
 answer_then : (settings : Settings) (event : Event) (r : Record) → IsAnswer event
     → IsThenScheduled (upcall_told event r) r.own.inbox (apply settings event r).own.inbox
 answer_then settings event r is =
     record { left = r.own.inbox; remains = all_remain r.own.inbox; is = told_inbox settings event r is }
+
+-- an operator's act schedules nothing
+act_then : (settings : Settings) (verb : Verb) (r : Record)
+    → IsThenScheduled (event_schedules settings (Act verb) r) r.own.inbox (apply settings (Act verb) r).own.inbox
+unfolding apply answer_step
+act_then settings verb r = (act_leaves verb r).leaves
 
 module _ (refuse : RefusedByAnyDriver) (of_ecall : CallsAreOfEcall) where
   pub event_then : (settings : Settings) (event : Event) (r : Record)
@@ -149,6 +158,7 @@ module _ (refuse : RefusedByAnyDriver) (of_ecall : CallsAreOfEcall) where
   event_then settings (Word word) r = answer_then settings (Word word) r refl
   event_then settings NoWord r = answer_then settings NoWord r refl
   event_then settings (Stored moved) r = answer_then settings (Stored moved) r refl
+  event_then settings (Act verb) r = act_then settings verb r
 
   -- of which buttons are pressed a process learns by edges alone
   pub event_pressed : (settings : Settings) (event : Event) (r : Record) → is_edge event ≡ false
@@ -163,6 +173,7 @@ module _ (refuse : RefusedByAnyDriver) (of_ecall : CallsAreOfEcall) where
   event_pressed settings (Word word) r is = refl
   event_pressed settings NoWord r is = refl
   event_pressed settings (Stored moved) r is = refl
+  event_pressed settings (Act verb) r is = (act_leaves verb r).pressed
 
 -- what a device tells a process that is no edge
 abbrev NoEdge : Option Answer → Type 0
@@ -181,6 +192,20 @@ serving_no_edge w slot answer each (Some at) = by_record (slice_get w.records at
       where
         by_slot : (b : Bool) → NoEdge (cond b (Some (answer at r).answer) None)
         by_slot true = each at r
+        by_slot false = tt
+
+acting_no_edge : (verb : Verb) (rs : List Record) (d : Devices) (slot : ℕ) (o : Option ℕ)
+    → NoEdge ((acting_on verb rs d o).told slot)
+acting_no_edge verb rs d slot None = tt
+acting_no_edge verb rs d slot (Some at) = by_record (slice_get rs at)
+  where
+    by_record : (o : Option Record) → NoEdge ((unwrap_or
+        (option_map (λ (r : Record). answering at (operating verb d at r)) o) (telling_nobody d)).told slot)
+    by_record None = tt
+    by_record (Some r) = by_slot (slot == at)
+      where
+        by_slot : (b : Bool) → NoEdge (cond b (Some (operating verb d at r).answer) None)
+        by_slot true = refl
         by_slot false = tt
 
 sent_no_edge : (completed : Bool) → is_edge (cond completed WriteDone Taken) ≡ false
@@ -322,6 +347,9 @@ module _ (law : DriversScheduleTheirOwn) (refuse : RefusedByAnyDriver) (of_ecall
         by_kind (script.Input bytes) = serves_none w.settings r
         by_kind (script.Press button) = by_edge button true
         by_kind (script.Release button) = by_edge button false
+        by_kind (script.Act verb name) =
+            serves_event w.settings _ r (acting_no_edge verb w.records (record w.devices { arrivals = rest }) slot
+            (slot_of_name name w.records))
 
     of_device : (device : Dev) → ServesFor w.settings (edge_by (first_for (Device device) w.devices.arrivals) r) r
         (answer_by w (Device device) slot)

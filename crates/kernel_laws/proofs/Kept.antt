@@ -1,6 +1,6 @@
 -- What a turn changes of a process, by the end of its instruction: what it drops, and what drivers keep.
 use Rattle.std.proofs.Common.{◌≡◌, ◌<◌, length, IfSome, ◌∙◌, ℕ, List, [], true, Option, None, Some, refl, subst}
-use Rattle.std.proofs.Common.{sym}
+use Rattle.std.proofs.Common.{ap, sym}
 use Rattle.tk_base.specs.declared.access.Denial.{Denial}
 use Rattle.tk_base.specs.declared.limits.TheConstants.{PENDING_LIMIT}
 use Rattle.upcall_queue.specs.declared.inbox.Delivery.{Delivery}
@@ -14,6 +14,7 @@ use Rattle.driver_model.specs.Commands.{BoardRequest}
 use Rattle.driver_model.specs.Laws.{IsAtMostOneMore}
 use Rattle.rv32_model.specs.declared.turn_end.TurnEnd.{TurnEnd}
 use Rattle.rv32_model.specs.declared.turn_end.TurnEnd.TheVariants as ends
+use Rattle.tk_base.specs.declared.process.Verb.{Verb}
 use Rattle.rv32_model.specs.UserTurn.{MemoryAccess}
 use Rattle.syscall_abi.specs.declared.call.Call.{Call as SystemCall}
 use Rattle.syscall_abi.specs.Call.{call_of, form_of}
@@ -26,13 +27,13 @@ use Rattle.kernel_model.specs.Record.{Record, instruction, with_effect, with_pro
 use Rattle.kernel_model.specs.declared.settings.Settings.{Settings}
 use Rattle.kernel_model.specs.Calls.{failure_of, refused_with, served}
 use Rattle.kernel_model.specs.Turn.{Turned, apply, called, calls, turn_counted, delivery, at_turn_end, faulted, idle}
-use Rattle.kernel_model.specs.Turn.{instructed, made, settled, surroundings, turned, turn_in, unknown_call}
+use Rattle.kernel_model.specs.Turn.{instructed, made, operated, settled, surroundings, turned, turn_in, unknown_call}
 use Rattle.kernel_model.specs.Laws.{CanStartAgain, DriversPromise, DropsAtMostOne, GrantsChangeAtCalls, KeepsLines}
 use Rattle.kernel_model.specs.Laws.{TurnsActAtCalls, TurnsKeepLines}
 use Rattle.driver_model.specs.Keeping.{KeepsLimit}
 use Rattle.kernel_model.specs.Replay.{after_all}
 use Rattle.kernel_model.specs.Lives.{DropsOnlyWhereFull}
-use Rattle.kernel_model.proofs.Steps.{of_answer, of_step}
+use Rattle.kernel_model.proofs.Steps.{of_answer, of_operated, of_step}
 use Rattle.kernel_model.proofs.Comes.{all_same, no_more, of_call, restart_keeps}
 use Rattle.kernel_model.proofs.Lines.{SameKept, keeps_ended, keeps_restarted, keeps_same}
 
@@ -146,11 +147,17 @@ drops_with_room promise settings time r = (leaves_turn promise settings time r.p
 same_some : {X : Type 0} (x y : X) → Some x ≡ Some y → x ≡ y
 same_some x y e = cc
 
+-- an operator's act drops nothing
+act_dropped : (r : Record) (verb : Verb) → (operated verb r).own.inbox.dropped ≡ r.own.inbox.dropped
+act_dropped r verb =
+    of_operated (λ ended s. s.own.inbox.dropped ≡ r.own.inbox.dropped) r refl (λ held. refl) (λ lives. refl)
+    (restart_keeps r) verb
+
 pub drops_only_where_full : DriversPromise → DropsOnlyWhereFull
 drops_only_where_full promise w choices choice slot before now is later few =
     let v = after_all w choices in
     subst (λ (o : Option Record). IfSome o (λ x. x.own.inbox.dropped ≡ before.own.inbox.dropped)) later
-    (of_step v slot (λ tolds o. IfSome o (λ x. x.own.inbox.dropped ≡ before.own.inbox.dropped))
+    (of_step v slot (λ ended tolds o. IfSome o (λ x. x.own.inbox.dropped ≡ before.own.inbox.dropped))
     (record {
       stays = subst (λ (o : Option Record). IfSome o (λ x. x.own.inbox.dropped ≡ before.own.inbox.dropped)) (sym is)
           refl;
@@ -161,6 +168,8 @@ drops_only_where_full promise w choices choice slot before now is later few =
           subst (λ (x : Record). (apply v.settings event x).own.inbox.dropped ≡ before.own.inbox.dropped)
           (same_some before r (sym is
           ∙ at)) ((of_answer KeepsLimit promise.limit v.settings event before answers).room few);
+      act = λ r at verb.
+          act_dropped r verb ∙ ap (λ (x : Record). x.own.inbox.dropped) (same_some r before (sym at ∙ is));
     })
     choice)
 

@@ -17,6 +17,7 @@ use Rattle.tk_base.specs.Bits.{bit_of}
 use Rattle.tk_base.specs.Kinds.{is_buffer}
 use Rattle.tk_base.specs.declared.upcall.Upcall.{Upcall as Scheduled}
 use Rattle.tk_base.specs.Regs.{Registers}
+use Rattle.tk_base.specs.declared.process.Verb.{Verb}
 use Rattle.tbf_headers.specs.declared.fault.HeaderFault.{HeaderFault}
 use Rattle.tbf_headers.specs.declared.program.Main.{Main}
 use Rattle.tbf_headers.specs.Meaning.{Meaning, header_reading}
@@ -77,12 +78,12 @@ use Rattle.kernel_model.specs.Edges.{IsRemainder, IsThenScheduled, is_of_edge}
 use Rattle.kernel_model.specs.Histories.{class_of}
 use Rattle.kernel_model.specs.Turn.{Event, Turn, Alarmed, Edge, Taken, WriteDone, Input, Word, NoWord, Stored, Turned}
 use Rattle.kernel_model.specs.Turn.{apply, at_turn_end, calls, delivery, faulted, made, rule_shown, settled}
-use Rattle.kernel_model.specs.Turn.{surroundings}
+use Rattle.kernel_model.specs.Turn.{Act, operated, surroundings}
 use Rattle.kernel_model.specs.Turn.{turn_counted, turn_in, turned}
 use Rattle.kernel_model.proofs.Classes.{command_in, exit_in, memop_in, of_registers, swap_in, yield_in}
 use Rattle.kernel_model.proofs.Memops.{by_test, memop_gives}
-use Rattle.kernel_model.proofs.Steps.{IsAnswer}
-use Rattle.kernel_laws.specs.Scheduled.{answer_step, call_schedules, command_schedules, scheduled_by}
+use Rattle.kernel_model.proofs.Steps.{IsAnswer, of_operated}
+use Rattle.kernel_laws.specs.Scheduled.{answer_step, call_schedules, command_schedules, event_schedules, scheduled_by}
 use Rattle.kernel_laws.specs.Scheduled.{turn_schedules, upcall_told}
 use Rattle.kernel_laws.proofs.Commands.{command_leaves}
 use Rattle.kernel_laws.proofs.Refused.{only_counts}
@@ -478,6 +479,26 @@ pub turn_leaves : RefusedByAnyDriver → CallsAreOfEcall → (settings : Setting
 unfolding turned
 turn_leaves refuse of_ecall settings time r = of_state refuse settings time r of_ecall r.process.state
 
+-- a process that starts again keeps nothing of what was scheduled
+restart_keeps_none : (r : Record) → Keeps r (restart r)
+unfolding restart
+restart_keeps_none r = by_reading (header_reading r.object)
+  where
+    by_main : (h : Meaning) (m : Option Main) → Keeps r (restarted_main r h m)
+    by_main h None = same_inbox r r refl refl
+    by_main h (Some m) = record { remains = none_remain r.own.inbox; pressed = refl }
+
+    by_reading : (h : Result Meaning HeaderFault) → Keeps r (restarted_by r h)
+    by_reading (Ok h) = by_main h h.main
+    by_reading (Err fault) = same_inbox r r refl refl
+
+-- an operator's act leaves what remains of what was scheduled, all or nothing, and schedules nothing
+pub act_leaves : (verb : Verb) (r : Record) → Schedules None r (operated verb r)
+act_leaves verb r =
+    nothing_more r (operated verb r)
+    (of_operated (λ ended s. Keeps r s) r (same_inbox r r refl refl) (λ held. same_inbox r _ refl refl)
+    (λ lives. record { remains = none_remain r.own.inbox; pressed = refl }) (restart_keeps_none r) verb)
+
 -- What an answer leaves before its upcall is scheduled is what was scheduled before: of each kind of request
 read_inbox : (bytes : List ℕ) (own : Own) (o : Option WaitingRead)
     → (unwrap_or (option_map (reading_in bytes own) o) (silently own)).own.inbox ≡ own.inbox
@@ -567,6 +588,7 @@ answer_inbox (Input bytes) r = read_inbox bytes r.own (waiting_in console_reads 
 answer_inbox (Word word) r = random_inbox (Some word) r.own (waiting_in randoms r.own)
 answer_inbox NoWord r = random_inbox None r.own (waiting_in randoms r.own)
 answer_inbox (Stored moved) r = storage_inbox (not moved) _ r.storage r.own (waiting_in storages r.own)
+answer_inbox (Act verb) r = refl
 
 -- an answer is that step
 answer_own : (settings : Settings) (event : Event) (r : Record) → IsAnswer event
@@ -581,6 +603,7 @@ answer_own settings (Input bytes) r is = refl
 answer_own settings (Word word) r is = refl
 answer_own settings NoWord r is = refl
 answer_own settings (Stored moved) r is = refl
+answer_own settings (Act verb) r is = absurd (cc)
 
 -- so what is scheduled then is what was, and its upcall
 pub told_inbox : (settings : Settings) (event : Event) (r : Record) → IsAnswer event

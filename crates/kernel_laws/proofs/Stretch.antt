@@ -1,5 +1,5 @@
 -- The round robin in a quiet stretch.
-use Rattle.std.proofs.Common.{◌≡◌, ℕ, zero, suc, ◌+◌, ◌-◌, ◌<◌, ◌≤◌, Bool, true, false, ◌&&◌, ◌==◌, nat_lt}
+use Rattle.std.proofs.Common.{◌≡◌, ℕ, zero, suc, ◌+◌, ◌-◌, ◌<◌, ◌≤◌, Bool, true, false, ◌&&◌, ◌==◌, nat_lt, not}
 use Rattle.std.proofs.Common.{if◌then◌else◌, List, [], ◌∷◌, length, find, ◌++◌, slice_get, slice_set, Option, None}
 use Rattle.std.proofs.Common.{Some, All, refl, sym, ap, ap₂, subst, ◌∙◌, arith, append_assoc, length-append}
 use Rattle.std.specs.Option.{option_map, option_or}
@@ -30,7 +30,7 @@ use Rattle.kernel_model.specs.Stretch.{PresentIsNextOnTheWay, PresentStaysOn}
 use Rattle.kernel_model.specs.Stretch.{RoundIsStretch, RoundsJoin, StretchesJoin, after_instructions, after_stretch}
 use Rattle.kernel_model.specs.Stretch.{at_turn, instruction_made}
 use Rattle.kernel_model.proofs.Places.{slice_get-set_same, stepped_ready}
-use Rattle.kernel_laws.proofs.Turns.{run_ready, turn_is_ready}
+use Rattle.kernel_laws.proofs.Turns.{run_ready, turn_is_free, turn_is_ready}
 
 set-same : {X : Type 0} (xs : List X) (i : ℕ) (x : X) → slice_get xs i ≡ Some x → slice_set xs i x ≡ xs
 set-same [] i x e = refl
@@ -57,30 +57,30 @@ went s time r runs e =
 -- a present slot whose process runs goes on with its slice
 pub stays_on : PresentStaysOn
 unfolding next_slot
-stays_on w slot r p at runs u =
+stays_on w slot r p at runs free u =
     subst (λ (o : Option ℕ). next_slot (ready_slots w) o w.present.used w.pace.slice ≡ Some slot) (sym p)
     (ap (λ (g : Bool). if g then Some slot else find (is_ready_at (ready_slots w)) (slots_after (Some slot)))
     (ap (λ (b : Bool). b && nat_lt w.present.used w.pace.slice) ready ∙ left))
   where
-    may : (state : State) → state ≡ Running → has_turn state (due r.own.inbox) ≡ true
-    may state e = ap (λ (s : State). has_turn s (due r.own.inbox)) e
+    may : may_turn r ≡ true
+    may = ap₂ (λ (held : Bool) (state : State). not held && has_turn state (due r.own.inbox)) free runs
 
     ready : is_ready_at (ready_slots w) slot ≡ true
     ready = get_or_from_slice_get (ready_slots w) slot true false
-        (slice_get-map may_turn w.records slot ∙ ap (option_map may_turn) at ∙ ap Some (may r.process.state runs))
+        (slice_get-map may_turn w.records slot ∙ ap (option_map may_turn) at ∙ ap Some may)
 
     left : (true && nat_lt w.present.used w.pace.slice) ≡ true
     left = grind (arith, nat_tests)
 
 -- a turn of a process that runs is ready below the limit of steps
 runs_ready : (w : World) (slot : ℕ) (r : Record) → slice_get w.records slot ≡ Some r → r.process.state ≡ Running
-    → w.clock.steps < STEP_LIMIT → is_ready w (Run slot) ≡ true
-runs_ready w slot r at runs below =
-    run_ready w slot (ap can_run at ∙ ap (λ (state : State). has_turn state (due r.own.inbox)) runs)
-    below
+    → r.process.held ≡ false → w.clock.steps < STEP_LIMIT → is_ready w (Run slot) ≡ true
+runs_ready w slot r at runs free below =
+    run_ready w slot (ap can_run at
+    ∙ ap₂ (λ (held : Bool) (state : State). not held && has_turn state (due r.own.inbox)) free runs) below
 
 module _ (w : World) (slot : ℕ) (r : Record) (p : w.present.slot ≡ Some slot) (at : slice_get w.records slot ≡ Some r)
-    (runs : r.process.state ≡ Running) where
+    (runs : r.process.state ≡ Running) (free : r.process.held ≡ false) where
   -- no turn leads anywhere
   none_made : after_stretch 0 w slot r ≡ w
   none_made =
@@ -107,7 +107,7 @@ module _ (w : World) (slot : ℕ) (r : Record) (p : w.present.slot ≡ Some slot
       ap (λ (o : Option Dev). option_or (option_map Device o)
       (option_or (option_map Run (next_slot (ready_slots w) w.present.slot w.present.used w.pace.slice)) passes))
       calm
-      ∙ ap (λ (o : Option ℕ). option_or (option_map Run o) passes) (stays_on w slot r p at runs u)
+      ∙ ap (λ (o : Option ℕ). option_or (option_map Run o) passes) (stays_on w slot r p at runs free u)
 
   used_more : w.present.used < w.pace.slice
       → used_after w.present.slot w.present.used w.pace.slice slot ≡ w.present.used + 1
@@ -123,7 +123,7 @@ module _ (w : World) (slot : ℕ) (r : Record) (p : w.present.slot ≡ Some slot
       }
   unfolding carried_out
   one_step below u e =
-      stepped_ready w (Run slot) (runs_ready w slot r at runs below)
+      stepped_ready w (Run slot) (runs_ready w slot r at runs free below)
       ∙ ap (ran w slot) at
       ∙ ap (λ (t : Turned). made_by t) (went w.settings w.clock.time r runs e)
       ∙ ap (λ (n : ℕ). record {
@@ -209,21 +209,22 @@ none_is_stretch w v e = subst (λ (x : World). IsStretch 0 w x) (sym e) (no_stre
 
 -- the present slot's turns
 present_stretch : (k slot : ℕ) (w : World) (r : Record) → w.clock.steps + k ≤ STEP_LIMIT → w.present.slot ≡ Some slot
-    → slice_get w.records slot ≡ Some r → r.process.state ≡ Running → w.present.used + k ≤ w.pace.slice → AllGo k r
+    → slice_get w.records slot ≡ Some r → r.process.state ≡ Running → r.process.held ≡ false
+    → w.present.used + k ≤ w.pace.slice → AllGo k r
     → IsNextOnTheWay k w slot r → IsStretch k w (after_stretch k w slot (after_instructions k r))
 unfolding after_instructions
-present_stretch zero slot w r limit p at runs u go chosen =
-    subst (IsStretch 0 w) (sym (none_made w slot r p at runs)) (no_stretch w)
-present_stretch (suc k) slot w r limit p at runs u go chosen =
+present_stretch zero slot w r limit p at runs free u go chosen =
+    subst (IsStretch 0 w) (sym (none_made w slot r p at runs free)) (no_stretch w)
+present_stretch (suc k) slot w r limit p at runs free u go chosen =
     let there = after_stretch 1 w slot (instruction_made r) in
-    one_first w slot r p at runs k (after_instructions k (instruction_made r)) (omega (arith, limit))
-    (ap next (sym (none_made w slot r p at runs)) ∙ chosen 0 (omega arith))
+    one_first w slot r p at runs free k (after_instructions k (instruction_made r)) (omega (arith, limit))
+    (ap next (sym (none_made w slot r p at runs free)) ∙ chosen 0 (omega arith))
     (omega (arith, u)) (go 0 (omega arith))
     (present_stretch k slot there (instruction_made r) (omega (arith, limit)) refl
-    (slice_get-set_same w.records slot (instruction_made r) (slice_get_within w.records slot r at)) runs
+    (slice_get-set_same w.records slot (instruction_made r) (slice_get_within w.records slot r at)) runs free
     (omega (arith, u))
     (λ j h. go (suc j) (omega (arith, h)))
-    (λ j h. ap next (together w slot r p at runs j (after_instructions j (instruction_made r)))
+    (λ j h. ap next (together w slot r p at runs free j (after_instructions j (instruction_made r)))
     ∙ chosen (suc j) (omega (arith, h))))
 
 -- instructions leave the process running
@@ -232,11 +233,18 @@ unfolding after_instructions
 runs_still zero r = refl
 runs_still (suc k) r = runs_still k (instruction_made r)
 
+-- and not held
+free_still : (k : ℕ) (r : Record) → (after_instructions k r).process.held ≡ r.process.held
+unfolding after_instructions
+free_still zero r = refl
+free_still (suc k) r = free_still k (instruction_made r)
+
 pub present_is_next_on_the_way : PresentIsNextOnTheWay
-present_is_next_on_the_way k slot w r p at runs u none j h =
+present_is_next_on_the_way k slot w r p at runs free u none j h =
     let later = after_instructions j r in
     goes_on_next (after_stretch j w slot later) slot later refl
-    (slice_get-set_same w.records slot later (slice_get_within w.records slot r at)) (runs_still j r ∙ runs) (none j h)
+    (slice_get-set_same w.records slot later (slice_get_within w.records slot r at)) (runs_still j r ∙ runs)
+    (free_still j r ∙ free) (none j h)
     (omega (arith, u, h))
 
 -- a slot that has the next turn uses one turn of its slice by it, whether it is the present one already or not
@@ -285,10 +293,11 @@ pub round_is_stretch : RoundIsStretch
 unfolding after_instructions
 round_is_stretch zero slot w r some limit f at runs u go chosen = absurd (omega (arith, some))
 round_is_stretch (suc n) slot w r some limit f at runs u go chosen =
+    let free = turn_is_free w slot r at f in
     let first : next (at_turn w slot) ≡ Some (Run slot) =
-    ap next (sym (none_made (at_turn w slot) slot r refl at runs)) ∙ chosen 0 (omega arith) in
+    ap next (sym (none_made (at_turn w slot) slot r refl at runs free)) ∙ chosen 0 (omega arith) in
     let left : (at_turn w slot).present.used < w.pace.slice = omega (arith, u) in
-    let s = present_stretch (suc n) slot (at_turn w slot) r limit refl at runs u go chosen in
+    let s = present_stretch (suc n) slot (at_turn w slot) r limit refl at runs free u go chosen in
     let same = same_round n slot w r (omega (arith, limit)) f first at left in
     record {
       reached = s.reached ∙ ap (λ (q : Ran). q.world) same;

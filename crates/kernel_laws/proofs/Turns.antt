@@ -1,9 +1,10 @@
 -- The turns of a run by round robin are turns one after another, whatever comes between them.
 use Rattle.std.proofs.Common.{◌≡◌, ℕ, zero, suc, ◌≤◌, ◌<◌, Bool, true, false, cond, ◌&&◌, nat_lt, List, [], ◌∷◌, ◌++◌}
 use Rattle.std.proofs.Common.{length, map, filter, slice_get, slice_index_or, Option, None, Some, refl, sym, ap, ap₂}
-use Rattle.std.proofs.Common.{subst, ◌∙◌, arith}
+use Rattle.std.proofs.Common.{subst, ◌∙◌, arith, not}
 use Rattle.std.specs.Prelude.{All, Any}
 use Rattle.std.specs.Option.{option_map, option_or}
+use Rattle.std.proofs.lemmas.Bool.{false≢true}
 use Rattle.std.proofs.lemmas.Bool.Decides.{nat_tests}
 use Rattle.tk_base.specs.declared.limits.TheConstants.{SLOT_COUNT, STEP_LIMIT}
 use Rattle.std.proofs.lemmas.List.{length-map, length-set}
@@ -11,11 +12,12 @@ use Rattle.std.proofs.lemmas.List.Elements.{All-nil, All-cons, All-head, All-tai
 use Rattle.tk_base.specs.declared.process.Choice.{Choice}
 use Rattle.tk_base.specs.declared.process.Choice.TheVariants.{Run, Device, Pass}
 use Rattle.tk_base.specs.declared.process.Dev.{Dev}
+use Rattle.upcall_queue.specs.Pending.{due}
 use Rattle.turn_scheduler.specs.Situation.{Situation}
 use Rattle.turn_scheduler.specs.RoundRobin.{choice, place_is_ready as is_ready_at, next_slot, ready_device, used_after}
 use Rattle.turn_scheduler.specs.Turns.{AreTurns, GivesTurn, ReadyHasTurn}
 use Rattle.kernel_model.specs.Record.{Record}
-use Rattle.kernel_model.specs.Turn.{may_turn}
+use Rattle.kernel_model.specs.Turn.{has_turn, may_turn}
 use Rattle.kernel_model.specs.World.{Pace, Present, Stepped, World, after, can_run, carried_out, is_ready}
 use Rattle.kernel_model.specs.World.{may_be_made, ran}
 use Rattle.kernel_model.specs.Run.{next, on_choice, ready_slots, situation_of}
@@ -87,6 +89,15 @@ turn_is_ready w slot e =
     ready_runs w.records slot
     (next_slot_ready s.ready s.present s.used s.slice slot
     (chosen_slot (ready_device s.devices) (next_slot s.ready s.present s.used s.slice) s.next _ slot e))
+
+-- and its process is not held
+pub turn_is_free : (w : World) (slot : ℕ) (r : Record) → slice_get w.records slot ≡ Some r → next w ≡ Some (Run slot)
+    → r.process.held ≡ false
+turn_is_free w slot r at e = by_test r.process.held (sym (ap can_run at) ∙ turn_is_ready w slot e)
+  where
+    by_test : (held : Bool) → (not held && has_turn r.process.state (due r.own.inbox)) ≡ true → held ≡ false
+    by_test true e = absurd (false≢true e)
+    by_test false e = refl
 
 -- the first world of some, if there is one, has its last turn from where another has
 FirstIsAt : World → List World → Type 0

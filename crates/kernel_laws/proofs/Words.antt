@@ -16,7 +16,7 @@ use Rattle.kernel_model.specs.Record.{Record}
 use Rattle.kernel_model.specs.Turn.{WriteDone, Taken, flash_of, turned}
 use Rattle.kernel_model.specs.World.{drawn_event, Answer, Devices, Label, Stepped, World, acted, after, carried_out}
 use Rattle.kernel_model.specs.World.{device_step_of, done, labels, ran, random_step, routed, stepped}
-use Rattle.kernel_model.specs.World.{queue_without, telling_edge, transmitting, with_queue}
+use Rattle.kernel_model.specs.World.{acts_of, queue_without, telling_edge, transmitting, with_queue}
 use Rattle.kernel_model.specs.Laws.{edge_done, edge_labels, one_answered}
 use Rattle.kernel_model.proofs.Told.{edge_answer, of_device, told_labels, with_rest}
 use Rattle.kernel_model.specs.Choices.{labels_of_all}
@@ -101,6 +101,8 @@ module _ (tell : EventsTellSteps) (w : World) where
         none = refl;
         arrives = λ bytes rest. refl;
         edges = edges;
+        nobody = λ rest. refl;
+        acts = λ verb rest slot r is. sym (routed_words slot (acts_of verb r) (with_rest w.devices rest));
         alarms = λ slot r is. refl;
         sends = λ slot r is. sends slot r;
         receives = λ slot r is. refl;

@@ -17,7 +17,8 @@ use Rattle.driver_model.specs.Drivers.{CommandContext, handler_of}
 use Rattle.driver_model.specs.Steps.{DriverStep, silently}
 use Rattle.kernel_model.specs.Record.{Record}
 use Rattle.kernel_model.specs.declared.settings.Settings.{Settings}
-use Rattle.kernel_model.specs.Turn.{Event, Turn, Alarmed, Edge, Taken, WriteDone, Input, Word, NoWord, Stored, flash_of}
+use Rattle.kernel_model.specs.Turn.{Act, Event, Turn, Alarmed, Edge, Taken, WriteDone, Input, Word, NoWord, Stored}
+use Rattle.kernel_model.specs.Turn.{flash_of}
 use Rattle.kernel_model.specs.Turn.{surroundings, turned}
 use Rattle.kernel_model.specs.World.{Answer, World, is_ready}
 use Rattle.kernel_model.specs.Laws.{answer_by}
@@ -28,7 +29,8 @@ abbrev pub scheduled_by : DriverStep → Option Scheduled
 scheduled_by step =
     option_map (λ upcall. upcall_of upcall.driver upcall.number upcall.args step.own) step.schedules
 
--- What a device's answer leaves of a process, and what it schedules; of a turn it is nothing.
+-- What a device's answer leaves of a process, and what it schedules; of a turn, and of an operator's act, which
+-- schedules nothing, it is nothing.
 unfoldable pub answer_step : Event → Record → DriverStep
 answer_step (Turn time) r = silently r.own
 answer_step (Alarmed now) r = alarm.answered now r.own
@@ -39,6 +41,7 @@ answer_step (Input bytes) r = console.input bytes r.own
 answer_step (Word word) r = (random.answered (Some word) r.own).step
 answer_step NoWord r = (random.answered None r.own).step
 answer_step (Stored moved) r = (storage.answered (not moved) (flash_of r) r.storage r.own).step
+answer_step (Act verb) r = silently r.own
 
 -- the upcall that an answer schedules for its process, which may be the null upcall, or be dropped
 abbrev pub upcall_told : Event → Record → Option Scheduled

@@ -16,6 +16,7 @@ use Rattle.kernel_model.specs.Accesses.{StepsAreGuarded}
 use Rattle.kernel_model.specs.Accounts.{IsAccountedFor, StepsAreAccountedFor}
 use Rattle.kernel_model.specs.Causes.{EachChangeHasACause, StepsHaveCauses}
 use Rattle.kernel_model.specs.Choices.{Throughout}
+use Rattle.kernel_model.specs.Console.{StepsOperateOne}
 use Rattle.kernel_model.specs.Edges.{StepsServeEdges}
 use Rattle.kernel_model.specs.Prints.{PrintsAreOfBuffers}
 use Rattle.kernel_model.specs.Refused.{RefusalsChangeLittle}
@@ -51,8 +52,8 @@ follows_throughout P Q each w (choice ∷ choices) all =
     (each w choice all.0, follows_throughout P Q each (after w choice) choices all.1)
 
 pub steps_are_accounted_for : StepsHaveCauses → StepsAreGuarded → RefusalsChangeLittle → PrintsAreOfBuffers
-    → StepsServeEdges → StepsAreAccountedFor
-steps_are_accounted_for causes guarded refused prints edges = record {
+    → StepsServeEdges → StepsOperateOne → StepsAreAccountedFor
+steps_are_accounted_for causes guarded refused prints edges operates = record {
   any = λ w choice whole. with_causes w choice (causes.any w choice whole);
   turn = λ w slot whole. with_causes w (Run slot) (causes.turn w slot whole);
   stretch = λ k w later is. follows_throughout EachChangeHasACause IsAccountedFor with_causes w (chosen k w)
@@ -68,4 +69,5 @@ steps_are_accounted_for causes guarded refused prints edges = record {
       refused = refused w choice;
       prints = prints w [] choice;
       edges = edges w choice;
+      operated = operates w choice;
     }

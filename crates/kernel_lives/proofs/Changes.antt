@@ -28,6 +28,7 @@ use Rattle.driver_model.specs.Drivers.{CommandContext, CommandHandler, handler_o
 use Rattle.driver_model.specs.Services.{OfEachService}
 use Rattle.rv32_model.specs.declared.turn_end.TurnEnd.{TurnEnd}
 use Rattle.rv32_model.specs.declared.turn_end.TurnEnd.TheVariants as ends
+use Rattle.tk_base.specs.declared.process.Verb.{Verb}
 use Rattle.rv32_model.specs.UserTurn.{MemoryAccess}
 use Rattle.syscall_abi.specs.declared.call.Call.{Call as SystemCall}
 use Rattle.syscall_abi.specs.declared.form.CallForm.{CallForm}
@@ -53,11 +54,11 @@ use Rattle.kernel_model.specs.Calls.{own_swapped, refused, refused_with, region,
 use Rattle.kernel_model.specs.Calls.{restart, served, swap_by, swap_refusal}
 use Rattle.kernel_model.specs.Calls.{taken_by, with_break_at, yield_for, yield_now, yielding}
 use Rattle.kernel_model.specs.Turn.{Event, apply, calls, turn_counted, delivery, at_turn_end, faulted, has_turn}
-use Rattle.kernel_model.specs.Turn.{settled, surroundings, turned, turn_in}
+use Rattle.kernel_model.specs.Turn.{operated, settled, surroundings, turned, turn_in}
 use Rattle.kernel_model.specs.World.{World, after}
 use Rattle.kernel_model.specs.Replay.{after_all}
-use Rattle.kernel_model.specs.Lives.{is_alive}
-use Rattle.kernel_model.proofs.Steps.{IsAnswer, answer_changes, of_answer, of_step}
+use Rattle.process_record.specs.Process.{after_end, is_alive, with_held}
+use Rattle.kernel_model.proofs.Steps.{IsAnswer, answer_changes, of_answer, of_operated, of_step}
 
 -- other registers, and another recorded refusal
 abbrev pub with_regs : Record → Registers → Option RecordedRefusal → Record
@@ -105,6 +106,18 @@ pub record IsKept (R : Own → Own → Type 0) (I J : Record → Type 0) : Type 
       → J (record r { process = after_fault r.process denial; own = ended_own r.own })
   pub faults_again : (r : Record) (denial : Denial) → is_alive r.process.state ≡ true → I r
       → J (restart (with_process r (after_fault r.process denial)))
+
+-- what an operator's act leaves: of a process that is held, or let go, that ends, and that starts again
+pub record IsActed (I J : Record → Type 0) : Type 0 where
+  pub done : (r : Record) → I r → J r
+  pub holds : (r : Record) (held : Bool) → I r → J (record r { process = with_held held r.process })
+  pub ends : (r : Record) → I r → J (record r { process = after_end r.process 0; own = ended_own r.own })
+  pub again : (r : Record) → I r → J (restart r)
+
+-- so it is after each act
+pub after_act : (I J : Record → Type 0) → IsActed I J → (verb : Verb) (r : Record) → I r → J (operated verb r)
+after_act I J a verb r h =
+    of_operated (λ ended s. J s) r (a.done r h) (λ held. a.holds r held h) (λ lives. a.ends r h) (a.again r h) verb
 
 module _ (R : Own → Own → Type 0) (services : OfEachService R) (I J : Record → Type 0) (k : IsKept R I J) where
   Q : Served → Type 0
@@ -289,12 +302,12 @@ module _ (R : Own → Own → Type 0) (services : OfEachService R) (I J : Record
       after_call settings.strict (surroundings settings time r) r alive h call
   after_calls settings time r alive h accesses None = after_denial settings r alive h _
 
-  after_end : (settings : Settings) (time : ℕ) (r : Record) → is_alive r.process.state ≡ true → I r
+  at_end : (settings : Settings) (time : ℕ) (r : Record) → is_alive r.process.state ≡ true → I r
       → (accesses : List MemoryAccess) (end : TurnEnd) → J (at_turn_end settings time r accesses end).after
-  after_end settings time r alive h accesses ends.Went = k.done r h
-  after_end settings time r alive h accesses ends.Call =
+  at_end settings time r alive h accesses ends.Went = k.done r h
+  at_end settings time r alive h accesses ends.Call =
       after_calls settings time r alive h accesses (call_of r.process.regs)
-  after_end settings time r alive h accesses (ends.Trap denial) = after_denial settings r alive h denial
+  at_end settings time r alive h accesses (ends.Trap denial) = after_denial settings r alive h denial
 
   -- after a turn: where it had none, as it was; else by what stands once the turn was counted, and its instruction has
   -- had its effect
@@ -313,7 +326,7 @@ module _ (R : Own → Own → Type 0) (services : OfEachService R) (I J : Record
       by_state : (state : State) → r.process.state ≡ state → (has_turn state (due r.own.inbox) ≡ false → J r)
           → J (turn_in settings time state r).after
       by_state Running is none =
-          after_end settings time (with_effect (turn_counted r) (instruction r)) (ap is_alive is) went
+          at_end settings time (with_effect (turn_counted r) (instruction r)) (ap is_alive is) went
           (instruction r).accesses (instruction r).end
       by_state Yielded is none = by_due (due r.own.inbox) is none
       by_state Faulted is none = none refl
@@ -325,20 +338,22 @@ module _ (R : Own → Own → Type 0) (services : OfEachService R) (I J : Record
   after_answer settings event r is h =
       subst I (sym (answer_changes settings event r is)) (k.serves r _ _ _ (of_answer R services settings event r is) h)
 
--- what is so of a process in a slot is so after any choices, where it is after its turns and after answers
+-- what is so of a process in a slot is so after any choices, where it is after its turns, after answers and after acts
 pub over_choices : (I : Record → Type 0)
     → ((settings : Settings) (time : ℕ) (r : Record) → I r → I (turned settings time r).after)
     → ((settings : Settings) (event : Event) (r : Record) → IsAnswer event → I r → I (apply settings event r))
+    → ((verb : Verb) (r : Record) → I r → I (operated verb r))
     → (w : World) (choices : List Choice) (slot : ℕ) → IfSome (slice_get w.records slot) I
     → IfSome (slice_get (after_all w choices).records slot) I
-over_choices I turns answers w [] slot h = h
-over_choices I turns answers w (choice ∷ choices) slot h =
-    over_choices I turns answers (after w choice) choices slot
-    (of_step w slot (λ tolds o. IfSome o I)
+over_choices I turns answers acts w [] slot h = h
+over_choices I turns answers acts w (choice ∷ choices) slot h =
+    over_choices I turns answers acts (after w choice) choices slot
+    (of_step w slot (λ ended tolds o. IfSome o I)
     (record {
       stays = h;
       turn = λ r is. turns w.settings w.clock.time r (subst (λ (o : Option Record). IfSome o I) is h);
       answer = λ r is event answers_it. answers w.settings event r answers_it
           (subst (λ (o : Option Record). IfSome o I) is h);
+      act = λ r is verb. acts verb r (subst (λ (o : Option Record). IfSome o I) is h);
     })
     choice)

@@ -3,7 +3,8 @@ use Rattle.std.proofs.Common.{◌≡◌, ◌<◌, ℕ, zero, suc, ◌+◌, ◌==
 use Rattle.std.proofs.Common.{◌∷◌}
 use Rattle.std.proofs.Common.{◌++◌, length, slice_get, slice_set, Option, None, Some, is_some, refl, sym, ap}
 use Rattle.std.proofs.Common.{subst, ◌∙◌, arith, ap₂, map}
-use Rattle.std.specs.Prelude.{All}
+use Rattle.std.specs.Prelude.{All, unwrap_or}
+use Rattle.tk_base.specs.declared.process.Verb.{Verb}
 use Rattle.std.specs.Option.{option_map}
 use Rattle.std.proofs.lemmas.Bool.{false≢true}
 use Rattle.std.proofs.lemmas.List.{length-map}
@@ -27,10 +28,12 @@ use Rattle.driver_model.specs.Services.{OfEachService}
 use Rattle.kernel_model.specs.Record.{Record}
 use Rattle.kernel_model.specs.declared.settings.Settings.{Settings}
 use Rattle.kernel_model.specs.Calls.{restart}
-use Rattle.kernel_model.specs.Turn.{Event, apply, edge_known, may_turn, turned}
+use Rattle.kernel_model.specs.Turn.{Event, apply, edge_known, has_turn, may_turn, operated, turned}
+use Rattle.upcall_queue.specs.Pending.{due}
 use Rattle.kernel_model.specs.Laws.{edge_heard, queue_after_answer}
 use Rattle.kernel_model.specs.World.{DeviceAnswer, DeviceStep, Devices, Stepped, World, acted, after, alarmed}
-use Rattle.kernel_model.specs.World.{answering, coming_in}
+use Rattle.kernel_model.specs.World.{acting_on, acts_of, answering, coming_in, operating, slot_of_name}
+use Rattle.kernel_model.specs.World.{telling_nobody}
 use Rattle.kernel_model.specs.World.{arrived, can_act, can_run, carried_out, device_step_of, done, is_ready}
 use Rattle.kernel_model.specs.World.{is_waited_for, may_be_made, now_in, owns_in, queue_without}
 use Rattle.kernel_model.specs.World.{ran}
@@ -41,7 +44,7 @@ use Rattle.kernel_model.specs.Replay.{after_all}
 use Rattle.kernel_lives.specs.Counts.{AddsUp, CountsAddUp, WaitingAreThere, ticks_passed, turns_made, turns_of_all}
 use Rattle.kernel_lives.proofs.Changes.{IsKept, after_turn}
 use Rattle.kernel_lives.proofs.Lives.{restart_by}
-use Rattle.kernel_model.proofs.Steps.{IsAnswer, answer_changes, of_answers}
+use Rattle.kernel_model.proofs.Steps.{IsAnswer, answer_changes, of_answers, of_operated}
 use Rattle.kernel_laws.proofs.Turns.{step_same}
 use Rattle.kernel_model.proofs.Places.{queue_with, stepped_ready}
 
@@ -84,16 +87,30 @@ turns_kept n = record {
   faults_again = λ r denial alive h. turns_again n _ h;
 }
 
+-- a process that may have a turn has one
+can_turn : (r : Record) → may_turn r ≡ true → has_turn r.process.state (due r.own.inbox) ≡ true
+can_turn r may = by_test r.process.held may
+  where
+    by_test : (held : Bool) → (not held && has_turn r.process.state (due r.own.inbox)) ≡ true
+        → has_turn r.process.state (due r.own.inbox) ≡ true
+    by_test true e = absurd (false≢true e)
+    by_test false e = e
+
 turn_counts : (settings : Settings) (time : ℕ) (r : Record) → may_turn r ≡ true
     → (turned settings time r).after.process.turns ≡ r.process.turns + 1
 turn_counts settings time r may =
     after_turn Any any_service (Made (r.process.turns + 1)) (Made (r.process.turns + 1))
     (turns_kept (r.process.turns + 1)) settings time r
-    (λ none. absurd (false≢true (sym none ∙ may))) refl refl
+    (λ none. absurd (false≢true (sym none ∙ can_turn r may))) refl refl
 
 answer_counts : (settings : Settings) (event : Event) (r : Record) → IsAnswer event
     → (apply settings event r).process.turns ≡ r.process.turns
 answer_counts settings event r is = ap (λ (x : Record). x.process.turns) (answer_changes settings event r is)
+
+act_counts : (verb : Verb) (r : Record) → (operated verb r).process.turns ≡ r.process.turns
+act_counts verb r =
+    of_operated (λ ended s. s.process.turns ≡ r.process.turns) r refl (λ held. refl) (λ lives. refl)
+    (turns_again r.process.turns r refl) verb
 
 -- the turns of all, where one record is another
 turns_set : (rs : List Record) (i : ℕ) (r s : Record) → slice_get rs i ≡ Some r
@@ -190,11 +207,26 @@ module _ (law : DueSlotIsThere) (w : World) (h : AreThere (length w.records) w.d
   arrival_made [] e = false≢true e
   arrival_made (a ∷ rest) e = by_kind a.kind
     where
+      d : Devices
+      d = record w.devices { arrivals = rest }
+
+      by_there : (verb : Verb) (slot : ℕ) (o : Option Record) → slice_get w.records slot ≡ o
+          → AreThere (length w.records) (unwrap_or
+          (option_map (λ (r : Record). answering slot (operating verb d slot r)) o) (telling_nobody d)).devices
+      by_there verb slot None e = h
+      by_there verb slot (Some r) e =
+          routed_there (length w.records) slot (acts_of verb r) d (slice_get_within w.records slot r e) h
+
+      by_slot : (verb : Verb) (o : Option ℕ) → AreThere (length w.records) (acting_on verb w.records d o).devices
+      by_slot verb None = h
+      by_slot verb (Some slot) = by_there verb slot (slice_get w.records slot) refl
+
       by_kind : (kind : EventKind)
           → AreThere (length w.records) (coming_in kind w.records (record w.devices { arrivals = rest })).devices
       by_kind (script.Input bytes) = h
       by_kind (script.Press button) = h
       by_kind (script.Release button) = h
+      by_kind (script.Act verb name) = by_slot verb (slot_of_name name w.records)
 
   alarm_made : (due : Option ℕ) → ((slot : ℕ) → due ≡ Some slot → slot < length w.records) → is_some due ≡ true
       → IsMade (length w.records) (serving w (λ slot r. alarmed w.settings w.clock.time w.devices) due)
@@ -240,12 +272,17 @@ edge_turns button pressed (r ∷ rs) =
 
 told_turns : (w : World) (device : Dev)
     → turns_of_all (done w (device_step_of w device)).after.records ≡ turns_of_all w.records
+unfolding apply
 told_turns w device =
     of_answers w (λ (s : Stepped). turns_of_all s.after.records ≡ turns_of_all w.records) refl (λ devices. refl)
     (λ button pressed devices. edge_turns button pressed w.records)
     (λ slot r there a is.
     let set = turns_set w.records slot r (apply w.settings a.answer.event r) there in
     let same = answer_counts w.settings a.answer.event r is in
+    omega (arith, set, same))
+    (λ verb devices slot r there.
+    let set = turns_set w.records slot r (operated verb r) there in
+    let same = act_counts verb r in
     omega (arith, set, same)) device
 
 -- one choice

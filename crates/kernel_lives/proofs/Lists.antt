@@ -18,20 +18,26 @@ use Rattle.driver_model.specs.Random as random
 use Rattle.driver_model.specs.Storage as storage
 use Rattle.driver_model.specs.Answers.{EventsTellSteps, LinesFollowAnswers, queue_left_by}
 use Rattle.driver_model.specs.Commands.{BoardRequest, Waits, Leaves, Lights, QueueName, Writes, Reads, Randoms}
-use Rattle.driver_model.specs.Commands.{Stores, is_same}
+use Rattle.driver_model.specs.Commands.{Stores, is_same, leaving_all}
+use Rattle.tk_base.specs.declared.process.Verb.{Verb}
+use Rattle.process_record.specs.Operator.{ends_by}
 use Rattle.driver_model.specs.Lines.{begins, has_waiting, waits_after, waits_by, waits_once}
 use Rattle.process_record.specs.declared.process.State.{State}
 use Rattle.process_record.specs.declared.process.State.TheVariants.{Running, Yielded, Faulted, Terminated}
 use Rattle.kernel_model.specs.Record.{Record}
 use Rattle.kernel_model.specs.declared.settings.Settings.{Settings}
 use Rattle.kernel_model.specs.Turn.{Event, Turned, Alarmed, Taken, WriteDone, Input, Stored, apply, flash_of}
-use Rattle.kernel_model.specs.Turn.{edge_known, turned, turn_in}
+use Rattle.kernel_model.specs.Turn.{edge_known, operated, turned, turn_in, untraced}
 use Rattle.driver_model.specs.Steps.{DriverStep, own_after}
-use Rattle.kernel_model.specs.World.{drawn_event, DeviceAnswer, Devices, Stepped, World, acted, after, alarmed}
-use Rattle.kernel_model.specs.World.{carried_out, device_step_of, done, now_in, queue_without}
+use Rattle.kernel_model.specs.World.{DeviceAnswer, Devices, Stepped, World, acted, after, alarmed}
+use Rattle.kernel_model.specs.World.{acts_of, carried_out, device_step_of, done, drawn_event, now_in, operating}
+use Rattle.kernel_model.specs.World.{queue_without}
 use Rattle.kernel_model.specs.World.{ran, random_step, receive_step, routed, slots_in, storing, transmitting}
-use Rattle.kernel_model.specs.Laws.{queue_after_answer, TurnsKeepLines}
-use Rattle.kernel_model.specs.Lives.{LivesAsItRuns, HoldsThroughout, is_alive}
+use Rattle.kernel_model.specs.Laws.{CanStartAgain, KeepsLines, queue_after_answer, TurnsKeepLines}
+use Rattle.kernel_model.proofs.Lines.{keeps_ended, keeps_restarted}
+use Rattle.kernel_model.proofs.Steps.{of_operated}
+use Rattle.kernel_model.specs.Lives.{LivesAsItRuns, HoldsThroughout}
+use Rattle.process_record.specs.Process.{is_alive}
 use Rattle.kernel_lives.specs.Lists.{ListsStay, asks_at, once_if, times_in}
 use Rattle.kernel_lives.proofs.Lives.{over_turn}
 use Rattle.kernel_model.proofs.Places.{of_stepped, queue_with, ran-other, set_own, slice_get-set_other}
@@ -214,6 +220,16 @@ module _ (settings : Settings) (time : ℕ) (r : Record) where
             lines = λ queue. idle_waits queue over;
             once = λ queue. idle_once queue over;
           }
+
+-- what becomes of the requests of a process on which an operator acted
+act_keeps : (size : ℕ) (verb : Verb) (r : Record) → CanStartAgain r
+    → KeepsLines size r.own (operated verb r).own (acts_of verb r)
+act_keeps size verb r can =
+    of_operated (λ ended s. KeepsLines size r.own s.own (cond ended leaving_all [])) r same (λ held. same)
+    (λ lives. keeps_ended size r.own) (keeps_restarted size r can) verb
+  where
+    same : KeepsLines size r.own r.own []
+    same = record { lines = λ queue. refl; once = λ queue. refl; life = λ queue e. refl; within = λ h. h }
 
 -- in one queue, after a turn
 module _ (w : World) (slot : ℕ) (r : Record) (is : slice_get w.records slot ≡ Some r) (t : Turned) where
@@ -428,12 +444,34 @@ module _ (follow : LinesFollowAnswers) (tell : EventsTellSteps) (w : World) (h :
       by_record None = refl
       by_record (Some r) = by_test (differs r.pressed button pressed) r
 
-  deed_lists : (device : Dev) → AreLists (done w (device_step_of w device)).after
-  deed_lists device =
+  -- an operator's act, which takes a process out of every queue where a life of it ends
+  act_lists : ((slot : ℕ) → IfSome (slice_get w.records slot) LivesAsItRuns) → (verb : Verb) (rest : List Arrival)
+      (slot : ℕ) (r : Record) → slice_get w.records slot ≡ Some r
+      → AreLists (one_answered w slot r (operating verb (with_rest w.devices rest) slot r)).after
+  unfolding apply
+  act_lists lives verb rest slot r is queue k =
+      let can = (subst (λ (o : Option Record). IfSome o LivesAsItRuns) is (lives slot)).application in
+      let waits = act_keeps w.settings.storage verb r can in
+      let t : Turned = record { after = operated verb r; told = untraced; acts = acts_of verb r } in
+      ap (times_in k) (same_lines (ends_by verb r.process))
+      ∙ turn_at w slot r is t queue (waits.lines queue) (waits.once queue) (h queue)
+      (λ other apart. slice_get-set_other w.records slot other (operated verb r) apart) k
+    where
+      same_lines : (b : Bool)
+          → slots_in queue (routed slot (cond b leaving_all []) (with_rest w.devices rest)).waiting
+          ≡ slots_in queue (routed slot (cond b leaving_all []) w.devices).waiting
+      same_lines true = refl
+      same_lines false = refl
+
+  deed_lists : ((slot : ℕ) → IfSome (slice_get w.records slot) LivesAsItRuns) → (device : Dev)
+      → AreLists (done w (device_step_of w device)).after
+  deed_lists lives device =
       of_device w (λ (s : Stepped). AreLists s.after) (record {
         none = h;
         arrives = λ bytes rest. h;
         edges = edges;
+        nobody = λ rest. h;
+        acts = act_lists lives;
         alarms = fires;
         sends = sends;
         receives = receives;
@@ -457,7 +495,7 @@ module _ (follow : LinesFollowAnswers) (tell : EventsTellSteps) (w : World) (h :
       → AreLists (carried_out w choice).after
   unfolding carried_out
   choice_lists law lives (Run slot) = turn_lists law lives slot (slice_get w.records slot) refl
-  choice_lists law lives (Device device) = deed_lists device
+  choice_lists law lives (Device device) = deed_lists lives device
   choice_lists law lives (Pass ticks) = h
 
   step_lists : TurnsKeepLines → ((slot : ℕ) → IfSome (slice_get w.records slot) LivesAsItRuns) → (choice : Choice)

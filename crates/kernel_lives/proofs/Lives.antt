@@ -1,7 +1,9 @@
 -- When a process lives, and what stays of it, by the one walk over what may happen to it.
-use Rattle.std.proofs.Common.{◌≡◌, ◌≤◌, ℕ, ◌+◌, ◌-◌, Bool, true, false, cond, not, ◌&&◌, nat_le, List, []}
+use Rattle.std.proofs.Common.{◌≡◌, ◌≢◌, ◌≤◌, ℕ, ◌+◌, ◌-◌, Bool, true, false, cond, not, ◌&&◌, nat_le, List, []}
 use Rattle.std.proofs.Common.{◌∷◌, filter, length, slice_get, slice_set, unwrap_or, option_map, Option}
 use Rattle.std.proofs.Common.{None, Some, IfSome, Result, Ok, Err, refl, sym, ap, subst, ◌∙◌, arith}
+use Rattle.std.specs.Prelude.{All}
+use Rattle.std.proofs.lemmas.List.Elements.{All-head, All-tail}
 use Rattle.std.proofs.lemmas.Bool.{false≢true, leb-true}
 use Rattle.tk_base.specs.Numbers.{rounded_up}
 use Rattle.tk_base.specs.declared.limits.TheConstants.{PENDING_LIMIT}
@@ -18,7 +20,7 @@ use Rattle.grant_model.specs.Grants.{Grant}
 use Rattle.process_layout.specs.LayoutView.{first_break}
 use Rattle.process_layout.specs.Bounds.{Bounds, permits_break}
 use Rattle.upcall_queue.specs.Pending.{is_of, without_key}
-use Rattle.process_model.specs.Own.{Own, kernel_break_of}
+use Rattle.process_model.specs.Own.{Own, kernel_break_of, own_ended as ended_own}
 use Rattle.process_model.specs.Flag.{with_flag}
 use Rattle.process_model.specs.Handed.{lies_in_ram, still_pending}
 use Rattle.driver_model.specs.Alarm as alarm
@@ -39,18 +41,22 @@ use Rattle.process_record.specs.declared.process.State.TheVariants.{Running, Yie
 use Rattle.kernel_model.specs.Record.{Record, record_with_step}
 use Rattle.kernel_model.specs.declared.settings.Settings.{Settings}
 use Rattle.kernel_model.specs.Calls.{restart, restarted_by, restarted_main, restarted_with, own_swapped}
-use Rattle.kernel_model.specs.Turn.{Event, Turn, Alarmed, Edge, Taken, WriteDone, Input, Word, NoWord, Stored, apply}
-use Rattle.kernel_model.specs.Turn.{flash_of, turned, turn_in, written_over}
+use Rattle.kernel_model.specs.Turn.{Act, Event, Turn, Alarmed, Edge, Taken, WriteDone, Input, Word, NoWord, Stored}
+use Rattle.kernel_model.specs.Turn.{apply, flash_of, is_turn, operated, turned, turn_in, written_over}
 use Rattle.kernel_model.specs.World.{World, after}
-use Rattle.kernel_model.specs.Replay.{after_all}
-use Rattle.kernel_model.specs.Laws.{main_by}
+use Rattle.kernel_model.specs.Replay.{after_all, history, replay}
+use Rattle.tbf_headers.specs.Meaning.{main_by}
 use Rattle.kernel_model.specs.Lives.{AsManyStay, BlocksStayApart, EndedStays, HasOrder, HasPendingWithinLimit, LiesAs}
-use Rattle.kernel_model.specs.Lives.{LivesAsItRuns, PlacesStay, HoldsThroughout, is_alive}
-use Rattle.kernel_lives.proofs.Changes.{IsKept, after_answer, after_turn, over_choices}
+use Rattle.kernel_model.specs.Lives.{LivesAsItRuns, PlacesStay, HoldsThroughout}
+use Rattle.tk_base.specs.declared.process.Verb.{Verb}
+use Rattle.tk_base.specs.declared.process.Verb.TheVariants as verbs
+use Rattle.process_record.specs.Process.{after_end, is_alive, with_held}
+use Rattle.kernel_lives.proofs.Changes.{IsActed, IsKept, after_act, after_answer, after_turn, over_choices}
 use Rattle.kernel_model.proofs.Restarts.{restarts}
 use Rattle.kernel_model.proofs.Handed.{is_handed}
 use Rattle.kernel_laws.proofs.Turns.{step_same}
-use Rattle.kernel_model.proofs.Steps.{IsAnswer, of_step}
+use Rattle.kernel_model.proofs.Replays.{record_is_replay}
+use Rattle.kernel_model.proofs.Steps.{IsAnswer, of_told}
 
 -- a restart, by whether the object is that of an application
 pub restart_by : (P : Record → Type 0) (r : Record) → P r
@@ -83,13 +89,15 @@ module _ (R : Own → Own → Type 0) (services : OfEachService R) (I : Record �
       process = record r.process { turns = turns; regs = regs };
       own =
           record r.own { ram = ram };
-    })) where
+    })) (acted : IsActed I I) where
   turn_keeps : (settings : Settings) (time : ℕ) (r : Record) → I r → I (turned settings time r).after
   turn_keeps settings time r h =
       after_turn R services I I k settings time r (λ none. h) (counts r _ _ r.own.ram h) (counts r _ _ _ h)
 
   stays : HoldsThroughout I
-  stays = over_choices I turn_keeps (λ settings event r is h. after_answer R services I I k settings event r is h)
+  stays =
+      over_choices I turn_keeps (λ settings event r is h. after_answer R services I I k settings event r is h)
+      (after_act I I acted)
 
 -- a process lives as it runs
 lives_kept : IsKept StaysInPlace LivesAsItRuns LivesAsItRuns
@@ -123,10 +131,20 @@ lives_kept = record {
       (λ header m. record { lives = refl; life = ap (λ (n : ℕ). n + 1) h.life; application = h.application });
 }
 
+-- nor does an operator's act change that
+lives_acted : IsActed LivesAsItRuns LivesAsItRuns
+lives_acted = record {
+  done = λ r h. h;
+  holds = λ r held h. record { lives = h.lives; life = h.life; application = h.application };
+  ends = λ r h. record { lives = refl; life = h.life; application = h.application };
+  again = λ r h. restarts LivesAsItRuns r h.application
+      (λ header m. record { lives = refl; life = ap (λ (n : ℕ). n + 1) h.life; application = h.application });
+}
+
 pub lives_stay : DriversKeep → HoldsThroughout LivesAsItRuns
 lives_stay law =
     stays StaysInPlace law.places LivesAsItRuns lives_kept
-    (λ r turns regs ram h. record { lives = h.lives; life = h.life; application = h.application })
+    (λ r turns regs ram h. record { lives = h.lives; life = h.life; application = h.application }) lives_acted
 
 -- an ended process has no turn, and what devices tell it changes only which buttons it knows to be pressed
 pub over_turn : (settings : Settings) (time : ℕ) (r : Record) → is_alive r.process.state ≡ false
@@ -179,37 +197,75 @@ over_answer settings (Stored moved) r over is =
     storage.storage_answer_of (storage.storage_served (not moved) (flash_of r) r.storage request r.own)) w)
     (storage.unanswered r.own) in record (record_with_step r a.step) { storage = written_over r.storage a.written })
     (none_waits storages r.own over)
+over_answer settings (Act verb) r over is = absurd (cc)
 
 pub same_some : {X : Type 0} (x y : X) → Some x ≡ Some y → x ≡ y
 same_some x y e = cc
 
-ended_step : (w : World) (choice : Choice) (slot : ℕ) (r : Record) → is_alive r.process.state ≡ false
-    → r.own.lives ≡ false → slice_get w.records slot ≡ Some r
-    → (pressed : ℕ) × (slice_get (after w choice).records slot ≡ Some (record r { pressed = pressed }))
-ended_step w choice slot r over ended is =
-    of_step w slot (λ tolds o. (pressed : ℕ) × (o ≡ Some (record r { pressed = pressed })))
-    (record {
-      stays = (r.pressed, is);
-      turn = λ s at.
-          let same = same_some s r (sym at ∙ is) in (
-            r.pressed,
-            ap (λ (x : Record). Some (turned w.settings w.clock.time x).after) same
-                ∙ ap Some (over_turn w.settings w.clock.time r over),
-          );
-      answer = λ s at event answers.
-          let same = same_some s r (sym at ∙ is) in (
-            (apply w.settings event r).pressed,
-            ap (λ (x : Record). Some (apply w.settings event x)) same
-                ∙ ap Some (over_answer w.settings event r ended answers),
-          );
-    })
-    choice
+-- whatever happens to an ended process that is not held, but for an operator's act that starts it again
+ended_event : (settings : Settings) (event : Event) (r : Record) → is_alive r.process.state ≡ false
+    → r.process.held ≡ false → r.own.lives ≡ false → event ≢ Act verbs.Restart
+    → (pressed : ℕ) × (apply settings event r ≡ record r { pressed = pressed })
+unfolding apply
+ended_event settings event r over free ended other = by_turn (is_turn event) refl
+  where
+    by_verb : (verb : Verb) → Act verb ≢ Act verbs.Restart → operated verb r ≡ r
+    by_verb verbs.List apart = refl
+    by_verb verbs.Stop apart =
+        ap (λ (b : Bool). record r { process = cond b (with_held true r.process) r.process; own = r.own }) over
+    by_verb verbs.Start apart =
+        ap (λ (b : Bool). record r { process = cond b (with_held false r.process) r.process; own = r.own }) free
+    by_verb verbs.Terminate apart =
+        ap (λ (b : Bool). record r {
+          process = cond b (after_end r.process 0) r.process;
+          own = cond b (ended_own r.own) r.own;
+        }) over
+    by_verb verbs.Restart apart = absurd (apart refl)
+
+    -- a turn
+    turn_is : (e : Event) → e ≢ Act verbs.Restart → is_turn e ≡ true
+        → (pressed : ℕ) × (apply settings e r ≡ record r { pressed = pressed })
+    turn_is (Turn time) apart is = (r.pressed, over_turn settings time r over)
+    turn_is (Alarmed now) apart is = absurd (false≢true is)
+    turn_is (Edge button pressed) apart is = absurd (false≢true is)
+    turn_is Taken apart is = absurd (false≢true is)
+    turn_is WriteDone apart is = absurd (false≢true is)
+    turn_is (Input bytes) apart is = absurd (false≢true is)
+    turn_is (Word word) apart is = absurd (false≢true is)
+    turn_is NoWord apart is = absurd (false≢true is)
+    turn_is (Stored moved) apart is = absurd (false≢true is)
+    turn_is (Act verb) apart is = absurd (false≢true is)
+
+    told_is : (e : Event) → e ≢ Act verbs.Restart → is_turn e ≡ false
+        → (pressed : ℕ) × (apply settings e r ≡ record r { pressed = pressed })
+    told_is e apart is =
+        of_told (λ (x : Event). x ≢ Act verbs.Restart
+        → (pressed : ℕ) × (apply settings x r ≡ record r { pressed = pressed }))
+        (λ x answers apart. ((apply settings x r).pressed, over_answer settings x r ended answers))
+        (λ verb apart. (r.pressed, by_verb verb apart)) e is apart
+
+    by_turn : (b : Bool) → is_turn event ≡ b → (pressed : ℕ) × (apply settings event r ≡ record r { pressed = pressed })
+    by_turn true is = turn_is event other is
+    by_turn false is = told_is event other is
+
+ended_events : (settings : Settings) (events : List Event) (r : Record) → is_alive r.process.state ≡ false
+    → r.process.held ≡ false → r.own.lives ≡ false → All (λ event. event ≢ Act verbs.Restart) events
+    → (pressed : ℕ) × (replay settings events r ≡ record r { pressed = pressed })
+ended_events settings [] r over free ended none = (r.pressed, refl)
+ended_events settings (event ∷ events) r over free ended none =
+    let one = ended_event settings event r over free ended
+    (All-head (λ (e : Event). e ≢ Act verbs.Restart) event events none) in
+    let rest = ended_events settings events (record r { pressed = one.0 }) over free ended
+    (All-tail (λ (e : Event). e ≢ Act verbs.Restart) event events none) in
+    (rest.0, ap (replay settings events) one.1 ∙ rest.1)
 
 pub ended_stays : EndedStays
-ended_stays w [] slot r is over ended = (r.pressed, is)
-ended_stays w (choice ∷ choices) slot r is over ended =
-    let step = ended_step w choice slot r over ended is in
-    ended_stays (after w choice) choices slot (record r { pressed = step.0 }) step.1 over ended
+ended_stays w choices slot r is over free ended none =
+    let left = ended_events w.settings (history slot w choices) r over free ended none in (
+      left.0,
+      record_is_replay w choices slot ∙ ap (option_map (replay w.settings (history slot w choices))) is
+          ∙ ap Some left.1,
+    )
 
 -- where a process lies
 pub lies_on : (first r s : Record) → LiesAs first r → s.object ≡ r.object → s.process.object ≡ r.process.object
@@ -269,6 +325,12 @@ lies_stay : (law : DriversKeep) (first : Record) → HoldsThroughout (LiesAs fir
 lies_stay law first =
     stays StaysInPlace law.places (LiesAs first) (lies_kept law first)
     (λ r turns regs ram h. lies_on first r _ h refl refl refl refl refl refl refl)
+    (record {
+      done = λ r h. h;
+      holds = λ r held h. lies_on first r _ h refl refl refl refl refl refl refl;
+      ends = λ r h. lies_on first r _ h refl refl refl refl refl refl refl;
+      again = λ r h. lies_again first r h;
+    })
 
 pub places_stay : DriversKeep → PlacesStay
 places_stay law w choices slot first is =
@@ -294,7 +356,7 @@ was_there law w choices slot now is P each = by_first (slice_get w.records slot)
     by_first : (o : Option Record) → slice_get w.records slot ≡ o → P
     by_first None e =
         absurd (subst (λ (o : Option Record). IfSome o (λ r. ⊥)) is
-        (over_choices (λ r. ⊥) (λ settings time r h. h) (λ settings event r answers h. h) w choices slot
+        (over_choices (λ r. ⊥) (λ settings time r h. h) (λ settings event r answers h. h) (λ verb r h. h) w choices slot
         (subst (λ (o : Option Record). IfSome o (λ r. ⊥)) (sym e) tt)))
     by_first (Some first) e =
         each first e (subst (λ (o : Option Record). IfSome o (LiesAs first)) is
@@ -402,10 +464,18 @@ order_kept law = record {
   faults_again = λ r denial alive h. order_again _ (record { places = h.places; least = h.least });
 }
 
+pub order_acted : IsActed HasOrder HasOrder
+order_acted = record {
+  done = λ r h. h;
+  holds = λ r held h. record { places = h.places; least = h.least };
+  ends = λ r h. order_on r _ h refl refl refl (order_same r.own _ refl refl h.places);
+  again = order_again;
+}
+
 pub order_stays : DriversKeep → HoldsThroughout HasOrder
 order_stays law =
     stays KeepsBoth (keep_both law) HasOrder (order_kept law)
-    (λ r turns regs ram h. order_on r _ h refl refl refl (order_same r.own _ refl refl h.places))
+    (λ r turns regs ram h. order_on r _ h refl refl refl (order_same r.own _ refl refl h.places)) order_acted
 
 -- how many upcalls wait
 filtered : {X : Type 0} (p : X → Bool) (xs : List X) → length (filter p xs) ≤ length xs
@@ -446,7 +516,13 @@ pending_kept = record {
 }
 
 pub pending_stays : DriversKeep → HoldsThroughout HasPendingWithinLimit
-pending_stays law = stays KeepsLimit law.limit HasPendingWithinLimit pending_kept (λ r turns regs ram h. h)
+pending_stays law =
+    stays KeepsLimit law.limit HasPendingWithinLimit pending_kept (λ r turns regs ram h. h) (record {
+      done = λ r h. h;
+      holds = λ r held h. h;
+      ends = λ r h. omega arith;
+      again = pending_again;
+    })
 
 -- no step takes a process away, or adds one
 pub as_many_stay : AsManyStay

@@ -20,7 +20,9 @@ use Rattle.kernel_model.specs.Record.{Record}
 use Rattle.kernel_model.specs.World.{World, Label, labels}
 use Rattle.kernel_model.specs.Replay.{after_all}
 use Rattle.kernel_model.specs.Causes.{AreWhole}
-use Rattle.kernel_model.specs.Prints.{AreOfItsBuffer, CouldLoad, PrintsCouldBeLoaded, PrintsItsBuffer}
+use Rattle.kernel_model.specs.Prints.{AreOfItsBuffer, CouldLoad, IsPrintedBy, PrintsCouldBeLoaded, PrintsItsBuffer}
+use Rattle.kernel_model.specs.Turn.{Act, Alarmed, Edge, Event, Input, NoWord, Stored, Taken, Turn, Word, WriteDone}
+use Rattle.kernel_model.specs.Turn.{is_act}
 use Rattle.kernel_model.specs.Prints.{PrintsWhatItCouldLoad, console_buffer}
 use Rattle.kernel_model.specs.Wholes.{OwnsStayWhole}
 use Rattle.kernel_lives.proofs.Prints.{prints_are_of_buffers}
@@ -62,10 +64,27 @@ may_load e buffer j may less =
 
 module _ (w : World) (whole : AreWhole w) where
   loads : (label : Label) → PrintsItsBuffer w label → PrintsWhatItCouldLoad w label
-  loads label h = by_record (slice_get w.records label.slot) refl (λ some. (h some).1)
+  loads label h no_act =
+      by_record (slice_get w.records label.slot) refl (λ some. of_buffer label.event (slice_get w.records label.slot)
+      no_act (h some).1)
     where
       count : ℕ
       count = length label.printed
+
+      -- what no operator's act prints is of a buffer
+      of_buffer : (event : Event) (o : Option Record) → is_act event ≡ false
+          → IfSome o (IsPrintedBy event label.slot label.printed) → IfSome o (AreOfItsBuffer label.printed)
+      of_buffer event None no_act printed = tt
+      of_buffer (Turn time) (Some r) no_act printed = printed
+      of_buffer (Alarmed now) (Some r) no_act printed = printed
+      of_buffer (Edge button pressed) (Some r) no_act printed = printed
+      of_buffer Taken (Some r) no_act printed = printed
+      of_buffer WriteDone (Some r) no_act printed = printed
+      of_buffer (Input bytes) (Some r) no_act printed = printed
+      of_buffer (Word word) (Some r) no_act printed = printed
+      of_buffer NoWord (Some r) no_act printed = printed
+      of_buffer (Stored moved) (Some r) no_act printed = printed
+      of_buffer (Act verb) (Some r) no_act printed = absurd (false≢true (sym no_act))
 
       by_record : (o : Option Record) → slice_get w.records label.slot ≡ o
           → (0 < count → IfSome o (AreOfItsBuffer label.printed))

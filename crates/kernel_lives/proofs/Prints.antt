@@ -14,13 +14,15 @@ use Rattle.driver_model.specs.Console as console
 use Rattle.driver_model.specs.Console.{Sent, console_writes}
 use Rattle.driver_model.specs.Requests.{request_in, waiting_in}
 use Rattle.kernel_model.specs.Record.{Record}
-use Rattle.kernel_model.specs.Turn.{Event, flash_of, turned}
+use Rattle.tk_base.specs.declared.process.Verb.{Verb}
+use Rattle.kernel_model.specs.Turn.{Act, Event, Taken, WriteDone, flash_of, turned}
 use Rattle.kernel_model.specs.World.{Label, Stepped, World, answer_label, carried_out, device_step_of, done, labels}
-use Rattle.kernel_model.specs.World.{Answer, ran, telling_edge, transmitting, turn_label}
+use Rattle.kernel_model.specs.World.{Answer, listed, ran, telling_edge, transmitting, turn_label}
 use Rattle.kernel_model.specs.Laws.{edge_labels, one_answered}
 use Rattle.kernel_model.proofs.Told.{edge_answer, of_device, told_labels}
 use Rattle.kernel_model.specs.Replay.{after_all}
-use Rattle.kernel_model.specs.Prints.{AreOfItsBuffer, PrintsAreOfBuffers, PrintsItsBuffer, buffer_bytes, console_buffer}
+use Rattle.kernel_model.specs.Prints.{AreOfItsBuffer, IsPrintedBy, PrintsAreOfBuffers, PrintsItsBuffer, buffer_bytes}
+use Rattle.kernel_model.specs.Prints.{console_buffer}
 use Rattle.kernel_model.proofs.Places.{of_stepped}
 
 -- the bytes that come next are those of the buffer
@@ -88,8 +90,24 @@ module _ (w : World) where
   sends slot r is =
       let bytes = (console.sent (flash_of r) r.own).printed in
       All-cons (PrintsItsBuffer w) _ [] (λ some.
-      subst (λ (o : Option Record). (is_some o ≡ true) × IfSome o (AreOfItsBuffer bytes)) (sym is)
-      (refl, sent_of r some)) (All-nil (PrintsItsBuffer w))
+      subst (λ (o : Option Record). (is_some o ≡ true)
+      × IfSome o (IsPrintedBy (cond (console.sent (flash_of r) r.own).completed WriteDone Taken) slot bytes)) (sym is)
+      (refl, by_completed (console.sent (flash_of r) r.own).completed (sent_of r some))) (All-nil (PrintsItsBuffer w))
+    where
+      by_completed : (completed : Bool) → AreOfItsBuffer (console.sent (flash_of r) r.own).printed r
+          → IsPrintedBy (cond completed WriteDone Taken) slot (console.sent (flash_of r) r.own).printed r
+      by_completed true of_it = of_it
+      by_completed false of_it = of_it
+
+  -- the line of a process that is listed
+  acts : (verb : Verb) (slot : ℕ) (r : Record) → slice_get w.records slot ≡ Some r
+      → All (PrintsItsBuffer w)
+      (answer_label slot (record { event = Act verb; printed = listed verb slot r }) ∷ [])
+  acts verb slot r is =
+      All-cons (PrintsItsBuffer w) _ [] (λ some.
+      subst (λ (o : Option Record). (is_some o ≡ true)
+      × IfSome o (IsPrintedBy (Act verb) slot (listed verb slot r))) (sym is)
+      (refl, refl)) (All-nil (PrintsItsBuffer w))
 
   edges : (button : ℕ) (pressed : Bool) → All (PrintsItsBuffer w) (edge_labels button pressed w)
   edges button pressed =
@@ -103,6 +121,8 @@ module _ (w : World) where
         none = All-nil (PrintsItsBuffer w);
         arrives = λ bytes rest. All-nil (PrintsItsBuffer w);
         edges = λ button pressed rest. edges button pressed;
+        nobody = λ rest. All-nil (PrintsItsBuffer w);
+        acts = λ verb rest slot r is. acts verb slot r is;
         alarms = λ slot r is. silently slot _;
         sends = sends;
         receives = λ slot r is. silently slot _;

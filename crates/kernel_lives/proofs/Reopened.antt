@@ -1,6 +1,6 @@
 -- A process that starts again is as it was opened, but for what no restart forgets.
 use Rattle.std.proofs.Common.{◌≡◌, ◌≢◌, ℕ, ◌+◌, ◌-◌, true, [], replicate, slice_get, Option, Some, IfSome, Ok, refl}
-use Rattle.std.proofs.Common.{sym, ap, subst, ◌∙◌}
+use Rattle.std.proofs.Common.{false, sym, ap, subst, ◌∙◌}
 use Rattle.tk_base.specs.declared.process.Choice.{Choice}
 use Rattle.tbf_headers.specs.declared.program.Main.{Main}
 use Rattle.tbf_headers.specs.Meaning.{Meaning, header_reading}
@@ -11,11 +11,11 @@ use Rattle.process_record.specs.Process.{start_regs}
 use Rattle.process_record.specs.declared.process.State.TheVariants.{Running}
 use Rattle.kernel_model.specs.Record.{Record}
 use Rattle.kernel_model.specs.Calls.{restart, restarted_by, restarted_main, restarted_with}
-use Rattle.kernel_model.specs.Turn.{apply, turned}
+use Rattle.kernel_model.specs.Turn.{apply, operated, turned}
 use Rattle.kernel_model.specs.World.{World, after}
 use Rattle.kernel_model.specs.Replay.{after_all}
 use Rattle.kernel_model.specs.Lives.{IsAsAtFirst, IsAtFirst, LiesAs, RestartsAsOpened}
-use Rattle.kernel_lives.proofs.Changes.{IsKept, after_answer, after_turn}
+use Rattle.kernel_lives.proofs.Changes.{IsKept, after_act, after_answer, after_turn}
 use Rattle.kernel_lives.proofs.Lives.{lies_kept, lies_on, places_stay, restart_by, same_some}
 use Rattle.upcall_queue.specs.Pending.{cleared}
 use Rattle.kernel_model.proofs.Steps.{of_step}
@@ -45,6 +45,7 @@ starts_as first r h m l = λ i. record {
         (first_break (l.start i) m.minimum_ram);
     object = l.object i;
     state = Running;
+    held = false;
     restarts = r.process.restarts + 1;
     turns = r.process.turns;
     denial = r.process.denial;
@@ -120,7 +121,7 @@ module _ (law : DriversKeep) (first : Record) (at : IsAtFirst first) where
   step : (v : World) (choice : Choice) (slot : ℕ) (before : Record) → slice_get v.records slot ≡ Some before
       → LiesAs first before → IfSome (slice_get (after v choice).records slot) (After before.process.restarts)
   step v choice slot before is l =
-      of_step v slot (λ tolds o. IfSome o (After before.process.restarts))
+      of_step v slot (λ ended tolds o. IfSome o (After before.process.restarts))
       (record {
         stays = subst (λ (o : Option Record). IfSome o (After before.process.restarts)) (sym is)
             (λ ne. absurd (ne refl));
@@ -137,6 +138,15 @@ module _ (law : DriversKeep) (first : Record) (at : IsAtFirst first) where
             (λ ne. absurd (ne (after_answer StaysInPlace law.places (Before before.process.restarts)
             (After before.process.restarts) (kept before.process.restarts) v.settings event before answers
             (l, refl)).1));
+        act = λ r there verb.
+            subst (λ (x : Record). After before.process.restarts (operated verb x))
+            (same_some before r (sym is ∙ there))
+            (after_act (Before before.process.restarts) (After before.process.restarts) (record {
+              done = λ x h ne. absurd (ne h.1);
+              holds = λ x held h ne. absurd (ne h.1);
+              ends = λ x h ne. absurd (ne h.1);
+              again = λ x h. started before.process.restarts x h.0 h.1;
+            }) verb before (l, refl));
       })
       choice
 

@@ -24,8 +24,9 @@ use Rattle.kernel_model.specs.World.{after}
 use Rattle.kernel_model.specs.Lives.{HoldsThroughout}
 use Rattle.kernel_model.specs.Causes.{StepsHaveCauses}
 use Rattle.kernel_model.specs.Wholes.{ChoicesHaveCauses, HasWholeOwn, OwnsStayWhole}
-use Rattle.kernel_lives.proofs.Changes.{IsKept, after_answer, after_turn, over_choices}
-use Rattle.kernel_lives.proofs.Lives.{KeepsBoth, keep_both, order_again, order_kept, order_moved, order_on, order_same}
+use Rattle.kernel_lives.proofs.Changes.{IsKept, after_act, after_answer, after_turn, over_choices}
+use Rattle.kernel_lives.proofs.Lives.{KeepsBoth, keep_both, order_acted, order_again, order_kept, order_moved}
+use Rattle.kernel_lives.proofs.Lives.{order_on, order_same}
 use Rattle.kernel_lives.proofs.Lives.{restart_by}
 use Rattle.kernel_model.proofs.Handed.{is_handed}
 
@@ -164,6 +165,12 @@ module _ (law : DriversKeep) (pairs : OnlyHandingChangesPairs) (settled : Driver
   pub wholes_stay : HoldsThroughout HasWholeOwn
   wholes_stay = over_choices HasWholeOwn turn_keeps
       (λ settings event r is h. after_answer KeepsAll keep_all HasWholeOwn HasWholeOwn whole_kept settings event r is h)
+      (after_act HasWholeOwn HasWholeOwn (record {
+        done = λ r h. h;
+        holds = λ r held h. (order_acted.holds r held h.0, h.1);
+        ends = λ r h. (order_acted.ends r h.0, settled_on r.own _ refl refl refl h.1);
+        again = λ r h. settled_again r h;
+      }))
 
   pub owns_stay_whole : OwnsStayWhole
   owns_stay_whole w choices all slot r is =

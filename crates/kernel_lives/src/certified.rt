@@ -18,7 +18,8 @@ use process_model::only_handing_changes_pairs;
 
 /// Whatever choices are made: a process lives exactly while it is Running or Yielded, and its life
 /// is the number of its restarts, where that was so before; and the record of one that has ended
-/// changes no more, but for the buttons that it knows to be pressed.
+/// changes no more as long as no operator has it start again, but for the buttons that it knows to
+/// be pressed.
 pub fn processes_live_as_they_run()
     ensures lives { HoldsThroughout LivesAsItRuns }
     ensures ended { EndedStays }

@@ -13,3 +13,4 @@ pub mod Replays
 mod Accesses
 pub mod Steps
 mod Worked
+pub mod Console

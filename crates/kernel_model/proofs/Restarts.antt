@@ -5,7 +5,8 @@ use Rattle.tbf_headers.specs.declared.program.Main.{Main}
 use Rattle.tbf_headers.specs.Meaning.{Meaning, header_reading}
 use Rattle.kernel_model.specs.Record.{Record}
 use Rattle.kernel_model.specs.Calls.{restart, restarted_by, restarted_main, restarted_with}
-use Rattle.kernel_model.specs.Laws.{CanStartAgain, main_by}
+use Rattle.kernel_model.specs.Laws.{CanStartAgain}
+use Rattle.tbf_headers.specs.Meaning.{main_by}
 
 -- what holds of it at each header and start holds of it
 pub restarts : (P : Record → Type 0) (r : Record) → CanStartAgain r

@@ -1,33 +1,108 @@
 -- What a step does to the process in a slot: nothing, its turn, or what a device tells it.
-use Rattle.std.proofs.Common.{◌≡◌, ◌≢◌, ℕ, ◌==◌, ◌&&◌, Bool, true, false, cond, List, [], ◌∷◌, ◌++◌, slice_get}
+use Rattle.std.proofs.Common.{◌≡◌, ◌≢◌, ℕ, ◌==◌, ◌&&◌, ◌||◌, Bool, true, false, cond, List, [], ◌∷◌, ◌++◌, slice_get}
 use Rattle.std.proofs.Common.{Option, None, Some, IfSome, refl, sym, ap, subst, ◌∙◌, eqb-true, eq-eqb}
-use Rattle.std.specs.List.{flat_map}
+use Rattle.std.specs.List.{flat_map, list_any}
+use Rattle.std.specs.Prelude.{unwrap_or}
 use Rattle.std.specs.Option.{option_and_then, option_map}
 use Rattle.std.proofs.lemmas.Bool.{false≢true}
 use Rattle.tk_base.specs.declared.process.Choice.{Choice}
 use Rattle.tk_base.specs.declared.process.Choice.TheVariants.{Run, Device, Pass}
 use Rattle.tk_base.specs.declared.process.Dev.{Dev}
+use Rattle.tk_base.specs.declared.process.Verb.{Verb}
+use Rattle.tk_base.specs.declared.process.Verb.TheVariants as verbs
+use Rattle.process_record.specs.Operator.{ends_by}
+use Rattle.process_record.specs.Process.{after_end, is_alive, with_held}
 use Rattle.tk_base.specs.declared.process.Dev.TheVariants as dev
 use Rattle.script_text.specs.Settings.{ScriptEvent as Arrival, EventKind}
 use Rattle.script_text.specs.Settings as script
-use Rattle.process_model.specs.Own.{Own}
+use Rattle.process_model.specs.Own.{Own, own_ended}
 use Rattle.driver_model.specs.Services.{OfEachService}
 use Rattle.kernel_model.specs.declared.settings.Settings.{Settings}
 use Rattle.kernel_model.specs.Record.{Record}
-use Rattle.kernel_model.specs.Turn.{Event, Turn, Alarmed, Edge, Taken, WriteDone, Input, Word, NoWord, Stored}
-use Rattle.kernel_model.specs.Turn.{TurnTrace, Turned, apply, is_turn, turned, untraced}
-use Rattle.kernel_model.specs.World.{drawn_event, Answer, DeviceAnswer, DeviceStep, Devices, Label, Stepped, World, after, alarmed}
-use Rattle.kernel_model.specs.World.{answering, arrived, carried_out, coming_in, device_step_of, done}
+use Rattle.kernel_model.specs.Turn.{Act, Event, Turn, Alarmed, Edge, Taken, WriteDone, Input, Word, NoWord, Stored}
+use Rattle.kernel_model.specs.Turn.{TurnTrace, Turned, apply, is_act, is_turn, operated, turned, untraced}
+use Rattle.kernel_model.specs.Calls.{restart}
+use Rattle.kernel_model.specs.World.{Answer, DeviceAnswer, DeviceStep, Devices, Label, Stepped, World, after, alarmed}
+use Rattle.kernel_model.specs.World.{answering, arrived, carried_out, coming_in, device_step_of, done, drawn_event}
 use Rattle.kernel_model.specs.World.{happens, labels, labels_of, labels_told, ran, random_step, receive_step, served_by}
-use Rattle.kernel_model.specs.World.{serving, storing, telling_edge, transmitting, unmade}
-use Rattle.kernel_model.specs.Histories.{turns_in}
+use Rattle.kernel_model.specs.World.{acting_on, operating, serving, slot_of_name, storing, telling_edge}
+use Rattle.kernel_model.specs.World.{telling_nobody, transmitting, unmade}
+use Rattle.kernel_model.specs.Histories.{is_end, is_ended_in, turns_in}
+use Rattle.kernel_model.specs.Replay.{happened}
 use Rattle.kernel_model.proofs.Places.{of_stepped, ran-other, ran-own}
 use Rattle.kernel_model.specs.Laws.{edge_done, one_answered, quiet}
 use Rattle.kernel_model.proofs.Told.{edge_answer, labels_at, of_device, told_at, told_there, with_arrived, with_rest}
 
--- an event that is no turn
+-- an event that a device tells: no turn, and no operator's act
 abbrev pub IsAnswer : Event → Type 0
-IsAnswer event = is_turn event ≡ false
+IsAnswer event = (is_turn event || is_act event) ≡ false
+
+-- what is no turn is an answer of a device, or an operator's act
+pub of_told : (P : Event → Type 0) → ((event : Event) → IsAnswer event → P event) → ((verb : Verb) → P (Act verb))
+    → (event : Event) → is_turn event ≡ false → P event
+of_told P answers acts (Turn time) is = absurd (cc)
+of_told P answers acts (Alarmed now) is = answers (Alarmed now) refl
+of_told P answers acts (Edge button pressed) is = answers (Edge button pressed) refl
+of_told P answers acts Taken is = answers Taken refl
+of_told P answers acts WriteDone is = answers WriteDone refl
+of_told P answers acts (Input bytes) is = answers (Input bytes) refl
+of_told P answers acts (Word word) is = answers (Word word) refl
+of_told P answers acts NoWord is = answers NoWord refl
+of_told P answers acts (Stored moved) is = answers (Stored moved) refl
+of_told P answers acts (Act verb) is = acts verb
+
+-- an answer is no turn, and ends no life
+pub answer_no_turn : (event : Event) → IsAnswer event → is_turn event ≡ false
+answer_no_turn (Turn time) is = absurd (cc)
+answer_no_turn (Alarmed now) is = refl
+answer_no_turn (Edge button pressed) is = refl
+answer_no_turn Taken is = refl
+answer_no_turn WriteDone is = refl
+answer_no_turn (Input bytes) is = refl
+answer_no_turn (Word word) is = refl
+answer_no_turn NoWord is = refl
+answer_no_turn (Stored moved) is = refl
+answer_no_turn (Act verb) is = absurd (cc)
+
+answer_no_end : (o : Option Record) (event : Event) → IsAnswer event → is_end o event ≡ false
+answer_no_end o (Turn time) is = absurd (cc)
+answer_no_end o (Alarmed now) is = refl
+answer_no_end o (Edge button pressed) is = refl
+answer_no_end o Taken is = refl
+answer_no_end o WriteDone is = refl
+answer_no_end o (Input bytes) is = refl
+answer_no_end o (Word word) is = refl
+answer_no_end o NoWord is = refl
+answer_no_end o (Stored moved) is = refl
+answer_no_end o (Act verb) is = absurd (cc)
+
+-- What holds of a process that is as it was, or held, or let go, and where a life of it ends of one that ended, or
+-- starts again, holds of one on which an operator acted.
+pub of_operated : (P : Bool → Record → Type 0) (r : Record) → P false r
+    → ((held : Bool) → P false (record r { process = with_held held r.process }))
+    → (is_alive r.process.state ≡ true → P true (record r { process = after_end r.process 0; own = own_ended r.own }))
+    → P true (restart r) → (verb : Verb) → P (ends_by verb r.process) (operated verb r)
+of_operated P r same holds ends again verbs.List = same
+of_operated P r same holds ends again verbs.Stop = by_test (is_alive r.process.state)
+  where
+    by_test : (b : Bool) → P false (record r { process = cond b (with_held true r.process) r.process; own = r.own })
+    by_test true = holds true
+    by_test false = same
+of_operated P r same holds ends again verbs.Start = by_test r.process.held
+  where
+    by_test : (b : Bool) → P false (record r { process = cond b (with_held false r.process) r.process; own = r.own })
+    by_test true = holds false
+    by_test false = same
+of_operated P r same holds ends again verbs.Terminate = by_test (is_alive r.process.state) refl
+  where
+    by_test : (b : Bool) → is_alive r.process.state ≡ b
+        → P b (record r {
+          process = cond b (after_end r.process 0) r.process;
+          own = cond b (own_ended r.own) r.own;
+        })
+    by_test true e = ends e
+    by_test false e = same
+of_operated P r same holds ends again verbs.Restart = again
 
 -- what holds of all that drivers do to a process holds of what is its own after such an event
 pub of_answer : (P : Own → Own → Type 0) → OfEachService P → (settings : Settings) (event : Event) (r : Record)
@@ -42,6 +117,7 @@ of_answer P each settings (Input bytes) r is = each.input bytes r.own
 of_answer P each settings (Word word) r is = each.drawn (Some word) r.own
 of_answer P each settings NoWord r is = each.drawn None r.own
 of_answer P each settings (Stored moved) r is = each.stored _ _ _ r.own
+of_answer P each settings (Act verb) r is = absurd (cc)
 
 -- of its record it changes nothing else but the storage, and which buttons are pressed as far as it was told
 pub answer_changes : (settings : Settings) (event : Event) (r : Record) → IsAnswer event
@@ -56,6 +132,7 @@ answer_changes settings (Input bytes) r is = refl
 answer_changes settings (Word word) r is = refl
 answer_changes settings NoWord r is = refl
 answer_changes settings (Stored moved) r is = refl
+answer_changes settings (Act verb) r is = absurd (cc)
 
 sent_is_answer : (completed : Bool) → IsAnswer (cond completed WriteDone Taken)
 sent_is_answer true = refl
@@ -65,16 +142,21 @@ drawn_is_answer : (drawn : Option ℕ) → IsAnswer (drawn_event drawn)
 drawn_is_answer None = refl
 drawn_is_answer (Some word) = refl
 
--- what holds of each answer that a device may give, and of an edge, holds of what a device does
+-- what holds of each answer that a device may give, of an edge, and of an operator's act, holds of what a device does
 pub of_answers : (w : World) (P : Stepped → Type 0) → P (unmade w) → ((devices : Devices) → P (quiet w devices))
     → ((button : ℕ) (pressed : Bool) (devices : Devices) → P (edge_done w button pressed devices))
     → ((slot : ℕ) (r : Record) → slice_get w.records slot ≡ Some r → (a : DeviceAnswer) → IsAnswer a.answer.event
-    → P (one_answered w slot r a)) → (device : Dev) → P (done w (device_step_of w device))
-of_answers w P none quietly edges each device =
+    → P (one_answered w slot r a))
+    → ((verb : Verb) (devices : Devices) (slot : ℕ) (r : Record) → slice_get w.records slot ≡ Some r
+    → P (one_answered w slot r (operating verb devices slot r)))
+    → (device : Dev) → P (done w (device_step_of w device))
+of_answers w P none quietly edges each acts device =
     of_device w P (record {
       none = none;
       arrives = λ bytes rest. quietly (with_arrived w.devices bytes rest);
       edges = λ button pressed rest. edges button pressed (with_rest w.devices rest);
+      nobody = λ rest. quietly (with_rest w.devices rest);
+      acts = λ verb rest. acts verb (with_rest w.devices rest);
       alarms = λ slot r is. each slot r is (alarmed w.settings w.clock.time w.devices) refl;
       sends = λ slot r is. each slot r is (transmitting w.clock.time w.devices slot r) (sent_is_answer _);
       receives = λ slot r is. each slot r is (receive_step w.devices slot r) refl;
@@ -83,14 +165,80 @@ of_answers w P none quietly edges each device =
     }) device
 
 -- what is told is no turn
+abbrev pub TellsNoTurn : (ℕ → Option Answer) → Type 0
+TellsNoTurn told = (slot : ℕ) (a : Answer) → told slot ≡ Some a → is_turn a.event ≡ false
+
+-- nor is it what one process is told that is none
+one_no_turn : (slot : ℕ) (a : DeviceAnswer) → is_turn a.answer.event ≡ false → TellsNoTurn (answering slot a).told
+one_no_turn slot a is other b told = by_test (other == slot) told
+  where
+    by_test : (test : Bool) → cond test (Some a.answer) None ≡ Some b → is_turn b.event ≡ false
+    by_test true e =
+        let same : a.answer ≡ b = cc in
+        subst (λ (x : Answer). is_turn x.event ≡ false) same is
+    by_test false e = absurd (cc)
+
+serving_answers : (w : World) (answer : ℕ → Record → DeviceAnswer)
+    → ((slot : ℕ) (r : Record) → is_turn (answer slot r).answer.event ≡ false) → (served : Option ℕ)
+    → IfSome (serving w answer served) (λ deed. TellsNoTurn deed.told)
+serving_answers w answer each None = tt
+serving_answers w answer each (Some slot) = by_record (slice_get w.records slot)
+  where
+    by_record : (o : Option Record)
+        → IfSome (option_map (λ (r : Record). answering slot (answer slot r)) o) (λ deed. TellsNoTurn deed.told)
+    by_record None = tt
+    by_record (Some r) = one_no_turn slot (answer slot r) (each slot r)
+
+arrived_answers : (w : World) (arrivals : List Arrival)
+    → IfSome (arrived w.records w.devices arrivals) (λ deed. TellsNoTurn deed.told)
+arrived_answers w [] = tt
+arrived_answers w (arrival ∷ rest) = by_kind arrival.kind
+  where
+    by_edge : (button : ℕ) (pressed : Bool) → TellsNoTurn (telling_edge button pressed w.records w.devices).told
+    by_edge button pressed slot a told =
+        ap (λ (x : Answer). is_turn x.event) (edge_answer button pressed (slice_get w.records slot) a told)
+
+    by_there : (verb : Verb) (slot : ℕ) (o : Option Record)
+        → TellsNoTurn (unwrap_or
+        (option_map (λ (r : Record). answering slot (operating verb (with_rest w.devices rest) slot r)) o)
+        (telling_nobody (with_rest w.devices rest))).told
+    by_there verb slot None = λ slot a told. absurd (cc)
+    by_there verb slot (Some r) = one_no_turn slot (operating verb (with_rest w.devices rest) slot r) refl
+
+    by_slot : (verb : Verb) (o : Option ℕ)
+        → TellsNoTurn (acting_on verb w.records (with_rest w.devices rest) o).told
+    by_slot verb None = λ slot a told. absurd (cc)
+    by_slot verb (Some slot) = by_there verb slot (slice_get w.records slot)
+
+    by_kind : (kind : EventKind) → TellsNoTurn (coming_in kind w.records (with_rest w.devices rest)).told
+    by_kind (script.Input bytes) = λ slot a told. absurd (cc)
+    by_kind (script.Press button) = by_edge button true
+    by_kind (script.Release button) = by_edge button false
+    by_kind (script.Act verb name) = by_slot verb (slot_of_name name w.records)
+
+-- so it is with all that devices tell
+pub device_answers : (w : World) (device : Dev)
+    → IfSome (device_step_of w device) (λ deed. TellsNoTurn deed.told)
+device_answers w dev.Event = arrived_answers w w.devices.arrivals
+device_answers w dev.Alarm =
+    serving_answers w (λ slot r. alarmed w.settings w.clock.time w.devices) (λ slot r. refl) (served_by w dev.Alarm)
+device_answers w dev.Uart =
+    serving_answers w (transmitting w.clock.time w.devices) (λ slot r. answer_no_turn _ (sent_is_answer _)) (served_by w dev.Uart)
+device_answers w dev.Receive =
+    serving_answers w (receive_step w.devices) (λ slot r. refl) (served_by w dev.Receive)
+device_answers w dev.Random =
+    serving_answers w (random_step w.devices) (λ slot r. answer_no_turn _ (drawn_is_answer _)) (served_by w dev.Random)
+device_answers w dev.Store = serving_answers w (storing w.devices) (λ slot r. refl) (served_by w dev.Store)
+
+-- each device that lets nothing come in tells answers alone
 abbrev pub AnswersOnly : (ℕ → Option Answer) → Type 0
 AnswersOnly told = (slot : ℕ) (a : Answer) → told slot ≡ Some a → IsAnswer a.event
 
-serving_answers : (w : World) (answer : ℕ → Record → DeviceAnswer)
+serving_only : (w : World) (answer : ℕ → Record → DeviceAnswer)
     → ((slot : ℕ) (r : Record) → IsAnswer (answer slot r).answer.event) → (served : Option ℕ)
     → IfSome (serving w answer served) (λ deed. AnswersOnly deed.told)
-serving_answers w answer each None = tt
-serving_answers w answer each (Some slot) = by_record (slice_get w.records slot)
+serving_only w answer each None = tt
+serving_only w answer each (Some slot) = by_record (slice_get w.records slot)
   where
     by_record : (o : Option Record)
         → IfSome (option_map (λ (r : Record). answering slot (answer slot r)) o) (λ deed. AnswersOnly deed.told)
@@ -103,46 +251,71 @@ serving_answers w answer each (Some slot) = by_record (slice_get w.records slot)
             subst (λ (x : Answer). IsAnswer x.event) same (each slot r)
         by_test a false e = absurd (cc)
 
-arrived_answers : (w : World) (arrivals : List Arrival)
-    → IfSome (arrived w.records w.devices arrivals) (λ deed. AnswersOnly deed.told)
-arrived_answers w [] = tt
-arrived_answers w (arrival ∷ rest) = by_kind arrival.kind
-  where
-    by_edge : (button : ℕ) (pressed : Bool) → AnswersOnly (telling_edge button pressed w.records w.devices).told
-    by_edge button pressed slot a told =
-        ap (λ (x : Answer). is_turn x.event) (edge_answer button pressed (slice_get w.records slot) a told)
-
-    by_kind : (kind : EventKind) → AnswersOnly (coming_in kind w.records (with_rest w.devices rest)).told
-    by_kind (script.Input bytes) = λ slot a told. absurd (cc)
-    by_kind (script.Press button) = by_edge button true
-    by_kind (script.Release button) = by_edge button false
-
--- so it is with all that devices tell
-pub device_answers : (w : World) (device : Dev)
+pub only_answers : (w : World) (device : Dev) → device ≢ dev.Event
     → IfSome (device_step_of w device) (λ deed. AnswersOnly deed.told)
-device_answers w dev.Event = arrived_answers w w.devices.arrivals
-device_answers w dev.Alarm =
-    serving_answers w (λ slot r. alarmed w.settings w.clock.time w.devices) (λ slot r. refl) (served_by w dev.Alarm)
-device_answers w dev.Uart =
-    serving_answers w (transmitting w.clock.time w.devices) (λ slot r. sent_is_answer _) (served_by w dev.Uart)
-device_answers w dev.Receive =
-    serving_answers w (receive_step w.devices) (λ slot r. refl) (served_by w dev.Receive)
-device_answers w dev.Random =
-    serving_answers w (random_step w.devices) (λ slot r. drawn_is_answer _) (served_by w dev.Random)
-device_answers w dev.Store = serving_answers w (storing w.devices) (λ slot r. refl) (served_by w dev.Store)
+only_answers w dev.Event apart = absurd (apart refl)
+only_answers w dev.Alarm apart =
+    serving_only w (λ slot r. alarmed w.settings w.clock.time w.devices) (λ slot r. refl) (served_by w dev.Alarm)
+only_answers w dev.Uart apart =
+    serving_only w (transmitting w.clock.time w.devices) (λ slot r. sent_is_answer _) (served_by w dev.Uart)
+only_answers w dev.Receive apart =
+    serving_only w (receive_step w.devices) (λ slot r. refl) (served_by w dev.Receive)
+only_answers w dev.Random apart =
+    serving_only w (random_step w.devices) (λ slot r. drawn_is_answer _) (served_by w dev.Random)
+only_answers w dev.Store apart = serving_only w (storing w.devices) (λ slot r. refl) (served_by w dev.Store)
 
--- what holds of each thing that a step may do to the process in a slot: of what its turn tells, if it has one, and of
--- its record afterwards
-pub record OfEachStep (w : World) (slot : ℕ) (P : List TurnTrace → Option Record → Type 0) : Type 0 where
-  pub stays : P [] (slice_get w.records slot)
+-- what holds of each thing that a step may do to the process in a slot: of whether an operator's act ended a life of
+-- it, of what its turn tells, if it has one, and of its record afterwards
+pub record OfEachStep (w : World) (slot : ℕ) (P : Bool → List TurnTrace → Option Record → Type 0) : Type 0 where
+  pub stays : P false [] (slice_get w.records slot)
   pub turn : (r : Record) → slice_get w.records slot ≡ Some r → let t = turned w.settings w.clock.time r in
-      P (t.told ∷ []) (Some t.after)
+      P false (t.told ∷ []) (Some t.after)
   pub answer : (r : Record) → slice_get w.records slot ≡ Some r → (event : Event) → IsAnswer event
-      → P [] (Some (apply w.settings event r))
+      → P false [] (Some (apply w.settings event r))
+  pub act : (r : Record) → slice_get w.records slot ≡ Some r → (verb : Verb)
+      → P (ends_by verb r.process) [] (Some (operated verb r))
 
-module _ (w : World) (slot : ℕ) (P : List TurnTrace → Option Record → Type 0) (each : OfEachStep w slot P) where
+or_false : (b : Bool) → (b || false) ≡ b
+or_false true = refl
+or_false false = refl
+
+-- what a device's step tells a process ends a life of it as that event does
+pub ended_told : (w : World) (slot : ℕ) (deed : DeviceStep) (r : Record) (a : Answer) → slice_get w.records slot ≡ Some r
+    → deed.told slot ≡ Some a
+    → list_any (is_end (slice_get w.records slot)) (flat_map (happened slot) (done w (Some deed)).labels)
+    ≡ is_end (Some r) a.event
+ended_told w slot deed r a is tells =
+    ap ended heard
+    ∙ ap (λ (o : Option Record). ended (flat_map (happened slot)
+    (labels_of slot (option_and_then (λ (x : Record). deed.told slot) o)))) is
+    ∙ ap (λ (t : Option Answer). ended (flat_map (happened slot) (labels_of slot t))) tells
+    ∙ ap (λ (b : Bool). ended (cond b (a.event ∷ []) [] ++ [])) (eq-eqb slot slot refl)
+    ∙ ap (λ (o : Option Record). list_any (is_end o) (a.event ∷ [])) is ∙ or_false (is_end (Some r) a.event)
+  where
+    ended : List Event → Bool
+    ended es = list_any (is_end (slice_get w.records slot)) es
+
+    others : (label : Label) (h : List Event) → label.slot ≢ slot → happened slot label ++ h ≡ h
+    others label h apart = by_slot (label.slot == slot) refl
+      where
+        by_slot : (b : Bool) → (label.slot == slot) ≡ b → cond b (label.event ∷ []) [] ++ h ≡ h
+        by_slot true e = absurd (apart (eqb-true label.slot slot e))
+        by_slot false e = refl
+
+    heard : flat_map (happened slot) (labels_told deed.told 0 w.records)
+        ≡ flat_map (happened slot) (labels_of slot (told_there deed.told w.records slot slot))
+    heard =
+        labels_at (flat_map (happened slot)) (λ label h. happened slot label ++ h) (λ label ls. refl) slot others
+        deed.told w.records
+
+module _ (w : World) (slot : ℕ) (P : Bool → List TurnTrace → Option Record → Type 0) (each : OfEachStep w slot P) where
+  -- whether one of the events of the slot's process ended a life of it
+  abbrev ended_by : List Event → Bool
+  ended_by es = list_any (is_end (slice_get w.records slot)) es
+
   of_ran : (other : ℕ) (o : Option Record) → slice_get w.records other ≡ o
-      → P (flat_map (turns_in slot) (ran w other o).labels) (slice_get (ran w other o).after.records slot)
+      → P (ended_by (flat_map (happened slot) (ran w other o).labels))
+      (flat_map (turns_in slot) (ran w other o).labels) (slice_get (ran w other o).after.records slot)
   unfolding apply
   of_ran other None is = each.stays
   of_ran other (Some r) is = by_slot (other == slot) refl
@@ -151,27 +324,40 @@ module _ (w : World) (slot : ℕ) (P : List TurnTrace → Option Record → Type
       t = turned w.settings w.clock.time r
 
       by_slot : (b : Bool) → (other == slot) ≡ b
-          → P (cond b (t.told ∷ []) [] ++ []) (slice_get (ran w other (Some r)).after.records slot)
+          → P (ended_by (cond b (Turn w.clock.time ∷ []) [] ++ [])) (cond b (t.told ∷ []) [] ++ [])
+          (slice_get (ran w other (Some r)).after.records slot)
       by_slot true e =
           let same : other ≡ slot = eqb-true other slot e in
-          subst (P (t.told ∷ [])) (sym (ap (slice_get (ran w other (Some r)).after.records) (sym same)
+          subst (P false (t.told ∷ [])) (sym (ap (slice_get (ran w other (Some r)).after.records) (sym same)
           ∙ ran-own w other (Some r) is))
           (each.turn r (ap (slice_get w.records) (sym same) ∙ is))
       by_slot false e =
-          subst (P []) (sym (ran-other w other slot (Some r)
+          subst (P false []) (sym (ran-other w other slot (Some r)
           (λ same. false≢true (sym e ∙ eq-eqb other slot (sym same))))) each.stays
 
-  -- what a device's step tells of turns, and leaves of the process
-  of_deed : (o : Option DeviceStep) → IfSome o (λ deed. AnswersOnly deed.told)
-      → P (flat_map (turns_in slot) (done w o).labels) (slice_get (done w o).after.records slot)
+  -- what a device's step tells of turns and of acts, and leaves of the process
+  of_deed : (o : Option DeviceStep) → IfSome o (λ deed. TellsNoTurn deed.told)
+      → P (ended_by (flat_map (happened slot) (done w o).labels)) (flat_map (turns_in slot) (done w o).labels)
+      (slice_get (done w o).after.records slot)
+  unfolding apply
   of_deed None answers = each.stays
   of_deed (Some deed) answers =
-      subst (P (flat_map (turns_in slot) (done w (Some deed)).labels))
+      subst (P (ended_by (flat_map (happened slot) ls)) (flat_map (turns_in slot) ls))
       (sym (told_at w.settings deed.told w.records slot))
-      (subst (λ (tolds : List TurnTrace). P tolds (option_map (happens w.settings (deed.told slot))
-      (slice_get w.records slot))) (sym (no_turns ∙ by_there (slice_get w.records slot)))
-      (by_record (slice_get w.records slot) refl (deed.told slot) refl))
+      (subst (λ (es : List Event). P (ended_by es) (flat_map (turns_in slot) ls) then) (sym heard)
+      (subst (λ (tolds : List TurnTrace). P (ended_by (flat_map (happened slot) mine)) tolds then)
+      (sym (no_turns ∙ by_there (slice_get w.records slot)))
+      (by_record (slice_get w.records slot) refl (deed.told slot) refl)))
     where
+      ls : List Label
+      ls = labels_told deed.told 0 w.records
+
+      mine : List Label
+      mine = labels_of slot (told_there deed.told w.records slot slot)
+
+      then : Option Record
+      then = option_map (happens w.settings (deed.told slot)) (slice_get w.records slot)
+
       no_turn : (o : Option Answer) → deed.told slot ≡ o → flat_map (turns_in slot) (labels_of slot o) ≡ []
       no_turn None e = refl
       no_turn (Some a) e =
@@ -186,28 +372,55 @@ module _ (w : World) (slot : ℕ) (P : List TurnTrace → Option Record → Type
           by_slot true false e = refl
           by_slot false false e = refl
 
-      no_turns : flat_map (turns_in slot) (labels_told deed.told 0 w.records)
-          ≡ flat_map (turns_in slot) (labels_of slot (told_there deed.told w.records slot slot))
+      no_turns : flat_map (turns_in slot) ls ≡ flat_map (turns_in slot) mine
       no_turns =
           labels_at (flat_map (turns_in slot)) (λ label tolds. turns_in slot label ++ tolds) (λ label ls. refl) slot
           others deed.told w.records
+
+      others_heard : (label : Label) (h : List Event) → label.slot ≢ slot → happened slot label ++ h ≡ h
+      others_heard label h apart = by_slot (label.slot == slot) refl
+        where
+          by_slot : (b : Bool) → (label.slot == slot) ≡ b → cond b (label.event ∷ []) [] ++ h ≡ h
+          by_slot true e = absurd (apart (eqb-true label.slot slot e))
+          by_slot false e = refl
+
+      heard : flat_map (happened slot) ls ≡ flat_map (happened slot) mine
+      heard =
+          labels_at (flat_map (happened slot)) (λ label h. happened slot label ++ h) (λ label ls. refl) slot
+          others_heard deed.told w.records
 
       by_there : (o : Option Record)
           → flat_map (turns_in slot) (labels_of slot (option_and_then (λ (r : Record). deed.told slot) o)) ≡ []
       by_there None = refl
       by_there (Some r) = no_turn (deed.told slot) refl
 
+      by_event : (r : Record) → slice_get w.records slot ≡ Some r → (a : Answer) → is_turn a.event ≡ false
+          → P (is_end (Some r) a.event) [] (Some (apply w.settings a.event r))
+      by_event r is a no_turn =
+          of_told (λ event. P (is_end (Some r) event) [] (Some (apply w.settings event r)))
+          (λ event answers. subst (λ (b : Bool). P b [] (Some (apply w.settings event r)))
+          (sym (answer_no_end (Some r) event answers)) (each.answer r is event answers))
+          (λ verb. each.act r is verb) a.event no_turn
+
       by_record : (o : Option Record) → slice_get w.records slot ≡ o → (told : Option Answer) → deed.told slot ≡ told
-          → P [] (option_map (happens w.settings told) o)
-      by_record None is told tells = subst (P []) is each.stays
-      by_record (Some r) is None tells = subst (P []) is each.stays
-      by_record (Some r) is (Some a) tells = each.answer r is a.event (answers slot a tells)
+          → P (ended_by (flat_map (happened slot) (labels_of slot (option_and_then (λ (r : Record). told) o)))) []
+          (option_map (happens w.settings told) o)
+      by_record None is told tells = subst (P false []) is each.stays
+      by_record (Some r) is None tells = subst (P false []) is each.stays
+      by_record (Some r) is (Some a) tells =
+          subst (λ (b : Bool). P b [] (Some (apply w.settings a.event r)))
+          (sym (ap (λ (b : Bool). ended_by (cond b (a.event ∷ []) [] ++ [])) (eq-eqb slot slot refl)
+          ∙ ap (λ (o : Option Record). list_any (is_end o) (a.event ∷ [])) is ∙ or_false (is_end (Some r) a.event)))
+          (by_event r is a (answers slot a tells))
 
   abbrev Does : Stepped → Type 0
-  Does s = P (flat_map (turns_in slot) s.labels) (slice_get s.after.records slot)
+  Does s =
+      P (ended_by (flat_map (happened slot) s.labels)) (flat_map (turns_in slot) s.labels)
+      (slice_get s.after.records slot)
 
   pub of_step : (choice : Choice)
-      → P (flat_map (turns_in slot) (labels w choice)) (slice_get (after w choice).records slot)
+      → P (is_ended_in slot w choice) (flat_map (turns_in slot) (labels w choice))
+      (slice_get (after w choice).records slot)
   unfolding carried_out
   of_step (Run other) =
       of_stepped Does w (Run other) each.stays (λ ready. of_ran other (slice_get w.records other) refl)

@@ -6,8 +6,10 @@ use Rattle.std.proofs.Common.{length, map, slice_get, slice_set, Option, None, S
 use Rattle.std.proofs.Common.{◌||◌, not, arith, eq-eqb, eqb-true}
 use Rattle.std.specs.Prelude.{All}
 use Rattle.std.specs.Option.{option_and_then, option_map}
+use Rattle.std.specs.Prelude.{unwrap_or}
 use Rattle.std.proofs.lemmas.List.{append-nil}
 use Rattle.std.proofs.lemmas.List.Elements.{All-nil, All-cons, All-head, All-tail}
+use Rattle.tk_base.specs.declared.process.Verb.{Verb}
 use Rattle.tk_base.specs.declared.process.Dev.{Dev}
 use Rattle.tk_base.specs.declared.process.Dev.TheVariants as dev
 use Rattle.board_devices.specs.Arriving.{differs}
@@ -18,14 +20,15 @@ use Rattle.process_record.specs.declared.emit.Emit.{Emit}
 use Rattle.process_record.specs.Emit.{nothing}
 use Rattle.kernel_model.specs.Record.{Record}
 use Rattle.kernel_model.specs.declared.settings.Settings.{Settings}
-use Rattle.kernel_model.specs.Turn.{Edge, apply, edge_known, is_turn}
+use Rattle.kernel_model.specs.Turn.{Edge, apply, edge_known, is_act, is_turn}
 use Rattle.kernel_model.specs.Shown.{shown_by}
 use Rattle.kernel_model.specs.Laws.{ComesTo, DevicesAnswerOne, IsSilent, edge_done, edge_heard, edge_labels}
 use Rattle.kernel_model.specs.Laws.{one_answered, quiet}
 use Rattle.kernel_model.specs.World.{Answer, DeviceAnswer, Devices, Label, Stepped, World, alarmed, answer_label}
-use Rattle.kernel_model.specs.World.{answering, arrived, coming_in, device_step_of, done, edge_told, happens, labels_of}
+use Rattle.kernel_model.specs.World.{acting_on, answering, arrived, coming_in, device_step_of, done, edge_told, happens}
+use Rattle.kernel_model.specs.World.{labels_of}
 use Rattle.kernel_model.specs.World.{labels_told, random_step, receive_step, records_told, served_by, serving, storing}
-use Rattle.kernel_model.specs.World.{telling_edge, transmitting, unmade}
+use Rattle.kernel_model.specs.World.{operating, slot_of_name, telling_edge, telling_nobody, transmitting, unmade}
 
 -- there are as many records
 pub told_length : (settings : Settings) (told : ℕ → Option Answer) (rs : List Record)
@@ -235,21 +238,27 @@ edge_silent w button pressed =
     told_labels IsSilent (telling_edge button pressed w.records w.devices).told 0 w.records
     (λ slot at r a here there is.
     let same = edge_answer button pressed (slice_get w.records at) a is in
-    record { no_turn = ap (λ (x : Answer). is_turn x.event) same; prints = ap (λ (x : Answer). x.printed) same })
+    record {
+      no_turn = ap (λ (x : Answer). is_turn x.event) same;
+      no_act = ap (λ (x : Answer). is_act x.event) same;
+      prints = ap (λ (x : Answer). x.printed) same;
+    })
 
--- labels of no turn for which nothing was printed show nothing
+-- labels of no turn and of no act for which nothing was printed show nothing
 silence : (ls : List Label) → All IsSilent ls → shown_by ls ≡ nothing
 unfolding shown_by
 silence [] each = refl
 silence (label ∷ ls) each =
     let silent = All-head IsSilent label ls each in
-    no_test (is_turn label.event) label.printed _ (shown_by ls) silent.no_turn silent.prints
+    no_test (is_turn label.event) (is_act label.event) label.printed _ (shown_by ls) silent.no_turn silent.no_act
+    silent.prints
     ∙ silence ls (All-tail IsSilent label ls each)
   where
-    no_test : (turn : Bool) (bytes : List ℕ) (x y : Emit) → turn ≡ false → bytes ≡ []
-        → cond (turn || not (length bytes == 0)) x y ≡ y
-    no_test turn bytes x y no_turn prints =
-        ap₂ (λ (t : Bool) (bs : List ℕ). cond (t || not (length bs == 0)) x y) no_turn prints
+    no_test : (turn act : Bool) (bytes : List ℕ) (x y : Emit) → turn ≡ false → act ≡ false → bytes ≡ []
+        → cond (turn || (act || not (length bytes == 0))) x y ≡ y
+    no_test turn act bytes x y no_turn no_act prints =
+        ap₂ (λ (t : Bool) (a : Bool). cond (t || (a || not (length bytes == 0))) x y) no_turn no_act
+        ∙ ap (λ (bs : List ℕ). cond (not (length bs == 0)) x y) prints
 
 -- what holds of each thing that a device's step may come to
 pub record OfEachDevice (w : World) (P : Stepped → Type 0) : Type 0 where
@@ -257,6 +266,9 @@ pub record OfEachDevice (w : World) (P : Stepped → Type 0) : Type 0 where
   pub arrives : (bytes : List ℕ) (rest : List Arrival) → P (quiet w (with_arrived w.devices bytes rest))
   pub edges : (button : ℕ) (pressed : Bool) (rest : List Arrival)
       → P (edge_done w button pressed (with_rest w.devices rest))
+  pub nobody : (rest : List Arrival) → P (quiet w (with_rest w.devices rest))
+  pub acts : (verb : Verb) (rest : List Arrival) (slot : ℕ) (r : Record) → slice_get w.records slot ≡ Some r
+      → P (one_answered w slot r (operating verb (with_rest w.devices rest) slot r))
   pub alarms : (slot : ℕ) (r : Record) → slice_get w.records slot ≡ Some r
       → P (one_answered w slot r (alarmed w.settings w.clock.time w.devices))
   pub sends : (slot : ℕ) (r : Record) → slice_get w.records slot ≡ Some r
@@ -283,10 +295,29 @@ module _ (w : World) (P : Stepped → Type 0) (none : P (unmade w)) where
   of_arrived : ((bytes : List ℕ) (rest : List Arrival) → P (quiet w (with_arrived w.devices bytes rest)))
       → ((button : ℕ) (pressed : Bool) (rest : List Arrival)
       → P (edge_done w button pressed (with_rest w.devices rest)))
+      → ((rest : List Arrival) → P (quiet w (with_rest w.devices rest)))
+      → ((verb : Verb) (rest : List Arrival) (slot : ℕ) (r : Record) → slice_get w.records slot ≡ Some r
+      → P (one_answered w slot r (operating verb (with_rest w.devices rest) slot r)))
       → (arrivals : List Arrival) → P (done w (arrived w.records w.devices arrivals))
-  of_arrived arrives edges [] = none
-  of_arrived arrives edges (a ∷ rest) = by_kind a.kind
+  of_arrived arrives edges nobody acts [] = none
+  of_arrived arrives edges nobody acts (a ∷ rest) = by_kind a.kind
     where
+      by_nobody : P (done w (Some (telling_nobody (with_rest w.devices rest))))
+      by_nobody = subst P (sym (done_quietly w (with_rest w.devices rest))) (nobody rest)
+
+      by_there : (verb : Verb) (slot : ℕ) (o : Option Record) → slice_get w.records slot ≡ o
+          → P (done w (Some (unwrap_or
+          (option_map (λ (r : Record). answering slot (operating verb (with_rest w.devices rest) slot r)) o)
+          (telling_nobody (with_rest w.devices rest)))))
+      by_there verb slot None e = by_nobody
+      by_there verb slot (Some r) e =
+          subst P (sym (done_one w slot (operating verb (with_rest w.devices rest) slot r) r e)) (acts verb rest slot r e)
+
+      by_slot : (verb : Verb) (o : Option ℕ)
+          → P (done w (Some (acting_on verb w.records (with_rest w.devices rest) o)))
+      by_slot verb None = by_nobody
+      by_slot verb (Some slot) = by_there verb slot (slice_get w.records slot) refl
+
       by_edge : (button : ℕ) (pressed : Bool)
           → P (done w (Some (telling_edge button pressed w.records (with_rest w.devices rest))))
       by_edge button pressed =
@@ -297,10 +328,12 @@ module _ (w : World) (P : Stepped → Type 0) (none : P (unmade w)) where
           subst P (sym (done_quietly w (with_arrived w.devices bytes rest))) (arrives bytes rest)
       by_kind (script.Press button) = by_edge button true
       by_kind (script.Release button) = by_edge button false
+      by_kind (script.Act verb name) = by_slot verb (slot_of_name name w.records)
 
 pub of_device : (w : World) (P : Stepped → Type 0) → OfEachDevice w P → (device : Dev)
     → P (done w (device_step_of w device))
-of_device w P each dev.Event = of_arrived w P each.none each.arrives each.edges w.devices.arrivals
+of_device w P each dev.Event =
+    of_arrived w P each.none each.arrives each.edges each.nobody each.acts w.devices.arrivals
 of_device w P each dev.Alarm =
     of_serving w P each.none (λ slot r. alarmed w.settings w.clock.time w.devices) each.alarms (served_by w dev.Alarm)
 of_device w P each dev.Uart =
@@ -322,6 +355,8 @@ comes_to w device =
         pressed = pressed;
         is = sym (done_edge w button pressed (with_rest w.devices rest));
       })));
+      nobody = λ rest. inr (inl (with_rest w.devices rest, refl));
+      acts = λ verb rest slot r is. answers slot r is (operating verb (with_rest w.devices rest) slot r);
       alarms = λ slot r is. answers slot r is (alarmed w.settings w.clock.time w.devices);
       sends = λ slot r is. answers slot r is (transmitting w.clock.time w.devices slot r);
       receives = λ slot r is. answers slot r is (receive_step w.devices slot r);

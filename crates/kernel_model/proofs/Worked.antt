@@ -20,7 +20,7 @@ use Rattle.kernel_model.specs.Calls.{served, by_form, memop, memops, swap_refusa
 use Rattle.kernel_model.specs.Turn.{Turned, turned}
 use Rattle.kernel_model.specs.World.{World, after, stepped, carried_out, may_be_made}
 use Rattle.kernel_model.specs.Run.{next}
-use Rattle.kernel_model.specs.Histories.{last_pair, turns_of}
+use Rattle.kernel_model.specs.Histories.{last_pair, turns_since}
 use Rattle.kernel_model.specs.Worked.{asks, turn_of, board, alarm_upcall, subscribes}
 
 -- Memop 2 is answered by a success with one word, where the block starts; pc goes past the `ecall`.
@@ -58,9 +58,9 @@ steps = (refl, refl, refl)
 
 -- A process subscribes an upcall twice: the first time (0, 0) is given back, and the second time the pair of the first,
 -- which is the last pair of its turns.
-swaps : (last_pair alarm_upcall (reverse (turns_of 0 (board 1 (subscribes ∷ [])) (Run 0 ∷ []))) ≡ (0, 7))
+swaps : (last_pair alarm_upcall (turns_since 0 (board 1 (subscribes ∷ [])) (Run 0 ∷ []) []) ≡ (0, 7))
     × (map (λ told. option_and_then (λ made. made.reply) told.call)
-    (turns_of 0 (board 1 (subscribes ∷ [])) (replicate 6 (Run 0)))
+    (reverse (turns_since 0 (board 1 (subscribes ∷ [])) (replicate 6 (Run 0)) []))
     ≡ Some (130 ∷ 0 ∷ 0 ∷ 7 ∷ []) ∷ None ∷ None ∷ None ∷ None ∷ Some (130 ∷ 0 ∷ 7 ∷ 9 ∷ []) ∷ [])
 unfolding user_turn on_word executed fetched instr_of decoding instruction_table denied ram_after
     call_of class_table header_reading counts_of drivers shape_of served by_form swap_refusal turned stepped carried_out

@@ -8,6 +8,7 @@ use Rattle.kernel_model.specs.World.{World, labels}
 use Rattle.kernel_model.specs.Accesses.{IsGuarded}
 use Rattle.kernel_model.specs.Causes.{AllHaveCauses, AreWhole, EachChangeHasACause}
 use Rattle.kernel_model.specs.Choices.{Throughout}
+use Rattle.kernel_model.specs.Console.{OperatesOne}
 use Rattle.kernel_model.specs.Edges.{ServesEdges}
 use Rattle.kernel_model.specs.Prints.{PrintsItsBuffer}
 use Rattle.kernel_model.specs.Refused.{RefusedChangesLittle}
@@ -17,8 +18,9 @@ use Rattle.kernel_model.specs.Stretch.{IsStretch}
 
 -- Each byte that changes of a process has its cause in what the step tells; each access of a turn was permitted, and
 -- each denial was due, and is shown; a call that was refused changed nothing but its process's reply, and the counts;
--- what was printed was a process's own, in the buffer that it then held; an edge of a button schedules one upcall for
--- each process that is told of it, and nothing else schedules any.
+-- what was printed was a process's own, in the buffer that it then held, or its line in a list; an edge of a button
+-- schedules one upcall for each process that is told of it, and nothing else schedules any; an operator's act changes
+-- the process that it names and its requests, and nothing else of the board.
 pub record IsAccountedFor (w : World) (choice : Choice) : Type 0 where
   pub causes : EachChangeHasACause w choice
   pub guarded : IsGuarded w choice
@@ -26,6 +28,7 @@ pub record IsAccountedFor (w : World) (choice : Choice) : Type 0 where
   pub refused : RefusedChangesLittle w choice
   pub prints : All (PrintsItsBuffer w) (labels w choice)
   pub edges : ServesEdges w choice
+  pub operated : OperatesOne w choice
 
 -- So it is with every step of a world in which the owns are whole; in any world with every turn of a process whose own
 -- is whole, with all turns of a quiet stretch, and with all choices that change no byte without a cause.

@@ -6,6 +6,7 @@ use Rattle.std.specs.Prelude.{slice_index, Option, None, Some, is_none, is_some,
 use Rattle.std.specs.List.{Any, list_any}
 use Rattle.tk_base.specs.declared.process.Choice.{Choice}
 use Rattle.tk_base.specs.declared.process.Choice.TheVariants.{Run}
+use Rattle.tk_base.specs.declared.process.Verb.TheVariants.{Restart}
 use Rattle.rv32_model.specs.Laws.{stores_at}
 use Rattle.process_model.specs.Own.{Own}
 use Rattle.process_model.specs.Changes.{ChangesAt, IsInside, IsWhole}
@@ -14,7 +15,7 @@ use Rattle.driver_model.specs.Storage as storage
 use Rattle.process_record.specs.declared.emit.CallMade.{CallMade}
 use Rattle.kernel_model.specs.Record.{Record}
 use Rattle.kernel_model.specs.declared.settings.Settings.{Settings}
-use Rattle.kernel_model.specs.Turn.{Event, Turn, Alarmed, Input, Word, Stored, TurnTrace}
+use Rattle.kernel_model.specs.Turn.{Act, Event, Turn, Alarmed, Input, Word, Stored, TurnTrace}
 use Rattle.kernel_model.specs.Turn.{apply, flash_of, turned}
 use Rattle.kernel_model.specs.World.{World, Label, after, labels}
 use Rattle.kernel_model.specs.Histories.{ends_life}
@@ -60,12 +61,20 @@ abbrev pub Overwrites : Event → Record → ℕ → Type 0
 Overwrites (Stored true) r k = Covers (served_write r) k
 Overwrites other r k = ⊥
 
+-- that an operator had the process start again
+abbrev pub IsRestartedBy : Event → Record → Record → Type 0
+IsRestartedBy event r s = (event ≡ Act Restart) × (s.process.restarts ≡ r.process.restarts + 1)
+
+-- A cause in what a process is told, or in what an operator does to it, by its record before that and after it: the
+-- address lies inside the buffer that it held for the device; or an operator had it start again.
+abbrev pub IsDoneByAnswer : Event → Record → Record → ℕ → Type 0
+IsDoneByAnswer event r s at = IsInside (buffer_for event r.own) at ⊎ IsRestartedBy event r s
+
 -- A label with a cause of a change of a byte of the process in a slot, of which this is the record before and after the
--- step: its own turn with such a cause; or an answer to it, inside the buffer that it held before the step for the
--- device.
+-- step: its own turn with such a cause; or an answer to it, or an operator's act on it, with one.
 abbrev pub IsCause : ℕ → Record → Record → ℕ → Label → Type 0
 IsCause slot r s at label =
-    (label.slot ≡ slot) × (IsDoneByTurn r s label.trace at ⊎ IsInside (buffer_for label.event r.own) at)
+    (label.slot ≡ slot) × (IsDoneByTurn r s label.trace at ⊎ IsDoneByAnswer label.event r s at)
 
 -- a label with the cause of a change of a byte of its storage
 abbrev pub IsStorageCause : ℕ → Record → ℕ → Label → Type 0
@@ -82,7 +91,8 @@ pub record ChangeHasACause (w : World) (choice : Choice) (slot : ℕ) (r s : Rec
   pub own : ChangesAt (λ at. Any (IsCause slot r s at) (labels w choice)) r.own s.own
   -- so it is with its storage
   pub storage : StorageChangesAt (λ k. Any (IsStorageCause slot r k) (labels w choice)) r.storage s.storage
-  -- and where the step is no turn of it and no answer to it, all is as it was, the bytes of its grants too
+  -- and where the step is no turn of it, no answer to it and no act on it, all is as it was, the bytes of its grants
+  -- too
   pub others : events slot w choice ≡ [] → s ≡ r
 
 -- of a step, whichever process is looked at
@@ -107,10 +117,10 @@ pub record StepsHaveCauses : Type 0 where
       → EachChangeHasACause w (Run slot)
   pub stretch : (k : ℕ) (w after : World) → IsStretch k w after → AllHaveCauses w (chosen k w)
 
--- An answer to a process changes a byte of its own inside the buffer alone that it held for the device, and one of its
+-- An answer to a process, or an operator's act on it, changes a byte of its own with such a cause alone, and one of its
 -- storage only where what it writes covers it, if its own is whole.
 pub record AnswerHasCauses (event : Event) (r s : Record) : Type 0 where
-  pub own : ChangesAt (IsInside (buffer_for event r.own)) r.own s.own
+  pub own : ChangesAt (IsDoneByAnswer event r s) r.own s.own
   pub storage : StorageChangesAt (Overwrites event r) r.storage s.storage
 
 abbrev pub AnswersHaveCauses : Type 0

@@ -16,7 +16,7 @@ use Rattle.tk_base.specs.declared.upcall.Wait.TheVariants.{Given}
 use Rattle.script_text.specs.Settings.{ScriptEvent as Arrival}
 use Rattle.board_devices.specs.Arriving.{change_by}
 use Rattle.upcall_queue.specs.declared.inbox.Inbox.{Inbox}
-use Rattle.upcall_queue.specs.Pending.{awaits, has_room, is_of, scheduled}
+use Rattle.upcall_queue.specs.Pending.{awaits, is_of, scheduled}
 use Rattle.process_model.specs.Own.{Own, with_inbox}
 use Rattle.process_model.specs.Served.{upcall_of}
 use Rattle.driver_model.specs.Buttons.{buttons, is_told}

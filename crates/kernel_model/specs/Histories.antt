@@ -1,29 +1,44 @@
--- What a process handed to drivers, as the labels of its turns tell it (TRD 104, "Subscribe", "Read-Only Allow",
--- "Read-Write Allow"): each swap gives back the pair of the last one.
+-- What a process handed to drivers, as the labels of its turns and of an operator's acts tell it (TRD 104, "Subscribe",
+-- "Read-Only Allow", "Read-Write Allow"): each swap gives back the pair of the last one.
 use Rattle.std.specs.Prelude.{◌≡◌, ℕ, ◌==◌, Bool, false, ◌&&◌, ◌||◌, if◌then◌else◌, List, [], ◌∷◌, ◌++◌, reverse}
 use Rattle.std.specs.Prelude.{slice_get, slice_index, Option, None, Some, is_some, is_none, option_and_then, unwrap_or}
 use Rattle.std.specs.Prelude.{IfSome, option_map}
-use Rattle.std.specs.List.{flat_map}
+use Rattle.std.specs.List.{flat_map, list_any}
 use Rattle.tk_base.specs.declared.process.Choice.{Choice}
 use Rattle.tk_base.specs.declared.process.Choice.TheVariants.{Run}
 use Rattle.tk_base.specs.declared.kinds.PairKind.{PairKind}
 use Rattle.tk_base.specs.declared.kinds.PairKind.TheVariants.{Upcall, ReadOnly, ReadWrite, Readable}
 use Rattle.process_record.specs.declared.emit.CallMade.{CallMade}
+use Rattle.process_record.specs.Operator.{ends_by}
 use Rattle.kernel_model.specs.Record.{Record}
-use Rattle.kernel_model.specs.Turn.{TurnTrace, is_turn}
+use Rattle.kernel_model.specs.Turn.{Act, Event, TurnTrace, is_turn}
 use Rattle.kernel_model.specs.World.{World, Label, after, labels, turn_label}
-use Rattle.kernel_model.specs.Replay.{after_all}
+use Rattle.kernel_model.specs.Replay.{after_all, events}
 use Rattle.kernel_model.specs.Laws.{CanStartAgain}
 
 -- what a label tells of a turn of the process in a slot
 abbrev pub turns_in : ℕ → Label → List TurnTrace
 turns_in slot label = if is_turn label.event && label.slot == slot then label.trace ∷ [] else []
 
--- what its turns told while some choices were made, one after another
-abbrev pub turns_of : ℕ → World → List Choice → List TurnTrace
-turns_of slot w [] = []
-turns_of slot w (choice ∷ choices) =
-    flat_map (turns_in slot) (labels w choice) ++ turns_of slot (after w choice) choices
+-- whether what happened to a process, if there was one with this record, is an operator's act that ended a life of it
+abbrev pub is_end : Option Record → Event → Bool
+is_end o (Act verb) = unwrap_or (option_map (λ r. ends_by verb r.process) o) false
+is_end o other = false
+
+-- whether an operator's act ends a life of the process in a slot in a step
+abbrev pub is_ended_in : ℕ → World → Choice → Bool
+is_ended_in slot w choice = list_any (is_end (slice_get w.records slot)) (events slot w choice)
+
+-- what its turns told since an operator last ended a life of it, if one did, the latest first: after a step, where
+-- these were told before it
+abbrev pub told_after : ℕ → World → Choice → List TurnTrace → List TurnTrace
+told_after slot w choice past =
+    if is_ended_in slot w choice then [] else reverse (flat_map (turns_in slot) (labels w choice)) ++ past
+
+-- and after some choices, one after another
+abbrev pub turns_since : ℕ → World → List Choice → List TurnTrace → List TurnTrace
+turns_since slot w [] past = past
+turns_since slot w (choice ∷ choices) past = turns_since slot (after w choice) choices (told_after slot w choice past)
 
 -- what a process hands a driver: an upcall, a read-only, a read-write or a readable buffer, by its number
 pub record PairKey : Type 0 where
@@ -63,7 +78,7 @@ abbrev pub ends_life : TurnTrace → Bool
 ends_life told = is_some told.denial || exits told.call
 
 -- The pair of the last swap of a key that succeeded in the present life, looking back over a process's turns, the
--- latest first; (0, 0) where there was none.
+-- latest first; (0, 0) where there was none. An operator's act that ends a life leaves none of the turns before it.
 abbrev pub last_pair : PairKey → List TurnTrace → ℕ × ℕ
 last_pair key [] = (0, 0)
 last_pair key (told ∷ earlier) =
@@ -89,7 +104,7 @@ GivesBackTheLast w slot =
     (choices : List Choice) (time : ℕ) (told : TurnTrace) (made : CallMade) (key : PairKey) (pair : ℕ × ℕ) →
     labels (after_all w choices) (Run slot) ≡ turn_label slot time told ∷ [] →
     told.call ≡ Some made → handed_by key made ≡ Some pair →
-    made.reply ≡ Some (swap_reply (last_pair key (reverse (turns_of slot w choices))) pair)
+    made.reply ≡ Some (swap_reply (last_pair key (turns_since slot w choices [])) pair)
 
 -- so it is where the process had handed nothing yet
 abbrev pub SwapsGiveBackTheLast : Type 0

@@ -1,6 +1,6 @@
 -- Laws over the definitions alone. The calls are those of TRD 104; what a step reaches is this board's own rule.
 use Rattle.std.specs.Prelude.{◌≡◌, ◌≢◌, ◌<◌, ◌==◌, ℕ, Bool, true, false, if◌then◌else◌, List, [], Option, None, Some}
-use Rattle.std.specs.Prelude.{is_some, All, IfSome, IsTrue, map, option_and_then, Result, Ok, Err, slice_get, slice_set}
+use Rattle.std.specs.Prelude.{is_some, All, IfSome, IsTrue, map, option_and_then, slice_get, slice_set}
 use Rattle.std.specs.Prelude.{◌⊎◌, ◌+◌}
 use Rattle.std.specs.Option.{option_map}
 use Rattle.tk_base.specs.declared.limits.TheConstants.{STEP_LIMIT}
@@ -8,9 +8,7 @@ use Rattle.tk_base.specs.declared.process.Choice.{Choice}
 use Rattle.tk_base.specs.declared.process.Choice.TheVariants.{Run, Device, Pass}
 use Rattle.tk_base.specs.declared.process.Dev.{Dev}
 use Rattle.tk_base.specs.declared.call.CallRule.{CallRule}
-use Rattle.tbf_headers.specs.declared.fault.HeaderFault.{HeaderFault}
-use Rattle.tbf_headers.specs.declared.program.Main.{Main}
-use Rattle.tbf_headers.specs.Meaning.{Meaning, header_reading}
+use Rattle.tbf_headers.specs.Meaning.{header_reading, main_by}
 use Rattle.board_devices.specs.Arriving.{differs}
 use Rattle.script_text.specs.Settings.{ScriptEvent as Arrival}
 use Rattle.process_record.specs.Emit.{nothing}
@@ -28,7 +26,7 @@ use Rattle.process_record.specs.declared.outcome.Outcome.TheVariants.{ToDriver}
 use Rattle.kernel_model.specs.Record.{Record}
 use Rattle.kernel_model.specs.declared.settings.Settings.{Settings}
 use Rattle.kernel_model.specs.Calls.{served, refused_with, failure_of}
-use Rattle.kernel_model.specs.Turn.{Turn, apply, edge_known, is_turn, rule_shown, turned}
+use Rattle.kernel_model.specs.Turn.{Turn, apply, edge_known, is_act, is_turn, rule_shown, turned}
 use Rattle.kernel_model.specs.World.{World, Answer, DeviceAnswer, Devices, Label, Stepped, after, answering}
 use Rattle.kernel_model.specs.World.{device_step_of, done, happens, is_ready, labels, labels_of, labels_told}
 use Rattle.kernel_model.specs.World.{queue_without, telling_edge, unmade}
@@ -112,9 +110,10 @@ abbrev pub ComesTo : World → Stepped → Type 0
 ComesTo w s =
     (s ≡ unmade w) ⊎ (((devices : Devices) × (s ≡ quiet w devices)) ⊎ (IsOneAnswered w s ⊎ IsEdgeTold w s))
 
--- a label is that of no turn, and tells of nothing printed
+-- a label is that of no turn and of no operator's act, and tells of nothing printed
 pub record IsSilent (label : Label) : Type 0 where
   pub no_turn : is_turn label.event ≡ false
+  pub no_act : is_act label.event ≡ false
   pub prints : label.printed ≡ []
 
 -- A device's step that answers one process, or nobody, or that tells of an edge, is that; and each is one of these, or
@@ -163,11 +162,6 @@ GrantsChangeAtCalls = (settings : Settings) (time : ℕ) (r : Record) →
 abbrev pub DropsAtMostOne : Type 0
 DropsAtMostOne = (settings : Settings) (time : ℕ) (r : Record) →
     IsAtMostOneMore r.own.inbox.dropped (turned settings time r).after.own.inbox.dropped
-
--- where an application starts, as its header says, if it can be read and says so
-abbrev pub main_by : Result Meaning HeaderFault → Option Main
-main_by (Ok h) = h.main
-main_by (Err fault) = None
 
 -- a process can start again: its object is that of an application (TRD 104, "Exit"; Tock Binary Format, "Main",
 -- "Program")

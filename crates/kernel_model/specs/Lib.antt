@@ -14,6 +14,7 @@ pub mod Worked
 pub mod Refused
 pub mod Causes
 pub mod Edges
+pub mod Console
 pub mod Accounts
 pub mod Lives
 pub mod Prints

@@ -1,25 +1,19 @@
 -- When a process lives, and what stays of it: where it lies, the order of its memory, what a restart makes of it. The
 -- order is that of Levy et al., SOSP 2017, section 4; restarts are those of TRD 104, "Exit".
-use Rattle.std.specs.Prelude.{◌≡◌, ◌≢◌, ◌≤◌, ◌<◌, ℕ, Bool, true, false, List, length, slice_get, Some, IfSome}
+use Rattle.std.specs.Prelude.{◌≡◌, ◌≢◌, ◌≤◌, ◌<◌, ℕ, false, List, length, slice_get, Some, IfSome, All}
 use Rattle.tk_base.specs.declared.limits.TheConstants.{PENDING_LIMIT}
 use Rattle.tk_base.specs.declared.process.Choice.{Choice}
-use Rattle.tbf_headers.specs.Meaning.{header_reading}
+use Rattle.tk_base.specs.declared.process.Verb.TheVariants.{Restart}
+use Rattle.tbf_headers.specs.Meaning.{header_reading, main_by}
 use Rattle.process_layout.specs.LayoutView.{first_break}
 use Rattle.driver_model.specs.Keeping.{IsInOrder}
-use Rattle.process_record.specs.declared.process.State.{State}
-use Rattle.process_record.specs.declared.process.State.TheVariants.{Running, Yielded, Faulted, Terminated}
+use Rattle.process_record.specs.Process.{is_alive}
 use Rattle.kernel_model.specs.Record.{Record}
 use Rattle.kernel_model.specs.Calls.{restart}
 use Rattle.kernel_model.specs.World.{World, after}
-use Rattle.kernel_model.specs.Replay.{after_all}
-use Rattle.kernel_model.specs.Laws.{CanStartAgain, main_by}
-
--- a process lives while it runs or waits (TRD 104, "Yield", "Exit")
-abbrev pub is_alive : State → Bool
-is_alive Running = true
-is_alive Yielded = true
-is_alive Faulted = false
-is_alive (Terminated code) = false
+use Rattle.kernel_model.specs.Turn.{Act}
+use Rattle.kernel_model.specs.Replay.{after_all, history}
+use Rattle.kernel_model.specs.Laws.{CanStartAgain}
 
 -- what is so of a process in a world is so of it after any choices, ready or not
 abbrev pub HoldsThroughout : (Record → Type 0) → Type 0
@@ -33,11 +27,12 @@ pub record LivesAsItRuns (r : Record) : Type 0 where
   pub life : r.own.life ≡ r.process.restarts
   pub application : CanStartAgain r
 
--- once a process has ended, and does not live, no choices change its record, but for which buttons it was told are
--- pressed
+-- once a process has ended, is not held and does not live, no choices change its record as long as no operator has it
+-- start again, but for which buttons it was told are pressed
 abbrev pub EndedStays : Type 0
 EndedStays = (w : World) (choices : List Choice) (slot : ℕ) (r : Record) →
-    slice_get w.records slot ≡ Some r → is_alive r.process.state ≡ false → r.own.lives ≡ false →
+    slice_get w.records slot ≡ Some r → is_alive r.process.state ≡ false → r.process.held ≡ false →
+    r.own.lives ≡ false → All (λ event. event ≢ Act Restart) (history slot w choices) →
     (pressed : ℕ) × (slice_get (after_all w choices).records slot ≡ Some (record r { pressed = pressed }))
 
 -- a process has the object of another in the same place, and lies where that does: its accessible flash and its block

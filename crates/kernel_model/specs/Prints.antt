@@ -1,5 +1,7 @@
--- That each printed byte is one of the buffer that its process then held (TRD 104, "Read-Only Allow").
-use Rattle.std.specs.Prelude.{◌≡◌, ◌<◌, ℕ, ◌+◌, true, List, length, slice_get, slice_index, All, None, Some, IfSome}
+-- That each printed byte is one of the buffer that its process then held (TRD 104, "Read-Only Allow"), or of the line
+-- of a process that an operator lists.
+use Rattle.std.specs.Prelude.{◌≡◌, ◌<◌, ℕ, ◌+◌, true, false, List, length, slice_get, slice_index, All, None, Some}
+use Rattle.std.specs.Prelude.{IfSome}
 use Rattle.std.specs.Prelude.{is_some}
 use Rattle.tk_base.specs.declared.access.Access.TheVariants.{Load}
 use Rattle.tk_base.specs.declared.access.Width.TheVariants.{Byte}
@@ -12,8 +14,8 @@ use Rattle.process_model.specs.Served.{bytes_at}
 use Rattle.driver_model.specs.Console.{console, console_writes}
 use Rattle.driver_model.specs.Requests.{request_in}
 use Rattle.kernel_model.specs.Record.{Record}
-use Rattle.kernel_model.specs.Turn.{flash_of}
-use Rattle.kernel_model.specs.World.{World, Label, labels}
+use Rattle.kernel_model.specs.Turn.{Act, Event, flash_of, is_act}
+use Rattle.kernel_model.specs.World.{World, Label, labels, listed}
 use Rattle.kernel_model.specs.Replay.{after_all}
 use Rattle.kernel_model.specs.Wholes.{AllHaveWholeOwns}
 
@@ -35,11 +37,18 @@ pub record AreOfItsBuffer (bytes : List ℕ) (r : Record) : Type 0 where
       (write.taken + k < (console_buffer r).1)
       × (slice_index bytes k ≡ slice_index (buffer_bytes r) (write.taken + k))
 
--- what a step prints, it prints of the buffer that the process of that slot held before the step
+-- what is printed for a process by what happens to it: by an operator's act the line of a list, of its slot; else bytes
+-- of the buffer that it holds
+abbrev pub IsPrintedBy : Event → ℕ → List ℕ → Record → Type 0
+IsPrintedBy (Act verb) slot bytes r = bytes ≡ listed verb slot r
+IsPrintedBy other slot bytes r = AreOfItsBuffer bytes r
+
+-- what a step prints, it prints of the buffer that the process of that slot held before the step, or as its line in a
+-- list
 abbrev pub PrintsItsBuffer : World → Label → Type 0
 PrintsItsBuffer w label = 0 < length label.printed →
     let there = slice_get w.records label.slot in
-    (is_some there ≡ true) × IfSome there (AreOfItsBuffer label.printed)
+    (is_some there ≡ true) × IfSome there (IsPrintedBy label.event label.slot label.printed)
 
 -- so it is in each step after any choices; no process that has ended prints anything
 abbrev pub PrintsAreOfBuffers : Type 0
@@ -50,9 +59,11 @@ PrintsAreOfBuffers = (w : World) (choices : List Choice) (choice : Choice) →
 abbrev pub CouldLoad : Record → ℕ → ℕ → Type 0
 CouldLoad r from count = (k : ℕ) → k < count → denied r.own.layout Load ((console_buffer r).0 + (from + k)) Byte ≡ None
 
--- what a step prints, the process of that slot could load where it stood before the step
+-- what a step prints for a process, but as its line in a list, the process of that slot could load where it stood
+-- before the step
 abbrev pub PrintsWhatItCouldLoad : World → Label → Type 0
 PrintsWhatItCouldLoad w label =
+    is_act label.event ≡ false →
     IfSome (slice_get w.records label.slot) (λ r.
     IfSome (request_in console_writes r.own) (λ write. CouldLoad r write.taken (length label.printed)))
 

@@ -7,6 +7,8 @@ use Rattle.process_model.specs.Flash.{object_byte}
 use Rattle.driver_model.specs.Steps.{DriverStep, own_after}
 use Rattle.process_model.specs.Instruction.{instruction_of, with_write}
 use Rattle.process_record.specs.declared.process.Process.{Process}
+use Rattle.process_record.specs.declared.summary.SlotLine.{SlotLine}
+use Rattle.process_record.specs.Name.{name_of}
 
 -- one process: its registers, state and counts, the bytes of its object, what the kernel keeps of it, the bytes of its
 -- storage, and a mask of the buttons that are pressed, as far as it was told: bit n for button n
@@ -43,3 +45,16 @@ instruction r = instruction_of r.own (byte_at r) r.process.regs
 -- what an instruction leaves of registers and RAM
 abbrev pub with_effect : Record → UserTurn → Record
 with_effect r t = record r { process = record r.process { regs = t.regs }; own = with_write r.own t }
+
+-- what the report says of a process
+abbrev pub slot_line_of : Record → SlotLine
+slot_line_of r = record {
+  name = record { items = name_of r.object };
+  state = r.process.state;
+  held = r.process.held;
+  wait = r.own.inbox.wait;
+  denial = r.process.denial;
+  turns = r.process.turns;
+  restarts = r.process.restarts;
+  dropped = r.own.inbox.dropped;
+}

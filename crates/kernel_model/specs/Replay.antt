@@ -10,7 +10,7 @@ use Rattle.kernel_model.specs.Turn.{Event, apply}
 use Rattle.kernel_model.specs.World.{World, Label, after, labels}
 use Rattle.kernel_model.specs.Run.{next, on_choice, round}
 
--- what a label tells that happened to the process in a slot: its turn, or an answer to it
+-- what a label tells that happened to the process in a slot: its turn, an answer to it, or an operator's act on it
 abbrev pub happened : ℕ → Label → List Event
 happened slot label = if label.slot == slot then label.event ∷ [] else []
 
@@ -33,14 +33,16 @@ abbrev pub replay : Settings → List Event → Record → Record
 replay settings [] r = r
 replay settings (event ∷ rest) r = replay settings rest (apply settings event r)
 
--- after any choices, ready or not, a process's record is the replay of its own turns and of what devices answered it
+-- after any choices, ready or not, a process's record is the replay of its own turns, of what devices answered it, and
+-- of an operator's acts on it
 abbrev pub RecordIsReplay : Type 0
 RecordIsReplay = (w : World) (choices : List Choice) (slot : ℕ) →
     slice_get (after_all w choices).records slot
     ≡ option_map (replay w.settings (history slot w choices)) (slice_get w.records slot)
 
 -- In any two worlds in which a process has the same record under the same settings, and after any choices in which it
--- has the same turns and answers, it has the same record: of all other processes, devices and slots nothing counts.
+-- has the same turns, answers and acts, it has the same record: of all other processes, devices and slots nothing
+-- counts.
 abbrev pub SameHistorySameRecord : Type 0
 SameHistorySameRecord = (v w : World) (choices others : List Choice) (slot place : ℕ) →
     v.settings ≡ w.settings → slice_get v.records slot ≡ slice_get w.records place →

@@ -1,26 +1,13 @@
 -- What a step and a world show: the facts of the report, and of one step. What is shown is this board's own rule.
 use Rattle.std.specs.Prelude.{◌≡◌, ◌==◌, true, not, ◌||◌, if◌then◌else◌, List, [], ◌∷◌, ◌++◌, length}
-use Rattle.std.specs.Prelude.{map, Some}
+use Rattle.std.specs.Prelude.{map, ℕ, Bool, Option, None, Some}
+use Rattle.tk_base.specs.declared.process.Verb.{Verb}
 use Rattle.process_record.specs.declared.emit.Emit.{Emit}
-use Rattle.process_record.specs.declared.summary.SlotLine.{SlotLine}
 use Rattle.process_record.specs.declared.summary.Summary.{Summary}
 use Rattle.process_record.specs.Emit.{nothing}
-use Rattle.process_record.specs.Name.{name_of}
-use Rattle.kernel_model.specs.Record.{Record}
-use Rattle.kernel_model.specs.Turn.{is_turn}
+use Rattle.kernel_model.specs.Record.{slot_line_of}
+use Rattle.kernel_model.specs.Turn.{Act, Event, is_act, is_turn}
 use Rattle.kernel_model.specs.World.{World, Label}
-
--- what the report says of a process
-abbrev pub slot_line_of : Record → SlotLine
-slot_line_of r = record {
-  name = record { items = name_of r.object };
-  state = r.process.state;
-  wait = r.own.inbox.wait;
-  denial = r.process.denial;
-  turns = r.process.turns;
-  restarts = r.process.restarts;
-  dropped = r.own.inbox.dropped;
-}
 
 -- what the report says of a world
 unfoldable pub summary_of : World → Summary
@@ -33,11 +20,21 @@ summary_of w = record {
   time = w.clock.time;
 }
 
+-- the act of an operator in an event of the process in a slot, if it is one
+abbrev pub act_shown : ℕ → Event → Option (ℕ × Verb)
+act_shown slot (Act verb) = Some (slot, verb)
+act_shown slot other = None
+
+-- whether a label is shown: that of a turn, of an operator's act, and of what was printed
+abbrev pub is_shown : Label → Bool
+is_shown label = is_turn label.event || (is_act label.event || not (length label.printed == 0))
+
 -- what a step shows once it has told a label; of an answer for which nothing was printed, nothing
 abbrev pub with_label : Label → Emit → Emit
 with_label label e =
-    if is_turn label.event || not (length label.printed == 0) then record {
+    if is_shown label then record {
       slot = Some label.slot;
+      act = act_shown label.slot label.event;
       made = label.trace.call;
       denial = label.trace.denial;
       printed = record { items = label.printed ++ e.printed.items };

@@ -1,5 +1,6 @@
 -- Quiet stretches: turns of processes, one after another, that only execute an instruction.
-use Rattle.std.specs.Prelude.{◌≡◌, ◌≤◌, ◌<◌, ℕ, zero, suc, ◌+◌, ◌-◌, true, [], length, slice_get, slice_set, Some, None}
+use Rattle.std.specs.Prelude.{◌≡◌, ◌≤◌, ◌<◌, ℕ, zero, suc, ◌+◌, ◌-◌, true, false, [], length, slice_get, slice_set}
+use Rattle.std.specs.Prelude.{Some, None}
 use Rattle.std.specs.Prelude.{All}
 use Rattle.tk_base.specs.declared.limits.TheConstants.{STEP_LIMIT}
 use Rattle.tk_base.specs.declared.process.Choice.TheVariants.{Run}
@@ -81,6 +82,7 @@ PresentIsNextOnTheWay =
     → w.present.slot ≡ Some slot
     → slice_get w.records slot ≡ Some r
     → r.process.state ≡ Running
+    → r.process.held ≡ false
     → w.present.used + k ≤ w.pace.slice
     → NoneActs k w slot r
     → IsNextOnTheWay k w slot r
@@ -107,6 +109,7 @@ PresentStaysOn =
     → w.present.slot ≡ Some slot
     → slice_get w.records slot ≡ Some r
     → r.process.state ≡ Running
+    → r.process.held ≡ false
     → w.present.used < w.pace.slice
     → next_slot (ready_slots w) w.present.slot w.present.used w.pace.slice ≡ Some slot
 

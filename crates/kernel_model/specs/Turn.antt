@@ -1,11 +1,13 @@
 -- The turn of a process, and what else may happen to it. Its states are those of TRD 104, "Yield" and "Exit"; that a
 -- turn is one instruction is this board's own rule.
-use Rattle.std.specs.Prelude.{ℕ, ◌==◌, Bool, true, false, not, if◌then◌else◌, List, [], ◌∷◌, Option, None, Some}
+use Rattle.std.specs.Prelude.{ℕ, ◌==◌, ◌&&◌, Bool, true, false, not, if◌then◌else◌, List, [], ◌∷◌, Option, None, Some}
 use Rattle.std.specs.Prelude.{is_some, option_map, unwrap_or}
 use Rattle.tk_base.specs.declared.access.Access.TheVariants.{Fetch}
 use Rattle.tk_base.specs.declared.access.Rule.TheVariants.{UnknownClass}
 use Rattle.tk_base.specs.declared.access.Denial.{Denial}
 use Rattle.tk_base.specs.declared.call.CallRule.{CallRule}
+use Rattle.tk_base.specs.declared.process.Verb.{Verb}
+use Rattle.tk_base.specs.declared.process.Verb.TheVariants as verbs
 use Rattle.tk_base.specs.Bits.{with_bit}
 use Rattle.tk_base.specs.Regs.{Registers}
 use Rattle.rv32_model.specs.declared.turn_end.TurnEnd.{TurnEnd}
@@ -40,6 +42,7 @@ use Rattle.process_record.specs.declared.process.Process.{Process}
 use Rattle.process_record.specs.declared.process.State.{State}
 use Rattle.process_record.specs.declared.process.State.TheVariants.{Running, Yielded}
 use Rattle.process_record.specs.Process.{after_turn, after_fault}
+use Rattle.process_record.specs.Operator.{own_operated, process_operated}
 use Rattle.kernel_model.specs.Record.{Record, with_process, instruction, with_effect, record_with_step}
 use Rattle.kernel_model.specs.declared.settings.Settings.{Settings}
 use Rattle.kernel_model.specs.Calls.{Served, deliver, served, restart}
@@ -162,9 +165,10 @@ turn_in settings time other r = idle r
 unfoldable pub turned : Settings → ℕ → Record → Turned
 turned settings time r = turn_in settings time r.process.state r
 
--- What happens to a process: its turn at a time; and what devices tell it. Its alarm fires, when the clock shows a
--- tick. A button is pressed, or released. The UART took the next bytes of its write, or has taken all; bytes came in
--- for its read. A random word was drawn for it, or none; its storage request was served, or failed.
+-- What happens to a process: its turn at a time; and what devices tell it, or an operator does to it. Its alarm fires,
+-- when the clock shows a tick. A button is pressed, or released. The UART took the next bytes of its write, or has
+-- taken all; bytes came in for its read. A random word was drawn for it, or none; its storage request was served, or
+-- failed. Or an operator acts on it.
 pub data Event : Type 0 where
   Turn : (time : ℕ) → Event
   Alarmed : (now : ℕ) → Event
@@ -175,11 +179,17 @@ pub data Event : Type 0 where
   Word : (word : ℕ) → Event
   NoWord : Event
   Stored : (moved : Bool) → Event
+  Act : (verb : Verb) → Event
 
 -- whether an event is a turn
 abbrev pub is_turn : Event → Bool
 is_turn (Turn time) = true
 is_turn other = false
+
+-- whether it is an operator's act
+abbrev pub is_act : Event → Bool
+is_act (Act verb) = true
+is_act other = false
 
 -- flash as a process knows it, by address: its object in its place
 abbrev pub flash_of : Record → ℕ → ℕ
@@ -200,6 +210,19 @@ abbrev pub edge_known : ℕ → Bool → Record → Record
 edge_known button pressed r =
     record (record_with_step r (buttons.edged button pressed r.own)) { pressed = with_bit r.pressed button pressed }
 
+-- what a verb leaves of the process and of what is its own, where it does not start it again
+abbrev pub operated_by : Verb → Record → Record
+operated_by verb r =
+    record r { process = process_operated verb r.process; own = own_operated verb r.process r.own }
+
+-- a process on which an operator acted: it is listed, held, let go or ended, where the verb applies, or starts again
+abbrev pub operated : Verb → Record → Record
+operated verbs.List r = r
+operated verbs.Stop r = operated_by verbs.Stop r
+operated verbs.Start r = operated_by verbs.Start r
+operated verbs.Terminate r = operated_by verbs.Terminate r
+operated verbs.Restart r = restart r
+
 -- the record after an event; nothing else changes a record, and it reads no other process, list or device
 unfoldable pub apply : Settings → Event → Record → Record
 apply settings (Turn time) r = (turned settings time r).after
@@ -211,6 +234,7 @@ apply settings (Input bytes) r = record_with_step r (console.input bytes r.own)
 apply settings (Word word) r = record_with_step r (random.answered (Some word) r.own).step
 apply settings NoWord r = record_with_step r (random.answered None r.own).step
 apply settings (Stored moved) r = stored moved r
+apply settings (Act verb) r = operated verb r
 
 -- whether a process in a state can have a turn: it runs, or it has yielded and something is due to it
 abbrev pub has_turn : State → Option Delivery → Bool
@@ -218,6 +242,6 @@ has_turn Running next = true
 has_turn Yielded next = is_some next
 has_turn other next = false
 
--- whether a process can have a turn
+-- whether a process can have a turn: no operator holds it, and its state lets it
 abbrev pub may_turn : Record → Bool
-may_turn r = has_turn r.process.state (due r.own.inbox)
+may_turn r = not r.process.held && has_turn r.process.state (due r.own.inbox)

@@ -23,6 +23,7 @@ standing object block regs = record {
     regs = regs;
     object = record { address = FLASH_START; size = length object };
     state = Running;
+    held = false;
     restarts = 0;
     turns = 0;
     denial = None;

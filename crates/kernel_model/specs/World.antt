@@ -9,9 +9,13 @@ use Rattle.tk_base.specs.declared.process.Choice.{Choice}
 use Rattle.tk_base.specs.declared.process.Choice.TheVariants.{Run, Device, Pass}
 use Rattle.tk_base.specs.declared.process.Dev.{Dev}
 use Rattle.tk_base.specs.declared.process.Dev.TheVariants as dev
+use Rattle.tk_base.specs.declared.process.Verb.{Verb}
+use Rattle.tk_base.specs.declared.process.Verb.TheVariants as verbs
 use Rattle.process_record.specs.Summary.{Unplaced}
+use Rattle.process_record.specs.Lines.{list_text, slot_named}
+use Rattle.process_record.specs.Operator.{ends_by}
 use Rattle.turn_scheduler.specs.RoundRobin.{used_after}
-use Rattle.kernel_model.specs.Record.{Record}
+use Rattle.kernel_model.specs.Record.{Record, slot_line_of}
 use Rattle.kernel_model.specs.declared.settings.Settings.{Settings}
 use Rattle.board_devices.specs.Arriving.{differs, first_arrival_time, is_time}
 use Rattle.board_devices.specs.Clock.{clock_at}
@@ -27,7 +31,8 @@ use Rattle.driver_model.specs.Random as random
 use Rattle.driver_model.specs.Storage as storage
 use Rattle.driver_model.specs.Leds.{with_switched}
 use Rattle.driver_model.specs.Commands.{BoardRequest, Waits, Leaves, Lights, QueueName, Writes, Reads, Randoms, Stores}
-use Rattle.kernel_model.specs.Turn.{Event, Turn, Alarmed, Edge, Taken, WriteDone, Input, Word, NoWord, Stored}
+use Rattle.driver_model.specs.Commands.{leaving_all}
+use Rattle.kernel_model.specs.Turn.{Act, Event, Turn, Alarmed, Edge, Taken, WriteDone, Input, Word, NoWord, Stored}
 use Rattle.kernel_model.specs.Turn.{TurnTrace, Turned, untraced}
 use Rattle.kernel_model.specs.Turn.{apply, flash_of, turned, may_turn}
 
@@ -43,8 +48,8 @@ pub record WaitingSlots : Type 0 where
   pub stores : List ℕ
 
 -- What the devices hold: the slots that wait; the LEDs, bit n for LED n; the serial line; what is still to come in, and
--- when, bytes and edges of buttons; the random words that are left; how many storage requests were served, and the
--- numbers of those that fail
+-- when, bytes, edges of buttons and an operator's acts; the random words that are left; how many storage requests were
+-- served, and the numbers of those that fail
 pub record Devices : Type 0 where
   pub waiting : WaitingSlots
   pub leds : ℕ
@@ -74,8 +79,8 @@ pub record World : Type 0 where
   pub clock : Clock
   pub present : Present
 
--- What a step tells of a process: its slot; what happened to it, its turn or what a device told it; what it did, where
--- that was its turn; what was printed for it.
+-- What a step tells of a process: its slot; what happened to it, its turn, what a device told it or an operator did to
+-- it; what it did, where that was its turn; what was printed for it.
 pub record Label : Type 0 where
   pub slot : ℕ
   pub event : Event
@@ -202,6 +207,18 @@ abbrev pub serving : World → (ℕ → Record → DeviceAnswer) → Option ℕ 
 serving w answer None = None
 serving w answer (Some slot) = option_map (λ r. answering slot (answer slot r)) (slice_get w.records slot)
 
+-- what an act of a process changes of the devices: it waits in a queue, as its last one, or waits there no more, or
+-- switches an LED
+abbrev pub acted : ℕ → BoardRequest → Devices → Devices
+acted slot (Waits queue) d = with_queue queue (λ slots. slots ++ slot ∷ []) d
+acted slot (Leaves queue) d = with_queue queue (queue_without slot) d
+acted slot (Lights led switch) d = record d { leds = with_switched d.leds led switch }
+
+-- what a turn asks the board to do, one after another
+abbrev pub routed : ℕ → List BoardRequest → Devices → Devices
+routed slot [] d = d
+routed slot (act ∷ acts) d = routed slot acts (acted slot act d)
+
 -- what a process is told of a button that is pressed, or released: nothing where it has that state for it already
 abbrev pub edge_told : ℕ → Bool → Record → Option Answer
 edge_told button pressed r =
@@ -212,13 +229,44 @@ abbrev pub telling_edge : ℕ → Bool → List Record → Devices → DeviceSte
 telling_edge button pressed rs d =
     record { told = λ slot. option_and_then (edge_told button pressed) (slice_get rs slot); devices = d }
 
--- what comes in: bytes, which tells nobody anything, and of those in the ring the newest are kept; or an edge of a
--- button
+-- what an operator's act prints: the line of the process, where it is listed
+abbrev pub listed : Verb → ℕ → Record → List ℕ
+listed verbs.List slot r = list_text slot (slot_line_of r)
+listed other slot r = []
+
+-- what an operator's act asks the board to do for the process: one that it ends, or starts again, waits in no queue any
+-- more
+abbrev pub acts_of : Verb → Record → List BoardRequest
+acts_of verb r = if ends_by verb r.process then leaving_all else []
+
+-- an operator's act on the process in a slot, by its record
+abbrev pub operating : Verb → Devices → ℕ → Record → DeviceAnswer
+operating verb d slot r = record {
+  answer = record { event = Act verb; printed = listed verb slot r };
+  devices = routed slot (acts_of verb r) d;
+}
+
+-- nobody is told anything
+abbrev pub telling_nobody : Devices → DeviceStep
+telling_nobody d = record { told = λ slot. None; devices = d }
+
+-- the lowest slot whose process has a name in the report, if there is one
+abbrev pub slot_of_name : List ℕ → List Record → Option ℕ
+slot_of_name name rs = slot_named name (map slot_line_of rs)
+
+-- an operator acts on the process in a slot; where there is none this tells nobody anything
+abbrev pub acting_on : Verb → List Record → Devices → Option ℕ → DeviceStep
+acting_on verb rs d None = telling_nobody d
+acting_on verb rs d (Some slot) =
+    unwrap_or (option_map (λ r. answering slot (operating verb d slot r)) (slice_get rs slot)) (telling_nobody d)
+
+-- what comes in: bytes, which tells nobody anything, and of those in the ring the newest are kept; an edge of a button;
+-- or an operator's act on the process of a name
 abbrev pub coming_in : EventKind → List Record → Devices → DeviceStep
-coming_in (script.Input bytes) rs d =
-    record { told = λ slot. None; devices = record d { line = with_input bytes d.line } }
+coming_in (script.Input bytes) rs d = telling_nobody (record d { line = with_input bytes d.line })
 coming_in (script.Press button) rs d = telling_edge button true rs d
 coming_in (script.Release button) rs d = telling_edge button false rs d
+coming_in (script.Act verb name) rs d = acting_on verb rs d (slot_of_name name rs)
 
 -- the first thing comes in that is still to, if there is one
 abbrev pub arrived : List Record → Devices → List Arrival → Option DeviceStep
@@ -286,18 +334,6 @@ may_be_made w (Pass ticks) = nat_lt 0 ticks
 -- whether a choice may be made: it is ready, and the limit of steps is not reached
 abbrev pub is_ready : World → Choice → Bool
 is_ready w choice = nat_lt w.clock.steps STEP_LIMIT && may_be_made w choice
-
--- what an act of a process changes of the devices: it waits in a queue, as its last one, or waits there no more, or
--- switches an LED
-abbrev pub acted : ℕ → BoardRequest → Devices → Devices
-acted slot (Waits queue) d = with_queue queue (λ slots. slots ++ slot ∷ []) d
-acted slot (Leaves queue) d = with_queue queue (queue_without slot) d
-acted slot (Lights led switch) d = record d { leds = with_switched d.leds led switch }
-
--- what a turn asks the board to do, one after another
-abbrev pub routed : ℕ → List BoardRequest → Devices → Devices
-routed slot [] d = d
-routed slot (act ∷ acts) d = routed slot acts (acted slot act d)
 
 -- the world after a turn of a slot's process
 abbrev pub after_turn_of : World → ℕ → Turned → World

@@ -1,5 +1,6 @@
 //! Laws of the definitions, each the contract of a function that does nothing.
 ghost use Rattle.kernel_model.specs.Laws.{DriversPromise, NextIsReady, NextLiesAhead, NoneIsLeft};
+ghost use Rattle.kernel_model.specs.Console.{StepsOperateOne};
 ghost use Rattle.kernel_model.specs.Laws.{DevicesAnswerOne, OnlyItsOwnEvents};
 ghost use Rattle.kernel_model.specs.Laws.{RefusedChangesNothingElse};
 ghost use Rattle.kernel_model.specs.Replay.{RecordIsReplay, RoundFollowsChoices};
@@ -24,8 +25,8 @@ pub fn drivers_promise()
     drivers_keep_places_and_order();
 }
 
-/// A step changes the record of each process by the one event that it tells it, its turn or a
-/// device's answer, or not at all.
+/// A step changes the record of each process by the one event that it tells it, its turn, a
+/// device's answer or an operator's act, or not at all.
 pub fn only_its_own_events()
     ensures { OnlyItsOwnEvents }
 {}
@@ -37,6 +38,14 @@ pub fn only_its_own_events()
 #[tactic(auto, using(crate::proofs::Told::devices_answer_one))]
 pub fn devices_answer_one()
     ensures { DevicesAnswerOne }
+{}
+
+/// An operator's act changes the record of the process that it names, that process's requests in
+/// the waiting lists, the list of what is still to come in, and the count of steps: of the rest of
+/// the board it changes nothing. It is told to that process alone, and prints its line where it is
+/// listed. Where nobody has the name the event is taken, and that is all.
+pub fn an_operator_acts_on_one()
+    ensures { StepsOperateOne }
 {}
 
 /// Below the limit of steps the next choice of the round robin may be made. Where no device step is
@@ -64,10 +73,10 @@ pub fn no_call_is_left()
     drivers_promise();
 }
 
-/// After any choices a process's record is the replay of its own turns and of what devices answered
-/// it alone, and a run by round robin follows its choices. So in any two worlds in which a process
-/// has the same record under the same settings, and then the same turns and answers, it has the
-/// same record: its registers, memory and storage byte by byte.
+/// After any choices a process's record is the replay of its own turns, of what devices answered it
+/// and of an operator's acts on it alone, and a run by round robin follows its choices. So in any
+/// two worlds in which a process has the same record under the same settings, and then the same
+/// turns, answers and acts, it has the same record: its registers, memory and storage byte by byte.
 pub fn a_record_is_the_replay_of_its_events()
     ensures replay { RecordIsReplay }
     ensures same { SameHistorySameRecord }

@@ -8,7 +8,8 @@ mod settings;
 
 pub use every_run::each_access_is_permitted;
 pub use laws::{
-    a_record_is_the_replay_of_its_events, devices_answer_one, drivers_promise, next_is_ready,
-    no_call_is_left, only_its_own_events, refused_changes_nothing_else,
+    a_record_is_the_replay_of_its_events, an_operator_acts_on_one, devices_answer_one,
+    drivers_promise, next_is_ready, no_call_is_left, only_its_own_events,
+    refused_changes_nothing_else,
 };
 pub use settings::Settings;

@@ -1,5 +1,5 @@
 -- One process: TRD 104, "Yield", "Exit" and "Return Values"; the start registers as Tock gives them to a process.
-use Rattle.std.specs.Prelude.{ℕ, ◌+◌, ◌*◌, ◌/◌, ◌%◌, ◌^◌, [], ◌∷◌, None, Some, replicate}
+use Rattle.std.specs.Prelude.{ℕ, ◌+◌, ◌*◌, ◌/◌, ◌%◌, ◌^◌, Bool, true, false, [], ◌∷◌, None, Some, replicate}
 use Rattle.tk_base.specs.declared.access.Denial.{Denial}
 use Rattle.tk_base.specs.Regs.{Registers}
 use Rattle.tk_base.specs.Regs.{with_register}
@@ -13,7 +13,15 @@ use Rattle.tbf_headers.specs.declared.program.Main.{Main}
 use Rattle.tbf_headers.specs.Meaning.{Meaning}
 use Rattle.tbf_headers.specs.Addresses.{after_protected, entry_of}
 use Rattle.process_record.specs.declared.process.Process.{Process}
+use Rattle.process_record.specs.declared.process.State.{State}
 use Rattle.process_record.specs.declared.process.State.TheVariants.{Running, Yielded, Faulted, Terminated}
+
+-- a process lives while it runs or waits (TRD 104, "Yield", "Exit")
+abbrev pub is_alive : State → Bool
+is_alive Running = true
+is_alive Yielded = true
+is_alive Faulted = false
+is_alive (Terminated code) = false
 
 -- all registers 0, and pc
 abbrev pub cleared : ℕ → Registers
@@ -35,15 +43,17 @@ started object h m ram length brk = record {
   regs = start_regs object h m ram length brk;
   object = record { address = object; size = h.total_size };
   state = Running;
+  held = false;
   restarts = 0;
   turns = 0;
   denial = None;
   refusal = None;
 }
 
--- a process that starts again with registers: its object, its turns, its last denial and its last refusal stay
+-- a process that starts again with registers, held no more: its object, its turns, its last denial and its last
+-- refusal stay
 abbrev pub restarted_with_regs : Process → Registers → Process
-restarted_with_regs p regs = record p { regs = regs; state = Running; restarts = p.restarts + 1 }
+restarted_with_regs p regs = record p { regs = regs; state = Running; held = false; restarts = p.restarts + 1 }
 
 -- a process that starts again by the header of its object
 abbrev pub restarted : Process → Meaning → Main → ℕ → ℕ → ℕ → Process
@@ -53,17 +63,25 @@ restarted p h m ram length brk = restarted_with_regs p (start_regs p.object.addr
 abbrev pub after_turn : Process → Process
 after_turn p = record p { turns = p.turns + 1 }
 
--- a denial is recorded, and the process stops
+-- a denial is recorded, and the process stops, held no more
 abbrev pub after_fault : Process → Denial → Process
-after_fault p denial = record p { state = Faulted; denial = Some denial }
+after_fault p denial = record p { state = Faulted; held = false; denial = Some denial }
 
 -- the registers with pc past an `ecall`
 abbrev pub past_call : Registers → Registers
 past_call regs = record regs { pc = (regs.pc + 4) % 2 ^ 32 }
 
--- the process ends with a completion code
+-- the process ends with a completion code, held no more
+abbrev pub after_end : Process → ℕ → Process
+after_end p code = record p { state = Terminated code; held = false }
+
+-- it ends itself, with pc past its `ecall`
 abbrev pub after_exit : Process → ℕ → Process
-after_exit p code = record p { regs = past_call p.regs; state = Terminated code }
+after_exit p code = after_end (record p { regs = past_call p.regs }) code
+
+-- an operator holds it, or lets it go: one that is held has no turns
+abbrev pub with_held : Bool → Process → Process
+with_held held p = record p { held = held }
 
 -- a reply stands in the registers, with pc past the `ecall`
 abbrev pub after_reply : Process → Reply → Process

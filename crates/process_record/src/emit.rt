@@ -3,7 +3,7 @@ ghost use Rattle.std.specs.Prelude.{◌≡◌};
 ghost use Rattle.process_record.specs.Emit.{nothing};
 
 use arrayvec::ArrayVec;
-use tk_base::{CallRule, Denial, PRINT_LIMIT, Slot};
+use tk_base::{CallRule, Denial, PRINT_LIMIT, Slot, Verb};
 
 /// A system call that was made in a step.
 #[derive(Clone, Copy, Debug, PartialEq, Eq)]
@@ -18,13 +18,16 @@ pub struct CallMade {
     pub rule: Option<CallRule>,
 }
 
-/// What a step printed, whose turn it was, and the call or the denial in it.
+/// What a step printed, whose turn it was or on whose process an operator acted, and the call or
+/// the denial in it.
 #[derive(Drop)]
 pub struct Emit {
     /// The bytes that went to the console, at most [`PRINT_LIMIT`] a step.
     pub printed: ArrayVec<u8, PRINT_LIMIT>,
-    /// The slot whose turn it was.
+    /// The slot whose turn it was, or for whose process something was printed or done.
     pub slot: Option<Slot>,
+    /// An operator's act on the process of a slot.
+    pub act: Option<(Slot, Verb)>,
     pub made: Option<CallMade>,
     pub denial: Option<Denial>,
 }
@@ -37,6 +40,7 @@ impl Emit {
         Emit {
             printed: ArrayVec::new(),
             slot: None,
+            act: None,
             made: None,
             denial: None,
         }

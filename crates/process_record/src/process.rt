@@ -5,7 +5,7 @@ ghost use Rattle.tbf_headers.specs.Shown.{shown};
 ghost use Rattle.process_record.specs.Process.{regs_from, started, restarted_with_regs, past_call};
 ghost use Rattle.process_record.specs.Process.{after_turn, after_fault, after_exit, after_reply};
 ghost use Rattle.process_record.specs.Process.{after_refusal, after_call, waiting, delivered};
-ghost use Rattle.process_record.specs.Process.{upcall_regs};
+ghost use Rattle.process_record.specs.Process.{after_end, is_alive, upcall_regs, with_held};
 ghost use Rattle.syscall_abi.specs.Reply.{with_words};
 
 use process_model::Object;
@@ -43,6 +43,8 @@ pub struct Process {
     pub regs: Regs,
     pub object: Object,
     pub state: State,
+    /// Whether an operator holds it: it has no turns until it is let go.
+    pub held: bool,
     /// How often it was started again.
     pub restarts: u32,
     /// How many turns it had: its instructions and deliveries, a faulting one included.
@@ -53,14 +55,26 @@ pub struct Process {
     pub refusal: Option<RecordedRefusal>,
 }
 
+impl State {
+    /// Whether a process in this state lives: it runs or waits.
+    pub fn is_alive(self) -> bool
+        ensures { result ≡ is_alive self }
+    {
+        match self {
+            State::Running | State::Yielded => true,
+            State::Faulted | State::Terminated(_) => false,
+        }
+    }
+}
+
 impl Process {
     /// A process at its start (TRD 104, "Exit"), for an application whose header stands at the
     /// address `object` and whose block of RAM is `length` bytes from `ram` on. It has the
     /// registers of a start: pc is the entry, a0 the address after the header and the protected
     /// bytes, a1 and sp the start of the RAM, a2 the length, a3 the break; other registers are 0.
-    /// It runs, and nothing happened to it yet. It asks that the header has a Program or a Main
-    /// TLV, and that the entry and the address after the header and the protected bytes are below
-    /// 2^32.
+    /// It runs, is not held, and nothing happened to it yet. It asks that the header has a Program
+    /// or a Main TLV, and that the entry and the address after the header and the protected bytes
+    /// are below 2^32.
     pub fn start(header: &Header<'_>, object: Addr, ram: Addr, length: u32, brk: Addr) -> Process
         requires main { IsSome header.now.main }
         requires entry { IfSome header.now.main
@@ -80,6 +94,7 @@ impl Process {
                 size: header.total_size,
             },
             state: State::Running,
+            held: false,
             restarts: 0,
             turns: 0,
             denial: None,
@@ -87,10 +102,10 @@ impl Process {
         }
     }
 
-    /// Starts the process again (TRD 104, "Exit"), with the registers of a start and a break. Its
-    /// count of restarts rises; its object, its count of turns, its last denial and its last
-    /// refusal stay. It asks that the entry and the address after the header and the protected
-    /// bytes are below 2^32, and that the count can rise.
+    /// Starts the process again (TRD 104, "Exit"), with the registers of a start and a break, and
+    /// lets it go where it is held. Its count of restarts rises; its object, its count of turns,
+    /// its last denial and its last refusal stay. It asks that the entry and the address after the
+    /// header and the protected bytes are below 2^32, and that the count can rise.
     pub fn restart(&mut self, start: AppStart, ram: Addr, length: u32, brk: Addr)
         requires entry { start.entry < 2 ^ 32 }
         requires protected { start.after_protected < 2 ^ 32 }
@@ -100,6 +115,7 @@ impl Process {
     {
         self.regs = regs_at_start(start, ram, length, brk);
         self.state = State::Running;
+        self.held = false;
         self.restarts += 1;
     }
 
@@ -111,12 +127,13 @@ impl Process {
         self.turns += 1;
     }
 
-    /// Records a denial, and stops the process.
+    /// Records a denial, and stops the process, which is not held any more.
     pub fn fault(&mut self, denial: Denial)
         ensures { self.new ≡ after_fault self.old denial }
     {
         self.denial = Some(denial);
         self.state = State::Faulted;
+        self.held = false;
     }
 
     /// Ends the process with a completion code (TRD 104, "Exit"). pc goes past the `ecall`.
@@ -124,7 +141,22 @@ impl Process {
         ensures { self.new ≡ after_exit self.old code }
     {
         self.pass_call();
+        self.end(code);
+    }
+
+    /// Ends the process with a completion code, wherever it is. It is not held any more.
+    pub fn end(&mut self, code: u32)
+        ensures { self.new ≡ after_end self.old code }
+    {
         self.state = State::Terminated(code);
+        self.held = false;
+    }
+
+    /// Holds the process, or lets it go: while it is held it has no turns.
+    pub fn hold(&mut self, held: bool)
+        ensures { self.new ≡ with_held held self.old }
+    {
+        self.held = held;
     }
 
     /// Replies to a system call (TRD 104, "Return Values"): puts the reply into the registers, and

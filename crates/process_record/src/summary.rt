@@ -9,6 +9,8 @@ pub struct SlotLine {
     /// The first 32 bytes of the package name; empty where there is none.
     pub name: ArrayVec<u8, 32>,
     pub state: State,
+    /// Whether an operator holds it.
+    pub held: bool,
     /// What it waits for, where it has yielded.
     pub wait: Wait,
     /// The last denial.

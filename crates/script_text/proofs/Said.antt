@@ -13,14 +13,14 @@ use Rattle.fault_policy.specs.declared.Policy.TheVariants as policies
 use Rattle.script_text.specs.declared.table.Line.{Line}
 use Rattle.script_text.specs.declared.table.Line.TheVariants.{Ram, Leds, Buttons, Slice, Start, Uart, Storage}
 use Rattle.script_text.specs.declared.table.Line.TheVariants.{Stop, Restart, Threshold, FilterOpen, FilterStrict}
-use Rattle.script_text.specs.declared.table.Line.TheVariants.{StorageFault, Random, Input, Press, Release}
+use Rattle.script_text.specs.declared.table.Line.TheVariants.{StorageFault, Random, Input, Press, Release, Act}
 use Rattle.script_text.specs.Progress.{with_line, stood_in}
 use Rattle.script_text.specs.Rules.{is_single, skips}
 use Rattle.script_text.specs.Said.{lines_of, stands, settings, number_on, policy_on, policy_by, is_strict}
 use Rattle.script_text.specs.Said.{words_on, event_on, event_by}
 use Rattle.script_text.specs.Seats.{stood_at, stood_after}
 use Rattle.script_text.specs.Settings.{ScriptSettings}
-use Rattle.script_text.specs.Table.{row, line_table, is_key, line_fits, line_of}
+use Rattle.script_text.specs.Table.{row, line_table, has_verb, is_key, line_fits, line_of}
 use Rattle.script_text.specs.Text.{words, word}
 
 -- some lines, and one more where it is one of them
@@ -138,6 +138,7 @@ stood_is Random before = refl
 stood_is Input before = refl
 stood_is Press before = refl
 stood_is Release before = refl
+stood_is Act before = refl
 
 -- where a list had no line, the first is the one more
 none_yet : (xs : List (List ℕ)) → some xs ≡ false → xs ≡ []
@@ -187,7 +188,9 @@ unfolding line_of
 named ws line h =
     (bytes_eq-Decides (word ws 0) (row line).name).0
     (and_parts (bytes_eq (word ws 0) (row line).name) (option_map_or (is_key ws) (row line).key true)
-    (find_passes (line_fits ws) line_table line h)).0
+    (and_parts (has_verb ws (row line).verb)
+    (bytes_eq (word ws 0) (row line).name && option_map_or (is_key ws) (row line).key true)
+    (find_passes (line_fits ws) line_table line h)).1).0
 
 -- the settings with a line of the table more, by its name
 by_name : (line : Line) (before : List (List ℕ)) (text : List ℕ) → line_of (words text) ≡ Some line
@@ -257,6 +260,7 @@ settings_with Random before text l s =
 settings_with Input before text l s = one_event Input before text refl l
 settings_with Press before text l s = one_event Press before text refl l
 settings_with Release before text l s = one_event Release before text refl l
+settings_with Act before text l s = one_event Act before text refl l
 
 -- which stand with a line of the table more, by its name
 stood_by_name : (line : Line) (before : List (List ℕ)) (text : List ℕ) → line_of (words text) ≡ Some line
@@ -288,6 +292,7 @@ stood_with Random before text l = stood_by_name Random before text l
 stood_with Input before text l = stood_by_name Input before text l
 stood_with Press before text l = stood_by_name Press before text l
 stood_with Release before text l = stood_by_name Release before text l
+stood_with Act before text l = stood_by_name Act before text l
 
 -- a line that is skipped begins with no name
 begins_not : (w name : List ℕ) → ((bytes : List ℕ) → bytes_eq (35 ∷ bytes) name ≡ false)

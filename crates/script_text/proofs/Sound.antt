@@ -1,8 +1,9 @@
 -- Settings stay in their ranges, and lists in their order.
 use Rattle.std.proofs.Common.{◌≡◌, ◌≤◌, ◌<◌, ◌+◌, ◌-◌, ◌/◌, ◌||◌, not, nat_lt, nat_le, ℕ, Bool, true, false, cond, List}
 use Rattle.std.proofs.Common.{[], ◌∷◌, ◌++◌, map, length, find, drop, slice_index, slice_index_or, Option, Some, None}
-use Rattle.std.proofs.Common.{is_some, inl, inr, refl, sym, ap, subst, ◌∙◌, arith, length-append}
-use Rattle.std.proofs.lemmas.Bool.{eqb-true, ltb-false, leb-false}
+use Rattle.std.proofs.Common.{◌&&◌, is_none, position, is_some, inl, inr, refl, sym, ap, subst, ◌∙◌, arith}
+use Rattle.std.proofs.Common.{length-append}
+use Rattle.std.proofs.lemmas.Bool.{and_parts, eqb-true, ltb-false, leb-false, leb-true}
 use Rattle.std.proofs.lemmas.Bool.Decides.{nat_tests}
 use Rattle.std.proofs.lemmas.Bool.{cases_lt}
 use Rattle.std.proofs.lemmas.List.{get_or_append_left, get_or-append-add, drop_more, length-map, map-append}
@@ -12,7 +13,8 @@ use Rattle.std.specs.Option.{option_map_or}
 use Rattle.tk_base.specs.Limits.{IsRamSize}
 use Rattle.tk_base.specs.declared.limits.TheConstants.{BUTTON_LIMIT, BYTE_TICKS_LIMIT, EVENT_LIMIT, FAULT_LIMIT}
 use Rattle.tk_base.specs.declared.limits.TheConstants.{INPUT_LIMIT}
-use Rattle.tk_base.specs.declared.limits.TheConstants.{LED_LIMIT, RAM_LEAST, RAM_LIMIT, RAM_UNIT, SLICE_LIMIT}
+use Rattle.tk_base.specs.declared.limits.TheConstants.{LED_LIMIT, NAME_LIMIT, RAM_LEAST, RAM_LIMIT, RAM_UNIT}
+use Rattle.tk_base.specs.declared.limits.TheConstants.{SLICE_LIMIT}
 use Rattle.tk_base.specs.declared.limits.TheConstants.{STORAGE_LIMIT, WORD_LIMIT}
 use Rattle.fault_policy.specs.declared.Policy.{Policy}
 use Rattle.fault_policy.specs.declared.Policy.TheVariants as policies
@@ -21,14 +23,14 @@ use Rattle.script_text.specs.declared.line.Context.{Context}
 use Rattle.script_text.specs.declared.table.Line.{Line}
 use Rattle.script_text.specs.declared.table.Line.TheVariants.{Ram, Leds, Buttons, Slice, Start, Uart, Storage}
 use Rattle.script_text.specs.declared.table.Line.TheVariants.{Stop, Restart, Threshold, FilterOpen, FilterStrict}
-use Rattle.script_text.specs.declared.table.Line.TheVariants.{StorageFault, Random, Input, Press, Release}
+use Rattle.script_text.specs.declared.table.Line.TheVariants.{StorageFault, Random, Input, Press, Release, Act}
 use Rattle.script_text.specs.Alone.{IsLine}
 use Rattle.script_text.specs.Progress.{with_line, stood_in}
 use Rattle.script_text.specs.Rules.{context_of, disorders, exceeds, is_hex}
 use Rattle.script_text.specs.Said.{settings, lines_of, last, hex_word, hex_bytes, event_by}
 use Rattle.script_text.specs.Settings as kinds
 use Rattle.script_text.specs.Settings.{EventKind, ScriptSettings, ScriptEvent, AreSound, AreFaults, AreEvents}
-use Rattle.script_text.specs.Settings.{IsKind, EachIsKind, NeverFalls}
+use Rattle.script_text.specs.Settings.{IsKind, EachIsKind, NeverFalls, is_name, is_visible}
 use Rattle.script_text.specs.Table.{row, in_range}
 use Rattle.script_text.specs.Text.{words, word, is_blank, is_empty}
 use Rattle.script_text.proofs.HexDigits.{length-hex_bytes}
@@ -129,13 +131,27 @@ pub below : (context : Context) (ws : List (List ℕ)) (line : Line) → IsLine 
 below context ws line h e =
     one_of context.buttons (number (word ws 3))
     (ap (λ b. option_map_or (λ place. nat_le context.buttons (number (word ws place))) b false) (sym e)
-    ∙ (neither _ _ h.within).1)
+    ∙ (neither _ _ (neither _ _ h.within).1).1)
+
+-- the name of a line is one, and not too long
+pub named_at : (context : Context) (ws : List (List ℕ)) (line : Line) → IsLine context ws line
+    → (row line).form.name ≡ Some 4 → is_name (word ws 4) ≡ true
+named_at context ws line h e =
+    permitted _ (ap (λ b. option_map_or (λ place. not (is_name (word ws place))) b false) (sym e)
+    ∙ (neither _ _ h.within).0)
+
+pub short : (w : List ℕ) → is_name w ≡ true → length w ≤ NAME_LIMIT
+short w h =
+    let parts = and_parts (nat_le 1 (length w))
+    (nat_le (length w) NAME_LIMIT && is_none (position (λ byte. not (is_visible byte)) w)) h in
+    leb-true (length w) NAME_LIMIT (and_parts (nat_le (length w) NAME_LIMIT) _ parts.1).0
 
 -- a board with more buttons has those that one with fewer has
 kind_on_more : (few many : ℕ) → few ≤ many → (kind : EventKind) → IsKind few kind → IsKind many kind
 kind_on_more few many h (kinds.Input bytes) k = k
 kind_on_more few many h (kinds.Press button) k = omega (arith, h, k)
 kind_on_more few many h (kinds.Release button) k = omega (arith, h, k)
+kind_on_more few many h (kinds.Act verb name) k = k
 
 pub kinds_on_more : (few many : ℕ) (es : List ScriptEvent) → few ≤ many → EachIsKind few es → EachIsKind many es
 kinds_on_more few many es h each = λ i d l. kind_on_more few many h (slice_index_or es i d).kind (each i d l)
@@ -351,6 +367,8 @@ sound_with Press text s h d x a =
 sound_with Release text s h d x a =
     let ws = words text in
     with_event s (event_by Release ws) (one_of s.buttons (number (word ws 3)) (neither _ _ h.within).1) x d a
+sound_with Act text s h d x a =
+    let ws = words text in with_event s (event_by Act ws) (permitted _ (neither _ _ h.within).0) x d a
 
 -- the settings of no lines
 pub said_at_first : (ram leds buttons slice start uart storage : ℕ) (ks ws : List ℕ) (es : List ScriptEvent)

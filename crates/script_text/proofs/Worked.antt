@@ -6,7 +6,9 @@ use Rattle.fault_policy.specs.declared.Policy.TheVariants.{Stop, Restart, Thresh
 use Rattle.script_text.specs.declared.rule.ScriptRule.{ScriptRule}
 use Rattle.script_text.specs.declared.rule.ScriptRule.TheVariants.{UnknownWord, Words, BadNumber, BadHex, OutOfRange}
 use Rattle.script_text.specs.declared.rule.ScriptRule.TheVariants.{Repeated, Order, TooMany}
-use Rattle.script_text.specs.Settings.{ScriptSettings, Input, Press, Release}
+use Rattle.tk_base.specs.declared.process.Verb.TheVariants as verbs
+use Rattle.tk_base.specs.Verbs.{verb_of}
+use Rattle.script_text.specs.Settings.{Act, ScriptSettings, Input, Press, Release}
 use Rattle.script_text.specs.Reading.{Fault, reading, faults}
 use Rattle.script_text.specs.Text.{lines, words}
 use Rattle.script_text.specs.Rules.{in_order, broken, name_of_rule}
@@ -102,6 +104,28 @@ buttons =
     )
     ∷ []
 
+-- an operator's acts
+acts : List (List ℕ × ScriptSettings)
+acts = (
+  codes "at 2 do stop blink\nat 10 do start blink",
+  record nothing {
+    events =
+        record { time = 2; kind = Act verbs.Stop (codes "blink") }
+        ∷ record { time = 10; kind = Act verbs.Start (codes "blink") } ∷ [];
+  },
+)
+    ∷ (
+      codes "leds 1\nat 0 do restart -\nat 7 input 41\nat 7 do list !~\nat 7 do terminate do",
+      record nothing {
+        leds = 1;
+        events =
+            record { time = 0; kind = Act verbs.Restart (codes "-") } ∷ record { time = 7; kind = Input (0x41 ∷ []) }
+            ∷ record { time = 7; kind = Act verbs.List (codes "!~") }
+            ∷ record { time = 7; kind = Act verbs.Terminate (codes "do") } ∷ [];
+      },
+    )
+    ∷ []
+
 -- scripts that are refused for a rule, each with the line that breaks it
 refused_for : ScriptRule → List (ℕ × List ℕ)
 refused_for UnknownWord =
@@ -109,16 +133,19 @@ refused_for UnknownWord =
     ∷ (4, codes "\n# x\r\nram 4096\r\nrams 1 2") ∷ (2, codes "ram 4096\n\u{b}\nx") ∷ (1, codes "policy go on now")
     ∷ (2, codes "leds 4\nat 5 output 00") ∷ (1, codes "filter closed") ∷ (1, codes "filter Open")
     ∷ (1, codes "filter shut now")
-    ∷ (1, codes "at 5 hold 0") ∷ (1, codes "button 1") ∷ []
+    ∷ (1, codes "at 5 hold 0") ∷ (1, codes "button 1") ∷ (1, codes "at 5 do kill blink")
+    ∷ (1, codes "at 5 do kill") ∷ []
 refused_for Words =
     (1, codes "ram") ∷ (1, codes "ram 4096 # x") ∷ (2, codes "ram 4096\nram\r\n") ∷ (1, codes "policy")
     ∷ (1, codes "policy threshold") ∷ (1, codes "policy stop 1") ∷ (1, codes "storage-fault 1 2")
     ∷ (1, codes "random") ∷ (1, codes "at 5 input") ∷ (1, codes "filter") ∷ (1, codes "filter strict # x")
-    ∷ (1, codes "at 5 press") ∷ (1, codes "buttons 1 2") ∷ (2, codes "buttons 1\nat 5 release 0 0") ∷ []
+    ∷ (1, codes "at 5 press") ∷ (1, codes "buttons 1 2") ∷ (2, codes "buttons 1\nat 5 release 0 0")
+    ∷ (1, codes "at 5 do") ∷ (1, codes "at 5 do stop") ∷ (1, codes "at 5 do stop one two") ∷ []
 refused_for BadNumber =
     (1, codes "ram +4096") ∷ (1, codes "ram 00000004096") ∷ (1, codes "ram 4096\r\r\n") ∷ (2, codes "ram 4096\nram x")
     ∷ (1, codes "policy threshold -1") ∷ (1, codes "at 12345678901 input 41")
-    ∷ (1, codes "at 5 press x") ∷ (2, codes "buttons 1\nat x release 1") ∷ []
+    ∷ (1, codes "at 5 press x") ∷ (2, codes "buttons 1\nat x release 1")
+    ∷ (1, codes "at x do stop blink") ∷ []
 refused_for BadHex =
     (1, codes "at 5 input 0g") ∷ (1, codes "at 5 input aBc") ∷ (1, codes "random 11223344 1234567") ∷ []
 refused_for OutOfRange =
@@ -127,7 +154,8 @@ refused_for OutOfRange =
     ∷ (1, codes "policy threshold 4294967296") ∷ (1, codes "start 4294967296") ∷ (1, codes "uart 1001")
     ∷ (1, codes "storage 4097") ∷ (1, codes "storage-fault 0") ∷ (1, codes "at 4294967296 input 41")
     ∷ (1, codes "buttons 17") ∷ (2, codes "buttons 2\nat 5 press 2") ∷ (1, codes "at 5 press 0")
-    ∷ (1, codes "at 5 press 0\nbuttons 1") ∷ (2, codes "buttons 1\nat 4294967296 release 0") ∷ []
+    ∷ (1, codes "at 5 press 0\nbuttons 1") ∷ (2, codes "buttons 1\nat 4294967296 release 0")
+    ∷ (1, codes "at 5 do stop " ++ replicate 33 97) ∷ (1, codes "at 5 do stop \u{7f}") ∷ []
 refused_for Repeated =
     (2, codes "ram 8192\nram 8192") ∷ (3, codes "ram 65536\r\n#\r\nram 4096\r\nx")
     ∷ (2, codes "policy stop\npolicy restart") ∷ (3, codes "slice 1\nleds 4\nslice 1")
@@ -137,7 +165,7 @@ refused_for Order =
     (2, codes "storage-fault 2\nstorage-fault 2") ∷ (2, codes "at 5 input 41\nat 4 input 41")
     ∷ (2, codes "at 5 input 41\nrandom 11223344") ∷ (2, codes "at 5 input 41\nfilter strict")
     ∷ (3, codes "buttons 1\nat 5 press 0\nat 4 release 0") ∷ (2, codes "at 5 input 41\nbuttons 1")
-    ∷ (3, codes "buttons 1\nat 5 release 0\nleds 1") ∷ []
+    ∷ (3, codes "buttons 1\nat 5 release 0\nleds 1") ∷ (2, codes "at 5 do stop x\nleds 1") ∷ []
 refused_for TooMany =
     (1, codes "at 5 input " ++ replicate 130 48) ∷ []
 
@@ -154,19 +182,23 @@ unfolding AreRead numbers nothing reading faults lines words broken lines_of lin
 numbers_are_read = refl
 
 lists_are_read : AreRead lists
-unfolding AreRead lists nothing reading faults lines words broken lines_of line_of hex_bytes decode_pairs
+unfolding AreRead lists nothing reading faults lines words broken lines_of line_of hex_bytes decode_pairs verb_of
 lists_are_read = refl
 
 buttons_are_read : AreRead buttons
-unfolding AreRead buttons nothing reading faults lines words broken lines_of line_of hex_bytes decode_pairs
+unfolding AreRead buttons nothing reading faults lines words broken lines_of line_of hex_bytes decode_pairs verb_of
 buttons_are_read = refl
+
+acts_are_read : AreRead acts
+unfolding AreRead acts nothing reading faults lines words broken lines_of line_of hex_bytes decode_pairs verb_of
+acts_are_read = refl
 
 refusal : ScriptRule → ℕ × List ℕ → Result ScriptSettings Fault
 refusal rule case = Err (record { line = case.0; rule = rule })
 
 each_is_refused : (rule : ScriptRule)
     → map (λ case. reading case.1) (refused_for rule) ≡ map (refusal rule) (refused_for rule)
-unfolding refusal refused_for reading faults lines words broken lines_of line_of hex_bytes
+unfolding refusal refused_for reading faults lines words broken lines_of line_of hex_bytes verb_of
 each_is_refused UnknownWord = refl
 each_is_refused Words = refl
 each_is_refused BadNumber = refl

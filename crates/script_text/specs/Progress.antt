@@ -6,7 +6,7 @@ use Rattle.script_text.specs.declared.draft.Trouble.TheVariants.{Breaks, Memory}
 use Rattle.script_text.specs.declared.table.Line.{Line}
 use Rattle.script_text.specs.declared.table.Line.TheVariants.{Ram, Leds, Buttons, Slice, Start, Uart, Storage, Stop}
 use Rattle.script_text.specs.declared.table.Line.TheVariants.{FilterOpen, FilterStrict, StorageFault, Random, Input}
-use Rattle.script_text.specs.declared.table.Line.TheVariants.{Press, Release}
+use Rattle.script_text.specs.declared.table.Line.TheVariants.{Press, Release, Act}
 use Rattle.decimal_number.specs.Number.{number}
 use Rattle.script_text.specs.Settings.{ScriptSettings, AreSound}
 use Rattle.script_text.specs.Text.{word}
@@ -65,6 +65,7 @@ with_line Random ws said = record said { words = said.words ++ map hex_word (dro
 with_line Input ws said = record said { events = said.events ++ event_by Input ws ∷ [] }
 with_line Press ws said = record said { events = said.events ++ event_by Press ws ∷ [] }
 with_line Release ws said = record said { events = said.events ++ event_by Release ws ∷ [] }
+with_line Act ws said = record said { events = said.events ++ event_by Act ws ∷ [] }
 with_line line ws said = record said { policy = policy_by line ws }
 
 -- a line was added, or the first rule that it breaks was found

@@ -11,9 +11,9 @@ use Rattle.script_text.specs.declared.rule.ScriptRule.TheVariants.{UnknownWord, 
 use Rattle.script_text.specs.declared.rule.ScriptRule.TheVariants.{Repeated, Order, TooMany}
 use Rattle.script_text.specs.declared.table.Form.{Form}
 use Rattle.script_text.specs.declared.table.Line.{Line}
-use Rattle.script_text.specs.declared.table.Line.TheVariants.{StorageFault, Random, Input, Press, Release}
+use Rattle.script_text.specs.declared.table.Line.TheVariants.{StorageFault, Random, Input, Press, Release, Act}
 use Rattle.decimal_number.specs.Number.{is_number, number}
-use Rattle.script_text.specs.Settings.{ScriptSettings}
+use Rattle.script_text.specs.Settings.{ScriptSettings, is_name}
 use Rattle.script_text.specs.Table.{row, in_range, line_of}
 use Rattle.script_text.specs.Text.{words, word}
 use Rattle.script_text.specs.Said.{settings, stands, last}
@@ -50,11 +50,12 @@ has_bad_hex form ws =
 abbrev pub context_of : ScriptSettings → Context
 context_of said = record { buttons = said.buttons }
 
--- a number is outside its range, or there is no such button
+-- a name is none, a number is outside its range, or there is no such button
 abbrev pub is_outside : Context → Form → List (List ℕ) → Bool
 is_outside context form ws =
-    option_map_or (λ n. not (in_range n.range (number (word ws n.place)))) form.number false
-    || option_map_or (λ place. nat_le context.buttons (number (word ws place))) form.button false
+    option_map_or (λ place. not (is_name (word ws place))) form.name false
+    || (option_map_or (λ n. not (in_range n.range (number (word ws n.place)))) form.number false
+    || option_map_or (λ place. nat_le context.buttons (number (word ws place))) form.button false)
 
 -- a line may not repeat
 abbrev pub is_single : Line → Bool
@@ -63,6 +64,7 @@ is_single Random = false
 is_single Input = false
 is_single Press = false
 is_single Release = false
+is_single Act = false
 is_single line = true
 
 -- a time lies before that of the last event
@@ -74,6 +76,7 @@ abbrev pub disorders : Line → ScriptSettings → List (List ℕ) → Bool
 disorders Input said ws = is_late said ws
 disorders Press said ws = is_late said ws
 disorders Release said ws = is_late said ws
+disorders Act said ws = is_late said ws
 disorders StorageFault said ws = nat_lt 0 (length said.events) || nat_le (number (word ws 1)) (last said.faults)
 disorders line said ws = nat_lt 0 (length said.events)
 
@@ -84,6 +87,7 @@ exceeds Random said ws = nat_lt WORD_LIMIT (length said.words + length (drop 1 w
 exceeds Input said ws = nat_le EVENT_LIMIT (length said.events) || nat_lt INPUT_LIMIT (length (word ws 3) / 2)
 exceeds Press said ws = nat_le EVENT_LIMIT (length said.events)
 exceeds Release said ws = nat_le EVENT_LIMIT (length said.events)
+exceeds Act said ws = nat_le EVENT_LIMIT (length said.events)
 exceeds line said ws = false
 
 -- a line of the table breaks a rule with its words, where these lines stand before it

@@ -1,6 +1,6 @@
 -- What lines say that have no fault. It is this board's own rule.
 use Rattle.std.specs.Prelude.{ℕ, ◌-◌, Bool, true, false, nat_lt, List, [], map, filter, flat_map, length, drop}
-use Rattle.std.specs.Prelude.{slice_index, slice_index_or, Option, Some}
+use Rattle.std.specs.Prelude.{slice_index, slice_index_or, Option, Some, unwrap_or}
 use Rattle.std.specs.Int.{w32, from_be_bytes}
 use Rattle.std.specs.Option.{option_map_or}
 use Rattle.std.specs.Result.{result_unwrap_or}
@@ -9,10 +9,13 @@ use Rattle.hex.specs.Hex.{decode_of}
 use Rattle.decimal_number.specs.Number.{number}
 use Rattle.fault_policy.specs.declared.Policy.{Policy}
 use Rattle.fault_policy.specs.declared.Policy.TheVariants as policies
+use Rattle.tk_base.specs.declared.process.Verb.{Verb}
+use Rattle.tk_base.specs.declared.process.Verb.TheVariants as verbs
+use Rattle.tk_base.specs.Verbs.{verb_of}
 use Rattle.script_text.specs.declared.table.Line.{Line}
 use Rattle.script_text.specs.declared.table.Line.TheVariants.{Ram, Leds, Buttons, Slice, Start, Uart, Storage}
 use Rattle.script_text.specs.declared.table.Line.TheVariants.{Stop, Restart, Threshold, FilterOpen, FilterStrict}
-use Rattle.script_text.specs.declared.table.Line.TheVariants.{StorageFault, Random, Input, Press, Release}
+use Rattle.script_text.specs.declared.table.Line.TheVariants.{StorageFault, Random, Input, Press, Release, Act}
 use Rattle.script_text.specs.Settings as kinds
 use Rattle.script_text.specs.Settings.{ScriptSettings, ScriptEvent, EventKind}
 use Rattle.script_text.specs.Table.{row, line_of}
@@ -65,10 +68,15 @@ hex_word w = from_be_bytes w32 (hex_bytes w)
 abbrev pub words_on : List ℕ → List ℕ
 words_on text = map hex_word (drop 1 (words text))
 
--- what comes by a line of an event: the bytes that its hex digits write, or what becomes of a button
+-- the verb of a line of an act, which has one
+abbrev pub verb_on : List (List ℕ) → Verb
+verb_on ws = unwrap_or (verb_of (word ws 3)) verbs.List
+
+-- what comes by a line of an event: the bytes that its hex digits write, or what becomes of a button, or of a process
 abbrev pub kind_by : Line → List (List ℕ) → EventKind
 kind_by Press ws = kinds.Press (number (word ws 3))
 kind_by Release ws = kinds.Release (number (word ws 3))
+kind_by Act ws = kinds.Act (verb_on ws) (word ws 4)
 kind_by line ws = kinds.Input (hex_bytes (word ws 3))
 
 -- the event of a line, at its time

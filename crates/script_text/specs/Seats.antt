@@ -5,7 +5,7 @@ use Rattle.script_text.specs.declared.table.Form.{Form}
 use Rattle.script_text.specs.declared.table.Line.{Line}
 use Rattle.script_text.specs.declared.table.Line.TheVariants.{Ram, Leds, Buttons, Slice, Start, Uart, Storage}
 use Rattle.script_text.specs.declared.table.Line.TheVariants.{Stop, Restart, Threshold, FilterOpen, FilterStrict}
-use Rattle.script_text.specs.declared.table.Line.TheVariants.{StorageFault, Random, Input, Press, Release}
+use Rattle.script_text.specs.declared.table.Line.TheVariants.{StorageFault, Random, Input, Press, Release, Act}
 use Rattle.script_text.specs.Table.{row}
 
 -- the place of a line among those that may not repeat
@@ -27,6 +27,7 @@ seat Random = None
 seat Input = None
 seat Press = None
 seat Release = None
+seat Act = None
 
 abbrev pub stood_at : Line → List Bool → Bool
 stood_at line stood = option_map_or (λ n. slice_index_or stood n false) (seat line) false

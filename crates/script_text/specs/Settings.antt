@@ -1,16 +1,21 @@
 -- What a script says. It is this board's own.
-use Rattle.std.specs.Prelude.{ℕ, ◌+◌, ◌<◌, ◌≤◌, Bool, List, length, map, slice_index}
+use Rattle.std.specs.Prelude.{◌≡◌, ℕ, ◌+◌, ◌<◌, ◌≤◌, ◌&&◌, nat_le, not, Bool, true, List, length, map, position}
+use Rattle.std.specs.Prelude.{slice_index, is_none}
 use Rattle.std.specs.List.{All}
 use Rattle.tk_base.specs.declared.limits.TheConstants.{BUTTON_LIMIT, BYTE_TICKS_LIMIT, EVENT_LIMIT, FAULT_LIMIT}
-use Rattle.tk_base.specs.declared.limits.TheConstants.{INPUT_LIMIT, LED_LIMIT, SLICE_LIMIT, STORAGE_LIMIT, WORD_LIMIT}
+use Rattle.tk_base.specs.declared.limits.TheConstants.{INPUT_LIMIT, LED_LIMIT, NAME_LIMIT, SLICE_LIMIT}
+use Rattle.tk_base.specs.declared.limits.TheConstants.{STORAGE_LIMIT, WORD_LIMIT}
+use Rattle.tk_base.specs.declared.process.Verb.{Verb}
 use Rattle.fault_policy.specs.declared.Policy.{Policy}
 use Rattle.tk_base.specs.Limits.{IsRamSize}
 
--- what comes at a time: bytes that the serial line gets; a button that is pressed, or released
+-- what comes at a time: bytes that the serial line gets; a button that is pressed, or released; an operator's act on
+-- the process of a name
 pub data EventKind : Type 0 where
   Input : (bytes : List ℕ) → EventKind
   Press : (button : ℕ) → EventKind
   Release : (button : ℕ) → EventKind
+  Act : (verb : Verb) (name : List ℕ) → EventKind
 
 -- what comes, and when
 pub record ScriptEvent : Type 0 where
@@ -56,11 +61,22 @@ pub record AreFaults (faults : List ℕ) : Type 0 where
   pub least : All (λ k. 1 ≤ k) faults
   pub rising : Rises faults
 
--- on a board with so many buttons: 1 byte at least comes in, and not too many; a button is one of those
+-- a visible character of ASCII
+abbrev pub is_visible : ℕ → Bool
+is_visible byte = nat_le 0x21 byte && nat_le byte 0x7e
+
+-- the name of a process as an operator writes it
+abbrev pub is_name : List ℕ → Bool
+is_name name =
+    nat_le 1 (length name) && (nat_le (length name) NAME_LIMIT
+    && is_none (position (λ byte. not (is_visible byte)) name))
+
+-- on a board with so many buttons: 1 byte at least comes in, and not too many; a button is one of those; a name is one
 abbrev pub IsKind : ℕ → EventKind → Type 0
 IsKind buttons (Input bytes) = (1 ≤ length bytes) × (length bytes ≤ INPUT_LIMIT)
 IsKind buttons (Press button) = button < buttons
 IsKind buttons (Release button) = button < buttons
+IsKind buttons (Act verb name) = is_name name ≡ true
 
 -- what comes at the time of each event is of a kind that a board with so many buttons has
 abbrev pub EachIsKind : ℕ → List ScriptEvent → Type 0

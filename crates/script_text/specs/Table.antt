@@ -1,18 +1,19 @@
 -- The table of lines: the words of each, which numbers may stand in it, and the number that holds where no line gives
 -- it. Places count from 0. It is this board's own.
 use Rattle.std.specs.Prelude.{ℕ, ◌%◌, ◌==◌, Bool, true, false, ◌&&◌, ◌||◌, nat_le, List, [], ◌∷◌, length, find, codes}
-use Rattle.std.specs.Prelude.{Option, Some, None}
+use Rattle.std.specs.Prelude.{Option, Some, None, is_some}
 use Rattle.std.specs.Option.{option_map_or}
 use Rattle.std.specs.Str.{bytes_eq}
 use Rattle.tk_base.specs.declared.limits.TheConstants.{BUTTON_LIMIT, BYTE_TICKS_LIMIT, LED_LIMIT, RAM_LEAST}
 use Rattle.tk_base.specs.declared.limits.TheConstants.{RAM_LIMIT, RAM_UNIT, SLICE_LIMIT, STORAGE_LIMIT}
+use Rattle.tk_base.specs.Verbs.{verb_of}
 use Rattle.script_text.specs.declared.table.Form.{Form}
 use Rattle.script_text.specs.declared.table.HexFrom.{HexFrom}
 use Rattle.script_text.specs.declared.table.Key.{Key as KeyWord}
 use Rattle.script_text.specs.declared.table.Line.{Line}
 use Rattle.script_text.specs.declared.table.Line.TheVariants.{Ram, Leds, Buttons, Slice, Start, Uart, Storage}
 use Rattle.script_text.specs.declared.table.Line.TheVariants.{Stop, Restart, Threshold, FilterOpen, FilterStrict}
-use Rattle.script_text.specs.declared.table.Line.TheVariants.{StorageFault, Random, Input, Press, Release}
+use Rattle.script_text.specs.declared.table.Line.TheVariants.{StorageFault, Random, Input, Press, Release, Act}
 use Rattle.script_text.specs.declared.table.NumberAt.{NumberAt}
 use Rattle.script_text.specs.declared.table.Range.{Range}
 use Rattle.script_text.specs.Text.{word}
@@ -21,17 +22,19 @@ use Rattle.script_text.specs.Text.{word}
 abbrev pub line_table : List Line
 line_table =
     Ram ∷ Leds ∷ Buttons ∷ Slice ∷ Start ∷ Uart ∷ Storage ∷ Stop ∷ Restart ∷ Threshold ∷ FilterOpen ∷ FilterStrict
-    ∷ StorageFault ∷ Random ∷ Input ∷ Press ∷ Release ∷ []
+    ∷ StorageFault ∷ Random ∷ Input ∷ Press ∷ Release ∷ Act ∷ []
 
 -- the word that tells a line from others of its name, and its place
 pub record Key : Type 0 where
   pub place : ℕ
   pub word : List ℕ
 
--- what the table says of a line: its name, the word that tells it from others of that name, its form, its default
+-- what the table says of a line: its name, the word that tells it from others of that name, the place of a verb, its
+-- form, its default
 pub record Row : Type 0 where
   pub name : List ℕ
   pub key : Option Key
+  pub verb : Option ℕ
   pub form : Form
   pub default : ℕ
 
@@ -44,11 +47,13 @@ abbrev pub numbered : List ℕ → Range → ℕ → Row
 numbered name range default = record {
   name = name;
   key = None;
+  verb = None;
   form = record {
     words = 2;
     more = false;
     number = Some (record { place = 1; range = range });
     button = None;
+    name = None;
     hex = None;
   };
   default = default;
@@ -59,7 +64,8 @@ abbrev pub chosen : List ℕ → List ℕ → ℕ → Option NumberAt → Row
 chosen name word words number = record {
   name = name;
   key = Some (record { place = 1; word = word });
-  form = record { words = words; more = false; number = number; button = None; hex = None };
+  verb = None;
+  form = record { words = words; more = false; number = number; button = None; name = None; hex = None };
   default = 0;
 }
 
@@ -68,11 +74,13 @@ abbrev pub timed : List ℕ → Option ℕ → Option HexFrom → Row
 timed word button hex = record {
   name = codes "at";
   key = Some (record { place = 2; word = word });
+  verb = None;
   form = record {
     words = 4;
     more = false;
     number = Some (record { place = 1; range = from_to 0 4294967295 });
     button = button;
+    name = None;
     hex = hex;
   };
   default = 0;
@@ -97,11 +105,13 @@ row StorageFault = numbered (codes "storage-fault") (from_to 1 4294967295) 0
 row Random = record {
   name = codes "random";
   key = None;
+  verb = None;
   form = record {
     words = 2;
     more = true;
     number = None;
     button = None;
+    name = None;
     hex = Some (record { place = 1; digits = Some 8 });
   };
   default = 0;
@@ -109,6 +119,20 @@ row Random = record {
 row Input = timed (codes "input") None (Some (record { place = 3; digits = None }))
 row Press = timed (codes "press") (Some 3) None
 row Release = timed (codes "release") (Some 3) None
+row Act = record {
+  name = codes "at";
+  key = Some (record { place = 2; word = codes "do" });
+  verb = Some 3;
+  form = record {
+    words = 5;
+    more = false;
+    number = Some (record { place = 1; range = from_to 0 4294967295 });
+    button = None;
+    name = Some 4;
+    hex = None;
+  };
+  default = 0;
+}
 
 -- a number may stand in a line
 abbrev pub in_range : Range → ℕ → Bool
@@ -122,9 +146,19 @@ key_of k = record { place = k.place; word = k.word.now }
 abbrev pub is_key : List (List ℕ) → Key → Bool
 is_key ws key = nat_le (length ws) key.place || bytes_eq (word ws key.place) key.word
 
--- a line's words are those of a row, as far as its name and its key go
+-- the word in the place of a verb is one, or none stands there
+abbrev pub is_verb_at : List (List ℕ) → ℕ → Bool
+is_verb_at ws place = nat_le (length ws) place || is_some (verb_of (word ws place))
+
+-- so it is where there is such a place
+abbrev pub has_verb : List (List ℕ) → Option ℕ → Bool
+has_verb ws place = option_map_or (is_verb_at ws) place true
+
+-- a line's words are those of a row, as far as its verb, its name and its key go
 abbrev pub line_fits : List (List ℕ) → Line → Bool
-line_fits ws line = bytes_eq (word ws 0) (row line).name && option_map_or (is_key ws) (row line).key true
+line_fits ws line =
+    has_verb ws (row line).verb
+    && (bytes_eq (word ws 0) (row line).name && option_map_or (is_key ws) (row line).key true)
 
 -- the line of the table that words are: the first one that fits
 unfoldable pub line_of : List (List ℕ) → Option Line

@@ -1,9 +1,9 @@
 //! What the lines so far say.
 ghost use Rattle.std.specs.Prelude.{◌≡◌, ◌<◌, ◌≤◌, ◌++◌, ◌∷◌, ◌*◌, ◌/◌, true, false, nat_lt, length, map, drop, [], Some, None, IfOk};
-ghost use Rattle.tk_base.specs.declared.limits.TheConstants.{INPUT_LIMIT};
+ghost use Rattle.tk_base.specs.declared.limits.TheConstants.{INPUT_LIMIT, NAME_LIMIT};
 ghost use Rattle.decimal_number.specs.Number.{is_number, number};
 ghost use Rattle.script_text.specs.Kinds.{kind_of};
-ghost use Rattle.script_text.specs.Said.{hex_bytes, hex_word};
+ghost use Rattle.script_text.specs.Said.{hex_bytes, hex_word, verb_on};
 ghost use Rattle.script_text.specs.Rules.{is_hex, has_bad_hex};
 ghost use Rattle.script_text.specs.Seats.{seat, random_form};
 ghost use Rattle.script_text.specs.Text.{words, word};
@@ -18,7 +18,7 @@ use fault_policy::Policy;
 use hex::FromHex;
 use std::alloc::{AllocError, Global};
 use std::marker::Model;
-use tk_base::{EVENT_LIMIT, FAULT_LIMIT, INPUT_LIMIT, WORD_LIMIT, WordList};
+use tk_base::{EVENT_LIMIT, FAULT_LIMIT, INPUT_LIMIT, NAME_LIMIT, Verb, WORD_LIMIT, WordList};
 
 /// Why a line is not added.
 #[derive(Clone, Copy, Debug, PartialEq, Eq)]
@@ -72,7 +72,12 @@ impl Line {
             Line::Storage => Some(6),
             Line::Stop | Line::Restart | Line::Threshold => Some(7),
             Line::FilterOpen | Line::FilterStrict => Some(8),
-            Line::StorageFault | Line::Random | Line::Input | Line::Press | Line::Release => None,
+            Line::StorageFault
+            | Line::Random
+            | Line::Input
+            | Line::Press
+            | Line::Release
+            | Line::Act => None,
         }
     }
 }
@@ -170,6 +175,28 @@ fn button_at(text: &[u8], count: u32) -> u32
     written_at(text, 3) as u32
 }
 
+/// The verb of a line of an act.
+fn verb_at(text: &[u8]) -> Verb
+    ensures { result ≡ verb_on (words text.now) }
+{
+    match Verb::of(word_at(text, 3)) {
+        Some(verb) => verb,
+        None => Verb::List,
+    }
+}
+
+/// The name in a line of an act, which is not too long.
+fn name_at(text: &[u8]) -> ArrayVec<u8, NAME_LIMIT>
+    requires { length (word (words text.now) 4) ≤ NAME_LIMIT }
+    ensures { result.items ≡ word (words text.now) 4 }
+{
+    let mut name = ArrayVec::new();
+    let Ok(()) = name.try_extend_from_slice(word_at(text, 4)) else {
+        unreachable!()
+    };
+    name
+}
+
 impl Draft {
     ghost use Rattle.std.specs.Prelude.{◌≡◌, ◌≤◌, true, false, ℕ, List, [], IfOk};
     ghost use Rattle.script_text.specs.Alone.{IsLine};
@@ -225,7 +252,7 @@ impl Draft {
         ensures { result ≡ disorders line self.now.said (words text.now) }
     {
         match line {
-            Line::Input | Line::Press | Line::Release => match self.events.last() {
+            Line::Input | Line::Press | Line::Release | Line::Act => match self.events.last() {
                 Some(event) => is_before(written_at(text, 1), event),
                 None => false,
             },
@@ -249,7 +276,7 @@ impl Draft {
             Line::StorageFault => self.faults.is_full(),
             Line::Random => self.words.len() + word_count(text) > WORD_LIMIT + 1,
             Line::Input => self.events.len() >= EVENT_LIMIT || is_long(word_at(text, 3)),
-            Line::Press | Line::Release => self.events.len() >= EVENT_LIMIT,
+            Line::Press | Line::Release | Line::Act => self.events.len() >= EVENT_LIMIT,
             _ => false,
         }
     }
@@ -297,6 +324,10 @@ impl Draft {
             }
             Line::Release => {
                 let kind = EventKind::Release(button_at(text, self.buttons));
+                add_event(&mut self.events, text, kind)?
+            }
+            Line::Act => {
+                let kind = EventKind::Act(verb_at(text), name_at(text));
                 add_event(&mut self.events, text, kind)?
             }
         }

@@ -1,9 +1,11 @@
 //! One line of a script, looked at alone.
-ghost use Rattle.std.specs.Prelude.{◌≡◌, ◌<◌, ◌==◌, true, false, not, drop, find, position, is_some, slice_index, IfSome};
+ghost use Rattle.std.specs.Prelude.{◌≡◌, ◌<◌, ◌==◌, true, false, not, drop, find, position};
+ghost use Rattle.std.specs.Prelude.{is_some, slice_index, IfSome};
 ghost use Rattle.hex.specs.Hex.{is_hex_digit};
 ghost use Rattle.decimal_number.specs.Number.{is_number, number};
 ghost use Rattle.script_text.specs.Alone.{Says, broken_alone};
 ghost use Rattle.script_text.specs.Rules.{has_digits, is_hex, miscounts, misspells, has_bad_hex, is_outside};
+ghost use Rattle.script_text.specs.Settings.{is_name, is_visible};
 ghost use Rattle.script_text.specs.Table.{in_range};
 ghost use Rattle.script_text.specs.Text.{words, word};
 
@@ -11,6 +13,7 @@ use crate::rule::ScriptRule;
 use crate::table::{Form, Line, Range, line_in};
 use crate::text::{Words, word_at, word_count, words_from};
 use decimal_number::number_in;
+use tk_base::NAME_LIMIT;
 
 /// What the lines before one say that is needed to look at it.
 #[derive(Clone, Copy)]
@@ -72,6 +75,27 @@ fn has_other_than_hex(line: &[u8], place: usize, digits: Option<usize>) -> bool
     false
 }
 
+/// Whether a byte is a visible character of ASCII.
+fn is_visible_byte(byte: u8) -> bool
+    ensures { result ≡ is_visible byte }
+{
+    (0x21..=0x7e).contains(&byte)
+}
+
+/// The place of the first byte that is no visible character.
+fn other_than_visible_in(word: &[u8]) -> Option<usize>
+    ensures { result ≡ position (λ byte. not (is_visible byte)) word.now }
+{
+    word.iter().position(|byte| !is_visible_byte(*byte))
+}
+
+/// Whether a word is the name of a process as an operator writes it.
+fn is_name(word: &[u8]) -> bool
+    ensures { result ≡ is_name word.now }
+{
+    !word.is_empty() && word.len() <= NAME_LIMIT && other_than_visible_in(word).is_none()
+}
+
 impl Range {
     /// Whether a number lies in it.
     fn permits(self, number: u64) -> bool
@@ -120,13 +144,17 @@ impl Form {
         }
     }
 
-    /// Whether a line's number, which is written as one, is outside its range, or it has the
-    /// number of no button.
+    /// Whether a line's name is none, its number, which is written as one, is outside its range, or
+    /// it has the number of no button.
     fn is_outside(self, context: Context, line: &[u8]) -> bool
         requires spelled { misspells self (words line.now) ≡ false }
         requires some { IfSome self.number (λ n. 0 < n.range.multiple) }
         ensures { result ≡ is_outside context self (words line.now) }
     {
+        let name = match self.name {
+            Some(place) => !is_name(word_at(line, place)),
+            None => false,
+        };
         let number = match self.number {
             Some(number) => !number.range.permits(written_at(line, number.place)),
             None => false,
@@ -135,7 +163,7 @@ impl Form {
             Some(place) => u64::from(context.buttons) <= written_at(line, place),
             None => false,
         };
-        number || button
+        name || number || button
     }
 
     /// The first rule that a line breaks where it is looked at alone in a context.

@@ -38,10 +38,11 @@ fn bad(line: u32, rule: ScriptRule) -> ScriptError
 /// | `random W ..`, at most 4096 words of 8 hex digits | | none |
 /// | `at T input H`, with 1 to 64 bytes in hex | 0 to 4294967295 | none |
 /// | `at T press B`, `at T release B`, B below the number of buttons | 0 to 4294967295 | none |
+/// | `at T do VERB NAME`, VERB one of `list`, `stop`, `start`, `terminate`, `restart` | 0 to 4294967295 | none |
 ///
-/// How many buttons there are, an earlier `buttons` line says. There are at most 4096 `at` lines,
-/// and T never falls from one to the next. They may repeat, and so may `storage-fault` and `random`;
-/// nothing but `at` stands after an `at`.
+/// How many buttons there are, an earlier `buttons` line says. NAME has 1 to 32 bytes, each from
+/// 0x21 to 0x7E. There are at most 4096 `at` lines, and T never falls from one to the next. They
+/// may repeat, and so may `storage-fault` and `random`; nothing but `at` stands after an `at`.
 ///
 /// [`ScriptError::Bad`] names the first line that breaks a rule, and the first rule that it breaks,
 /// in the order of [`ScriptRule`](crate::ScriptRule)'s variants. [`ScriptError::Memory`] comes only

@@ -7,7 +7,8 @@ use thiserror::Error;
 /// A rule that a line of a script may break, in the order in which they count.
 #[derive(Clone, Copy, Debug, PartialEq, Eq)]
 pub enum ScriptRule {
-    /// The first word is not known, or that after `policy` or `filter`, or the third one after `at`.
+    /// The first word is not known, or that after `policy` or `filter`, or the third one after
+    /// `at`, or the verb after `do`.
     UnknownWord,
     /// The number of words is wrong.
     Words,
@@ -15,12 +16,13 @@ pub enum ScriptRule {
     BadNumber,
     /// A word is not written in hex, or has too few or too many digits for what it is.
     BadHex,
-    /// A number is outside its range, or there is no such button.
+    /// A number is outside its range, there is no such button, or a name has more than 32 bytes or
+    /// one that is no visible character of ASCII.
     OutOfRange,
     /// A setting stands twice.
     Repeated,
-    /// A line other than an event stands after an event, a time falls, or the number of a fault does not
-    /// rise.
+    /// A line other than an event stands after an event, a time falls, or the number of a fault
+    /// does not rise.
     Order,
     /// There are too many faults, words, events or bytes of an event.
     TooMany,

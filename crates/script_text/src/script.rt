@@ -4,7 +4,7 @@ ghost use Rattle.std.specs.Prelude.{◌≡◌};
 use arrayvec::ArrayVec;
 use fault_policy::Policy;
 use std::marker::Model;
-use tk_base::{FAULT_LIMIT, INPUT_LIMIT, WordList};
+use tk_base::{FAULT_LIMIT, INPUT_LIMIT, NAME_LIMIT, Verb, WordList};
 
 /// What comes at a time.
 #[derive(Drop)]
@@ -15,6 +15,8 @@ pub enum EventKind {
     Press(u32),
     /// It is released.
     Release(u32),
+    /// An operator acts on the process of a name.
+    Act(Verb, ArrayVec<u8, NAME_LIMIT>),
 }
 
 /// What comes, and when, in ticks. Contracts see the time and the kind, with the bytes as a list.
@@ -34,7 +36,8 @@ impl Model for TimedEvent {
 }
 
 /// Events, the first one first. Contracts see the list. Each is of a kind that some board has:
-/// bytes, as many as may come in at once, or a button below [`tk_base::BUTTON_LIMIT`].
+/// bytes, as many as may come in at once, a button below [`tk_base::BUTTON_LIMIT`], or an act on a
+/// process of a name.
 #[derive(Drop)]
 pub struct EventList {
     events: Vec<TimedEvent>,

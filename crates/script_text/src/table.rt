@@ -1,12 +1,12 @@
 //! The table of lines.
 ghost use Rattle.std.specs.Prelude.{◌≡◌, ◌<◌, false, Some, None, option_map, IfSome};
-ghost use Rattle.script_text.specs.Table.{row, timed, key_of, line_fits, line_of};
+ghost use Rattle.script_text.specs.Table.{row, timed, key_of, has_verb, line_fits, line_of};
 ghost use Rattle.script_text.specs.Text.{words};
 
 use crate::text::{word_at, word_count};
 use tk_base::{
     BUTTON_LIMIT, BYTE_TICKS_LIMIT, LED_LIMIT, RAM_LEAST, RAM_LIMIT, RAM_UNIT, SLICE_LIMIT,
-    STORAGE_LIMIT,
+    STORAGE_LIMIT, Verb,
 };
 
 /// A line of the table.
@@ -46,10 +46,12 @@ pub enum Line {
     Press,
     /// `at T release B`: it is released.
     Release,
+    /// `at T do VERB NAME`: an operator acts on the process of a name.
+    Act,
 }
 
 /// The lines of the table, in its order.
-const TABLE: [Line; 17] = [
+const TABLE: [Line; 18] = [
     Line::Ram,
     Line::Leds,
     Line::Buttons,
@@ -67,6 +69,7 @@ const TABLE: [Line; 17] = [
     Line::Input,
     Line::Press,
     Line::Release,
+    Line::Act,
 ];
 
 /// Which numbers may stand in a line.
@@ -108,6 +111,8 @@ pub struct Form {
     pub number: Option<NumberAt>,
     /// The place of the number of a button, which has to be there.
     pub button: Option<usize>,
+    /// The place of a process's name.
+    pub name: Option<usize>,
     pub hex: Option<HexFrom>,
 }
 
@@ -117,6 +122,8 @@ pub struct Row {
     /// The first word.
     pub name: &'static [u8],
     pub key: Option<Key>,
+    /// The place of a verb.
+    pub verb: Option<usize>,
     pub form: Form,
     /// The number that holds where no line gives it.
     pub default: u32,
@@ -140,6 +147,7 @@ const fn name_and_number(range: Range) -> Form
       more = false;
       number = Some (record { place = 1; range = range });
       button = None;
+      name = None;
       hex = None;
     } }
 {
@@ -148,6 +156,7 @@ const fn name_and_number(range: Range) -> Form
         more: false,
         number: Some(NumberAt { place: 1, range }),
         button: None,
+        name: None,
         hex: None,
     }
 }
@@ -156,11 +165,13 @@ const fn name_and_number(range: Range) -> Form
 const fn numbered(name: &'static [u8], range: Range, default: u32) -> Row
     ensures name { result.name.now ≡ name.now }
     ensures key { option_map key_of result.key ≡ None }
+    ensures verb { result.verb ≡ None }
     ensures form { result.form ≡ record {
       words = 2;
       more = false;
       number = Some (record { place = 1; range = range });
       button = None;
+      name = None;
       hex = None;
     } }
     ensures default { result.default ≡ default }
@@ -168,6 +179,7 @@ const fn numbered(name: &'static [u8], range: Range, default: u32) -> Row
     Row {
         name,
         key: None,
+        verb: None,
         form: name_and_number(range),
         default,
     }
@@ -182,18 +194,27 @@ const fn chosen(
 ) -> Row
     ensures name { result.name.now ≡ name.now }
     ensures key { option_map key_of result.key ≡ Some (record { place = 1; word = word.now }) }
-    ensures form { result.form
-        ≡ record { words = words; more = false; number = number; button = None; hex = None } }
+    ensures verb { result.verb ≡ None }
+    ensures form { result.form ≡ record {
+      words = words;
+      more = false;
+      number = number;
+      button = None;
+      name = None;
+      hex = None;
+    } }
     ensures default { result.default ≡ 0 }
 {
     Row {
         name,
         key: Some(Key { place: 1, word }),
+        verb: None,
         form: Form {
             words,
             more: false,
             number,
             button: None,
+            name: None,
             hex: None,
         },
         default: 0,
@@ -205,12 +226,14 @@ const fn chosen(
 const fn timed(word: &'static [u8], button: Option<usize>, hex: Option<HexFrom>) -> Row
     ensures name { result.name.now ≡ (timed word.now button hex).name }
     ensures key { option_map key_of result.key ≡ (timed word.now button hex).key }
+    ensures verb { result.verb ≡ None }
     ensures form { result.form ≡ (timed word.now button hex).form }
     ensures default { result.default ≡ 0 }
 {
     Row {
         name: b"at",
         key: Some(Key { place: 2, word }),
+        verb: None,
         form: Form {
             words: 4,
             more: false,
@@ -219,9 +242,20 @@ const fn timed(word: &'static [u8], button: Option<usize>, hex: Option<HexFrom>)
                 range: from_to(0, 4_294_967_295),
             }),
             button,
+            name: None,
             hex,
         },
         default: 0,
+    }
+}
+
+/// Whether a verb stands in the place of one, where any word does.
+fn has_verb(text: &[u8], place: Option<usize>) -> bool
+    ensures { result ≡ has_verb (words text.now) place }
+{
+    match place {
+        None => true,
+        Some(place) => word_count(text) <= place || Verb::of(word_at(text, place)).is_some(),
     }
 }
 
@@ -230,6 +264,7 @@ impl Line {
     pub fn row(self) -> Row
         ensures name { result.name.now ≡ (row self).name }
         ensures key { option_map key_of result.key ≡ (row self).key }
+        ensures verb { result.verb ≡ (row self).verb }
         ensures form { result.form ≡ (row self).form }
         ensures default { result.default ≡ (row self).default }
         ensures some { IfSome result.form.number (λ n. 0 < n.range.multiple) }
@@ -267,11 +302,13 @@ impl Line {
             Line::Random => Row {
                 name: b"random",
                 key: None,
+                verb: None,
                 form: Form {
                     words: 2,
                     more: true,
                     number: None,
                     button: None,
+                    name: None,
                     hex: Some(HexFrom {
                         place: 1,
                         digits: Some(8),
@@ -289,15 +326,38 @@ impl Line {
             ),
             Line::Press => timed(b"press", Some(3), None),
             Line::Release => timed(b"release", Some(3), None),
+            Line::Act => Row {
+                name: b"at",
+                key: Some(Key {
+                    place: 2,
+                    word: b"do",
+                }),
+                verb: Some(3),
+                form: Form {
+                    words: 5,
+                    more: false,
+                    number: Some(NumberAt {
+                        place: 1,
+                        range: from_to(0, 4_294_967_295),
+                    }),
+                    button: None,
+                    name: Some(4),
+                    hex: None,
+                },
+                default: 0,
+            },
         }
     }
 
     /// Whether the first word of a text is its name, and the word that tells it from others of its name
-    /// stands there too, where any word stands in that place.
+    /// stands there too, where any word stands in that place, and so a verb where it has one.
     fn fits(self, text: &[u8]) -> bool
         ensures { result ≡ line_fits (words text.now) self }
     {
         let row = self.row();
+        if !has_verb(text, row.verb) {
+            return false;
+        }
         if word_at(text, 0) != row.name {
             return false;
         }

@@ -85,3 +85,8 @@ region_in n c = if nat_lt n (length c / 8) then Some (word_at c (8 * n), word_at
 abbrev pub region_count : Option (List ℕ) → ℕ
 region_count None = 0
 region_count (Some c) = length c / 8
+
+-- where an application starts, as its header says, if it can be read and says so
+abbrev pub main_by : Result Meaning HeaderFault → Option Main
+main_by (Ok h) = h.main
+main_by (Err fault) = None

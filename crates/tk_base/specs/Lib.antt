@@ -8,3 +8,4 @@ pub mod Laws
 pub mod Limits
 pub mod Numbers
 pub mod Regs
+pub mod Verbs

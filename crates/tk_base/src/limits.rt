@@ -62,3 +62,6 @@ pub const EVENT_LIMIT: usize = 4_096;
 
 /// How many bytes come in with one event at most.
 pub const INPUT_LIMIT: usize = 64;
+
+/// How many bytes of a process's name are shown, and may stand in an operator's act, at most.
+pub const NAME_LIMIT: usize = 32;

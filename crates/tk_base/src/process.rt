@@ -1,6 +1,7 @@
 //! Names of processes, and what the board may do next.
 ghost use Rattle.std.specs.Prelude.{◌≡◌, ◌<◌};
 ghost use Rattle.tk_base.specs.declared.limits.TheConstants.{SLOT_COUNT};
+ghost use Rattle.tk_base.specs.Verbs.{verb_of, verb_text};
 
 use crate::limits::SLOT_COUNT;
 use std::marker::Model;
@@ -80,7 +81,7 @@ pub enum Choice {
     Pass(u32),
 }
 
-/// What an operator may do to a process, in the words of Tock's process console. No script line asks for one yet.
+/// What an operator may do to a process, in the words of Tock's process console.
 #[derive(Clone, Copy, Debug, PartialEq, Eq)]
 pub enum Verb {
     /// Its state is told.
@@ -93,6 +94,41 @@ pub enum Verb {
     Terminate,
     /// It starts again, also where it has ended.
     Restart,
+}
+
+impl Verb {
+    /// The verb as an operator writes it.
+    pub fn word(self) -> &'static [u8]
+        ensures { result.now ≡ verb_text self }
+    {
+        match self {
+            Verb::List => b"list",
+            Verb::Stop => b"stop",
+            Verb::Start => b"start",
+            Verb::Terminate => b"terminate",
+            Verb::Restart => b"restart",
+        }
+    }
+
+    /// The verb that a word is. None where it is none.
+    #[tactic(auto, unfolding(crate::specs::Verbs::verb_of))]
+    pub fn of(word: &[u8]) -> Option<Verb>
+        ensures { result ≡ verb_of word.now }
+    {
+        if word == Verb::List.word() {
+            Some(Verb::List)
+        } else if word == Verb::Stop.word() {
+            Some(Verb::Stop)
+        } else if word == Verb::Start.word() {
+            Some(Verb::Start)
+        } else if word == Verb::Terminate.word() {
+            Some(Verb::Terminate)
+        } else if word == Verb::Restart.word() {
+            Some(Verb::Restart)
+        } else {
+            None
+        }
+    }
 }
 
 /// What was to be done was not ready, and nothing changed.

@@ -10,7 +10,7 @@ returns-in_err-write_head g c =
     let line = c.args.line.now in
     let e = c.in_err-write_head.ensures in
     law.writes_part _ c.from_residual.ensures.0 (law.part_of_more
-    (state_text line.state line.wait line.denial ++ (turns_text line ++ (dropped_text line.dropped ++ newline))) e)
+    (state_text line.held line.state line.wait line.denial ++ (turns_text line ++ (dropped_text line.dropped ++ newline))) e)
 
 pub returns-in_err-write_state : goal.returns-in_err-write_state
 unfolding slot_text
@@ -41,7 +41,7 @@ returns g c =
     let head = c.in_ok-write_head.ensures in
     let state = c.in_ok-write_state.ensures in
     let turns = c.in_ok-write_turns.ensures in
-    law.all_then_writes _ (state_text line.state line.wait line.denial
+    law.all_then_writes _ (state_text line.held line.state line.wait line.denial
     ++ (turns_text line ++ (dropped_text line.dropped ++ newline))) _ head
     (law.all_then_writes _ (turns_text line ++ (dropped_text line.dropped ++ newline)) _ state
     (law.all_then_writes _ (dropped_text line.dropped ++ newline) _ turns c.write_dropped.ensures))

@@ -1,8 +1,6 @@
-use Rattle.std.proofs.Common.{◌≡◌, List, ℕ, ap, sym, subst, ◌∙◌}
-use Rattle.process_layout.specs.LayoutView.{LayoutView, first_break}
-use Rattle.process_model.specs.Flash.{object_in}
+use Rattle.std.proofs.Common.{◌≡◌, List, ℕ, ap, ◌∙◌}
 use Rattle.grant_enter.specs.Homes.{Homes, own_of}
-use Rattle.kernel_calls.specs.Own.{StartsAs, record_in}
+use Rattle.kernel_calls.specs.Own.{record_in}
 use Rattle.kernel_calls.proofs.Starts.{starts_again}
 use Rattle.kernel_calls.proofs.exits.restart_process.Goals as goal
 
@@ -10,13 +8,9 @@ pub returns-clause-restarted : goal.returns-clause-restarted
 returns-clause-restarted c = λ beside.
     let home = c.args.home.now in
     let p = c.args.process.now in
-    let flash : c.restart-2.new.self.flash ≡ home.flash = ap (λ (h : Homes). h.flash) c.restart-2.ensures.rest in
-    let start = subst (λ (f : List ℕ). StartsAs (object_in f p.object) p.object.address c.start_of-start.result)
-    c.flash.ensures c.start_of-start.ensures in
-    ap (λ (f : List ℕ). record_in f c.restart.new.self (own_of c.restart-2.new.self c.args.slot) beside) flash
-    ∙ starts_again home.flash p c.restart.new.self (own_of home c.args.slot)
-    (own_of c.restart-2.new.self c.args.slot) beside c.start_of-start.result _ c.first_break-brk.result start
-    (c.layout.view_is ∙ c.layout-layout.ensures)
-    (c.first_break-brk.ensures
-    ∙ ap (λ (e : LayoutView). first_break e.start c.start_of-start.result.minimum_ram) (sym c.layout.view_is))
-    c.restart.ensures c.restart-2.ensures.own
+    let after = c.restart_process.new.home in
+    let q = c.restart_process.new.process in
+    ap (λ (f : List ℕ). record_in f q (own_of after c.args.slot) beside)
+    (ap (λ (h : Homes). h.flash) c.restart_process.ensures.rest)
+    ∙ starts_again home.flash p q (own_of home c.args.slot) (own_of after c.args.slot) beside
+    c.restart_process.ensures.restarted

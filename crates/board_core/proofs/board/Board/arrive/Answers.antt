@@ -1,8 +1,9 @@
-use Rattle.std.proofs.Common.{◌≡◌, true, sym, ◌∙◌, arith}
+use Rattle.std.proofs.Common.{◌≡◌, None, true, sym, ap, ◌∙◌, arith}
 use Rattle.tk_base.specs.declared.process.Choice.TheVariants.{Device}
 use Rattle.tk_base.specs.declared.process.Dev.TheVariants.{Event}
 use Rattle.board_devices.specs.Arriving.{is_time}
 use Rattle.board_drivers.proofs.Edges.{arrived_alarms, may_be_told, some_left}
+use Rattle.board_core.specs.Makes.{act_meant}
 use Rattle.board_core.specs.PartsOf.{parts_of}
 use Rattle.board_core.specs.Shows.{world_of}
 use Rattle.board_core.proofs.Arrivals.{arrived_board, arrived_shown, parts_then, world_arrived}
@@ -53,8 +54,10 @@ returns c =
     let b = c.self.inside in
     let may : is_time b.machine.moment.time b.machine.drivers.arrivals ≡ true = sym c.is_time.ensures
     ∙ c.if-not-is_time.false in
+    let meant : act_meant (world_of b) ≡ None =
+    ap act_meant c.self.view_is ∙ sym c.act_meant.ensures ∙ c.in_default.is in
     made_so (world_of b) c.args.self.now _ (Device Event) c.args.emit.now c.hide.new.emit c.self.view_is
     (may_act (world_of b) Event (below_shown b c.args.self.now c.self.view_is c.requires) may)
-    (world_arrived b c.arrive.new.home c.arrive.new.self c.arrive.ensures may c.devices_answer_one.ensures)
+    (world_arrived b c.arrive.new.home c.arrive.new.self c.arrive.ensures may meant c.devices_answer_one.ensures)
     (c.hide.ensures
-    ∙ arrived_shown b c.arrive.new.home c.arrive.new.self c.arrive.ensures may c.devices_answer_one.ensures)
+    ∙ arrived_shown b c.arrive.new.home c.arrive.new.self c.arrive.ensures may meant c.devices_answer_one.ensures)

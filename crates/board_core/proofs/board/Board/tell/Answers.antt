@@ -83,4 +83,4 @@ returns c =
     c.devices_answer_one.ensures)
     (c.show.ensures
     ∙ told_shown b c.args.device c.in-Ok.answer.to.slot printed c.act.new.home c.act.new.self t c.self.invariant
-    c.devices_answer_one.ensures)
+    c.devices_answer_one.ensures c.requires.tells)

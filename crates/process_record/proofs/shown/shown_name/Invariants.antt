@@ -1,6 +1,6 @@
 use Rattle.std.proofs.Common.{◌≡◌, map, take}
-use Rattle.board_report.specs.Words.{glyph}
-use Rattle.board_report.proofs.words.shown_name.Given as goal
+use Rattle.process_record.specs.Lines.{glyph}
+use Rattle.process_record.proofs.shown.shown_name.Given as goal
 
 abbrev pub invariant-loop-byte : goal.invariant-loop-byte
 invariant-loop-byte l = l.text.items ≡ map glyph (take l.byte-index l.name)

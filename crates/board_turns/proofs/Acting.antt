@@ -1,0 +1,121 @@
+-- What an operator's act leaves of a machine.
+use Rattle.std.proofs.Common.{◌≡◌, ◌≢◌, ◌≤◌, ◌<◌, ◌==◌, ℕ, ◌+◌, Bool, true, false, cond, List, [], length, slice_get}
+use Rattle.std.proofs.Common.{slice_set, slice_index_or, Option, Some, refl, sym, ap, ap₂, subst, ◌∙◌, arith}
+use Rattle.std.specs.List.{zip}
+use Rattle.std.proofs.lemmas.List.{get_or-set_other}
+use Rattle.tk_base.specs.declared.process.Verb.{Verb}
+use Rattle.tk_base.specs.declared.process.Verb.TheVariants as verbs
+use Rattle.process_model.specs.Own.{Own}
+use Rattle.process_model.specs.Flash.{object_in}
+use Rattle.process_model.specs.declared.place.Object.{Object}
+use Rattle.process_record.specs.declared.process.Process.{Process}
+use Rattle.process_record.specs.Process.{is_alive, with_held}
+use Rattle.process_record.specs.Operator.{own_operated, process_operated}
+use Rattle.grant_enter.specs.Homes.{ChangesOnly, Homes, nobody, own_of}
+use Rattle.process_restart.specs.Own.{IsOwn, KeepsObject, LivesOn}
+use Rattle.process_console.specs.Acts.{Operates as Acts}
+use Rattle.kernel_model.specs.Turn.{operated}
+use Rattle.kernel_calls.specs.Own.{Beside, record_in}
+use Rattle.kernel_calls.proofs.Starts.{starts_again}
+use Rattle.board_memory.specs.Registers.{Protect}
+use Rattle.board_drivers.specs.Residents.{IsResident, Resident, resident}
+use Rattle.board_turns.specs.declared.guard.ActivePmp.{ActivePmp}
+use Rattle.board_turns.specs.declared.machine.Machine.{Machine}
+use Rattle.board_turns.specs.Guards.{GuardsOnly, GuardsOthers}
+use Rattle.board_turns.specs.Operating.{MayOperateAt, MayOperateOn, Operates, OperatesAt, OperatesOn}
+use Rattle.board_turns.specs.Turning.{LeavesOn, MayTurnAt}
+use Rattle.board_turns.proofs.Tables.{changed_at, may_turn}
+use Rattle.board_turns.proofs.Turns.{only_flash}
+
+-- a change of one slot leaves what is another's own
+other_own : (slot other : ℕ) (a b : Homes) → ChangesOnly slot a b → other ≢ slot → own_of b other ≡ own_of a other
+other_own slot other a b only apart =
+    ap (λ (h : Homes). own_of h other) only ∙ get_or-set_other a.owns slot other (own_of b slot) nobody apart
+
+-- so registers that are set for another slot still protect its process
+pub guards_others : (slot : ℕ) (guard : ActivePmp) (a b : Homes) → ChangesOnly slot a b → GuardsOnly guard a
+    → GuardsOthers slot guard b
+guards_others slot guard a b only guards = record {
+  protects = λ other apart is.
+      subst (λ (own : Own). Protect guard.pmp own.layout) (sym (other_own slot other a b only apart))
+      (guards.protects other is);
+}
+
+-- a record of a process with another own, and the same object
+same_object : (flash : List ℕ) (p q : Process) (own : Own) (beside : Beside) → q.object ≡ p.object
+    → record {
+      process = q;
+      object = object_in flash p.object;
+      own = own;
+      storage = beside.storage;
+      pressed = beside.pressed;
+    }
+    ≡ record_in flash q own beside
+same_object flash p q own beside same =
+    ap (λ (x : Object). record {
+      process = q;
+      object = object_in flash x;
+      own = own;
+      storage = beside.storage;
+      pressed = beside.pressed;
+    }) (sym same)
+
+-- what the console does to a process is what the act leaves of its record
+pub operates : (verb : Verb) (flash : List ℕ) (p q : Process) (own own_after : Own)
+    → KeepsObject p q → Acts verb (object_in flash p.object) (p, own) (q, own_after)
+    → Operates verb flash (p, own) (q, own_after)
+operates verbs.List flash p q own own_after keeps acts = λ beside.
+    ap₂ (λ (x : Process) (y : Own). record_in flash x y beside) (sym acts.0) (sym acts.1)
+operates verbs.Stop flash p q own own_after keeps acts = λ beside.
+    ap₂ (λ (x : Process) (y : Own). record (record_in flash p own beside) { process = x; own = y }) (sym acts.0)
+    (sym acts.1) ∙ same_object flash p q own_after beside keeps.object
+operates verbs.Start flash p q own own_after keeps acts = λ beside.
+    ap₂ (λ (x : Process) (y : Own). record (record_in flash p own beside) { process = x; own = y }) (sym acts.0)
+    (sym acts.1) ∙ same_object flash p q own_after beside keeps.object
+operates verbs.Terminate flash p q own own_after keeps acts = λ beside.
+    ap₂ (λ (x : Process) (y : Own). record (record_in flash p own beside) { process = x; own = y }) (sym acts.0)
+    (sym acts.1) ∙ same_object flash p q own_after beside keeps.object
+operates verbs.Restart flash p q own own_after keeps acts = λ beside.
+    sym (starts_again flash p q own own_after beside acts)
+
+-- it leaves the process as it is to be a step later
+pub operated_seated : (flash : List ℕ) (steps : ℕ) (p q : Process) (own own_after : Own)
+    → IsResident flash steps (p, own) → IsOwn flash q own_after → KeepsObject p q → LivesOn own own_after
+    → IsResident flash (steps + 1) (q, own_after)
+operated_seated flash steps p q own own_after seated is keeps lives = record {
+  own = is;
+  turns = omega (arith, seated.turns, keeps.turns);
+  restarts = omega (arith, seated.restarts, keeps.restarts);
+  life = omega (arith, seated.life, lives);
+}
+
+-- the same of a slot of the tables, by what a turn asks there
+as_turn : (slot : ℕ) (x : Machine) (processes : List Process) → MayOperateAt slot x processes
+    → MayTurnAt 1 slot x processes
+as_turn slot x processes may = record {
+  within = may.within;
+  owns = may.owns;
+  seated = may.seated;
+  limit = omega (arith, may.limit);
+  guard = may.guard;
+}
+
+module _ (slot index : ℕ) (x : Machine) (processes : List Process) (process : Process)
+    (is : index ≡ slot) (found : process ≡ slice_index_or processes index process)
+    (may : MayOperateAt slot x processes) where
+  pub may_operate : MayOperateOn slot x process
+  may_operate =
+      let turn = may_turn 1 slot index x processes process is found (as_turn slot x processes may) in
+      record { slot = turn.slot; seated = turn.seated; limit = may.limit; guard = may.guard }
+
+  pub operated_at : (verb : Verb) (y : Machine) (after : Process) → LeavesOn 1 slot x y after
+      → OperatesOn verb slot x y process after
+      → OperatesAt verb slot x y processes (slice_set processes index after)
+  operated_at verb y after leaves operates = record {
+    at = changed_at 1 slot index x processes process is found (as_turn slot x processes may) y after leaves.left.rest;
+    operates = operates.operates;
+    drives = operates.drives;
+    seated = leaves.left.seated;
+    guard = leaves.guard;
+    moment = leaves.moment;
+  }

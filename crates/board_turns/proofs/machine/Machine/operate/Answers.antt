@@ -1,0 +1,21 @@
+use Rattle.std.proofs.Common.{◌≡◌, ap, subst}
+use Rattle.grant_enter.specs.Homes.{Homes, own_of}
+use Rattle.board_drivers.specs.Residents.{resident}
+use Rattle.board_turns.specs.declared.machine.Machine.{Machine}
+use Rattle.board_turns.specs.Operating.{Operates}
+use Rattle.board_turns.proofs.Acting.{operates}
+use Rattle.board_turns.proofs.machine.Machine.operate.Goals as goal
+
+pub returns-clause-operates : goal.returns-clause-operates
+returns-clause-operates c =
+    let before = c.let_go.new.self.home in
+    let slot = c.args.slot in
+    let p = c.args.process.now in
+    let q = c.act.new.process in
+    record {
+      operates = subst (λ (h : Homes). Operates c.args.verb h.flash (resident h slot p)
+          (resident c.act.new.home slot q)) (ap (λ (x : Machine). x.home) c.let_go.ensures.rest)
+          (operates c.args.verb before.flash p q (own_of before slot) (own_of c.act.new.home slot) c.act.ensures.stays
+          c.act.ensures.leaves);
+      drives = c.let_go.ensures.drives (own_of c.args.self.now.home slot).life;
+    }

@@ -1,0 +1,45 @@
+-- What is shown of a process in a line: its name, its state in one word, and the line that an operator gets who lists
+-- it. Their form is this tool's own.
+use Rattle.std.specs.Prelude.{ℕ, ◌&&◌, nat_le, Bool, true, false, if◌then◌else◌, List, [], ◌∷◌, ◌++◌, map, codes}
+use Rattle.std.specs.Prelude.{decimal, position, Option}
+use Rattle.std.specs.Str.{bytes_eq}
+use Rattle.tk_base.specs.declared.upcall.Wait.{Wait}
+use Rattle.tk_base.specs.declared.upcall.Wait.TheVariants.{No, For, Given}
+use Rattle.process_record.specs.declared.process.State.{State}
+use Rattle.process_record.specs.declared.process.State.TheVariants.{Running, Yielded, Faulted, Terminated}
+use Rattle.process_record.specs.declared.summary.SlotLine.{SlotLine}
+
+-- a byte of a name: what is no visible character of ASCII is shown as `?`
+abbrev pub glyph : ℕ → ℕ
+glyph b = if nat_le 0x21 b && nat_le b 0x7e then b else 63
+
+-- a name; `-` where there is none
+abbrev pub name_text : List ℕ → List ℕ
+name_text [] = codes "-"
+name_text (b ∷ bs) = map glyph (b ∷ bs)
+
+-- the lowest slot whose line shows a name, if one does
+unfoldable pub slot_named : List ℕ → List SlotLine → Option ℕ
+slot_named name lines = position (λ line. bytes_eq (name_text line.name.items) name) lines
+
+-- what a process that has yielded waits for, in one word: any upcall; one alone; nothing any more, since that one came
+abbrev pub wait_word : Wait → List ℕ
+wait_word No = codes "yielded"
+wait_word (For driver number) = codes "waiting"
+wait_word (Given arguments) = codes "awaited"
+
+-- the state of a process that an operator does not hold
+abbrev pub state_word : State → Wait → List ℕ
+state_word Running wait = codes "running"
+state_word Yielded wait = wait_word wait
+state_word Faulted wait = codes "faulted"
+state_word (Terminated code) wait = codes "terminated"
+
+-- the state of a process in one word
+abbrev pub line_word : SlotLine → List ℕ
+line_word line = if line.held then codes "stopped" else state_word line.state line.wait
+
+-- the line of a process that is listed: its slot, its name, its state
+unfoldable pub list_text : ℕ → SlotLine → List ℕ
+list_text slot line =
+    decimal slot ++ (codes " " ++ (name_text line.name.items ++ (codes " " ++ (line_word line ++ codes "\n"))))
