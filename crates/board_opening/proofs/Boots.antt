@@ -38,7 +38,9 @@ use Rattle.kernel_lives.specs.Lists.{ListsAreOfRequests, asks_at, once_if, times
 use Rattle.board_drivers.proofs.Routing.{slots_by}
 use Rattle.kernel_model.specs.Lives.{AreApart, BlocksAreApart, HasOrder, HasPendingWithinLimit, IsAsAtFirst, IsAtFirst}
 use Rattle.kernel_model.specs.Lives.{LivesAsItRuns}
-use Rattle.board_opening.specs.Certified.{CountsFromBootAddUp}
+use Rattle.kernel_model.specs.Replay.{after_all}
+use Rattle.kernel_histories.specs.Drops.{DropsAddUp, drops_of}
+use Rattle.board_opening.specs.Certified.{CountsFromBootAddUp, DropsFromBootAddUp}
 use Rattle.board_opening.specs.Opening.{opening_record, opened_by, opening, record_placed, record_with_place}
 
 -- an application asks for what its object says
@@ -359,6 +361,36 @@ counts_from_boot law script flash choices ready =
     let sum = law (opening script flash) choices (opens_with_none_waiting script flash) ready in
     let none = no_turns script.storage flash RAM_START (opening script flash).records (opening_opened script flash) in
     record { time = omega (arith, sum.time); steps = omega (arith, sum.steps); turns = omega (arith, sum.turns, none) }
+
+-- no upcall of it was dropped at first
+abbrev DroppedNone : Record → Type 0
+DroppedNone r = r.own.inbox.dropped ≡ 0
+
+dropped_first : (storage : ℕ) (flash : List ℕ) (low : ℕ) (r : Record) → IsOpened storage flash low r → DroppedNone r
+unfolding opening_record
+dropped_first storage flash low r o = subst DroppedNone (sym o.is) refl
+
+opens_with_none_dropped : (script : Script) (flash : List ℕ) (slot : ℕ)
+    → IfSome (slice_get (opening script flash).records slot) DroppedNone
+opens_with_none_dropped script flash slot =
+    of_each script.storage flash RAM_START DroppedNone (dropped_first script.storage flash)
+    (opening script flash).records (opening_opened script flash) slot
+
+pub drops_from_boot : DropsAddUp → DropsFromBootAddUp
+drops_from_boot law script flash choices slot =
+    let w = opening script flash in
+    from_none (drops_of slot w choices) (slice_get w.records slot) (slice_get (after_all w choices).records slot)
+    (opens_with_none_dropped script flash slot) (law w choices slot)
+  where
+    from_none : (n : ℕ) (before now : Option Record) → IfSome before DroppedNone
+        → option_map (λ (r : Record). r.own.inbox.dropped) now
+        ≡ option_map (λ (dropped : ℕ). dropped + n) (option_map (λ (r : Record). r.own.inbox.dropped) before)
+        → IfSome now (λ r. r.own.inbox.dropped ≡ n)
+    from_none n before None none sum = tt
+    from_none n None (Some s) none sum = absurd (cc)
+    from_none n (Some r) (Some s) none sum =
+        let same : s.own.inbox.dropped ≡ r.own.inbox.dropped + n = cc in
+        omega (arith, same, none)
 
 -- no process has a request at first
 abbrev AsksNothing : Record → Type 0

@@ -9,6 +9,7 @@ use Rattle.kernel_model.specs.Run.{next, round}
 use Rattle.kernel_model.specs.Accounts.{IsAccountedFor}
 use Rattle.kernel_model.specs.Choices.{Throughout, are_ready, labels_of_all}
 use Rattle.kernel_model.specs.Replay.{after_all, chosen, history}
+use Rattle.kernel_histories.specs.Drops.{drops_of}
 use Rattle.kernel_lives.specs.Lists.{ListsAreOfRequests}
 use Rattle.kernel_laws.specs.OneRun.{NothingIsLeft}
 use Rattle.kernel_lives.specs.Counts.{ticks_passed, turns_made, turns_of_all}
@@ -49,6 +50,13 @@ pub record CountsAre (choices : List Choice) (v : World) : Type 0 where
 abbrev pub CountsFromBootAddUp : Type 0
 CountsFromBootAddUp = (script : Script) (flash : List ℕ) (choices : List Choice) →
     are_ready (opening script flash) choices ≡ true → CountsAre choices (after_all (opening script flash) choices)
+
+-- after any choices from a boot the count of dropped upcalls of each process is the number of steps among these choices
+-- that scheduled an upcall for it which was dropped
+abbrev pub DropsFromBootAddUp : Type 0
+DropsFromBootAddUp = (script : Script) (flash : List ℕ) (choices : List Choice) (slot : ℕ) →
+    let w = opening script flash in
+    IfSome (slice_get (after_all w choices).records slot) (λ r. r.own.inbox.dropped ≡ drops_of slot w choices)
 
 -- the round robin is done exactly where nothing is left to do
 abbrev pub IsDoneFromBoot : Type 0

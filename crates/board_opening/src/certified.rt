@@ -3,13 +3,15 @@ ghost use Rattle.kernel_model.specs.Lives.{HasOrder, HasPendingWithinLimit, Live
 ghost use Rattle.kernel_model.specs.Prints.{PrintsItsBuffer, PrintsWhatItCouldLoad};
 ghost use Rattle.kernel_model.specs.Wholes.{HasWholeOwn};
 ghost use Rattle.board_opening.specs.Certified.{BlocksFromBootAreApart, ChangesFromBootHaveCauses};
-ghost use Rattle.board_opening.specs.Certified.{CountsFromBootAddUp, EachFromBoot};
+ghost use Rattle.board_opening.specs.Certified.{CountsFromBootAddUp, DropsFromBootAddUp};
+ghost use Rattle.board_opening.specs.Certified.{EachFromBoot};
 ghost use Rattle.board_opening.specs.Certified.{EachLabelFromBoot};
 ghost use Rattle.board_opening.specs.Certified.{IsDoneFromBoot, ListsFromBootAreOfRequests};
 ghost use Rattle.board_opening.specs.Certified.{RestartsFromBoot, RunsFromBootAreAccountedFor};
 ghost use Rattle.board_opening.specs.Certified.{WordsFromBootAreTheScripts};
 
 use crate::laws::a_process_depends_on_its_own_view_alone;
+use kernel_histories::drops_add_up;
 use kernel_laws::{a_run_is_one_run, words_are_drawn_in_order};
 use kernel_lives::{
     lists_are_of_requests, owns_stay_whole, places_never_change, prints_are_of_buffers,
@@ -48,6 +50,15 @@ pub fn counts_from_boot_add_up()
     ensures { CountsFromBootAddUp }
 {
     time_steps_and_turns_add_up();
+}
+
+/// After any choices from a boot the count of dropped upcalls of a process is the number of steps
+/// among them that scheduled an upcall for it which is not null and for which it did not wait
+/// alone, while [`tk_base::PENDING_LIMIT`] waited (TRD 104, "Subscribe", "Yield").
+pub fn drops_from_boot_add_up()
+    ensures { DropsFromBootAddUp }
+{
+    drops_add_up();
 }
 
 /// After any choices from a boot the round robin is done exactly where no process and no device is

@@ -10,3 +10,4 @@ pub mod Packing
 pub mod Likeness
 pub mod Headers
 mod Checksums
+mod Words

@@ -1,4 +1,5 @@
 //! Laws of the definitions, each the contract of a function that does nothing.
+ghost use Rattle.image_make.specs.Decoded.{WordsAreDecoded};
 ghost use Rattle.image_make.specs.Edited.{EnabledIsWalked, GivenIsWalked};
 ghost use Rattle.image_make.specs.Packs.{ObjectsMoveAlike, PackIsWalked};
 ghost use Rattle.image_make.specs.Laws.{ChecksumOfPut, FlagsAreRead, NamesAreRead, OneObjectChanges, PackedIsWalked, MovedVerdict};
@@ -67,3 +68,9 @@ pub fn checksum_of_put()
 {
     a_store_is_put();
 }
+
+/// The word of each instruction of the programs is decoded to what the instruction means.
+#[tactic(auto, using(crate::proofs::Words::words_are_decoded))]
+pub fn words_are_decoded()
+    ensures { WordsAreDecoded }
+{}

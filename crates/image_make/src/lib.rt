@@ -21,6 +21,7 @@ pub use image::image_of;
 pub use laws::{
     checksum_of_put, enabled_is_walked, flags_are_read, given_is_walked, names_are_read,
     objects_move_alike, one_object_changes, pack_is_walked, packed_is_walked, verdicts_move,
+    words_are_decoded,
 };
 pub use packs::{PackFault, pack_one};
 

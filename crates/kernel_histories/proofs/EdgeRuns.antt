@@ -34,10 +34,10 @@ in_order (choice ∷ choices) w =
     ∙ first_of (arrival_in w choice) (arrivals_in (after w choice) choices) _
 
 -- what a process in a slot is told in a step
-abbrev told_in : ℕ → World → Choice → Option Answer
+abbrev pub told_in : ℕ → World → Choice → Option Answer
 told_in slot w choice = cond (is_ready w choice) (answer_by w choice slot) None
 
-step_told : (slot : ℕ) (w : World) (choice : Choice) (o : Option Record) → slice_get w.records slot ≡ o
+pub step_told : (slot : ℕ) (w : World) (choice : Choice) (o : Option Record) → slice_get w.records slot ≡ o
     → step_schedules slot w choice ≡ option_and_then (answer_schedules w.settings (told_in slot w choice)) o
 step_told slot w choice o there = by_ready (is_ready w choice)
   where

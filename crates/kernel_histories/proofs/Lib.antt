@@ -6,3 +6,4 @@ mod Delivered
 mod Schedulings
 mod Waits
 mod EdgeRuns
+mod DropRuns

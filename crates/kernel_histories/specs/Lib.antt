@@ -1,3 +1,4 @@
 pub mod Deliveries
 pub mod Waits
 pub mod Edges
+pub mod Drops

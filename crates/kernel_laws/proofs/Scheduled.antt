@@ -2,7 +2,7 @@
 use Rattle.std.proofs.Common.{◌≡◌, ℕ, suc, ◌+◌, ◌-◌, ◌==◌, ◌&&◌, nat_le, not, Bool, true, false, cond, List, [], ◌∷◌}
 use Rattle.std.proofs.Common.{drop, filter}
 use Rattle.std.proofs.Common.{length, slice_get, Option, None, Some, Result, Ok, Err, refl, sym, ap, ap₂, subst, ◌∙◌}
-use Rattle.std.proofs.Common.{arith, eqb-true, unwrap_or}
+use Rattle.std.proofs.Common.{IfSome, arith, eqb-true, unwrap_or}
 use Rattle.std.specs.Prelude.{is_none, option_and_then, remove, slice_set}
 use Rattle.std.specs.List.{position_or_len}
 use Rattle.std.specs.Option.{option_map}
@@ -83,7 +83,7 @@ use Rattle.kernel_model.specs.Turn.{turn_counted, turn_in, turned}
 use Rattle.kernel_model.proofs.Classes.{command_in, exit_in, memop_in, of_registers, swap_in, yield_in}
 use Rattle.kernel_model.proofs.Memops.{by_test, memop_gives}
 use Rattle.kernel_model.proofs.Steps.{IsAnswer, of_operated}
-use Rattle.kernel_laws.specs.Scheduled.{answer_step, call_schedules, command_schedules, event_schedules, scheduled_by}
+use Rattle.kernel_laws.specs.Scheduled.{answer_step, call_schedules, command_schedules, scheduled_by}
 use Rattle.kernel_laws.specs.Scheduled.{turn_schedules, upcall_told}
 use Rattle.kernel_laws.proofs.Commands.{command_leaves}
 use Rattle.kernel_laws.proofs.Refused.{only_counts}
@@ -234,14 +234,25 @@ record Keeps (r s : Record) : Type 0 where
   remains : IsRemainder r.own.inbox s.own.inbox
   pressed : s.pressed ≡ r.pressed
 
+-- what is scheduled, if anything is, is scheduled with nothing of what was before gone
+abbrev pub AtOnce : Option Scheduled → Inbox → Inbox → Type 0
+AtOnce upcall before later = IfSome upcall (λ u. later ≡ scheduled u before)
+
+-- so it is where no more is than that
+pub at_once : (upcall : Option Scheduled) (before later : Inbox) → later ≡ scheduled_if upcall before
+    → AtOnce upcall before later
+at_once None before later is = tt
+at_once (Some u) before later is = is
+
 -- and with what it schedules
 pub record Schedules (upcall : Option Scheduled) (r s : Record) : Type 0 where
   pub leaves : IsThenScheduled upcall r.own.inbox s.own.inbox
+  pub whole : AtOnce upcall r.own.inbox s.own.inbox
   pub pressed : s.pressed ≡ r.pressed
 
 nothing_more : (r s : Record) → Keeps r s → Schedules None r s
 nothing_more r s k =
-    record { leaves = record { left = s.own.inbox; remains = k.remains; is = refl }; pressed = k.pressed }
+    record { leaves = record { left = s.own.inbox; remains = k.remains; is = refl }; whole = tt; pressed = k.pressed }
 
 same_inbox : (r s : Record) → s.own.inbox ≡ r.own.inbox → s.pressed ≡ r.pressed → Keeps r s
 same_inbox r s inbox pressed =
@@ -382,17 +393,18 @@ module _ (refuse : RefusedByAnyDriver) (settings : Settings) (time : ℕ) (r : R
       ∙ ap (option_and_then (λ (t : CommandHandler). scheduled_by (t around (a1 regs) (a2 regs) (a3 regs) r.own).step))
       taken))
       (record {
-        leaves = record {
-          left = r.own.inbox;
-          remains = all_remain r.own.inbox;
-          is = step_inbox c.step r.own.inbox
-              (command_leaves (a0 regs) taker taken around (a1 regs) (a2 regs) (a3 regs) r.own);
-        };
+        leaves = record { left = r.own.inbox; remains = all_remain r.own.inbox; is = queued };
+        whole = at_once (scheduled_by c.step) r.own.inbox (own_after c.step).inbox queued;
         pressed = refl;
       })
     where
       c : Commanded
       c = taker around (a1 regs) (a2 regs) (a3 regs) r.own
+
+      queued : (own_after c.step).inbox ≡ scheduled_if (scheduled_by c.step) r.own.inbox
+      queued =
+          step_inbox c.step r.own.inbox
+          (command_leaves (a0 regs) taker taken around (a1 regs) (a2 regs) (a3 regs) r.own)
   of_answer is taker taken (Err rule) answers =
       let c = taker around (a1 regs) (a2 regs) (a3 regs) r.own in
       let same_step = refuse (a0 regs) taker around (a1 regs) (a2 regs) (a3 regs) r.own rule taken answers in

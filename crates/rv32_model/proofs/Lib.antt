@@ -1,4 +1,5 @@
 pub mod Rows
+mod Parcels
 pub mod Sight
 pub mod Stretch
 pub mod Turns

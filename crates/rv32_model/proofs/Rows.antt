@@ -36,7 +36,7 @@ none_fits w r (s ∷ rows) a f =
     let here : row_fits w s ≡ false = not_both w r.mask r.value s.mask s.value parts.0 f in
     ap (λ b. cond b (s ∷ filter (row_fits w) rows) (filter (row_fits w) rows)) here ∙ none_fits w r rows parts.1 f
 
-one_or_rest : (r : InstrRow) (rest : List InstrRow) (b : Bool) → (b ≡ true → rest ≡ []) → length rest ≤ 1
+pub one_or_rest : {X : Type 0} (r : X) (rest : List X) (b : Bool) → (b ≡ true → rest ≡ []) → length rest ≤ 1
     → length (cond b (r ∷ rest) rest) ≤ 1
 one_or_rest r rest true e h =
     let none : length rest ≡ 0 = ap length (e refl) in

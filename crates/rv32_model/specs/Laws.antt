@@ -1,5 +1,5 @@
--- What holds of the instruction table and of every turn. The table is that of the RISC-V unprivileged manual, "RV32/64G
--- Instruction Set Listings".
+-- What holds of the two instruction tables and of every turn. The tables are those of the RISC-V unprivileged manual,
+-- "RV32/64G Instruction Set Listings" and "RVC Instruction Set Listings".
 use Rattle.std.specs.Prelude.{◌≡◌, ◌≢◌, ◌⊎◌, ℕ, ◌+◌, ◌%◌, ◌≤◌, Bool, true, false, ◌&&◌, nat_le, nat_lt, [], length}
 use Rattle.std.specs.Prelude.{Option, None, Some, Ok, IfSome, IsTrue, filter, All}
 use Rattle.std.specs.List.{list_any}
@@ -17,12 +17,17 @@ use Rattle.rv32_model.specs.declared.instr.Instr.{Instr}
 use Rattle.rv32_model.specs.declared.instr.Instr.TheVariants as instrs
 use Rattle.rv32_model.specs.declared.turn_end.TurnEnd.TheVariants.{Call, Trap, Went}
 use Rattle.rv32_model.specs.Instructions.{row_fits, instruction_table}
+use Rattle.rv32_model.specs.Compressed.{compressed_table, fits_parcel}
 use Rattle.rv32_model.specs.UserTurn.{MemoryAccess, user_turn, bytes_after, denied_at, fetched, instr_of, load_width}
 use Rattle.rv32_model.specs.UserTurn.{touch_of, w32_of}
 
 -- no word fits two rows of the table
 abbrev pub NoWordFitsTwoRows : Type 0
 NoWordFitsTwoRows = (word : ℕ) → length (filter (row_fits word) instruction_table) ≤ 1
+
+-- no parcel fits two rows of the table of compressed instructions
+abbrev pub NoParcelFitsTwoRows : Type 0
+NoParcelFitsTwoRows = (parcel : ℕ) → length (filter (fits_parcel parcel) compressed_table) ≤ 1
 
 -- what denies the accesses of a process, and the bytes that it sees
 abbrev pub Denies : Type 0

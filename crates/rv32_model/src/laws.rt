@@ -1,5 +1,6 @@
-//! What holds of the instruction table and of every turn. The functions do nothing: each stands for
+//! What holds of the instruction tables and of every turn. The functions do nothing: each stands for
 //! the law that it ensures.
+ghost use Rattle.rv32_model.specs.Laws.{NoParcelFitsTwoRows};
 ghost use Rattle.rv32_model.specs.Laws.{NoWordFitsTwoRows, AccessesArePermitted, CallsAreOfEcall, DataIsAligned, DenialsAreDue, DeniedTurnsChangeNothing, OnlyStoresWrite, SeesOnlyPermitted, WritesAreListed, WritesArePermitted};
 ghost use Rattle.rv32_model.specs.Stretch.{NoneGoes, OneIsTheTurn, OneMoreGoes, StoppedTurnsChangeNothing, StoppedTurnsStop};
 
@@ -7,6 +8,12 @@ ghost use Rattle.rv32_model.specs.Stretch.{NoneGoes, OneIsTheTurn, OneMoreGoes, 
 #[tactic(auto, using(crate::proofs::Rows::no_word_fits_two_rows))]
 pub fn no_word_fits_two_rows()
     ensures { NoWordFitsTwoRows }
+{}
+
+/// No parcel fits two rows of the table of compressed instructions.
+#[tactic(auto, using(crate::proofs::Parcels::no_parcel_fits_two_rows))]
+pub fn no_parcel_fits_two_rows()
+    ensures { NoParcelFitsTwoRows }
 {}
 
 /// Each access that a turn lists is permitted.

@@ -17,8 +17,9 @@ pub use handler::InstrVisitor;
 pub use instr::{BranchTest, Instr, LoadKind, Op};
 pub use laws::{
     accesses_are_permitted, data_is_aligned, denials_are_due, denied_turns_change_nothing,
-    no_word_fits_two_rows, one_is_the_turn, only_stores_write, sees_only_permitted,
-    stopped_turns_change_nothing, turns_follow, writes_are_listed, writes_are_permitted,
+    no_parcel_fits_two_rows, no_word_fits_two_rows, one_is_the_turn, only_stores_write,
+    sees_only_permitted, stopped_turns_change_nothing, turns_follow, writes_are_listed,
+    writes_are_permitted,
 };
 pub use turn_end::TurnEnd;
 
