@@ -1,5 +1,5 @@
 """Checks of what stands around the program: the script ./tock, examples/tour, examples/pack and the Makefile there, and
-tools/timeline. `checks` gives each with its name, for tests/run."""
+tools/timeline; and those that compare two runs of the program. `checks` gives each with its name, for tests/run."""
 
 import os
 import re
@@ -7,8 +7,8 @@ import shutil
 import subprocess
 import tempfile
 
-from cases import CASES, REPOSITORY
-from images import app, permissions_tlv
+from cases import BREAKPOINT, CASES, ECHO, EXIT_7, REPOSITORY, SPINS, WAKES, draws, exits, prints, storage_reads
+from images import A0, A1, app, lw, mv, padding, permissions_tlv, S1
 
 TOCK, EXAMPLES = os.path.join(REPOSITORY, "tock"), os.path.join(REPOSITORY, "examples")
 
@@ -38,11 +38,25 @@ script line 2: order: settings come before the first `at`, and times and numbers
      "`ram` in the script sets how much there is"),
     ("fixed-ram-start-below-the-last-end", "flash: the object at 128 was not run: fixed-taken: the address of RAM for "
      "which it is linked is taken, or no multiple of 8"),
+    ("script-with-an-act-after-partition", """
+script line 2: at 5 do stop blink
+script line 2: unknown-word: no line is like this; after `partition` there is none of buttons or of an operator"""),
+    ("sixteen-windows", "flash: the object at 1024 was not run: no-slot: all sixteen slots are taken"),
+    ("shares-of-nothing", "\n".join(
+        "flash: the object at %d was not run: no-room: its slot's share of RAM, a sixteenth, has no room for its memory; "
+        "`ram` in the script sets how much there is" % offset for offset in (0, 64))),
+    ("fixed-ram-start-of-no-share", "flash: the object at 64 was not run: fixed-taken: the address of RAM for which it is "
+     "linked is not where its slot's share starts"),
     ("bytes-after-the-last-object", "flash: the 4 bytes from 64 on are no object"),
     ("list-of-15-bytes", "flash: the 15 bytes from 0 on are no object"),
     ("empty-flash", "flash: the image is empty"),
     ("trace-of-no-step", "flash: the image is empty"),
     ("soak-of-no-turn", ""),
+    ("pack-twice", ""),
+    ("pack-a-bad-object", "flash: the object at 0 is bad: bad-checksum: its header's checksum is wrong"),
+    ("pack-without-the-rest", "flash: the 20 bytes from 64 on are no object\nscript: the 4 bytes from 112 on are no object"),
+    ("pack-nothing", "flash: the 9 bytes from 0 on are no object"),
+    ("disable", ""),
 ]
 
 # What examples/pack refuses, with a part of what it says.
@@ -162,12 +176,111 @@ def tour(program):
     return None if sorted(left_out) == ["exit7.bin", "three.bin"] else "not in the tour: %s" % left_out
 
 
+# The pictures of docs/, each of a run by its image and script, and whether the script is handed on.
+PICTURES = [("timeline.svg", "together", "hi", False), ("windows.svg", "three", "windows", True)]
+
+# Lines of a trace of every kind, and what must stand in their picture.
+EACH_KIND = [
+    ("@1 0 call 7 00000000 00000000 80000000 00000004 = 00000082 00000000 00000000 00000004", "allow-readable alarm"),
+    ("@2 0 call 0 00000002 00000001 00000002 00000000", "wait for console 2"),
+    ("@3 0 call 2 00000003 00000001 00000000 00000000 = 00000080 00000001 00000000 00000000", "button: enable"),
+    ("@4 0 act stop", "operator: stop"),
+    ("@5 0 call 2 00000002 00000001 00000009 00000000 = 00000000 00000006 00000009 00000000 range",
+     "LED: on refused: range"),
+    ("@6 0 denied store 80000400 no-region", "denied: store 80000400 no-region"),
+    ("@7 0 out 68690a", "\u201chi\u21b5\u201d"),
+    ("@8 0 call 6 00000001 00000000 00000000 00000000", "restart"),
+]
+
+
 def timeline(program):
-    """docs/timeline.svg is the picture of a run of three applications."""
-    trace = run([program, "trace", "together.bin", "hi.script", "--turns", "1000"], cwd=EXAMPLES)
-    end = run([os.path.join(REPOSITORY, "tools", "timeline")], input=trace.stdout)
-    with open(os.path.join(REPOSITORY, "docs", "timeline.svg"), encoding="utf-8") as file:
-        return None if (end.stdout, end.stderr) == (file.read(), "") else "another picture, or: " + end.stderr
+    """The pictures of docs/ are those of their runs; each line of a trace has a mark; what is no trace is refused."""
+    tool = os.path.join(REPOSITORY, "tools", "timeline")
+    for name, image, script, is_told in PICTURES:
+        trace = run([program, "trace", image + ".bin", script + ".script", "--turns", "1000"], cwd=EXAMPLES)
+        end = run([tool] + ["--script", script + ".script"] * is_told, input=trace.stdout, cwd=EXAMPLES)
+        if (end.stdout, end.stderr) != (contents(os.path.join(REPOSITORY, "docs", name)).decode(), ""):
+            return "%s is another picture, or: %s" % (name, end.stderr)
+    end = run([tool], input="\n".join(line for line, _ in EACH_KIND) + "\n==\nslot 0 - running turns 9 restarts 0\n")
+    missing = [line for line, text in EACH_KIND if line not in end.stdout or ">%s</text>" % text not in end.stdout]
+    if missing or end.stderr:
+        return "not drawn: %s %s" % (missing, end.stderr)
+    for words, text, said in (([], "no trace\n", "this is no trace"), (["none"], "", "none: No such file or directory"),
+                              (["--script", "none"], "", "none: No such file or directory")):
+        end = run([tool] + words, input=text)
+        if end.returncode != 1 or said not in end.stderr or end.stdout:
+            return "%s: %d, %r" % (words, end.returncode, end.stderr)
+    return None
+
+
+def lines_of(program, folder, image, script, slot, turns=100000):
+    """What a trace of an image under a script tells of a slot, but for the last lines of the report, by its times; the
+    line of the report; and when the run ended."""
+    for name, content in (("image", image), ("script", script)):
+        with open(os.path.join(folder, name), "wb") as file:
+            file.write(content)
+    text = run([program, "trace", "image", "script", "--turns", str(turns)], cwd=folder).stdout
+    told = [(int(time), line) for time, line in re.findall(r"^@(\d+) %d (.*)$" % slot, text, re.M)]
+    report = re.findall(r"^slot %d .*$" % slot, text, re.M)
+    return told, report, int(text.split()[-1])
+
+
+def partitioned_pair(program):
+    """In its partition an application does the same at the same times beside two that differ, one of which spins,
+    prints, has alarms come, faults and starts again; and without partitions it does not."""
+    def images(*names):
+        return [contents(os.path.join(EXAMPLES, name + ".bin")) for name in names]
+
+    script = contents(os.path.join(EXAMPLES, "partition.script"))
+    without = re.sub(rb"(?m)^partition .*$", b"", script)
+    with tempfile.TemporaryDirectory() as folder:
+        for slot, pair in ((1, images("beside_quiet", "beside_hostile")), (0, images("victim", "spied"))):
+            one, other = [lines_of(program, folder, image, script, slot)[:2] for image in pair]
+            if one != other or len(one[0]) < 30 or len(one[1]) != 1:
+                return "slot %d differs, or tells nothing: %r" % (slot, other)
+            one, other = [lines_of(program, folder, image, without, slot)[0] for image in pair]
+            if one == other:
+                return "without partitions slot %d does not differ" % slot
+    return None
+
+
+# What each slot has of its own: windows, input, random words, faults of storage, and a serial line that is slow.
+ALL_LANES = b"""partition 7
+uart 3
+policy restart
+storage 16
+storage-fault 1
+storage-fault 3
+random 11223344 55667788
+at 20 input 6869
+at 300 input 21
+"""
+
+
+def partition_neighbours(program):
+    """Whatever stands in the slots below and above, what a slot does up to the end of both runs is the same, at the
+    same times."""
+    kinds = [EXIT_7, BREAKPOINT, ECHO, WAKES, prints(b"p" * 70), draws(6, 8, lw(A1, S1)), app(exits(1)),
+             storage_reads([(0, 4)] * 3, mv(A1, A0))]
+    objects = [kind + padding(512 - len(kind)) for kind in kinds + [SPINS]]
+    with tempfile.TemporaryDirectory() as folder:
+        for place, middle in enumerate(objects[:len(kinds)]):
+            runs = [lines_of(program, folder, other + middle + other, ALL_LANES, 1, 1500) for other in objects]
+            for index, (told, _, end) in enumerate(runs):
+                both = min(end, runs[0][2])
+                if not told or until(told, both) != until(runs[0][0], both):
+                    return "program %d beside program %d: %r" % (place, index, told)
+    return None
+
+
+def until(told, end):
+    """The lines before a time."""
+    return [line for line in told if line[0] < end]
+
+
+def contents(path):
+    with open(path, "rb") as file:
+        return file.read()
 
 
 def pack():
@@ -187,6 +300,14 @@ def pack():
             if end.returncode != 1 or said not in end.stderr or os.path.exists(os.path.join(folder, "other")):
                 return "%s: %d, %r" % (words, end.returncode, end.stderr)
     return None
+
+
+def no_compiler():
+    """Where there is no compiler the Makefile says how to come by one."""
+    with tempfile.TemporaryDirectory() as folder:
+        write(folder, "own/main.c", SEVEN)
+        end = make(folder, "TOOLCHAIN=none-")
+    return None if end.returncode and "there is no none-gcc: on Debian, apt-get install" in end.stderr else end.stderr
 
 
 def make(folder, *words):
@@ -221,8 +342,9 @@ def checks(program, has_compiler):
     """Each check with its name."""
     cases = {case.name: case for case in CASES}
     found = [("told-of-" + name, lambda case=cases[name], text=text: told(program, case, text)) for name, text in TOLD]
-    found += [("first-run", first_run), ("tour", lambda: tour(program)), ("timeline", lambda: timeline(program)),
-              ("pack", pack)]
+    found += [("first-run", first_run), ("no-compiler", no_compiler), ("tour", lambda: tour(program)), ("timeline", lambda: timeline(program)),
+              ("pack", pack), ("partitioned-pair", lambda: partitioned_pair(program)),
+              ("partition-neighbours", lambda: partition_neighbours(program))]
     if has_compiler:
         found.append(("own-application", lambda: own_application(program)))
     return found

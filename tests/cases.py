@@ -432,9 +432,15 @@ YIELDS = [
 ALARM_AT_60 = app(mv(S0, A0), li(A4, SUBSCRIBE), li(A0, ALARM), li(A1, 0), addi(A2, S0, offset("rings")),
                   li(A3, 0), ecall, command(ALARM, 6, 0, 60), yields(1), "rings", mv(A1, A0), exits())
 
-# Exits with the first argument of the upcall of the alarm that it arms 20 ticks after the command.
-WRAPS = app(mv(S0, A0), li(A4, SUBSCRIBE), li(A0, ALARM), li(A1, 0), addi(A2, S0, offset("rings")), li(A3, 0), ecall,
-            li(A4, 2), li(A0, ALARM), li(A1, 5), li(A2, 20), ecall, yields(1), "rings", mv(A1, A0), exits())
+
+def rings_after(ticks):
+    """An application that arms the alarm at time 11 for so many ticks later, waits from time 14 on, and exits with the
+    first argument of the upcall."""
+    return app(mv(S0, A0), li(A4, SUBSCRIBE), li(A0, ALARM), li(A1, 0), addi(A2, S0, offset("rings")), li(A3, 0), ecall,
+               li(A4, 2), li(A0, ALARM), li(A1, 5), li(A2, ticks), ecall, yields(1), "rings", mv(A1, A0), exits())
+
+
+WRAPS = rings_after(20)
 
 ALARMS = [
     tells("alarm-is-there", "a driver that is there says so", 128, command(ALARM, 0), mv(A1, A0)),
@@ -1257,6 +1263,222 @@ FAULTS = app(sw(ZERO, A1), sw(ZERO, A1, 256), name="stray")
 # Exits with 3 once its alarm fired, for which it waits alone from time 15 on.
 WAKES = app(command(ALARM, 5, 40), waits_for(ALARM, 0), li(A1, 3), exits(), name="wakes")
 
+# Exits with where its RAM starts.
+TELLS_ITS_START = app(memop(2), exits())
+
+PARTITIONS = [
+    boot("windows-of-four-ticks", "each process ends in its first window", EXIT_7 * 2, script=b"partition 4", text="""
+        ==
+        slot 0 - terminated 7 turns 4 restarts 0
+        slot 1 - terminated 7 turns 4 restarts 0
+        leds 0000
+        end done steps 8 time 8
+    """),
+    boot("windows-of-three-ticks", "what is left waits for the slot's next window, 48 ticks later", EXIT_7 * 2,
+         script=b"partition 3", text="""
+        ==
+        slot 0 - terminated 7 turns 4 restarts 0
+        slot 1 - terminated 7 turns 4 restarts 0
+        leds 0000
+        end done steps 23 time 52
+    """),
+    boot("windows-and-a-slice", "a slice decides nothing there", EXIT_7 * 2, script=b"slice 1\npartition 3", text="""
+        ==
+        slot 0 - terminated 7 turns 4 restarts 0
+        slot 1 - terminated 7 turns 4 restarts 0
+        leds 0000
+        end done steps 23 time 52
+    """),
+    boot("windows-beside-one-that-goes-on", "a process that never ends takes nothing of the window of another",
+         SPINS + EXIT_7, script=b"partition 4", turns=8, text="""
+        ==
+        slot 0 spins running turns 4 restarts 0
+        slot 1 - terminated 7 turns 4 restarts 0
+        leds 0000
+        end turns steps 8 time 8
+    """),
+    boot("windows-beside-one-that-starts-again", "nor does one that faults and starts again, in its own window alone",
+         BREAKPOINT + EXIT_7, script=b"partition 4\npolicy restart", turns=20, text="""
+        ==
+        slot 0 - running turns 4 restarts 4
+        slot 1 - terminated 7 turns 4 restarts 0
+        leds 0000
+        end turns steps 20 time 56
+    """),
+    boot("windows-beside-one-that-waits", "time passes in the window of one that waits for good, and then it is over",
+         NAPS + EXIT_7, script=b"partition 10", text="""
+        ==
+        slot 0 naps yielded turns 3 restarts 0
+        slot 1 - terminated 7 turns 4 restarts 0
+        leds 0000
+        end done steps 8 time 14
+    """),
+    boot("sixteen-windows", "each of sixteen slots has a window and a share of RAM, of 1024 bytes here", EXIT_7 * 17,
+         script=b"ram 16384\npartition 4", text="""
+        ==
+        %sunplaced 1024 no-slot
+        leds 0000
+        end done steps 64 time 64
+    """ % "".join("slot %d - terminated 7 turns 4 restarts 0\n        " % slot for slot in range(16))),
+    boot("shares-of-ram", "each block starts where the share of its slot does, a sixteenth of RAM", TELLS_ITS_START * 2,
+         script=b"partition 6", text="""
+        ==
+        slot 0 - terminated %d turns 6 restarts 0
+        slot 1 - terminated %d turns 6 restarts 0
+        leds 0000
+        end done steps 12 time 12
+    """ % (RAM, RAM + 4096)),
+    boot("shares-that-are-rounded-down", "a share is a multiple of 1024 bytes", TELLS_ITS_START * 2,
+         script=b"ram 17408\npartition 6", text="""
+        ==
+        slot 0 - terminated %d turns 6 restarts 0
+        slot 1 - terminated %d turns 6 restarts 0
+        leds 0000
+        end done steps 12 time 12
+    """ % (RAM, RAM + 1024)),
+    boot("shares-of-nothing", "where a sixteenth is less nobody has a place", EXIT_7 * 2,
+         script=b"ram 4096\npartition 4", text="""
+        ==
+        unplaced 0 no-room
+        unplaced 64 no-room
+        leds 0000
+        end done steps 0 time 0
+    """),
+    boot("block-longer-than-a-share", "a block of 5120 bytes has no room in a share of 4096, and one of 4096 has",
+         app(CODE_7, minimum_ram=3332) + app(CODE_7, minimum_ram=3328), script=b"partition 4", text="""
+        ==
+        slot 0 - terminated 7 turns 4 restarts 0
+        unplaced 0 no-room
+        leds 0000
+        end done steps 4 time 4
+    """),
+    boot("fixed-ram-start-of-the-share", "an application may be linked for the start of its share",
+         EXIT_7 + fixed_at(RAM + 4096, FLASH + 64), script=b"partition 4", text="""
+        ==
+        slot 0 - terminated 7 turns 4 restarts 0
+        slot 1 - terminated 7 turns 4 restarts 0
+        leds 0000
+        end done steps 8 time 8
+    """),
+    boot("fixed-ram-start-of-no-share", "and for no other address, though nobody has it",
+         EXIT_7 + fixed_at(RAM + 1024, FLASH + 64), script=b"partition 4", text="""
+        ==
+        slot 0 - terminated 7 turns 4 restarts 0
+        unplaced 64 fixed-taken
+        leds 0000
+        end done steps 4 time 4
+    """),
+    trace("input-for-two", "what comes in comes in for each, at its time; each reads it in its own window", ECHO * 2,
+          script=b"partition 100\nat 50 input 6869", text="""
+        @7 0 call 3 00000001 00000001 80000000 00000010 = 00000082 00000000 00000000 00000010
+        @13 0 call 4 00000001 00000001 80000000 00000010 = 00000082 00000000 00000000 00000010
+        @19 0 call 1 00000001 00000002 200000b0 00000000 = 00000082 00000000 00000000 00000000
+        @25 0 call 1 00000001 00000001 200000cc 00000000 = 00000082 00000000 00000000 00000000
+        @31 0 call 2 00000001 00000002 00000010 00000000 = 00000080 00000002 00000010 00000000
+        @34 0 call 0 00000001 00000002 00000010 00000000
+        @56 0 call 2 00000001 00000001 00000002 00000000 = 00000080 00000001 00000002 00000000
+        @57 0 out 6869
+        @61 0 call 0 00000001 00000001 00000002 00000000
+        @68 0 call 2 00000001 00000002 00000010 00000000 = 00000080 00000002 00000010 00000000
+        @73 0 call 0 00000001 00000002 00000010 00000000
+        @107 1 call 3 00000001 00000001 80001000 00000010 = 00000082 00000000 00000000 00000010
+        @113 1 call 4 00000001 00000001 80001000 00000010 = 00000082 00000000 00000000 00000010
+        @119 1 call 1 00000001 00000002 20000198 00000000 = 00000082 00000000 00000000 00000000
+        @125 1 call 1 00000001 00000001 200001b4 00000000 = 00000082 00000000 00000000 00000000
+        @131 1 call 2 00000001 00000002 00000010 00000000 = 00000080 00000002 00000010 00000000
+        @134 1 call 0 00000001 00000002 00000010 00000000
+        @141 1 call 2 00000001 00000001 00000002 00000000 = 00000080 00000001 00000002 00000000
+        @142 1 out 6869
+        @146 1 call 0 00000001 00000001 00000002 00000000
+        @153 1 call 2 00000001 00000002 00000010 00000000 = 00000080 00000002 00000010 00000000
+        @158 1 call 0 00000001 00000002 00000010 00000000
+        ==
+        slot 0 - yielded turns 59 restarts 0
+        slot 1 - yielded turns 59 restarts 0
+        leds 0000
+        end done steps 127 time 159
+    """),
+    boot("input-in-the-window-of-another", "one that waits is told of it in its next window", 
+         reads(4, 8, lhu(A1, S1)) + EXIT_7, script=b"partition 30\nat 50 input 6869", text="""
+        ==
+        slot 0 - terminated 26984 turns 28 restarts 0
+        slot 1 - terminated 7 turns 4 restarts 0
+        leds 0000
+        end done steps 51 time 485
+    """),
+    boot("random-words-for-two", "each draws the first word", draws(4, 8, lw(A1, S1)) * 2,
+         script=b"partition 40\nrandom 11223344 55667788", text="""
+        ==
+        slot 0 - terminated %d turns 31 restarts 0
+        slot 1 - terminated %d turns 31 restarts 0
+        leds 0000
+        end done steps 65 time 71
+    """ % (0x11223344, 0x11223344)),
+    boot("random-words-that-are-shared", "of which there is one without partitions", draws(4, 8, lw(A1, S1)) * 2,
+         script=b"random 11223344 55667788", text="""
+        ==
+        slot 0 - terminated %d turns 31 restarts 0
+        slot 1 - terminated %d turns 31 restarts 0
+        leds 0000
+        end done steps 64 time 62
+    """ % (0x11223344, 0x55667788)),
+    boot("storage-faults-of-two", "the first request of each slot fails", storage_reads([(0, 4)], nop) * 2,
+         script=b"partition 40\nstorage 16\nstorage-fault 1", text="""
+        ==
+        slot 0 - terminated 1 turns 34 restarts 0
+        slot 1 - terminated 1 turns 34 restarts 0
+        leds 0000
+        end done steps 71 time 74
+    """),
+    boot("storage-faults-of-the-board", "and without partitions the first of all", storage_reads([(0, 4)], nop) * 2,
+         script=b"storage 16\nstorage-fault 1", text="""
+        ==
+        slot 0 - terminated 1 turns 34 restarts 0
+        slot 1 - terminated 0 turns 34 restarts 0
+        leds 0000
+        end done steps 70 time 68
+    """),
+    trace("uart-that-is-busy-for-another", "it is free for who did not use it", prints(b"p" * 8) + prints(b"pong"),
+          script=b"partition 50\nuart 1000", text="""
+        @6 0 call 1 00000001 00000001 20000078 00000000 = 00000082 00000000 00000000 00000000
+        @12 0 call 4 00000001 00000001 20000088 00000008 = 00000082 00000000 00000000 00000008
+        @18 0 call 2 00000001 00000001 00000008 00000000 = 00000080 00000001 00000008 00000000
+        @19 0 out 7070707070707070
+        @21 0 call 0 00000001 00000001 00000008 00000000
+        @56 1 call 1 00000001 00000001 20000108 00000000 = 00000082 00000000 00000000 00000000
+        @62 1 call 4 00000001 00000001 20000118 00000004 = 00000082 00000000 00000000 00000004
+        @68 1 call 2 00000001 00000001 00000004 00000000 = 00000080 00000001 00000004 00000000
+        @69 1 out 706f6e67
+        @71 1 call 0 00000001 00000001 00000004 00000000
+        @4073 1 call 6 00000000 00000004 00000000 00000000
+        @8023 0 call 6 00000000 00000008 00000000 00000000
+        ==
+        slot 0 - terminated 8 turns 27 restarts 0
+        slot 1 - terminated 4 turns 27 restarts 0
+        leds 0000
+        end done steps 220 time 8024
+    """),
+    # It is due at 45, and fires at 480, where the next window of its slot begins. Time passes once from 33 to 60.
+    boot("alarm-in-the-window-of-another", "it fires in the next window of its slot, and ends no wait of another",
+         rings_after(34) + NAPS, script=b"partition 30", text="""
+        ==
+        slot 0 - terminated 480 turns 20 restarts 0
+        slot 1 naps yielded turns 3 restarts 0
+        leds 0000
+        end done steps 40 time 485
+    """),
+    boot("alarm-in-the-own-window", "and at its tick where that lies in a window of its slot", rings_after(10) + EXIT_7,
+         script=b"partition 30", text="""
+        ==
+        slot 0 - terminated 21 turns 20 restarts 0
+        slot 1 - terminated 7 turns 4 restarts 0
+        leds 0000
+        end done steps 27 time 34
+    """),
+    tells("buttons-before-partition", "buttons may be said before it, and nobody presses them", 2, command(BUTTON, 0),
+          script=b"buttons 2\npartition 9"),
+]
+
 ACTS = [
     boot("act-stop-and-start", "a process that is stopped has no turn until it is started", BLINK,
          script=acts((2, "stop", "blink"), (10, "start", "blink")), text="""
@@ -1493,6 +1715,12 @@ SCRIPTS = [
 ] + [
     boot("slice-of-0", "a slice has one turn at least", EXIT_7, status=5,
          script=b"slice 0", text="script 1 out-of-range"),
+    boot("window-of-0", "a window has one tick at least", EXIT_7, status=5,
+         script=b"partition 0", text="script 1 out-of-range"),
+    boot("window-of-1000001", "and 1,000,000 at most", EXIT_7, status=5,
+         script=b"partition 1000001", text="script 1 out-of-range"),
+    boot("windows-twice", "the windows are said once", EXIT_7, status=5,
+         script=b"partition 4\npartition 4", text="script 2 repeated"),
     boot("leds-of-a-script", "a script says how many LEDs there are", b"", script=b"leds 6\n", text="""
         ==
         leds 000000
@@ -1575,6 +1803,15 @@ BAD_SCRIPTS = [
         ("an-act-at-no-time", "an act has its time", b"at x do stop blink", "1 bad-number"),
         ("an-act-before-the-last-event", "which never falls", b"at 5 input 41\nat 4 do stop blink", "2 order"),
         ("a-setting-after-an-act", "settings come before acts", b"at 5 do stop blink\nleds 4", "2 order"),
+        ("buttons-after-partition", "after time partitions there are no lines of buttons", b"partition 4\nbuttons 2",
+         "2 unknown-word"),
+        ("a-press-after-partition", "whatever else is wrong with them", b"partition 4\nat x press 0", "2 unknown-word"),
+        ("a-release-after-partition", "though buttons were said before", b"buttons 1\npartition 4\nat 5 release 0",
+         "3 unknown-word"),
+        ("an-act-after-partition", "nor of an operator", b"partition 4\nat 5 do stop blink", "2 unknown-word"),
+        ("partition-after-an-event", "and these come before events", b"at 5 input 41\npartition 4", "2 order"),
+        ("partition-of-nothing", "a window has a length", b"partition", "1 words"),
+        ("partition-of-a-name", "which is a number", b"partition four", "1 bad-number"),
         ("input-of-65-bytes", "at most 64 bytes come in at a time", b"at 5 input " + b"41" * 65, "1 too-many"),
     ]
 ]
@@ -1939,6 +2176,19 @@ README = [
         leds 0000
         end done steps 12 time 12
     """),
+    readme("trace-of-three-applications-in-windows", "each slot has three ticks of every 48, and a share of RAM",
+           "./tock trace examples/three.bin examples/windows.script --turns 1000", """
+        @4 1 denied store 80001100 no-region
+        @8 2 call 5 00000003 80002000 00000400 80002100 = 00000081 80002400 00000400 80002100
+        @48 0 call 6 00000000 00000007 00000400 80000100
+        @56 2 call 6 00000000 80002400 00000400 80002100
+        ==
+        slot 0 hello terminated 7 turns 4 restarts 0
+        slot 1 stray faulted store 80001100 no-region turns 2 restarts 0
+        slot 2 memop terminated 2147492864 turns 6 restarts 0
+        leds 0000
+        end done steps 28 time 57
+    """),
     readme("list-of-three-applications", "padding is listed too", "./tock list examples/three.bin", """
         object 0 60 app hello
         object 60 52 app stray
@@ -1964,7 +2214,9 @@ README = [
 
 # The other applications in C. Their texts were computed by a model of the kernel, the devices and the round robin,
 # apart from the program, over the disassembly of the images as they are kept.
-VICTIMS = "my secret is as it was\n" * 3
+VICTIM_SAYS = "my secret is as it was\n"
+VICTIMS = VICTIM_SAYS * 3
+MINE = "all time and the line are mine, all time and the line are mine\n"
 VICTIMS_LINE = "slot 0 victim terminated 0 turns 2044 restarts 0\n"
 
 APPLICATIONS = [
@@ -2069,11 +2321,43 @@ slot 1 spy faulted load 80000400 no-region turns 369 restarts 0
 leds 0000
 end done steps 2429 time 2645
 """),
+    kept("lanes", "with time partitions each slot reads all that comes in, and draws the script's random words from the first",
+         "lanes", "lanes", """
+        hi
+        hi
+        443322118877
+        443322118877
+        ccbbaa99
+        ccbbaa99
+        ==
+        slot 0 echo yielded turns 155 restarts 0
+        slot 1 random terminated 1 turns 1133 restarts 0
+        slot 2 echo yielded turns 155 restarts 0
+        slot 3 random terminated 1 turns 1133 restarts 0
+        leds 0000
+        end done steps 2635 time 17641
+    """),
+    kept("beside-quiet", "under time partitions the victim has a slot's windows, here beside one that ends at once",
+         "beside_quiet", "partition", VICTIMS + """\
+==
+slot 0 quiet terminated 0 turns 8 restarts 0
+slot 1 victim terminated 0 turns 2044 restarts 0
+leds 0000
+end done steps 2128 time 32868
+"""),
+    kept("beside-hostile", "and here beside one that wants all time and the line, at the same times",
+         "beside_hostile", "partition", MINE * 2 + VICTIM_SAYS + MINE + VICTIM_SAYS * 2 + MINE * 6 + """\
+==
+slot 0 hostile faulted store 80001000 no-region turns 7200 restarts 2
+slot 1 victim terminated 0 turns 2044 restarts 0
+leds 0000
+end done steps 9516 time 120108
+"""),
 ]
 
 # What examples/tour runs, in its order.
 TOUR = ["greet", "echo-in-c", "blink", "clock", "doze", "press", "logger", "random-in-c", "trespass", "applications-in-c", "permissions",
-        "crash", "victim", "spied"]
+        "crash", "victim", "spied", "lanes", "beside-quiet", "beside-hostile"]
 
 # What the tool writes of an image is what the builder of objects makes of the changed object.
 TWO_NAMES = app(CODE_7, name="blink", elements=[package_name_tlv("other")])
@@ -2115,6 +2399,8 @@ MADE = [
     makes("pack-twice", "objects one after another", "pack flash flash", EXIT_7, EXIT_7 + EXIT_7),
     makes("pack-without-the-rest", "bytes that are no object are left out", "pack flash script", EXIT_7 + bytes(20),
           EXIT_7 + BLINK, BLINK + b"rest"),
+    makes("pack-a-bad-object", "a bad object is packed as any other", "pack flash", BAD_CHECKSUM + EXIT_7,
+          BAD_CHECKSUM + EXIT_7),
     makes("pack-nothing", "a file without objects adds nothing", "pack flash", b"no object", b""),
     makes("pack-64-files", "there may be 64 files", "pack" + " flash" * 64, EXIT_7, EXIT_7 * 64),
     makes("pack-up-to-the-limit", "and 1,048,576 bytes", "pack flash flash", HALF, HALF + HALF),
@@ -2151,5 +2437,5 @@ COMMAND_LINES = [
                "boot", "flash", "script", "--turns", b"\xff"),
 ]
 
-CASES = RUNS + DENIALS + INSTRUCTIONS + CALLS + SWAPS + YIELDS + ALARMS + WAITS + READABLES + CONSOLES + LEDS + BUTTONS + RANDOMS + STORAGES + SEVERAL + IMAGES + ACTS + SCRIPTS + BAD_SCRIPTS + FILES + TRACES + SOAKS
+CASES = RUNS + DENIALS + INSTRUCTIONS + CALLS + SWAPS + YIELDS + ALARMS + WAITS + READABLES + CONSOLES + LEDS + BUTTONS + RANDOMS + STORAGES + SEVERAL + IMAGES + PARTITIONS + ACTS + SCRIPTS + BAD_SCRIPTS + FILES + TRACES + SOAKS
 CASES += MADE + README + APPLICATIONS + COMMAND_LINES

@@ -6,22 +6,23 @@ is named by itself stands there, and the rest of its crate where the crate is na
 
 # The contract that the page is about, and how many lines a reader has to believe at most: what stands today fits.
 HEADLINE = ("tock_cli/serve.rt", "serve")
-LIMIT = 4350
+LIMIT = 4500
 
 SECTIONS = [
     ("What the program promises", [
-        "tock_cli/Served", "tock_cli/Refusals", "tock_cli/Causes", "tock_cli/Comes", "tk_outside"]),
-    ("The command line", ["tock_cli/Words", "decimal_number"]),
+        "tool_answers/Served", "tool_words/Refusals", "tool_tasks/Causes", "tool_tasks/Comes", "tk_outside"]),
+    ("The command line", ["tool_words/Words", "decimal_number"]),
     ("The text of a run", [
-        "board_runs/RunText", "board_report", "kernel_model/Shown", "process_record/Name", "process_record/Emit",
+        "run_text/RunText", "board_report", "kernel_model/Shown", "process_record/Name", "process_record/Emit",
         "process_record/Summary", "process_record/Lines"]),
     ("What holds of the run", [
-        "tock_cli/Accounts", "board_opening/Certified", "board_opening/Alone", "kernel_model/Accounts",
+        "tool_answers/Accounts", "board_opening/Certified", "board_opening/Alone", "kernel_model/Accounts",
         "kernel_model/Causes", "kernel_model/Accesses", "kernel_model/Prints", "kernel_model/Refused",
         "kernel_model/Edges", "kernel_model/Console",
         "kernel_model/Replay", "kernel_model/Choices", "kernel_model/Histories", "process_model/Changes",
         "process_model/Flash", "process_model/Permission", "driver_model/Bytes", "rv32_model/Laws"]),
-    ("Runs by round robin", ["kernel_model/Run", "turn_scheduler"]),
+    ("What time partitions promise of it", ["board_partitions", "kernel_partitions"]),
+    ("Runs by round robin, and by windows", ["kernel_model/Run", "turn_scheduler", "partition_turns"]),
     ("The opening world, and one step", ["board_opening/Opening", "board_opening/Settings", "kernel_model/World"]),
     ("One process, and what happens to it", [
         "kernel_model/Record", "kernel_model/Turn", "process_record/Process", "process_record/Operator",
@@ -41,7 +42,7 @@ SECTIONS = [
 BOARD = ("board_core/board.rt", "Board")
 STEPS = [("board_core/board.rt", "step"), ("board_core/play.rt", "play")]
 # Files of functions that do nothing: the contract of each public one is a law.
-LAWS = ["board_opening/certified.rt", "board_opening/laws.rt"]
+LAWS = ["board_opening/certified.rt", "board_opening/laws.rt", "board_partitions/laws.rt", "kernel_partitions/laws.rt"]
 
 # What a reader is told before the contract, as it is no matter of definitions.
 PREMISES = """\

@@ -145,7 +145,7 @@ module _ (now time : ℕ) (times : List (Option ℕ)) (owns : List Own) (tell : 
 
       by_due : (b : Bool) → is_some (due_slot now owns) ≡ b → false ≡ is_some (due_slot now owns)
       by_due false f = sym f
-      by_due true f = absurd (not_now o e ahead ((law now owns).1 (is_true (is_some (due_slot now owns)) f)))
+      by_due true f = absurd (not_now o e ahead ((law None now owns).1 (is_true (is_some (due_slot now owns)) f)))
 
 -- of fresh times there is no nearest
 pub no_nearest : nearest_kept (replicate SLOT_COUNT None) ≡ None

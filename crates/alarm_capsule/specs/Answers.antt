@@ -9,7 +9,7 @@ use Rattle.grant_enter.specs.Homes.{Homes, own_of, ChangesOnly}
 use Rattle.driver_model.specs.Steps.{own_after, silently}
 use Rattle.driver_model.specs.Commands.{Commanded}
 use Rattle.driver_model.specs.Replies.{reply_of}
-use Rattle.driver_model.specs.Alarm.{answered, due_slot}
+use Rattle.driver_model.specs.Alarm.{answered, due_for}
 use Rattle.driver_requests.specs.Answers.{kinds}
 
 -- an answer and what is then the process's own, as what comes of a command; the alarm schedules nothing then, and asks
@@ -23,12 +23,12 @@ abbrev pub AlarmReplies : Commanded → Reply × Option CallRule → Own → Typ
 AlarmReplies command answer own =
     (answer ≡ reply_of command.answer) × (own ≡ own_after command.step) × (command.acts ≡ [])
 
--- The lowest slot whose alarm is due got its answer, and is told the tick, and nothing else changed; or none is due,
--- and nothing changed.
-abbrev pub AlarmAnswers : ℕ → Homes → Result Answer NotReady → Homes → Type 0
-AlarmAnswers now old (Err refusal) new = (due_slot now old.owns ≡ None) × (new ≡ old)
-AlarmAnswers now old (Ok answer) new =
-    (due_slot now old.owns ≡ Some answer.to.slot) × (answer.to.life ≡ (own_of old answer.to.slot).life)
+-- The lowest slot whose alarm is due, of those that are served, got its answer, and is told the tick, and nothing else
+-- changed; or none is due, and nothing changed.
+abbrev pub AlarmAnswers : Option ℕ → ℕ → Homes → Result Answer NotReady → Homes → Type 0
+AlarmAnswers only now old (Err refusal) new = (due_for only now old.owns ≡ None) × (new ≡ old)
+AlarmAnswers only now old (Ok answer) new =
+    (due_for only now old.owns ≡ Some answer.to.slot) × (answer.to.life ≡ (own_of old answer.to.slot).life)
     × (answer.kind ≡ kinds.alarmed now)
     × (own_of new answer.to.slot ≡ own_after (answered now (own_of old answer.to.slot)))
     × ChangesOnly answer.to.slot old new

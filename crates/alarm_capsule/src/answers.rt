@@ -5,7 +5,7 @@ ghost use Rattle.std.specs.List.{range_with_len};
 ghost use Rattle.std.specs.Option.{option_map};
 ghost use Rattle.grant_enter.specs.Homes.{own_of, ChangesOnly};
 ghost use Rattle.driver_requests.specs.Asking.{IsPresent};
-ghost use Rattle.driver_model.specs.Alarm.{answered, due_alarm, due_slot, has_due, is_due};
+ghost use Rattle.driver_model.specs.Alarm.{answered, due_alarm, due_for, due_slot, has_due, is_due};
 ghost use Rattle.driver_model.specs.Steps.{own_after};
 ghost use Rattle.alarm_capsule.specs.Answers.{AlarmAnswers};
 ghost use Rattle.alarm_capsule.specs.Due.{AlarmIsDue};
@@ -91,14 +91,25 @@ fn fire(home: &mut Home, due: &Due, now: u32)
     let _ = alarms().visit(home, due.id, fire);
 }
 
-/// The alarm of the lowest slot whose alarm is due at a tick of the clock fires. The answer is
-/// whose it was, and the tick.
-#[inline(always)]
-pub(crate) fn fire_first(home: &mut Home, now: u32) -> Result<Answer, NotReady>
-    requires dropped { All (λ own. own.inbox.dropped + 1 < 2 ^ 32) home.old.owns }
-    ensures { AlarmAnswers now home.old result home.new }
+/// The alarm that is due in the lowest slot, or in the one slot that is served.
+fn due_for(home: &Home, now: u32, only: Option<Slot>) -> Option<Due>
+    ensures slot { option_map (λ due. due.id.slot) result ≡ due_for only now home.now.owns }
+    ensures due { IfSome result (λ due. AlarmIsDue now due.id.slot home.now due) }
 {
-    let Some(due) = first_due(home, now) else {
+    match only {
+        None => first_due(home, now),
+        Some(slot) => due_in(home, slot, now),
+    }
+}
+
+/// The alarm of the lowest slot whose alarm is due at a tick of the clock fires, or that of the one
+/// slot that is served. The answer is whose it was, and the tick.
+#[inline(always)]
+pub(crate) fn fire_first(home: &mut Home, now: u32, only: Option<Slot>) -> Result<Answer, NotReady>
+    requires dropped { All (λ own. own.inbox.dropped + 1 < 2 ^ 32) home.old.owns }
+    ensures { AlarmAnswers only now home.old result home.new }
+{
+    let Some(due) = due_for(home, now, only) else {
         return Err(NotReady);
     };
     fire(home, &due, now);

@@ -11,7 +11,7 @@ use board_devices::Answer;
 use driver_model::reply_of;
 use grant_enter::Home;
 use syscall_abi::Reply;
-use tk_base::{CallRule, NotReady, ProcessId};
+use tk_base::{CallRule, NotReady, ProcessId, Slot};
 
 /// The alarm. All that it keeps lies in the grants of processes.
 #[derive(Clone, Copy, Debug, PartialEq, Eq)]
@@ -44,18 +44,23 @@ impl AlarmCapsule {
         reply_of(obey(home, now, id, number, a2, a3))
     }
 
-    /// The alarm of the lowest slot whose alarm is due at a tick of the clock fires: it is
-    /// disarmed, the clock is shown as by command 2, and upcall 0 is scheduled with that tick and
+    /// The alarm of the lowest slot whose alarm is due at a tick of the clock fires, or that of the
+    /// one slot which is served: it is disarmed, the clock is shown as by command 2, and upcall 0 is scheduled with that tick and
     /// its expiration. The answer is whose alarm it was, and the tick. [`NotReady`] comes exactly
-    /// where no alarm of a process that lives is due, and then nothing changes. Nothing of another
+    /// where no alarm of a process that lives and is served is due, and then nothing changes. Nothing of another
     /// slot changes.
     // Inlined, an answer that its caller does not read is not made.
     #[inline(always)]
-    pub fn answer(&mut self, home: &mut Home, now: u32) -> Result<Answer, NotReady>
+    pub fn answer(
+        &mut self,
+        home: &mut Home,
+        now: u32,
+        only: Option<Slot>,
+    ) -> Result<Answer, NotReady>
         requires dropped { All (λ own. own.inbox.dropped + 1 < 2 ^ 32) home.old.owns }
-        ensures { AlarmAnswers now home.old result home.new }
+        ensures { AlarmAnswers only now home.old result home.new }
     {
-        fire_first(home, now)
+        fire_first(home, now, only)
     }
 
     /// The process of an id ended, or starts again. Its alarm went with its grant, and nothing

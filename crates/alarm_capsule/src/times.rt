@@ -1,10 +1,11 @@
 //! When the alarms become due.
-ghost use Rattle.std.specs.Prelude.{◌≡◌, ◌+◌, ◌≤◌, ◌^◌, None, is_some, length, replicate};
+ghost use Rattle.std.specs.Prelude.{◌≡◌, ◌+◌, ◌≤◌, ◌^◌, None, Some, is_some, length, replicate};
 ghost use Rattle.std.specs.Prelude.{slice_get, slice_index_or, slice_set, option_map};
 ghost use Rattle.tk_base.specs.declared.limits.TheConstants.{SLOT_COUNT};
 ghost use Rattle.grant_enter.specs.Homes.{own_of};
 ghost use Rattle.driver_requests.specs.Asking.{IsPresent};
-ghost use Rattle.driver_model.specs.Alarm.{alarm_in, due_slot, nearer, next_left, ticks_left};
+ghost use Rattle.driver_model.specs.Alarm.{alarm_in, due_for, due_slot, left_for, nearer, next_left};
+ghost use Rattle.driver_model.specs.Alarm.{ticks_left};
 ghost use Rattle.driver_model.specs.Alarm.{ticks_left_in};
 ghost use Rattle.alarm_capsule.specs.Times.{AllTell, OthersTell, Tells, nearest_kept};
 
@@ -144,9 +145,30 @@ impl AlarmTimes {
         }
     }
 
-    /// Whether the alarm of a process that lives is due at a time at which the clock shows `now`. It
-    /// asks that the times that are kept tell of all alarms.
-    pub fn is_due(&self, home: &Home, now: u32, time: u64) -> bool
+    /// Whether the alarm of a process that lives is due at a time at which the clock shows `now`, of
+    /// any or of that in the one slot which is served. It asks that the times that are kept tell of
+    /// all alarms.
+    pub fn is_due(&self, home: &Home, now: u32, time: u64, only: Option<Slot>) -> bool
+        requires { AllTell now time self.now home.now.owns }
+        ensures { result ≡ is_some (due_for only now home.now.owns) }
+    {
+        match only {
+            None => self.is_one_due(home, now, time),
+            Some(slot) => self.is_due_in(home, slot, now, time),
+        }
+    }
+
+    /// Whether that of the process in a slot is.
+    fn is_due_in(&self, home: &Home, slot: Slot, now: u32, time: u64) -> bool
+        requires { AllTell now time self.now home.now.owns }
+        ensures { result ≡ is_some (due_for (Some slot) now home.now.owns) }
+    {
+        an_alarm_is_due_where_no_ticks_are_left();
+        matches!(self.left_in(home, slot, now, time), Some(0))
+    }
+
+    /// Whether that of any is.
+    fn is_one_due(&self, home: &Home, now: u32, time: u64) -> bool
         requires { AllTell now time self.now home.now.owns }
         ensures { result ≡ is_some (due_slot now home.now.owns) }
     {
@@ -171,9 +193,21 @@ impl AlarmTimes {
     }
 
     /// How many ticks from `now` on, which the clock shows at a time, the next alarm of a process
-    /// that lives becomes due: 0 where one is due then. None exactly where no process that lives
-    /// has an alarm armed. It asks that the times that are kept tell of all alarms.
-    pub fn next_due(&self, home: &Home, now: u32, time: u64) -> Option<u32>
+    /// that lives becomes due, of any or of that in the one slot which is served: 0 where one is due
+    /// then. None exactly where no process that lives and is served has an alarm armed. It asks that
+    /// the times that are kept tell of all alarms.
+    pub fn next_due(&self, home: &Home, now: u32, time: u64, only: Option<Slot>) -> Option<u32>
+        requires { AllTell now time self.now home.now.owns }
+        ensures { result ≡ left_for only now home.now.owns }
+    {
+        match only {
+            None => self.next_of_any(home, now, time),
+            Some(slot) => self.left_in(home, slot, now, time),
+        }
+    }
+
+    /// The same of any.
+    fn next_of_any(&self, home: &Home, now: u32, time: u64) -> Option<u32>
         requires { AllTell now time self.now home.now.owns }
         ensures { result ≡ next_left now home.now.owns }
     {

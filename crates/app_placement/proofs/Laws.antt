@@ -3,6 +3,7 @@ use Rattle.std.proofs.Common.{◌≡◌, ℕ, zero, suc, ◌+◌, ◌%◌, ◌<�
 use Rattle.std.proofs.Common.{◌∷◌, length, Option, Some, None, Result, Ok, Err, IfOk, All, AllPairs, take, get_or}
 use Rattle.std.proofs.Common.{is_ok, option_map, refl, sym, ap, ◌∙◌, subst, arith}
 use Rattle.std.specs.List.{count_by}
+use Rattle.std.proofs.lemmas.Bool.{leb-false, ltb-false}
 use Rattle.std.proofs.lemmas.Bool.Decides.{nat_tests}
 use Rattle.std.proofs.lemmas.List.Elements.{All-nil, All-cons, All-weaker}
 use Rattle.std.proofs.lemmas.List.Sums.{sum_by-cons}
@@ -16,33 +17,54 @@ use Rattle.flash_walk.specs.Image.{size_at, object_bytes}
 use Rattle.app_placement.specs.declared.application.Application.{Application}
 use Rattle.app_placement.specs.declared.placed.Filled.{Filled}
 use Rattle.app_placement.specs.declared.placed.Placed.{Placed}
+use Rattle.app_placement.specs.declared.placed.Room.{Room}
 use Rattle.app_placement.proofs.Objects.{IsFound, asked_of_found}
+use Rattle.app_placement.proofs.Shares.{shares_fit, share_aligned}
 use Rattle.app_placement.specs.Applications.{application_of, application_in}
 use Rattle.tbf_headers.specs.Meaning.{header_reading}
-use Rattle.app_placement.specs.Placement.{Place, block_length, block_start, is_start_taken, extents, place_of}
+use Rattle.app_placement.specs.Placement.{Place, block_length, block_start, is_start_taken, extents, room_of}
 use Rattle.app_placement.specs.Placement.{filled_after, places_from, placements, LiesInRam, LiesBefore, LiesInFlash}
-use Rattle.app_placement.specs.Placement.{IsAccessible, IsLaidOut, is_placed, AreNumbered}
+use Rattle.app_placement.specs.Placement.{place_of, IsAccessible, IsLaidOut, is_placed, AreNumbered}
 
 -- how far RAM and the slots can be filled
-pub record IsFilled (ram : ℕ) (filled : Filled) : Type 0 where
+pub record IsFilled (partition : Bool) (ram : ℕ) (filled : Filled) : Type 0 where
   pub from : RAM_START ≤ filled.last_end
   pub to : filled.last_end ≤ RAM_START + ram
   pub aligned : filled.last_end % 8 ≡ 0
   pub few : filled.count ≤ SLOT_COUNT
+  pub below : filled.last_end ≤ (room_of partition ram filled).from
+
+-- where the next block may lie there is nothing yet, and RAM does not end
+record IsRoom (ram last_end : ℕ) (room : Room) : Type 0 where
+  after : last_end ≤ room.from
+  aligned : room.from % 8 ≡ 0
+  within : room.to ≤ RAM_START + ram
+
+next_room : (partition : Bool) (ram : ℕ) (filled : Filled) → IsFilled partition ram filled → filled.count < SLOT_COUNT
+    → IsRoom ram filled.last_end (room_of partition ram filled)
+next_room true ram filled f free = record {
+  after = f.below;
+  aligned = share_aligned ram filled.count;
+  within = omega (arith, shares_fit ram (filled.count + 1) (omega (arith, free)));
+}
+next_room false ram filled f free = record { after = f.below; aligned = f.aligned; within = omega arith }
 
 -- a place that follows those before it
-record Follows (ram last_end count : ℕ) (q : Place) : Type 0 where
-  slot : q.0 ≡ count
-  free : count < SLOT_COUNT
-  start : last_end ≤ q.1.start
+record Follows (partition : Bool) (ram : ℕ) (filled : Filled) (q : Place) : Type 0 where
+  slot : q.0 ≡ filled.count
+  free : filled.count < SLOT_COUNT
+  start : filled.last_end ≤ q.1.start
   block : q.1.start ≤ q.1.end
+  room : q.1.end ≤ (room_of partition ram filled).to
   end : q.1.end ≤ RAM_START + ram
   aligned : q.1.end % 8 ≡ 0
 
-start_not_taken : (last_end : ℕ) (fixed : Option ℕ) → last_end % 8 ≡ 0 → is_start_taken last_end fixed ≡ false
-    → (last_end ≤ block_start last_end fixed) × (block_start last_end fixed % 8 ≡ 0)
-start_not_taken last_end None h e = (omega arith, h)
-start_not_taken last_end (Some fixed) h e = (grind (arith, nat_tests), grind (arith, nat_tests))
+start_not_taken : (partition : Bool) (from : ℕ) (fixed : Option ℕ) → from % 8 ≡ 0
+    → is_start_taken partition from fixed ≡ false
+    → (from ≤ block_start from fixed) × (block_start from fixed % 8 ≡ 0)
+start_not_taken partition from None h e = (omega arith, h)
+start_not_taken true from (Some fixed) h e = (grind (arith, nat_tests), grind (arith, nat_tests))
+start_not_taken false from (Some fixed) h e = (grind (arith, nat_tests), grind (arith, nat_tests))
 
 block_end-aligned : (start minimum : ℕ) → start % 8 ≡ 0 → (start + block_length minimum) % 8 ≡ 0
 block_end-aligned start minimum h = omega arith
@@ -52,55 +74,76 @@ ok_of_cond : (P : Place → Type 0) (b : Bool) (fault : PlaceFault) (r : Result 
 ok_of_cond P true fault r h = tt
 ok_of_cond P false fault r h = h refl
 
-place_of-follows : (ram : ℕ) (filled : Filled) (app : Application) → IsFilled ram filled
-    → IfOk (place_of ram filled app) (Follows ram filled.last_end filled.count)
+place_of-follows : (partition : Bool) (ram : ℕ) (filled : Filled) (app : Application) → IsFilled partition ram filled
+    → IfOk (place_of partition ram filled app) (Follows partition ram filled)
 unfolding place_of
-place_of-follows ram filled app f =
-    let start = block_start filled.last_end app.fixed_start in
+place_of-follows partition ram filled app f =
+    let room = room_of partition ram filled in
+    let start = block_start room.from app.fixed_start in
     let end = start + block_length app.minimum_ram in
-    let P : Place → Type 0 = Follows ram filled.last_end filled.count in
+    let P : Place → Type 0 = Follows partition ram filled in
     ok_of_cond P (nat_le SLOT_COUNT filled.count) NoSlot _ (λ free.
-    ok_of_cond P (is_start_taken filled.last_end app.fixed_start) FixedTaken _ (λ taken.
-    ok_of_cond P (nat_lt (RAM_START + ram) end) NoRoom _ (λ room.
-    let s = start_not_taken filled.last_end app.fixed_start f.aligned taken in
+    ok_of_cond P (is_start_taken partition room.from app.fixed_start) FixedTaken _ (λ taken.
+    ok_of_cond P (nat_lt room.to end) NoRoom _ (λ fits.
+    let few = leb-false SLOT_COUNT filled.count free in
+    let r = next_room partition ram filled f (omega (arith, few)) in
+    let s = start_not_taken partition room.from app.fixed_start r.aligned taken in
+    let last = ltb-false room.to end fits in
     record {
       slot = refl;
-      free = grind (arith, nat_tests);
-      start = s.0;
+      free = omega (arith, few);
+      start = omega (arith, s.0, r.after);
       block = omega arith;
-      end = grind (arith, nat_tests);
+      room = omega (arith, last);
+      end = omega (arith, last, r.within);
       aligned = block_end-aligned start app.minimum_ram s.1;
     })))
 
+-- the next room begins where that of the place ends, or later
+below_after : (partition : Bool) (ram : ℕ) (filled : Filled) (q : Place) → q.1.end ≤ (room_of partition ram filled).to
+    → q.1.end ≤ (room_of partition ram (filled_after filled (Ok q))).from
+below_after true ram filled q h = h
+below_after false ram filled q h = omega arith
+
 -- what is filled afterwards
-pub record FilledMore (ram : ℕ) (before after : Filled) : Type 0 where
-  pub filled : IsFilled ram after
+pub record FilledMore (partition : Bool) (ram : ℕ) (before after : Filled) : Type 0 where
+  pub filled : IsFilled partition ram after
   pub end : before.last_end ≤ after.last_end
   pub count : before.count ≤ after.count
 
-filled_after-more : (ram : ℕ) (filled : Filled) (r : Result Place PlaceFault) → IsFilled ram filled
-    → IfOk r (Follows ram filled.last_end filled.count) → FilledMore ram filled (filled_after filled r)
-filled_after-more ram filled (Err fault) f h = record { filled = f; end = omega arith; count = omega arith }
-filled_after-more ram filled (Ok q) f h = record {
-  filled = record { from = omega arith; to = omega arith; aligned = h.aligned; few = omega arith };
+filled_after-more : (partition : Bool) (ram : ℕ) (filled : Filled) (r : Result Place PlaceFault)
+    → IsFilled partition ram filled
+    → IfOk r (Follows partition ram filled) → FilledMore partition ram filled (filled_after filled r)
+filled_after-more partition ram filled (Err fault) f h = record { filled = f; end = omega arith; count = omega arith }
+filled_after-more partition ram filled (Ok q) f h = record {
+  filled = record {
+    from = omega arith;
+    to = omega arith;
+    aligned = h.aligned;
+    few = omega arith;
+    below = below_after partition ram filled q h.room;
+  };
   end = omega arith;
   count = omega arith;
 }
 
-pub filled_after-filled : (ram : ℕ) (filled : Filled) (app : Application) → IsFilled ram filled
-    → FilledMore ram filled (filled_after filled (place_of ram filled app))
-filled_after-filled ram filled app f =
-    filled_after-more ram filled (place_of ram filled app) f (place_of-follows ram filled app f)
+pub filled_after-filled : (partition : Bool) (ram : ℕ) (filled : Filled) (app : Application)
+    → IsFilled partition ram filled
+    → FilledMore partition ram filled (filled_after filled (place_of partition ram filled app))
+filled_after-filled partition ram filled app f =
+    filled_after-more partition ram filled (place_of partition ram filled app) f
+    (place_of-follows partition ram filled app f)
 
 -- a place lies in RAM above an end, in a slot not below a number
 abbrev LiesAbove : ℕ → ℕ → ℕ → Placed → Type 0
 LiesAbove ram last_end count p =
     IfOk p.place (λ q. (last_end ≤ q.1.start) × (q.1.end ≤ RAM_START + ram) × (count ≤ q.0))
 
-LiesAbove-first : (ram last_end count offset : ℕ) (r : Result Place PlaceFault) → IfOk r (Follows ram last_end count)
-    → LiesAbove ram last_end count (record { offset = offset; place = r })
-LiesAbove-first ram last_end count offset (Err fault) h = tt
-LiesAbove-first ram last_end count offset (Ok q) h = (h.start, h.end, omega arith)
+LiesAbove-first : (partition : Bool) (ram : ℕ) (filled : Filled) (offset : ℕ) (r : Result Place PlaceFault)
+    → IfOk r (Follows partition ram filled)
+    → LiesAbove ram filled.last_end filled.count (record { offset = offset; place = r })
+LiesAbove-first partition ram filled offset (Err fault) h = tt
+LiesAbove-first partition ram filled offset (Ok q) h = (h.start, h.end, omega arith)
 
 LiesAbove-less : (ram end end' count count' : ℕ) (p : Placed) → end ≤ end' → count ≤ count'
     → LiesAbove ram end' count' p → LiesAbove ram end count p
@@ -111,54 +154,71 @@ LiesAbove-less ram end end' count count' p e k h = above p.place h where
   above (Err fault) h = tt
   above (Ok q) h = (omega (arith, h.0), h.1, omega (arith, h.2))
 
-places_from-above : (ram : ℕ) (filled : Filled) (apps : List Application) → IsFilled ram filled
-    → All (LiesAbove ram filled.last_end filled.count) (places_from ram filled apps)
+places_from-above : (partition : Bool) (ram : ℕ) (filled : Filled) (apps : List Application)
+    → IsFilled partition ram filled
+    → All (LiesAbove ram filled.last_end filled.count) (places_from partition ram filled apps)
 unfolding places_from
-places_from-above ram filled [] f = All-nil _
-places_from-above ram filled (app ∷ apps) f =
-    let r = place_of ram filled app in
-    let more : FilledMore ram filled (filled_after filled r) = filled_after-filled ram filled app f in
+places_from-above partition ram filled [] f = All-nil _
+places_from-above partition ram filled (app ∷ apps) f =
+    let r = place_of partition ram filled app in
+    let more : FilledMore partition ram filled (filled_after filled r) =
+    filled_after-filled partition ram filled app f in
     All-cons (LiesAbove ram filled.last_end filled.count) (record { offset = app.offset; place = r })
-    (places_from ram (filled_after filled r) apps)
-    (LiesAbove-first ram filled.last_end filled.count app.offset r (place_of-follows ram filled app f))
+    (places_from partition ram (filled_after filled r) apps)
+    (LiesAbove-first partition ram filled app.offset r (place_of-follows partition ram filled app f))
     (All-weaker (LiesAbove ram (filled_after filled r).last_end (filled_after filled r).count)
     (LiesAbove ram filled.last_end filled.count)
     (λ p h. LiesAbove-less ram filled.last_end (filled_after filled r).last_end filled.count
     (filled_after filled r).count p more.end more.count h)
-    (places_from ram (filled_after filled r) apps)
-    (places_from-above ram (filled_after filled r) apps more.filled))
+    (places_from partition ram (filled_after filled r) apps)
+    (places_from-above partition ram (filled_after filled r) apps more.filled))
 
 -- one that is placed lies before one that lies above what is filled after it
-LiesBefore-above : (ram : ℕ) (filled : Filled) (offset : ℕ) (r : Result Place PlaceFault)
-    → IfOk r (Follows ram filled.last_end filled.count) → (p : Placed)
+LiesBefore-above : (partition : Bool) (ram : ℕ) (filled : Filled) (offset : ℕ) (r : Result Place PlaceFault)
+    → IfOk r (Follows partition ram filled) → (p : Placed)
     → LiesAbove ram (filled_after filled r).last_end (filled_after filled r).count p
     → LiesBefore (record { offset = offset; place = r }) p
-LiesBefore-above ram filled offset (Err fault) h p above = tt
-LiesBefore-above ram filled offset (Ok a) h p above = before p.place above where
+LiesBefore-above partition ram filled offset (Err fault) h p above = tt
+LiesBefore-above partition ram filled offset (Ok a) h p above = before p.place above where
   before : (s : Result Place PlaceFault)
       → IfOk s (λ q. (a.1.end ≤ q.1.start) × (q.1.end ≤ RAM_START + ram) × (filled.count + 1 ≤ q.0))
       → IfOk s (λ b. (a.0 < b.0) × (a.1.end ≤ b.1.start))
   before (Err fault) h' = tt
   before (Ok b) h' = (omega (arith, h.slot, h'.2), h'.0)
 
-places_from-apart : (ram : ℕ) (filled : Filled) (apps : List Application) → IsFilled ram filled
-    → AllPairs LiesBefore (places_from ram filled apps)
+places_from-apart : (partition : Bool) (ram : ℕ) (filled : Filled) (apps : List Application)
+    → IsFilled partition ram filled
+    → AllPairs LiesBefore (places_from partition ram filled apps)
 unfolding places_from
-places_from-apart ram filled [] f = λ i j d i<j j<n. absurd (omega arith)
-places_from-apart ram filled (app ∷ apps) f =
-    let r = place_of ram filled app in
-    let more : FilledMore ram filled (filled_after filled r) = filled_after-filled ram filled app f in
+places_from-apart partition ram filled [] f = λ i j d i<j j<n. absurd (omega arith)
+places_from-apart partition ram filled (app ∷ apps) f =
+    let r = place_of partition ram filled app in
+    let more : FilledMore partition ram filled (filled_after filled r) =
+    filled_after-filled partition ram filled app f in
     let first : Placed = record { offset = app.offset; place = r } in
-    AllPairs-cons LiesBefore first (places_from ram (filled_after filled r) apps)
+    AllPairs-cons LiesBefore first (places_from partition ram (filled_after filled r) apps)
     (All-weaker (LiesAbove ram (filled_after filled r).last_end (filled_after filled r).count) (LiesBefore first)
-    (λ p h. LiesBefore-above ram filled app.offset r (place_of-follows ram filled app f) p h)
-    (places_from ram (filled_after filled r) apps)
-    (places_from-above ram (filled_after filled r) apps more.filled))
-    (places_from-apart ram (filled_after filled r) apps more.filled)
+    (λ p h. LiesBefore-above partition ram filled app.offset r (place_of-follows partition ram filled app f) p h)
+    (places_from partition ram (filled_after filled r) apps)
+    (places_from-above partition ram (filled_after filled r) apps more.filled))
+    (places_from-apart partition ram (filled_after filled r) apps more.filled)
 
 -- nothing is filled at first
-pub none_filled : (ram : ℕ) → IsFilled ram (record { last_end = RAM_START; count = 0 })
-none_filled ram = record { from = omega arith; to = omega arith; aligned = refl; few = omega arith }
+pub none_filled : (partition : Bool) (ram : ℕ) → IsFilled partition ram (record { last_end = RAM_START; count = 0 })
+none_filled true ram = record {
+  from = omega arith;
+  to = omega arith;
+  aligned = refl;
+  few = omega arith;
+  below = omega arith;
+}
+none_filled false ram = record {
+  from = omega arith;
+  to = omega arith;
+  aligned = refl;
+  few = omega arith;
+  below = omega arith;
+}
 
 in_ram : (ram : ℕ) (p : Placed) → LiesAbove ram RAM_START 0 p → LiesInRam ram p
 in_ram ram p h = above p.place h where
@@ -169,14 +229,16 @@ in_ram ram p h = above p.place h where
   above (Ok q) h = (h.0, h.1)
 
 -- each block lies in RAM
-pub placements-in_ram : (ram : ℕ) (apps : List Application) → All (LiesInRam ram) (placements ram apps)
-placements-in_ram ram apps =
-    All-weaker (LiesAbove ram RAM_START 0) (LiesInRam ram) (λ p h. in_ram ram p h) (placements ram apps)
-    (places_from-above ram _ apps (none_filled ram))
+pub placements-in_ram : (partition : Bool) (ram : ℕ) (apps : List Application)
+    → All (LiesInRam ram) (placements partition ram apps)
+placements-in_ram partition ram apps =
+    All-weaker (LiesAbove ram RAM_START 0) (LiesInRam ram) (λ p h. in_ram ram p h) (placements partition ram apps)
+    (places_from-above partition ram _ apps (none_filled partition ram))
 
 -- each block lies apart from the others
-pub placements-apart : (ram : ℕ) (apps : List Application) → AllPairs LiesBefore (placements ram apps)
-placements-apart ram apps = places_from-apart ram _ apps (none_filled ram)
+pub placements-apart : (partition : Bool) (ram : ℕ) (apps : List Application)
+    → AllPairs LiesBefore (placements partition ram apps)
+placements-apart partition ram apps = places_from-apart partition ram _ apps (none_filled partition ram)
 
 -- what an application asks for in its object lies in flash
 accessible_in_flash : (flash : List ℕ) (f : Found) (offset from to : ℕ) → length flash ≤ FLASH_LIMIT → IsFound flash f
@@ -198,35 +260,38 @@ accessible_in_flash flash f offset from to short found e a =
       omega arith,
     )
 
-pub place_of-in_flash : (flash : List ℕ) (f : Found) (ram : ℕ) (filled : Filled) (app : Application)
+pub place_of-in_flash : (flash : List ℕ) (f : Found) (partition : Bool) (ram : ℕ) (filled : Filled) (app : Application)
     → length flash ≤ FLASH_LIMIT → IsFound flash f → app.offset ≡ f.offset
     → IsAccessible f.offset f.size app.flash_from app.flash_to
-    → LiesInFlash flash (record { offset = app.offset; place = place_of ram filled app })
+    → LiesInFlash flash (record { offset = app.offset; place = place_of partition ram filled app })
 unfolding place_of
-place_of-in_flash flash f ram filled app short found e a =
+place_of-in_flash flash f partition ram filled app short found e a =
     let lies = accessible_in_flash flash f app.offset app.flash_from app.flash_to short found e a in
     let P : Place → Type 0 = λ q. IsAccessible app.offset (size_at flash app.offset) q.1.flash_start q.1.flash_end
     × (app.offset + size_at flash app.offset ≤ length flash) × (q.1.flash_end ≤ RAM_START) in
+    let room = room_of partition ram filled in
+    let start = block_start room.from app.fixed_start in
     ok_of_cond P (nat_le SLOT_COUNT filled.count) NoSlot _ (λ free.
-    ok_of_cond P (is_start_taken filled.last_end app.fixed_start) FixedTaken _ (λ taken.
-    ok_of_cond P (nat_lt (RAM_START + ram) (block_start filled.last_end app.fixed_start + block_length app.minimum_ram))
-    NoRoom (Ok (filled.count, extents app (block_start filled.last_end app.fixed_start))) (λ room. lies)))
+    ok_of_cond P (is_start_taken partition room.from app.fixed_start) FixedTaken _ (λ taken.
+    ok_of_cond P (nat_lt room.to (start + block_length app.minimum_ram)) NoRoom
+    (Ok (filled.count, extents app start)) (λ fits. lies)))
 
 -- an application's memory is what its header asks for
-pub place_of-laid_out : (flash : List ℕ) (f : Found) (ram : ℕ) (filled : Filled) (app : Application) → IsFound flash f
-    → app.offset ≡ f.offset → application_of flash f ≡ Some app
-    → IsLaidOut flash (record { offset = app.offset; place = place_of ram filled app })
+pub place_of-laid_out : (flash : List ℕ) (f : Found) (partition : Bool) (ram : ℕ) (filled : Filled) (app : Application)
+    → IsFound flash f → app.offset ≡ f.offset → application_of flash f ≡ Some app
+    → IsLaidOut flash (record { offset = app.offset; place = place_of partition ram filled app })
 unfolding place_of
-place_of-laid_out flash f ram filled app found e h =
+place_of-laid_out flash f partition ram filled app found e h =
     let asked = asked_of_found flash f app found e h in
     let P : Place → Type 0 = λ q. option_map (λ (a : Application). extents a q.1.start)
     (application_in app.offset (header_reading (object_bytes flash app.offset))) ≡ Some q.1 in
-    let start = block_start filled.last_end app.fixed_start in (
+    let room = room_of partition ram filled in
+    let start = block_start room.from app.fixed_start in (
       asked.0,
       ok_of_cond P (nat_le SLOT_COUNT filled.count) NoSlot _ (λ free.
-          ok_of_cond P (is_start_taken filled.last_end app.fixed_start) FixedTaken _ (λ taken.
-          ok_of_cond P (nat_lt (RAM_START + ram) (start + block_length app.minimum_ram)) NoRoom
-          (Ok (filled.count, extents app start)) (λ room.
+          ok_of_cond P (is_start_taken partition room.from app.fixed_start) FixedTaken _ (λ taken.
+          ok_of_cond P (nat_lt room.to (start + block_length app.minimum_ram)) NoRoom
+          (Ok (filled.count, extents app start)) (λ fits.
           ap (option_map (λ (a : Application). extents a start)) asked.1))),
     )
 
@@ -249,49 +314,58 @@ AreNumberedFrom-cons n p places h hs (suc k) d lt =
     slot_is (get_or places k d).place (n + cond (is_placed p) 1 0 + count_by is_placed (take k places))
     (n + count_by is_placed (p ∷ take k places)) (sum_of_count n p (take k places)) (hs k d (omega arith))
 
-slot_of_follows : (ram last_end count : ℕ) (r : Result Place PlaceFault) → IfOk r (Follows ram last_end count)
-    → IfOk r (λ q. q.0 ≡ count)
-slot_of_follows ram last_end count (Err fault) h = tt
-slot_of_follows ram last_end count (Ok q) h = h.slot
+slot_of_follows : (partition : Bool) (ram : ℕ) (filled : Filled) (r : Result Place PlaceFault)
+    → IfOk r (Follows partition ram filled) → IfOk r (λ q. q.0 ≡ filled.count)
+slot_of_follows partition ram filled (Err fault) h = tt
+slot_of_follows partition ram filled (Ok q) h = h.slot
 
 count-filled_after : (filled : Filled) (r : Result Place PlaceFault)
     → (filled_after filled r).count ≡ filled.count + cond (is_ok r) 1 0
 count-filled_after filled (Err fault) = omega arith
 count-filled_after filled (Ok q) = refl
 
-places_from-numbered : (ram : ℕ) (filled : Filled) (apps : List Application) → IsFilled ram filled
-    → AreNumberedFrom filled.count (places_from ram filled apps)
+places_from-numbered : (partition : Bool) (ram : ℕ) (filled : Filled) (apps : List Application)
+    → IsFilled partition ram filled
+    → AreNumberedFrom filled.count (places_from partition ram filled apps)
 unfolding places_from
-places_from-numbered ram filled [] f = λ k d lt. absurd (omega arith)
-places_from-numbered ram filled (app ∷ apps) f =
-    let r = place_of ram filled app in
-    let more : FilledMore ram filled (filled_after filled r) = filled_after-filled ram filled app f in
+places_from-numbered partition ram filled [] f = λ k d lt. absurd (omega arith)
+places_from-numbered partition ram filled (app ∷ apps) f =
+    let r = place_of partition ram filled app in
+    let more : FilledMore partition ram filled (filled_after filled r) =
+    filled_after-filled partition ram filled app f in
     AreNumberedFrom-cons filled.count (record { offset = app.offset; place = r })
-    (places_from ram (filled_after filled r) apps)
-    (slot_of_follows ram filled.last_end filled.count r (place_of-follows ram filled app f))
-    (subst (λ (n : ℕ). AreNumberedFrom n (places_from ram (filled_after filled r) apps)) (count-filled_after filled r)
-    (places_from-numbered ram (filled_after filled r) apps more.filled))
+    (places_from partition ram (filled_after filled r) apps)
+    (slot_of_follows partition ram filled r (place_of-follows partition ram filled app f))
+    (subst (λ (n : ℕ). AreNumberedFrom n (places_from partition ram (filled_after filled r) apps))
+    (count-filled_after filled r)
+    (places_from-numbered partition ram (filled_after filled r) apps more.filled))
 
 -- the slots are taken in order
-pub placements-numbered : (ram : ℕ) (apps : List Application) → AreNumbered (placements ram apps)
-placements-numbered ram apps k d lt =
-    slot_is (get_or (placements ram apps) k d).place (0 + count_by is_placed (take k (placements ram apps)))
-    (count_by is_placed (take k (placements ram apps))) (omega arith)
-    (places_from-numbered ram _ apps (none_filled ram) k d lt)
+pub placements-numbered : (partition : Bool) (ram : ℕ) (apps : List Application)
+    → AreNumbered (placements partition ram apps)
+placements-numbered partition ram apps k d lt =
+    let places = placements partition ram apps in
+    slot_is (get_or places k d).place (0 + count_by is_placed (take k places)) (count_by is_placed (take k places))
+    (omega arith)
+    (places_from-numbered partition ram _ apps (none_filled partition ram) k d lt)
 
-places_from-few : (ram : ℕ) (filled : Filled) (apps : List Application) → IsFilled ram filled
-    → filled.count + count_by is_placed (places_from ram filled apps) ≤ SLOT_COUNT
+places_from-few : (partition : Bool) (ram : ℕ) (filled : Filled) (apps : List Application)
+    → IsFilled partition ram filled
+    → filled.count + count_by is_placed (places_from partition ram filled apps) ≤ SLOT_COUNT
 unfolding places_from
-places_from-few ram filled [] f = omega (arith, f.few)
-places_from-few ram filled (app ∷ apps) f =
-    let r = place_of ram filled app in
-    let more : FilledMore ram filled (filled_after filled r) = filled_after-filled ram filled app f in
-    let later = places_from-few ram (filled_after filled r) apps more.filled in
+places_from-few partition ram filled [] f = omega (arith, f.few)
+places_from-few partition ram filled (app ∷ apps) f =
+    let r = place_of partition ram filled app in
+    let more : FilledMore partition ram filled (filled_after filled r) =
+    filled_after-filled partition ram filled app f in
+    let later = places_from-few partition ram (filled_after filled r) apps more.filled in
     let sum = sum_of_count filled.count (record { offset = app.offset; place = r })
-    (places_from ram (filled_after filled r) apps) in
+    (places_from partition ram (filled_after filled r) apps) in
     let count = count-filled_after filled r in
     omega (arith, later, sum, count)
 
 -- no more are placed than there are slots
-pub placements-few : (ram : ℕ) (apps : List Application) → count_by is_placed (placements ram apps) ≤ SLOT_COUNT
-placements-few ram apps = let few = places_from-few ram _ apps (none_filled ram) in omega (arith, few)
+pub placements-few : (partition : Bool) (ram : ℕ) (apps : List Application)
+    → count_by is_placed (placements partition ram apps) ≤ SLOT_COUNT
+placements-few partition ram apps =
+    let few = places_from-few partition ram _ apps (none_filled partition ram) in omega (arith, few)

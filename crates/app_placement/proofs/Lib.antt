@@ -1,3 +1,4 @@
 mod Objects
+mod Shares
 mod Laws
 mod Steps

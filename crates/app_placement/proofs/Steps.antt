@@ -1,6 +1,6 @@
 -- One step of placing the applications among the objects that were found.
-use Rattle.std.proofs.Common.{◌≡◌, ℕ, ◌+◌, ◌<◌, ◌≤◌, List, [], ◌∷◌, ◌++◌, length, get_or, drop, Option, Some, None, sym}
-use Rattle.std.proofs.Common.{ap, ◌∙◌, append_assoc, add-one, arith}
+use Rattle.std.proofs.Common.{◌≡◌, ℕ, ◌+◌, ◌<◌, ◌≤◌, Bool, List, [], ◌∷◌, ◌++◌, length, get_or, drop, Option, Some}
+use Rattle.std.proofs.Common.{None, sym, ap, ◌∙◌, append_assoc, add-one, arith}
 use Rattle.std.specs.List.{filter_map, cons_option}
 use Rattle.std.proofs.lemmas.Grind.{common_steps}
 use Rattle.std.proofs.Math.Seq.{drop-cons}
@@ -18,25 +18,28 @@ filter_map-drop ask found i d h =
     ∙ ap (λ n. cons_option (ask (get_or found i d)) (filter_map ask (drop n found))) (sym (add-one i))
 
 -- what is left after an application
-pub left_after_one : (whole items : List Placed) (ram : ℕ) (filled : Filled) (ask : Found → Option Application)
-    (found : List Found) (i : ℕ) (d : Found) (app : Application) → i < length found → ask (get_or found i d) ≡ Some app
-    → items ++ places_from ram filled (filter_map ask (drop i found)) ≡ whole
-    → (items ++ record { offset = app.offset; place = place_of ram filled app } ∷ [])
-    ++ places_from ram (filled_after filled (place_of ram filled app)) (filter_map ask (drop (i + 1) found)) ≡ whole
+pub left_after_one : (whole items : List Placed) (partition : Bool) (ram : ℕ) (filled : Filled)
+    (ask : Found → Option Application) (found : List Found) (i : ℕ) (d : Found) (app : Application) → i < length found
+    → ask (get_or found i d) ≡ Some app
+    → items ++ places_from partition ram filled (filter_map ask (drop i found)) ≡ whole
+    → (items ++ record { offset = app.offset; place = place_of partition ram filled app } ∷ [])
+    ++ places_from partition ram (filled_after filled (place_of partition ram filled app))
+    (filter_map ask (drop (i + 1) found)) ≡ whole
 unfolding places_from
-left_after_one whole items ram filled ask found i d app h e left =
+left_after_one whole items partition ram filled ask found i d app h e left =
     append_assoc items _ _
-    ∙ ap (λ apps. items ++ places_from ram filled apps)
+    ∙ ap (λ apps. items ++ places_from partition ram filled apps)
     (sym (filter_map-drop ask found i d h ∙ ap (λ o. cons_option o (filter_map ask (drop (i + 1) found))) e))
     ∙ left
 
 -- what is left after an object that is no application
-pub left_after_none : (whole items : List Placed) (ram : ℕ) (filled : Filled) (ask : Found → Option Application)
-    (found : List Found) (i : ℕ) (d : Found) → i < length found → ask (get_or found i d) ≡ None
-    → items ++ places_from ram filled (filter_map ask (drop i found)) ≡ whole
-    → items ++ places_from ram filled (filter_map ask (drop (i + 1) found)) ≡ whole
-left_after_none whole items ram filled ask found i d h e left =
-    ap (λ apps. items ++ places_from ram filled apps)
+pub left_after_none : (whole items : List Placed) (partition : Bool) (ram : ℕ) (filled : Filled)
+    (ask : Found → Option Application) (found : List Found) (i : ℕ) (d : Found) → i < length found
+    → ask (get_or found i d) ≡ None
+    → items ++ places_from partition ram filled (filter_map ask (drop i found)) ≡ whole
+    → items ++ places_from partition ram filled (filter_map ask (drop (i + 1) found)) ≡ whole
+left_after_none whole items partition ram filled ask found i d h e left =
+    ap (λ apps. items ++ places_from partition ram filled apps)
     (sym (filter_map-drop ask found i d h ∙ ap (λ o. cons_option o (filter_map ask (drop (i + 1) found))) e))
     ∙ left
 
@@ -44,11 +47,12 @@ drop_all : (xs : List Found) (n : ℕ) → length xs ≤ n → drop n xs ≡ []
 drop_all xs n h = grind (arith, common_steps)
 
 -- nothing is left at the end
-pub whole_at_end : (whole items : List Placed) (ram : ℕ) (filled : Filled) (ask : Found → Option Application)
-    (found : List Found) (n : ℕ) → length found ≤ n
-    → items ++ places_from ram filled (filter_map ask (drop n found)) ≡ whole → items ≡ whole
+pub whole_at_end : (whole items : List Placed) (partition : Bool) (ram : ℕ) (filled : Filled)
+    (ask : Found → Option Application) (found : List Found) (n : ℕ) → length found ≤ n
+    → items ++ places_from partition ram filled (filter_map ask (drop n found)) ≡ whole → items ≡ whole
 unfolding places_from
-whole_at_end whole items ram filled ask found n h left =
+whole_at_end whole items partition ram filled ask found n h left =
     let none : drop n found ≡ [] = drop_all found n h in
-    let last : items ++ [] ≡ whole = ap (λ fs. items ++ places_from ram filled (filter_map ask fs)) (sym none) ∙ left in
+    let last : items ++ [] ≡ whole =
+    ap (λ fs. items ++ places_from partition ram filled (filter_map ask fs)) (sym none) ∙ left in
     grind (arith, common_steps)

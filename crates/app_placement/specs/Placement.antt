@@ -1,10 +1,10 @@
 -- Where applications are placed in RAM (Levy et al., SOSP 2017: the memory of a process is one block, with its
 -- grants at the end).
-use Rattle.std.specs.Prelude.{◌≡◌, ◌≤◌, ◌<◌, ℕ, ◌+◌, ◌*◌, ◌/◌, ◌%◌, ◌==◌, Bool, false, not, ◌||◌, nat_lt, nat_le}
-use Rattle.std.specs.Prelude.{if◌then◌else◌, List, [], ◌∷◌, length, take, count_by, slice_index_or, Option, Some, None}
-use Rattle.std.specs.Prelude.{option_map, Result, Ok, Err, is_ok, IfOk}
+use Rattle.std.specs.Prelude.{◌≡◌, ◌≤◌, ◌<◌, ℕ, ◌+◌, ◌*◌, ◌/◌, ◌%◌, ◌==◌, Bool, true, false, not, ◌||◌, nat_lt}
+use Rattle.std.specs.Prelude.{nat_le, if◌then◌else◌, List, [], ◌∷◌, length, take, count_by, slice_index_or, Option}
+use Rattle.std.specs.Prelude.{Some, None, option_map, Result, Ok, Err, is_ok, IfOk}
 use Rattle.tk_base.specs.declared.access.TheConstants.{FLASH_START, RAM_START}
-use Rattle.tk_base.specs.declared.limits.TheConstants.{SLOT_COUNT}
+use Rattle.tk_base.specs.declared.limits.TheConstants.{RAM_UNIT, SLOT_COUNT}
 use Rattle.tk_base.specs.declared.process.PlaceFault.{PlaceFault}
 use Rattle.tk_base.specs.declared.process.PlaceFault.TheVariants.{NoSlot, FixedTaken, NoRoom}
 use Rattle.process_layout.specs.LayoutView.{LayoutView, extents_at_start}
@@ -15,20 +15,36 @@ use Rattle.app_placement.specs.Applications.{application_in}
 use Rattle.app_placement.specs.declared.application.Application.{Application}
 use Rattle.app_placement.specs.declared.placed.Filled.{Filled}
 use Rattle.app_placement.specs.declared.placed.Placed.{Placed}
+use Rattle.app_placement.specs.declared.placed.Room.{Room}
 
 -- the length of a block: minimum RAM and 768 bytes, rounded up to a multiple of 1024
 abbrev pub block_length : ℕ → ℕ
 block_length minimum_ram = (minimum_ram + 768 + 1023) / 1024 * 1024
 
--- a block starts at the fixed RAM start, if there is one, or else at the last end
-abbrev pub block_start : ℕ → Option ℕ → ℕ
-block_start last_end None = last_end
-block_start last_end (Some fixed) = fixed
+-- a slot's share of RAM where there are time partitions: for each slot as many whole units as all of them can have
+abbrev pub share : ℕ → ℕ
+share ram = ram / SLOT_COUNT / RAM_UNIT * RAM_UNIT
 
--- the fixed RAM start is no multiple of 8, or lies below the last end
-abbrev pub is_start_taken : ℕ → Option ℕ → Bool
-is_start_taken last_end None = false
-is_start_taken last_end (Some fixed) = not (fixed % 8 == 0) || nat_lt fixed last_end
+-- where the share of a slot starts
+abbrev pub share_start : ℕ → ℕ → ℕ
+share_start ram slot = RAM_START + slot * share ram
+
+-- where the next block may lie: in the share of its slot; or, without time partitions, from the last end on
+abbrev pub room_of : Bool → ℕ → Filled → Room
+room_of true ram filled = record { from = share_start ram filled.count; to = share_start ram (filled.count + 1) }
+room_of false ram filled = record { from = filled.last_end; to = RAM_START + ram }
+
+-- a block starts at the fixed RAM start, if there is one, or else where it may lie first
+abbrev pub block_start : ℕ → Option ℕ → ℕ
+block_start from None = from
+block_start from (Some fixed) = fixed
+
+-- the fixed RAM start is not where the share starts; or, without time partitions, it is no multiple of 8, or lies
+-- below the last end
+abbrev pub is_start_taken : Bool → ℕ → Option ℕ → Bool
+is_start_taken partition from None = false
+is_start_taken partition from (Some fixed) =
+    if partition then not (fixed == from) else not (fixed % 8 == 0) || nat_lt fixed from
 
 -- the memory of an application whose block starts at an address, as it is at the application's start
 abbrev pub extents : Application → ℕ → LayoutView
@@ -40,12 +56,13 @@ abbrev pub Place : Type 0
 Place = ℕ × LayoutView
 
 -- an application's place in so many bytes of RAM, or the first cause for which it has none
-unfoldable pub place_of : ℕ → Filled → Application → Result Place PlaceFault
-place_of ram filled app =
-    let start = block_start filled.last_end app.fixed_start in
+unfoldable pub place_of : Bool → ℕ → Filled → Application → Result Place PlaceFault
+place_of partition ram filled app =
+    let room = room_of partition ram filled in
+    let start = block_start room.from app.fixed_start in
     if nat_le SLOT_COUNT filled.count then Err NoSlot
-    else (if is_start_taken filled.last_end app.fixed_start then Err FixedTaken
-    else (if nat_lt (RAM_START + ram) (start + block_length app.minimum_ram) then Err NoRoom
+    else (if is_start_taken partition room.from app.fixed_start then Err FixedTaken
+    else (if nat_lt room.to (start + block_length app.minimum_ram) then Err NoRoom
     else Ok (filled.count, extents app start)))
 
 -- an application that is placed takes a slot and its block; one that is not leaves all as it was
@@ -54,15 +71,15 @@ filled_after filled (Err fault) = filled
 filled_after filled (Ok place) = record { last_end = place.1.end; count = filled.count + 1 }
 
 -- the places of applications, one after another
-unfoldable pub places_from : ℕ → Filled → List Application → List Placed
-places_from ram filled [] = []
-places_from ram filled (app ∷ apps) =
-    record { offset = app.offset; place = place_of ram filled app }
-    ∷ places_from ram (filled_after filled (place_of ram filled app)) apps
+unfoldable pub places_from : Bool → ℕ → Filled → List Application → List Placed
+places_from partition ram filled [] = []
+places_from partition ram filled (app ∷ apps) =
+    record { offset = app.offset; place = place_of partition ram filled app }
+    ∷ places_from partition ram (filled_after filled (place_of partition ram filled app)) apps
 
 -- the places of all applications, of which none is placed at first
-abbrev pub placements : ℕ → List Application → List Placed
-placements ram apps = places_from ram (record { last_end = RAM_START; count = 0 }) apps
+abbrev pub placements : Bool → ℕ → List Application → List Placed
+placements partition ram apps = places_from partition ram (record { last_end = RAM_START; count = 0 }) apps
 
 -- the block of an application that is placed lies in RAM
 abbrev pub LiesInRam : ℕ → Placed → Type 0

@@ -7,5 +7,5 @@ mod placed;
 mod placing;
 
 pub use application::Application;
-pub use placed::{Filled, Placed};
+pub use placed::{Filled, Placed, Room};
 pub use placing::place;

@@ -26,6 +26,15 @@ impl Default for Placed {
     }
 }
 
+/// Where the next block may lie.
+#[derive(Clone, Copy, Debug, PartialEq, Eq)]
+pub struct Room {
+    /// The first address.
+    pub from: Addr,
+    /// The end.
+    pub to: Addr,
+}
+
 /// How far RAM and the slots are filled.
 #[derive(Clone, Copy, Debug, PartialEq, Eq)]
 pub struct Filled {

@@ -1,5 +1,5 @@
 -- What comes in, as a step of the board: bytes, an edge of a button, or an operator's act that means nobody.
-use Rattle.std.proofs.Common.{◌≡◌, ◌<◌, ℕ, true, List, [], ◌∷◌, map, Option, None, Some, refl, sym, ap, subst, ◌∙◌}
+use Rattle.std.proofs.Common.{◌≡◌, ◌<◌, ℕ, true, List, [], ◌∷◌, map, Option, None, Some, refl, sym, ap, subst}
 use Rattle.std.specs.Option.{option_and_then, option_map}
 use Rattle.std.specs.List.{zip}
 use Rattle.tk_base.specs.declared.limits.TheConstants.{STEP_LIMIT}
@@ -92,7 +92,7 @@ module _ (b : Inside) (home : Homes) (d : Drivers) (came : Arrives b.machine.hom
     }
 
     -- what always holds of a board holds then
-    pub arrived_board : (calm : ℕ) → IsCalm b.machine.moment.settings.start b.machine.moment.time calm home.owns d
+    pub arrived_board : (calm : ℕ) → IsCalm b.machine.moment.settings.start b.machine.moment.window b.machine.moment.time calm home.owns d
         → IsBoard (record b {
           machine = record b.machine { home = home; drivers = d; moment = a_step_later b.machine.moment };
           calm = calm;
@@ -104,6 +104,7 @@ module _ (b : Inside) (home : Homes) (d : Drivers) (came : Arrives b.machine.hom
       few = parts_then.few;
       guard = guards_then;
       driven = parts_then.driven;
+      lanes = parts_then.lanes;
       served = parts_then.served;
       steps = parts_then.steps;
       time = parts_then.time;

@@ -1,12 +1,12 @@
 -- What a board shows.
 use Rattle.std.proofs.Common.{◌≡◌, ℕ, zero, suc, ◌+◌, ◌-◌, ◌^◌, ◌<◌, ◌≤◌, Bool, true, false, List, [], ◌∷◌, ◌++◌}
-use Rattle.std.proofs.Common.{length, map, take, slice_get, slice_index_or, nat_lt, ◌&&◌, Option, None, Some, IfSome}
+use Rattle.std.proofs.Common.{length, map, take, slice_get, slice_index_or, slice_set, nat_lt, ◌&&◌, ◌==◌, if◌then◌else◌, Option, None, Some, IfSome}
 use Rattle.std.proofs.Common.{replicate, IsTrue, refl, sym, ap, ap₂, subst, ◌∙◌, add-one, arith}
 use Rattle.std.specs.List.{zip}
 use Rattle.std.specs.Option.{option_map, option_or}
 use Rattle.std.proofs.lemmas.Bool.Decides.{nat_tests}
 use Rattle.std.proofs.Math.Seq.{take-suc}
-use Rattle.std.proofs.lemmas.List.{map-append, take_all}
+use Rattle.std.proofs.lemmas.List.{length-map, map-append, take_all}
 use Rattle.std.proofs.lemmas.Option.{slice_get-map, slice_get-get_or, slice_get_within, get_or_from_slice_get}
 use Rattle.arrayvec.specs.ArrayVec.{ArrayVec}
 use Rattle.tk_base.specs.declared.limits.TheConstants.{SLOT_COUNT, STEP_LIMIT}
@@ -31,10 +31,13 @@ use Rattle.tk_base.specs.Bits.{bits_of}
 use Rattle.grant_enter.specs.Homes.{Homes, IsInPlace, nobody, own_of}
 use Rattle.kernel_model.specs.Record.{Record, slot_line_of}
 use Rattle.kernel_model.specs.Turn.{may_turn}
-use Rattle.kernel_model.specs.World.{World, is_ready, may_be_made, can_run}
+use Rattle.kernel_model.specs.World.{World, is_let, is_ready, may_be_made, can_run, only_in, work_of}
 use Rattle.kernel_model.specs.Causes.{AreWhole}
 use Rattle.kernel_model.specs.Laws.{NextIsReady, NextLiesAhead}
-use Rattle.kernel_model.specs.Run.{next, next_time, ready_devices, ready_slots, situation_of}
+use Rattle.kernel_model.specs.Run.{is_left, may_go, next, next_time, passes_to, ready_devices, ready_slots}
+use Rattle.kernel_model.specs.Run.{situation_of}
+use Rattle.driver_model.specs.Alarm.{nearer}
+use Rattle.board_drivers.specs.Calm.{end_at, only_of}
 use Rattle.kernel_model.specs.Shown.{summary_of}
 use Rattle.board_core.specs.declared.board.Board.TheInside.{Inside}
 use Rattle.board_drivers.specs.Residents.{Resident, resident_turns, can_turn_in, line_in}
@@ -66,21 +69,90 @@ shown_whole b board holds lies slot r is =
       buffers = subst HoldsInPlace same (holds slot within);
     }
 
--- which slots are ready
-pub ready_slots_shown : (b : Inside) → IsBoard b → ready_slots (world_of b) ≡ map resident_turns (residents b)
-ready_slots_shown b board =
+-- which slots can have a turn, whosever window it is
+pub turns_shown : (b : Inside) → IsBoard b → map may_turn (world_of b).records ≡ map resident_turns (residents b)
+turns_shown b board =
     reads_shown may_turn resident_turns b.machine.home.flash b.machine.drivers.buttons.pressed (residents b)
     b.machine.drivers.stores.slots (has_storage b board) (λ p. refl)
 
+-- whether a slot is ready, by the table of those that are
+pub resident_at : (residents : List Resident) (slot : ℕ)
+    → can_turn_in (slice_get residents slot) ≡ place_is_ready (map resident_turns residents) slot
+resident_at [] slot = refl
+resident_at (r ∷ rs) zero = refl
+resident_at (r ∷ rs) (suc slot) = resident_at rs slot
+
+-- of as many as there are processes
+pub turns_long : (b : Inside) → IsBoard b → length (map may_turn (world_of b).records) ≡ length b.processes.items
+turns_long b board =
+    ap length (turns_shown b board) ∙ length-map (residents b) resident_turns
+    ∙ length-firsts b.processes.items b.machine.home.owns board.owns
+
+none_flagged : (flags : List Bool) (slot : ℕ) → slice_index_or (map (λ (flag : Bool). false) flags) slot false ≡ false
+none_flagged [] slot = refl
+none_flagged (flag ∷ flags) zero = refl
+none_flagged (flag ∷ flags) (suc slot) = none_flagged flags slot
+
+pub and_false : (b : Bool) → (b && false) ≡ false
+and_false true = refl
+and_false false = refl
+
+test_next : (s t : ℕ) → (s == t) ≡ (suc s == suc t)
+test_next s t = by_test (s == t) refl
+  where
+    by_test : (b : Bool) → (s == t) ≡ b → b ≡ (suc s == suc t)
+    by_test true e = grind (arith, nat_tests)
+    by_test false e = grind (arith, nat_tests)
+
+never_zero : (s : ℕ) → false ≡ (suc s == zero)
+never_zero s = grind (arith, nat_tests)
+
+zero_never : (s : ℕ) → false ≡ (zero == suc s)
+zero_never s = grind (arith, nat_tests)
+
+one_goes_at : (flags : List Bool) (only slot : ℕ)
+    → slice_index_or (slice_set (map (λ (flag : Bool). false) flags) only (slice_index_or flags only false)) slot false
+    ≡ ((slot == only) && slice_index_or flags slot false)
+one_goes_at [] only slot = sym (and_false (slot == only))
+one_goes_at (flag ∷ flags) zero zero = refl
+one_goes_at (flag ∷ flags) zero (suc slot) =
+    none_flagged flags slot ∙ ap (λ (b : Bool). b && slice_index_or flags slot false) (never_zero slot)
+one_goes_at (flag ∷ flags) (suc only) zero = ap (λ (b : Bool). b && flag) (zero_never only)
+one_goes_at (flag ∷ flags) (suc only) (suc slot) =
+    one_goes_at flags only slot ∙ ap (λ (b : Bool). b && slice_index_or flags slot false) (test_next slot only)
+
+-- a slot may go where it is let, and its flag is set
+goes_at : (only : Option ℕ) (flags : List Bool) (slot : ℕ)
+    → slice_index_or (may_go only flags) slot false ≡ (is_let only slot && slice_index_or flags slot false)
+goes_at None flags slot = refl
+goes_at (Some only) flags slot = one_goes_at flags only slot
+
+-- whether a slot is ready
+pub slot_shown : (b : Inside) → IsBoard b → (slot : ℕ) → place_is_ready (ready_slots (world_of b)) slot
+    ≡ (is_let (only_of b.machine.moment) slot && can_turn_in (slice_get (residents b) slot))
+slot_shown b board slot =
+    goes_at (only_in (world_of b)) (map may_turn (world_of b).records) slot
+    ∙ ap (λ (flag : Bool). is_let (only_in (world_of b)) slot && flag)
+    (ap (λ (table : List Bool). place_is_ready table slot) (turns_shown b board) ∙ sym (resident_at (residents b) slot))
+
+-- up to when time passes, without time partitions and with them
+pub no_window : (w : World) (n : ℕ) → end_at w.clock.time n ≡ None → passes_to w n ≡ (work_of w).next
+no_window w zero e = refl
+no_window w (suc n) e = cc
+
+pub in_window : (w : World) (n end : ℕ) → end_at w.clock.time n ≡ Some end
+    → passes_to w n ≡ (if is_left w then nearer (work_of w).next (Some end) else None)
+in_window w zero end e = cc
+in_window w (suc n) end e = ap (λ (o : Option ℕ). if is_left w then nearer (work_of w).next o else None) e
+
 -- the status of the world that a board shows
-pub status_shown : (b : Inside) (ready devices : List Bool) (nearest : Option ℕ) → IsBoard b
-    → ready ≡ map resident_turns (residents b) → devices ≡ ready_devices (world_of b) → nearest ≡ next_time (world_of b)
+pub status_shown : (b : Inside) (ready devices : List Bool) (nearest : Option ℕ)
+    → ready ≡ ready_slots (world_of b) → devices ≡ ready_devices (world_of b) → nearest ≡ next_time (world_of b)
     → ◌≡◌ {A = Situation} (record (situation_of (world_of b)) { ready = ready; devices = devices; next = nearest })
     (situation_of (world_of b))
-status_shown b ready devices nearest board e f g =
+status_shown b ready devices nearest e f g =
     let s = situation_of (world_of b) in
-    ap (λ (xs : List Bool). record s { ready = xs; devices = devices; next = nearest })
-    (e ∙ sym (ready_slots_shown b board))
+    ap (λ (xs : List Bool). record s { ready = xs; devices = devices; next = nearest }) e
     ∙ ap₂ (λ (xs : List Bool) (at : Option ℕ). record s { devices = xs; next = at }) f g
 
 -- its summary
@@ -161,22 +233,27 @@ pub lines_all : {X : Type 0} (f : Resident → X) (ps : List Process) (owns : Li
 lines_all f ps owns i lines n h so =
     so ∙ ap (map f) (take_all i (zip ps owns) (omega (arith, h, length-firsts ps owns n)))
 
+-- whether the process in a slot can have a turn, by the residents
+pub run_shown : (b : Inside) (slot : ℕ) → IsBoard b
+    → can_run (slice_get (world_of b).records slot) ≡ can_turn_in (slice_get (residents b) slot)
+run_shown b slot board =
+    let slots = b.machine.drivers.stores.slots in
+    ap can_run (slice_get-map (recorded b) (zip (residents b) slots) slot
+    ∙ ap (option_map (recorded b)) (beside_get (residents b) slots slot (has_storage b board)))
+    ∙ of_resident (slice_index_or slots slot []) (slice_get (residents b) slot)
+  where
+    of_resident : (storage : List ℕ) (o : Option Resident)
+        → can_run (option_map (recorded b) (option_map (λ (r : Resident). (r, storage)) o)) ≡ can_turn_in o
+    of_resident storage None = refl
+    of_resident storage (Some r) = refl
+
 -- whether a slot can run, by the residents
 pub ready_shown : (b : Inside) (slot : ℕ) → IsBoard b
     → is_ready (world_of b) (Run slot)
     ≡ (nat_lt b.machine.moment.steps STEP_LIMIT && can_turn_in (slice_get (residents b) slot))
 unfolding may_be_made
 ready_shown b slot board =
-    let slots = b.machine.drivers.stores.slots in
-    ap (λ (c : Bool). nat_lt b.machine.moment.steps STEP_LIMIT && c)
-    (ap can_run (slice_get-map (recorded b) (zip (residents b) slots) slot
-    ∙ ap (option_map (recorded b)) (beside_get (residents b) slots slot (has_storage b board)))
-    ∙ of_resident (slice_index_or slots slot []) (slice_get (residents b) slot))
-  where
-    of_resident : (storage : List ℕ) (o : Option Resident)
-        → can_run (option_map (recorded b) (option_map (λ (r : Resident). (r, storage)) o)) ≡ can_turn_in o
-    of_resident storage None = refl
-    of_resident storage (Some r) = refl
+    ap (λ (c : Bool). nat_lt b.machine.moment.steps STEP_LIMIT && c) (run_shown b slot board)
 
 -- the resident of a slot that was looked at
 pub slot_found : (home : Homes) (processes : List Process) (slot index : ℕ) (process : Process)
@@ -264,13 +341,6 @@ next_ahead w (Some at) is near law none =
     let later : w.clock.time < at =
     subst (λ (o : Option ℕ). IfSome o (λ n. w.clock.time < n)) (sym is) (law w none) in
     (later, near)
-
--- whether a slot is ready, by the table of those that are
-pub resident_at : (residents : List Resident) (slot : ℕ)
-    → can_turn_in (slice_get residents slot) ≡ place_is_ready (map resident_turns residents) slot
-resident_at [] slot = refl
-resident_at (r ∷ rs) zero = refl
-resident_at (r ∷ rs) (suc slot) = resident_at rs slot
 
 -- turns of a slot of a board's tables may be made while steps are left
 pub may_turn_on : (turns : ℕ) (b : Inside) (slot : ℕ) → IsBoard b → slot < length b.processes.items

@@ -23,7 +23,6 @@ use Rattle.board_turns.specs.declared.turn.Shown.{Shown}
 use Rattle.board_drivers.specs.Driven.{devices_of}
 use Rattle.board_drivers.specs.Residents.{Resident, record_of, id_of, IsResident}
 use Rattle.board_turns.specs.Turning.{ChangesSlot, TurnsAt}
-use Rattle.board_opening.specs.Settings.{pace}
 use Rattle.board_core.specs.Shows.{world_of, residents}
 use Rattle.board_turns.proofs.Turns.{rests_seated_on}
 use Rattle.board_drivers.proofs.Pairs.{zip-set, zip-get}
@@ -101,7 +100,7 @@ with_step b records devices m present used = record {
   records = records;
   unplaced = b.unplaced.items;
   settings = b.machine.moment.settings;
-  pace = pace b.slice;
+  pace = record { slice = b.slice; window = b.machine.moment.window };
   devices = devices;
   clock = record { time = m.time; steps = m.steps };
   present = record { slot = present; used = used };

@@ -284,8 +284,8 @@ module _ (b : Inside) (device : Dev) (slot : ℕ) (printed : List ℕ) (home : H
         size = t.serves.stores.size ∙ h.driven.size;
         slots = ap length t.serves.stores.slots ∙ length-set b.machine.drivers.stores.slots slot t.serves.bytes
             ∙ h.driven.slots;
-        ticks = omega (arith, t.serves.uart.ticks, h.driven.ticks);
-        free = t.serves.uart.free;
+        ticks = t.serves.lines_ready.ticks;
+        free = t.serves.lines_ready.free;
       })
 
   -- what is told of the alarms of all other processes stays true
@@ -300,7 +300,7 @@ module _ (b : Inside) (device : Dev) (slot : ℕ) (printed : List ℕ) (home : H
   -- what always holds of a board holds then
   pub told_board : (calm : ℕ) (times : List (Option ℕ)) → b.machine.moment.steps < STEP_LIMIT
       → AlarmsTell b.machine.moment times home.owns
-      → IsCalm b.machine.moment.settings.start b.machine.moment.time calm home.owns d
+      → IsCalm b.machine.moment.settings.start b.machine.moment.window b.machine.moment.time calm home.owns d
       → IsBoard (record b {
         machine = record b.machine { home = home; drivers = d; moment = a_step_later b.machine.moment };
         calm = calm;
@@ -322,7 +322,12 @@ module _ (b : Inside) (device : Dev) (slot : ℕ) (printed : List ℕ) (home : H
     guard = still_guards b.machine.guard b.machine.home home slot t.only
         (ap (λ (o : Own). o.layout) t.serves.follows.rest) h.guard;
     driven = told_driven;
-    served = omega (arith, t.serves.stores.counts, h.served);
+    lanes = record {
+      lines = t.serves.lines_ready.lanes ∙ h.lanes.lines;
+      words = t.serves.words_left ∙ h.lanes.words;
+      served = t.serves.stores.lanes ∙ h.lanes.served;
+    };
+    served = t.serves.stores.counts;
     steps = omega (arith, below);
     time = omega (arith, h.time);
     calm = quiet;

@@ -9,3 +9,6 @@ pub mod Plays
 pub mod Looks
 pub mod PartsOf
 pub mod Operating
+pub mod AnyReady
+pub mod Tables
+pub mod InWindows

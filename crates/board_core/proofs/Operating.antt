@@ -1,6 +1,6 @@
 -- An operator's act on a process that is there, as a step of the board.
-use Rattle.std.proofs.Common.{◌≡◌, ◌<◌, ◌≤◌, ℕ, ◌+◌, true, cond, List, [], ◌∷◌, ◌++◌, drop, length, map, slice_get}
-use Rattle.std.proofs.Common.{slice_set, Option, None, Some, IfSome, refl, sym, ap, ap₂, subst, ◌∙◌, arith}
+use Rattle.std.proofs.Common.{◌≡◌, ◌<◌, ◌≤◌, ℕ, ◌+◌, cond, List, [], ◌∷◌, drop, length, map, slice_get}
+use Rattle.std.proofs.Common.{All, slice_set, Option, None, Some, IfSome, refl, sym, ap, ap₂, subst, ◌∙◌, arith}
 use Rattle.std.specs.Prelude.{unwrap_or}
 use Rattle.std.specs.Option.{option_and_then, option_map}
 use Rattle.std.specs.List.{zip}
@@ -42,6 +42,8 @@ use Rattle.kernel_model.proofs.Lines.{keeps_ended, keeps_restarted}
 use Rattle.kernel_model.proofs.Steps.{of_operated}
 use Rattle.board_drivers.specs.declared.drivers.Drivers.{Drivers}
 use Rattle.board_drivers.specs.Calm.{AlarmsTell, IsCalm}
+use Rattle.board_drivers.proofs.Lanes.{few_still, same_free, same_lanes, same_ticks}
+use Rattle.board_devices.specs.Storage.{StoredSlots}
 use Rattle.board_drivers.specs.Driven.{AreDriven, IsQueueOf, devices_of, ids_waiting_in}
 use Rattle.board_drivers.specs.Residents.{IsResident, id_of, record_of}
 use Rattle.board_drivers.specs.Tells.{Arrives, owns_told}
@@ -52,7 +54,7 @@ use Rattle.board_turns.specs.declared.machine.Machine.{Machine}
 use Rattle.board_turns.specs.Operating.{MayOperateAt, OperatesAt, acts_for}
 use Rattle.board_core.specs.declared.board.Board.TheInside.{Inside}
 use Rattle.board_core.specs.Makes.{act_meant, shown_act}
-use Rattle.board_core.specs.Shows.{IsBoard, residents, world_of}
+use Rattle.board_core.specs.Shows.{IsBoard, world_of}
 use Rattle.board_core.proofs.Boards.{has_storage}
 use Rattle.board_core.proofs.Changes.{a_step_later, as_many, as_many_owns, found, kept_records, still_seated, with_step}
 use Rattle.board_core.proofs.Devices.{lost_where, still_lost}
@@ -122,7 +124,7 @@ lets_in m rs slot verb c home d came =
     }) c.is)
     (came.drivers
     ∙ ap (λ (events : List ScriptEvent). record m.drivers {
-      uart = with_first_arrived events m.drivers.uart;
+      uarts = with_first_arrived events m.drivers.uarts;
       buttons = record m.drivers.buttons { pressed = pressed_after_first events m.drivers.buttons.pressed };
       arrivals = drop 1 events;
     }) c.is)
@@ -294,8 +296,8 @@ module _ (b : Inside) (slot : ℕ) (verb : Verb) (c : ActComes b.machine.drivers
         buttons = ap (λ (s : ButtonsView). s.count) t.drives.buttons ∙ h.driven.buttons;
         size = ap (λ (s : _). s.size) t.drives.bytes ∙ h.driven.size;
         slots = ap (λ (s : _). length s.slots) t.drives.bytes ∙ h.driven.slots;
-        ticks = omega (arith, ap (λ (l : _). l.ticks) t.drives.line, h.driven.ticks);
-        free = omega (arith, ap (λ (l : _). l.free) t.drives.line, h.driven.free);
+        ticks = same_ticks b.machine.drivers x.drivers t.drives.lines h.driven.ticks;
+        free = same_free b.machine.moment.time b.machine.drivers x.drivers t.drives.lines h.driven.free;
       })
     where
       before_within : IsWithin b.machine.moment.settings.storage t.at.before.1
@@ -319,7 +321,7 @@ module _ (b a : Inside) (slot : ℕ) (verb : Verb)
     (h : IsBoard b) where
   pub operated_board : (calm : ℕ) (times : List (Option ℕ)) → b.machine.moment.steps < STEP_LIMIT
       → AlarmsTell b.machine.moment times a.machine.home.owns
-      → IsCalm b.machine.moment.settings.start b.machine.moment.time calm a.machine.home.owns a.machine.drivers
+      → IsCalm b.machine.moment.settings.start b.machine.moment.window b.machine.moment.time calm a.machine.home.owns a.machine.drivers
       → IsBoard (record b {
         machine = record a.machine { moment = a_step_later b.machine.moment };
         processes = a.processes;
@@ -340,7 +342,10 @@ module _ (b a : Inside) (slot : ℕ) (verb : Verb)
     few = omega (arith, as_many slot b.machine.home a.machine.home b.processes.items a.processes.items t.at, h.few);
     guard = t.guard;
     driven = operated_driven b slot verb c a.machine a.processes.items t h;
-    served = omega (arith, ap (λ (s : _). s.served) t.drives.bytes, h.served);
+    lanes = same_lanes b.machine.moment.window b.machine.drivers a.machine.drivers t.drives.lines t.drives.words
+        t.drives.bytes h.lanes;
+    served = few_still b.machine.moment.steps (b.machine.moment.steps + 1) a.machine.drivers.stores.served (omega arith)
+        (subst (λ (s : StoredSlots). All (λ count. count ≤ b.machine.moment.steps) s.served) (sym t.drives.bytes) h.served);
     steps = omega (arith, below);
     time = omega (arith, h.time);
     calm = quiet;

@@ -11,6 +11,7 @@ are_parts b board = record {
   owns = board.owns;
   few = board.few;
   driven = board.driven;
+  lanes = board.lanes;
   served = board.served;
   steps = board.steps;
   time = board.time;

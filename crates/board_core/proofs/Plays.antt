@@ -23,6 +23,8 @@ use Rattle.kernel_model.specs.Shown.{shown_by}
 use Rattle.kernel_model.proofs.Labels.{shown_by-printed}
 use Rattle.kernel_model.specs.Replay.{RecordIsReplay, after_all, history, replay}
 use Rattle.kernel_model.specs.Choices.{Throughout, are_ready, labels_of_all, printed_by_all}
+use Rattle.kernel_partitions.specs.Moments.{before, timed_history}
+use Rattle.kernel_partitions.specs.Partitions.{ASlotSeesItselfAlone}
 use Rattle.board_opening.specs.Alone.{IsFirstAlone, first_alone}
 use Rattle.board_core.specs.Plays.{FailedAfter, ChoicesMade, PlayedAll, StoppedAt}
 
@@ -59,17 +61,22 @@ throughout-more : (w : World) (cs : List Choice) (c : Choice) → Throughout IsA
 throughout-more w [] c all one = (one, tt)
 throughout-more w (d ∷ cs) c all one = (all.0, throughout-more (after w d) cs c all.1 one)
 
+-- the laws of runs that are known of the choices made
+pub record LawsOfRuns : Type 0 where
+  pub replayed : RecordIsReplay
+  pub partitioned : ASlotSeesItselfAlone
+
 -- what choices that were made lead to, of each process by itself
-made_of : (old new : World) (cs : List Choice) → RecordIsReplay → are_ready old cs ≡ true → new ≡ after_all old cs
+made_of : (old new : World) (cs : List Choice) → LawsOfRuns → are_ready old cs ≡ true → new ≡ after_all old cs
     → Throughout IsAccountedFor old cs → ChoicesMade old new cs
-made_of old new cs law ready world accounted =
+made_of old new cs laws ready world accounted =
     record {
       ready = ready;
       world = world;
       records = replayed;
       accounted = accounted;
       same = λ other others slot place settings first histories.
-          law other others place
+          laws.replayed other others place
           ∙ ap (λ (s : Settings). option_map (replay s (history place other others)) (slice_get other.records place))
           settings
           ∙ ap (λ (h : List Event). option_map (replay old.settings h) (slice_get other.records place)) histories
@@ -79,12 +86,15 @@ made_of old new cs law ready world accounted =
           let first : Some r ≡ first_alone old.settings.storage r.object r.process.object.address r.own.layout.start =
           subst (λ (o : Option Record). IfSome o (IsFirstAlone old.settings.storage)) is (opens slot) in
           replayed slot ∙ ap (option_map (replay old.settings (history slot old cs))) (is ∙ first);
+      partitioned = λ windows n is slot other alike m time reached there.
+          ap (λ (ds : List Choice). before time (timed_history slot old ds)) is
+          ∙ laws.partitioned slot old other windows alike n m time reached there;
     }
   where
     replayed : (slot : ℕ)
         → slice_get new.records slot
         ≡ option_map (replay old.settings (history slot old cs)) (slice_get old.records slot)
-    replayed slot = ap (λ (w : World). slice_get w.records slot) world ∙ law old cs slot
+    replayed slot = ap (λ (w : World). slice_get w.records slot) world ∙ laws.replayed old cs slot
 
 number : (i : ℕ) → suc i ≡ i + 1
 number i = omega arith
@@ -108,7 +118,7 @@ begins tells old choices out law = record { ready = refl; world = refl; accounte
 module _ {K : Type 0} {tells : K → SinkFacts} {old new : World} {choices : List Choice} {i : ℕ} {out now : K}
     (p : PlaysOn tells old new choices i out now) where
   -- what was made is known of each process
-  made : RecordIsReplay → ChoicesMade old new (take i choices)
+  made : LawsOfRuns → ChoicesMade old new (take i choices)
   made law = made_of old new (take i choices) law p.ready p.world p.accounted
 
   module _ (c : Choice) (h : i < length choices) (is : slice_index_or choices i c ≡ c) where
@@ -150,7 +160,7 @@ module _ {K : Type 0} {tells : K → SinkFacts} {old new : World} {choices : Lis
     }
 
     -- the sink failed after it
-    pub failed : WritesCompose tells → RecordIsReplay → (then : World) (later : K) (step : Emit) → is_ready new c ≡ true
+    pub failed : WritesCompose tells → LawsOfRuns → (then : World) (later : K) (step : Emit) → is_ready new c ≡ true
         → then ≡ after new c → step ≡ shown_by (labels new c) → IsAccountedFor new c
         → WrotePart tells now later step.printed.items → FailedAfter tells old then choices out later
     failed law each then later step r e s one w = record {
@@ -176,7 +186,7 @@ module _ {K : Type 0} {tells : K → SinkFacts} {old new : World} {choices : Lis
     }
 
     -- it was not ready
-    pub stopped : RecordIsReplay → is_ready new c ≡ false → StoppedAt tells old new choices out now i
+    pub stopped : LawsOfRuns → is_ready new c ≡ false → StoppedAt tells old new choices out now i
     stopped each r = record {
       choice = c;
       there = slice_get-get_or choices i c h ∙ ap Some is;
@@ -186,7 +196,7 @@ module _ {K : Type 0} {tells : K → SinkFacts} {old new : World} {choices : Lis
     }
 
   -- all were made
-  pub whole : RecordIsReplay → length choices ≤ i → PlayedAll tells old new choices out now
+  pub whole : LawsOfRuns → length choices ≤ i → PlayedAll tells old new choices out now
   whole each h =
       let all : take i choices ≡ choices = take_all i choices h in
       record {

@@ -3,7 +3,7 @@ use Rattle.board_drivers.specs.Residents.{HasLost, IsResident}
 use Rattle.tk_base.specs.declared.limits.TheConstants.{STEP_LIMIT}
 use Rattle.alarm_capsule.proofs.KeptTimes.{all_later}
 use Rattle.driver_model.specs.Laws.{TimeBringsNearer}
-use Rattle.std.proofs.Common.{◌≡◌, ℕ, ◌+◌, Bool, true, false, cond, List, [], ◌∷◌, map, Ok, IsTrue, refl, sym, ap}
+use Rattle.std.proofs.Common.{◌≡◌, ℕ, ◌+◌, Bool, true, false, cond, List, [], ◌∷◌, map, Ok, Some, IsTrue, refl, sym, ap}
 use Rattle.std.proofs.Common.{◌<◌, ◌^◌, ◌∙◌, arith}
 use Rattle.process_model.specs.Own.{Own}
 use Rattle.tk_base.specs.declared.process.Choice.{Choice}
@@ -11,18 +11,22 @@ use Rattle.tk_base.specs.declared.process.Choice.TheVariants.{Pass}
 use Rattle.process_record.specs.Emit.{nothing}
 use Rattle.process_record.specs.declared.emit.Emit.{Emit}
 use Rattle.kernel_model.specs.Shown.{shown_by}
-use Rattle.kernel_model.specs.World.{Stepped, World, carried_out, is_ready, owns_in, stepped, unmade}
-use Rattle.kernel_model.specs.Run.{next_time, ready_devices}
+use Rattle.kernel_model.specs.World.{Stepped, World, carried_out, is_ready, now_in, owns_in, stepped, unmade}
+use Rattle.kernel_model.specs.World.{work_at, work_of}
+use Rattle.kernel_model.specs.Run.{ready_devices}
 use Rattle.tk_base.specs.declared.process.Dev.{Dev}
 use Rattle.tk_base.specs.declared.process.Dev.TheVariants as dev
 use Rattle.turn_scheduler.specs.RoundRobin.{device_order, device_place, place_is_ready}
 use Rattle.board_core.specs.declared.board.Board.TheInside.{Inside}
-use Rattle.board_drivers.specs.Calm.{IsCalmAt, work_in}
+use Rattle.kernel_laws.specs.Windows.{due_time}
+use Rattle.board_drivers.specs.Calm.{IsCalmAt, due_time_for, work_for, work_in}
 use Rattle.board_drivers.proofs.Calm.{later_calm}
+use Rattle.board_drivers.proofs.Lanes.{few_still, later_free}
 use Rattle.board_turns.proofs.Turns.{rests_seated}
 use Rattle.std.proofs.lemmas.List.Elements.{All-weaker}
 use Rattle.board_drivers.specs.declared.drivers.Drivers.{Drivers}
 use Rattle.board_drivers.specs.declared.moment.Moment.{Moment}
+use Rattle.board_drivers.specs.declared.served.Served.{Served}
 use Rattle.board_core.specs.Makes.{MakesStep, ready_in}
 use Rattle.board_core.specs.Shows.{IsBoard, residents, world_of}
 use Rattle.board_core.proofs.Boards.{has_storage}
@@ -33,7 +37,7 @@ six : {event alarm uart receive random store e a u v r s : Bool} → event ≡ e
 six f g h i j k = cc
 
 -- where it is calm no device step is ready
-pub calm_ready : (m : Moment) (owns : List Own) (d : Drivers) → IsCalmAt m.settings.start m.time owns d
+pub calm_ready : (m : Moment) (owns : List Own) (d : Drivers) → IsCalmAt m.settings.start m.window m.time owns d
     → ready_in m owns d ≡ false ∷ false ∷ false ∷ false ∷ false ∷ false ∷ []
 calm_ready m owns d calm =
     six (calm dev.Event) (calm dev.Alarm) (calm dev.Uart) (calm dev.Receive) (calm dev.Random) (calm dev.Store)
@@ -55,8 +59,20 @@ module _ (b : Inside) (board : IsBoard b) where
       owns_shown b.machine.home.flash b.machine.drivers.buttons.pressed b.processes.items b.machine.home.owns
       b.machine.drivers.stores.slots board.owns (has_storage b board)
 
-  -- the nearest time at which a device step becomes ready by itself
-  pub next_shown : (work_in b.machine.moment b.machine.home.owns b.machine.drivers).next ≡ next_time (world_of b)
+  -- what there is to do for the devices, for those who are served
+  pub work_shown : (served : Served) → work_for b.machine.moment served b.machine.home.owns b.machine.drivers
+      ≡ work_at served.only b.machine.moment.time (now_in (world_of b)) (owns_in (world_of b)) (world_of b).devices
+  work_shown served =
+      ap (λ (owns : List Own). work_for b.machine.moment served owns b.machine.drivers) (sym owns_in_world)
+
+  -- when the alarm of the process in a slot becomes due
+  pub due_shown : (slot : ℕ) → due_time_for b.machine.moment (record { only = Some slot }) b.machine.home.owns
+      ≡ due_time (world_of b) slot
+  due_shown slot =
+      ap (due_time_for b.machine.moment (record { only = Some slot })) (sym owns_in_world)
+
+  -- and for those who are served then
+  pub next_shown : (work_in b.machine.moment b.machine.home.owns b.machine.drivers).next ≡ (work_of (world_of b)).next
   next_shown = ap (λ (owns : List Own). (work_in b.machine.moment owns b.machine.drivers).next) (sym owns_in_world)
 
   -- which device steps are ready
@@ -64,7 +80,7 @@ module _ (b : Inside) (board : IsBoard b) where
   devices_shown = ap (λ (owns : List Own). ready_in b.machine.moment owns b.machine.drivers) (sym owns_in_world)
 
   -- as long as it is calm no device step is ready
-  pub calm_shown : IsCalmAt b.machine.moment.settings.start b.machine.moment.time b.machine.home.owns b.machine.drivers
+  pub calm_shown : IsCalmAt b.machine.moment.settings.start b.machine.moment.window b.machine.moment.time b.machine.home.owns b.machine.drivers
       → ready_devices (world_of b) ≡ false ∷ false ∷ false ∷ false ∷ false ∷ false ∷ []
   calm_shown calm = sym devices_shown ∙ calm_ready b.machine.moment b.machine.home.owns b.machine.drivers calm
 
@@ -105,12 +121,14 @@ passed_board law b n small below h =
         size = h.driven.size;
         slots = h.driven.slots;
         ticks = h.driven.ticks;
-        free = omega (arith, h.driven.free);
+        free = later_free time (time + n) b.machine.drivers (omega arith) h.driven.free;
       };
-      served = omega (arith, h.served);
+      lanes = h.lanes;
+      served = few_still b.machine.moment.steps (b.machine.moment.steps + 1) b.machine.drivers.stores.served
+          (omega arith) h.served;
       steps = omega (arith, below);
       time = omega (arith, h.time, small);
-      calm = later_calm start time (time + n) b.calm b.machine.home.owns b.machine.drivers (omega arith) h.calm;
+      calm = later_calm start b.machine.moment.window time (time + n) b.calm b.machine.home.owns b.machine.drivers (omega arith) h.calm;
       alarms = all_later law start time n b.alarms b.machine.home.owns h.alarms;
       slice = h.slice;
       used = h.used;

@@ -3,13 +3,14 @@ use Rattle.board_devices.specs.Clock.{clock_at}
 use Rattle.alarm_capsule.proofs.KeptTimes.{all_later, kept_tell}
 use Rattle.driver_model.specs.Laws.{TimeBringsNearer}
 use Rattle.std.proofs.Common.{◌≡◌, ℕ, zero, suc, ◌+◌, ◌-◌, ◌<◌, ◌≤◌, Bool, true, false, List, [], ◌∷◌, length, map}
-use Rattle.std.proofs.Common.{slice_get, slice_set, All, Option, None, Some, refl, sym, ap, ap₂, subst, ◌∙◌, arith}
+use Rattle.std.proofs.Common.{◌||◌, cond, find, is_some, slice_get, slice_set, All, Option, None, Some, refl, sym, ap, ap₂, subst, ◌∙◌, arith}
 use Rattle.process_model.specs.Own.{Own}
 use Rattle.process_record.specs.declared.process.Process.{Process}
 use Rattle.kernel_model.specs.Record.{Record, instruction}
 use Rattle.kernel_model.specs.Stretch.{after_instructions, instruction_made}
 use Rattle.std.specs.Prelude.{IfSome}
-use Rattle.std.specs.List.{zip}
+use Rattle.std.specs.List.{range_with_len, zip}
+use Rattle.std.proofs.lemmas.Bool.{false≢true}
 use Rattle.std.specs.Option.{option_map, option_or}
 use Rattle.std.proofs.lemmas.List.{get_or-set_same, length-set, map-set, set-get_or}
 use Rattle.std.proofs.lemmas.List.Elements.{All-set}
@@ -18,20 +19,24 @@ use Rattle.tk_base.specs.declared.limits.TheConstants.{SLOT_COUNT, STEP_LIMIT}
 use Rattle.tk_base.specs.declared.process.Choice.{Choice}
 use Rattle.tk_base.specs.declared.process.Choice.TheVariants.{Run, Device, Pass}
 use Rattle.tk_base.specs.declared.process.Dev.{Dev}
-use Rattle.turn_scheduler.specs.RoundRobin.{choice, next_slot, ready_device, used_after}
+use Rattle.partition_turns.specs.Windows.{window_end}
+use Rattle.partition_turns.proofs.Found.{find_range-none}
+use Rattle.turn_scheduler.specs.RoundRobin.{choice, device_order, next_slot, ready_device, used_after}
 use Rattle.process_record.specs.declared.process.State.{State}
 use Rattle.process_record.specs.declared.process.State.TheVariants.{Running, Yielded, Faulted, Terminated}
 use Rattle.driver_model.specs.Lines.{IsWithin}
 use Rattle.grant_enter.specs.Homes.{Homes, nobody}
 use Rattle.kernel_model.specs.declared.settings.Settings.{Settings}
 use Rattle.kernel_model.specs.Laws.{NextLiesAhead}
-use Rattle.kernel_model.specs.Run.{next, next_time as world_next_time, ready_devices, ready_slots}
-use Rattle.kernel_model.specs.Stretch.{GoesOn, IsStretch, NoneActs, NoneIsStretch}
+use Rattle.kernel_model.specs.Run.{is_left, is_left_for, next, next_time as world_next_time, passes_to, ready_devices}
+use Rattle.kernel_model.specs.Run.{ready_slots, work_for}
+use Rattle.kernel_model.specs.Stretch.{GoesOn, IsLetOnTheWay, IsStretch, NoneActs, NoneIsStretch}
 use Rattle.kernel_model.specs.Stretch.{PresentIsNextOnTheWay, PresentStaysOn, RoundIsStretch}
 use Rattle.kernel_model.specs.Stretch.{after_stretch, at_turn}
-use Rattle.kernel_model.specs.World.{World, owns_in}
-use Rattle.kernel_laws.proofs.Turns.{turn_is_free}
-use Rattle.board_drivers.specs.Calm.{AlarmsTell, HasCome, IsCalm, ServesNobody, work_in}
+use Rattle.driver_model.specs.Alarm.{nearer}
+use Rattle.kernel_model.specs.World.{World, can_run, is_let, only_in, owns_in, work_of}
+use Rattle.kernel_laws.proofs.Turns.{turn_is_free, turn_is_let, turn_is_ready}
+use Rattle.board_drivers.specs.Calm.{AlarmsTell, HasCome, IsCalm, ServesNobody, only_of, work_in}
 use Rattle.board_core.specs.declared.board.Board.TheInside.{Inside}
 use Rattle.board_drivers.specs.declared.drivers.Drivers.{Drivers}
 use Rattle.board_drivers.specs.declared.moment.Moment.{Moment}
@@ -42,6 +47,7 @@ use Rattle.board_drivers.specs.Residents.{HasLost, IsResident, Resident, record_
 use Rattle.board_core.specs.Stretches.{is_running, slot_runs}
 use Rattle.board_turns.specs.Quiet.{QuietAt}
 use Rattle.board_drivers.proofs.Calm.{kept_calm, later_calm}
+use Rattle.board_drivers.proofs.Lanes.{later_free}
 use Rattle.board_core.proofs.Changes.{as_many, as_many_owns, found, kept_records, still_seated_on}
 use Rattle.board_drivers.proofs.Records.{beside, bytes_of}
 use Rattle.board_core.proofs.Changes.{with_step}
@@ -69,7 +75,7 @@ ram_driven settings time later slot owns d own ram was passes h = record {
   size = h.size;
   slots = h.slots;
   ticks = h.ticks;
-  free = omega (arith, h.free, passes);
+  free = later_free time later d passes h.free;
 }
 
 -- the first three, and the last three, of six that are not ready
@@ -95,7 +101,7 @@ pub record StillHolds (b : Inside) (k : ℕ) (home : Homes) (processes : List Pr
   pub owns : length home.owns ≡ length processes
   pub few : length processes ≤ SLOT_COUNT
   pub driven : AreDriven b.machine.moment.settings (b.machine.moment.time + k) home.owns b.machine.drivers
-  pub calm : IsCalm b.machine.moment.settings.start (b.machine.moment.time + k) b.calm home.owns b.machine.drivers
+  pub calm : IsCalm b.machine.moment.settings.start b.machine.moment.window (b.machine.moment.time + k) b.calm home.owns b.machine.drivers
   pub alarms : TimeBringsNearer → AlarmsTell (turns_later k b.machine.moment) b.alarms home.owns
 
 set-same : {X : Type 0} (xs : List X) (i : ℕ) (x : X) → slice_get xs i ≡ Some x → slice_set xs i x ≡ xs
@@ -149,23 +155,28 @@ unfolding after_instructions
 still_free zero r = refl
 still_free (suc j) r = still_free j (instruction_made r)
 
-module _ (b : Inside) (board : IsBoard b) where
-  -- a board of which nobody is served at once, and no device step is to come by now, does not have one that is ready
-  pub nothing_comes : ready_device (ready_devices (world_of b)) ≡ None → NextLiesAhead
-      → (ServesNobody b.machine.drivers
-      → HasCome b.machine.moment.time (work_in b.machine.moment b.machine.home.owns b.machine.drivers).next) → ⊥
-  nothing_comes none law comes =
-      let idle = served_by_none _ _ _ _ _ _ (ap ready_device (devices_shown b board) ∙ none) in
-      not_both _ (sym (next_shown b board)) (law (world_of b) none)
-      (comes (record { receive = idle.0; random = idle.1; store = idle.2 }))
-    where
-      not_both : (at : Option ℕ) → world_next_time (world_of b) ≡ at
-          → IfSome (world_next_time (world_of b)) (λ n. b.machine.moment.time < n) → HasCome b.machine.moment.time at
-          → ⊥
-      not_both None e ahead come = come
-      not_both (Some n) e ahead come = let later : b.machine.moment.time < n =
-          subst (λ (o : Option ℕ). IfSome o (λ n. b.machine.moment.time < n)) e ahead in omega (arith, later, come)
+-- a time lies after another, if there is one
+abbrev Lies : ℕ → Option ℕ → Type 0
+Lies time at = IfSome at (λ n. time < n)
 
+-- where a process can have a turn, something is left to do
+something_left : (w : World) (slot : ℕ) → slot < SLOT_COUNT → can_run (slice_get w.records slot) ≡ true
+    → is_left w ≡ true
+unfolding is_left
+something_left w slot there runs = by_found (is_some (find (is_left_for w) (range_with_len 0 SLOT_COUNT))) refl
+  where
+    by_found : (b : Bool) → is_some (find (is_left_for w) (range_with_len 0 SLOT_COUNT)) ≡ b → b ≡ true
+    by_found true e = refl
+    by_found false e =
+        let same : slot ≡ 0 + slot = omega arith in
+        let none : is_left_for w slot ≡ false =
+        ap (is_left_for w) same ∙ find_range-none (is_left_for w) 0 SLOT_COUNT e slot there in
+        let left : is_left_for w slot ≡ true =
+        ap (λ (b : Bool). b || (is_some (ready_device (map (work_for w slot).ready device_order))
+        || is_some (work_for w slot).next)) runs in
+        absurd (false≢true (sym none ∙ left))
+
+module _ (b : Inside) (board : IsBoard b) where
   -- the process of the record in a slot
   process_there : (slot : ℕ)
       → option_map (λ (r : Record). r.process) (slice_get (world_of b).records slot) ≡ slice_get b.processes.items slot
@@ -179,6 +190,45 @@ module _ (b : Inside) (board : IsBoard b) where
       board.driven.slots) (λ p. refl))
       ∙ slice_get-map (λ (r : Resident). r.0) (residents b) slot
       ∙ sym (get-firsts b.processes.items b.machine.home.owns slot board.owns)
+
+  -- while a stretch goes on something is left to do
+  left_there : GoesOn (world_of b) → is_left (world_of b) ≡ true
+  left_there g =
+      something_left (world_of b) g.slot
+      (omega (
+        arith,
+        board.few,
+        slice_get_within b.processes.items g.slot g.before.process (sym (process_there g.slot)
+            ∙ ap (option_map (λ (r : Record). r.process)) g.is_there),
+      ))
+      (turn_is_ready (world_of b) g.slot g.chosen)
+
+  -- a board of which nobody is served at once, and no device step is to come by now, has one that is ready
+  pub nothing_comes : GoesOn (world_of b) → NextLiesAhead
+      → (ServesNobody (only_of b.machine.moment) b.machine.drivers
+      → HasCome b.machine.moment.time (work_in b.machine.moment b.machine.home.owns b.machine.drivers).next) → ⊥
+  nothing_comes g law comes =
+      let none = chosen_in_calm (world_of b) g.slot g.chosen in
+      let idle = served_by_none _ _ _ _ _ _ (ap ready_device (devices_shown b board) ∙ none) in
+      not_both b.machine.moment.window _ (sym (next_shown b board)) (law (world_of b) none)
+      (comes (record { receive = idle.0; random = idle.1; store = idle.2 }))
+    where
+      not_yet : (at : Option ℕ) → Lies b.machine.moment.time at → HasCome b.machine.moment.time at → ⊥
+      not_yet None ahead come = come
+      not_yet (Some n) ahead come = omega (arith, ahead, come)
+
+      nearer_lies : (at : Option ℕ) (end : ℕ) → Lies b.machine.moment.time (nearer at (Some end)) → Lies b.machine.moment.time at
+      nearer_lies None end ahead = tt
+      nearer_lies (Some n) end ahead = omega (arith, ahead)
+
+      not_both : (window : ℕ) (at : Option ℕ) → (work_of (world_of b)).next ≡ at
+          → Lies b.machine.moment.time (passes_to (world_of b) window) → HasCome b.machine.moment.time at → ⊥
+      not_both zero at e ahead come = not_yet at (subst (Lies b.machine.moment.time) e ahead) come
+      not_both (suc n) at e ahead come =
+          let end = window_end b.machine.moment.time (suc n) in
+          not_yet at (subst (Lies b.machine.moment.time) e (nearer_lies (work_of (world_of b)).next end
+          (subst (λ (left : Bool). Lies b.machine.moment.time (cond left (nearer (work_of (world_of b)).next (Some end)) None))
+          (left_there g) ahead))) come
 
   -- where the process that has the next turn does not run, no stretch goes on
   pub rests_there : (slot : ℕ) → next (world_of b) ≡ Some (Run slot)
@@ -228,13 +278,21 @@ module _ (b : Inside) (board : IsBoard b) where
     none_acts until j h =
         let then = (after_instructions j before).own in
         let m = turns_later j b.machine.moment in
-        let calm = kept_calm m.settings.start b.machine.moment.time b.calm slot b.machine.home.owns b.machine.drivers
+        let calm = (kept_calm m.settings.start m.window b.machine.moment.time b.calm slot b.machine.home.owns b.machine.drivers
         q.at.before.1
         then q.at.own_was (ap (λ (o : Own). o.grants) (own_after j before))
-        (ap (λ (o : Own). o.lives) (own_after j before)) board.calm m.time (omega arith)
+        (ap (λ (o : Own). o.lives) (own_after j before)) board.calm).none m.time (omega arith)
         (omega (arith, h, until)) in
         ap ready_device (ap (λ (owns : List Own). ready_in m owns b.machine.drivers) (owns_then j)
         ∙ calm_ready m (slice_set b.machine.home.owns slot then) b.machine.drivers calm)
+
+    -- and with time partitions the slot's window lasts
+    lets_on : next (world_of b) ≡ Some (Run slot) → b.machine.moment.time + k ≤ b.calm
+        → IsLetOnTheWay k (at_turn (world_of b) slot) slot
+    lets_on f until j h =
+        ap (λ (only : Option ℕ). is_let only slot)
+        (board.calm.same (b.machine.moment.time + j) (omega arith) (omega (arith, h, until)))
+        ∙ turn_is_let (world_of b) slot f
 
     -- the world after the turns, which took so many ticks
     abbrev world_after_ticks : ℕ → World
@@ -290,8 +348,7 @@ module _ (b : Inside) (board : IsBoard b) where
           (law k slot (world_of b) before more limit f was_there (state_is q.at.before.0.state runs) lasts_so
           (q.quiet.go pressed storage)
           (chooses k slot (at_turn (world_of b) slot) before refl was_there (state_is q.at.before.0.state runs) free
-          lasts_so
-          (none_acts until)))
+          lasts_so (lets_on f until) (none_acts until)))
         where
           lasts_so : (at_turn (world_of b) slot).present.used + k ≤ b.slice
           lasts_so = subst (λ (n : ℕ). n + k ≤ b.slice) begins lasts
@@ -336,38 +393,47 @@ module _ (b : Inside) (board : IsBoard b) where
       after_free : after.process.held ≡ false
       after_free = ap (λ (r : Record). r.process.held) (q.quiet.leads pressed storage) ∙ still_free k before ∙ free
 
-      -- who has the next turn then, where turns are left in the slice
-      turn_stays : PresentStaysOn → (n : ℕ) → n ≡ k → first + k < b.slice → (other : ℕ)
-          → next world_then ≡ Some (Run other) → slot ≡ other
-      turn_stays law zero e u other g =
+      -- the slot is let then, where the window lasts
+      still_let : b.machine.moment.time + k < b.calm → is_let (only_in world_then) slot ≡ true
+      still_let below =
+          ap (λ (only : Option ℕ). is_let only slot)
+          (board.calm.same (b.machine.moment.time + k) (omega arith) below) ∙ turn_is_let (world_of b) slot f
+
+      -- who has the next turn then, where turns are left in the slice and the window lasts
+      turn_stays : PresentStaysOn → (n : ℕ) → n ≡ k → first + k < b.slice → b.machine.moment.time + k < b.calm
+          → (other : ℕ) → next world_then ≡ Some (Run other) → slot ≡ other
+      turn_stays law zero e u below other g =
           let there = none (sym e) in
           same_slot slot other (sym f ∙ ap next (sym (none_left (sym e) there.0 there.1)) ∙ g)
-      turn_stays law (suc n) e u other g =
+      turn_stays law (suc n) e u below other g =
           let there = some (omega (arith, e)) in
           let stays : next_slot (ready_slots world_then) present used b.slice ≡ Some slot =
-          law world_then slot after there.0 after_there after_runs after_free (omega (arith, there.1, u)) in
+          law world_then slot after there.0 after_there after_runs after_free (omega (arith, there.1, u))
+          (still_let below) in
           let is : ◌≡◌ {A = Option ℕ} (Some slot) (Some other) = sym stays ∙ chosen_slot world_then other g in
           cc
 
       -- and it is the next choice, where no turns were made, or no device step is ready
       stays_next : PresentStaysOn → (n : ℕ) → n ≡ k → (0 < k → first + k < b.slice)
+          → (0 < k → b.machine.moment.time + k < b.calm)
           → (0 < k → ready_devices world_then ≡ false ∷ false ∷ false ∷ false ∷ false ∷ false ∷ [])
           → Some (Run slot) ≡ next world_then
-      stays_next law zero e u calm =
+      stays_next law zero e u below calm =
           let there = none (sym e) in sym f ∙ ap next (sym (none_left (sym e) there.0 there.1))
-      stays_next law (suc n) e u calm =
+      stays_next law (suc n) e u below calm =
           let more : 0 < k = omega (arith, e) in
           let there = some more in
           next_in_calm world_then (Some slot) (calm more)
-          (sym (law world_then slot after there.0 after_there after_runs after_free (omega (arith, there.1, u more))))
+          (sym (law world_then slot after there.0 after_there after_runs after_free (omega (arith, there.1, u more))
+          (still_let (below more))))
 
       pub next_stays : PresentStaysOn → (ticks left : ℕ) → ticks ≡ k → k ≤ left → (left ≤ k → left ≡ 0)
-          → first + left ≤ b.slice
+          → first + left ≤ b.slice → b.machine.moment.time + left ≤ b.calm
           → (k < left → ready_devices (world_after_ticks ticks) ≡ false ∷ false ∷ false ∷ false ∷ false ∷ false ∷ [])
           → Some (Run slot) ≡ next (world_after_ticks ticks)
-      next_stays law ticks left is made ends last calm =
+      next_stays law ticks left is made ends last within calm =
           subst (λ (n : ℕ). Some (Run slot) ≡ next (world_after_ticks n)) (sym is)
-          (stays_next law k refl (λ more. omega (arith, last, fewer more))
+          (stays_next law k refl (λ more. omega (arith, last, fewer more)) (λ more. omega (arith, within, fewer more))
           (λ more. subst (λ (n : ℕ). ready_devices (world_after_ticks n)
           ≡ false ∷ false ∷ false ∷ false ∷ false ∷ false ∷ []) is (calm (fewer more))))
         where
@@ -378,23 +444,26 @@ module _ (b : Inside) (board : IsBoard b) where
           fewer more = omega (arith, not_all more)
 
       -- where the turns are fewer than were left, the stretch does not go on
-      stops_there : PresentStaysOn → first + most ≤ b.slice → k < most → GoesOn world_then → ⊥
-      stops_there law last fewer g =
-          let at : slot ≡ g.slot = turn_stays law k refl (omega (arith, last, fewer)) g.slot g.chosen in
+      stops_there : PresentStaysOn → first + most ≤ b.slice → b.machine.moment.time + most ≤ b.calm → k < most
+          → GoesOn world_then → ⊥
+      stops_there law last within fewer g =
+          let at : slot ≡ g.slot = turn_stays law k refl (omega (arith, last, fewer)) (omega (arith, within, fewer))
+          g.slot g.chosen in
           let same : Some after ≡ Some g.before = sym after_there ∙ ap (slice_get world_then.records) at ∙ g.is_there in
           let is : after ≡ g.before = cc in
           q.quiet.stops fewer pressed storage (ap (λ (r : Record). (instruction r).end) is ∙ g.goes)
 
       -- nor where none were left
       pub ends_shown : PresentStaysOn → (ticks asked until : ℕ) → ticks ≡ k → k ≤ most → (most ≤ k → most ≡ 0)
-          → first + most ≤ b.slice → first < b.slice → b.machine.moment.time < until → 0 < asked
+          → first + most ≤ b.slice → b.machine.moment.time + most ≤ b.calm → first < b.slice
+          → b.machine.moment.time < until → 0 < asked
           → (most < asked → first + most < b.slice → b.machine.moment.steps + most < STEP_LIMIT
           → b.machine.moment.time + most < until
           → ⊥)
           → GoesOn (world_after_ticks ticks) → ⊥
-      ends_shown law ticks asked until is made ends last below ahead asks all g =
+      ends_shown law ticks asked until is made ends last within below ahead asks all g =
           let goes : GoesOn world_then = subst (λ (n : ℕ). GoesOn (world_after_ticks n)) is g in
-          let not_fewer : k < most → ⊥ = λ h. stops_there law last h goes in
+          let not_fewer : k < most → ⊥ = λ h. stops_there law last within h goes in
           let zero_left : most ≡ 0 = ends (omega (arith, not_fewer)) in
           let limit : b.machine.moment.steps + k < STEP_LIMIT = goes.limit in
           all (omega (arith, zero_left, asks)) (omega (arith, zero_left, below)) (omega (arith, zero_left, made, limit))
@@ -427,13 +496,14 @@ module _ (b : Inside) (board : IsBoard b) where
           (ram_driven b.machine.moment.settings b.machine.moment.time (b.machine.moment.time + k) slot
           b.machine.home.owns b.machine.drivers q.at.before.1
           q.at.after.1.ram q.at.own_was (omega arith) board.driven));
-      calm = subst (λ (h : Homes). IsCalm b.machine.moment.settings.start (b.machine.moment.time + k) b.calm h.owns
+      calm = subst (λ (h : Homes). IsCalm b.machine.moment.settings.start b.machine.moment.window (b.machine.moment.time + k) b.calm h.owns
           b.machine.drivers)
           (sym q.at.own_is)
-          (kept_calm b.machine.moment.settings.start (b.machine.moment.time + k) b.calm slot b.machine.home.owns
+          (kept_calm b.machine.moment.settings.start b.machine.moment.window (b.machine.moment.time + k) b.calm slot b.machine.home.owns
           b.machine.drivers q.at.before.1
           q.at.after.1 q.at.own_was (ap (λ (o : Own). o.grants) kept) (ap (λ (o : Own). o.lives) kept)
-          (later_calm b.machine.moment.settings.start b.machine.moment.time (b.machine.moment.time + k) b.calm
+          (later_calm b.machine.moment.settings.start b.machine.moment.window b.machine.moment.time
+          (b.machine.moment.time + k) b.calm
           b.machine.home.owns b.machine.drivers
           (omega arith) board.calm));
       alarms = λ law.
@@ -462,7 +532,7 @@ runs_within processes slot e = by_process (slice_get processes slot) refl e
 
 -- a board that looked up to when no device step is ready
 pub looked_ahead : (b : Inside) (calm : ℕ) → IsBoard b
-    → IsCalm b.machine.moment.settings.start b.machine.moment.time calm b.machine.home.owns b.machine.drivers
+    → IsCalm b.machine.moment.settings.start b.machine.moment.window b.machine.moment.time calm b.machine.home.owns b.machine.drivers
     → IsBoard (record b { calm = calm })
 looked_ahead b calm board is = record {
   seated = board.seated;
@@ -471,6 +541,7 @@ looked_ahead b calm board is = record {
   few = board.few;
   guard = board.guard;
   driven = board.driven;
+  lanes = board.lanes;
   served = board.served;
   steps = board.steps;
   time = board.time;

@@ -5,7 +5,7 @@ use Rattle.alarm_capsule.proofs.KeptTimes.{all_later, kept_tell, others_tell}
 use Rattle.alarm_capsule.specs.Times.{OthersTell}
 use Rattle.driver_model.specs.Laws.{TimeBringsNearer}
 use Rattle.std.proofs.Common.{◌≡◌, ℕ, ◌+◌, ◌<◌, ◌≤◌, ◌&&◌, not, Bool, true, false, if◌then◌else◌, List, [], length}
-use Rattle.std.proofs.Common.{slice_get}
+use Rattle.std.proofs.Common.{All, slice_get}
 use Rattle.std.proofs.Common.{slice_set, is_some, Option, None, Some, Result, Ok, Err, refl, sym, ap, subst, ◌∙◌, arith}
 use Rattle.std.proofs.lemmas.List.Elements.{All-set}
 use Rattle.std.proofs.lemmas.Option.{slice_get_within, get_or_from_slice_get}
@@ -34,11 +34,13 @@ use Rattle.process_record.specs.declared.process.State.TheVariants.{Running, Yie
 use Rattle.std.proofs.lemmas.Bool.{false≢true}
 use Rattle.board_core.specs.declared.board.Board.TheInside.{Inside}
 use Rattle.board_turns.specs.declared.turn.Shown.{Shown}
-use Rattle.board_drivers.specs.Driven.{AreDriven, Drives, IsQueueOf, MayServe, ids_waiting_in}
+use Rattle.board_drivers.specs.Driven.{AreDriven, Drives, HasLanes, IsQueueOf, MayServe, ids_waiting_in}
 use Rattle.board_drivers.specs.Residents.{IsResident, id_of, record_of, resident_turns}
 use Rattle.board_turns.specs.Turning.{TurnsAt, nothing_shown}
 use Rattle.board_drivers.specs.Residents.{can_turn_in}
 use Rattle.board_drivers.specs.Calm.{AlarmsTell, IsCalm}
+use Rattle.board_drivers.proofs.Lanes.{few_still, later_free, same_free, same_lanes, same_ticks}
+use Rattle.board_devices.specs.Storage.{StoredSlots}
 use Rattle.board_core.specs.Shows.{IsBoard, residents, world_of}
 use Rattle.board_core.proofs.Boards.{below_limit, ready_within}
 use Rattle.board_core.proofs.Changes.{as_many, as_many_owns, still_seated, turn_later}
@@ -108,9 +110,9 @@ module _ (b : Inside) (slot : ℕ) (x : Machine) (processes : List Process) (sho
       (says.call ∙ ap (λ (s : Shown). s.call) quiet) (says.denial ∙ ap (λ (s : Shown). s.denial) quiet))
       drives
 
-  -- the serial line goes on
-  pub line_stays : x.drivers.uart ≡ b.machine.drivers.uart
-  line_stays = drives.line
+  -- the serial lines go on
+  pub lines_stay : x.drivers.uarts ≡ b.machine.drivers.uarts
+  lines_stay = drives.lines
 
   module _ (law : TurnsKeepLines) (lives : t.at.before.1.lives ≡ true) where
     keeps : KeepsLines b.machine.moment.settings.storage t.at.before.1 t.at.after.1 turn.acts
@@ -141,8 +143,10 @@ module _ (b : Inside) (slot : ℕ) (x : Machine) (processes : List Process) (sho
           buttons = ap (λ (s : ButtonsView). s.count) drives.buttons ∙ h.driven.buttons;
           size = ap (λ (s : _). s.size) drives.bytes ∙ h.driven.size;
           slots = ap (λ (s : _). length s.slots) drives.bytes ∙ h.driven.slots;
-          ticks = omega (arith, ap (λ (l : _). l.ticks) drives.line, h.driven.ticks);
-          free = omega (arith, ap (λ (l : _). l.free) drives.line, h.driven.free);
+          ticks = same_ticks b.machine.drivers x.drivers drives.lines h.driven.ticks;
+          free = same_free (b.machine.moment.time + 1) b.machine.drivers x.drivers drives.lines
+              (later_free b.machine.moment.time (b.machine.moment.time + 1) b.machine.drivers (omega arith)
+              h.driven.free);
         })
       where
         before_within : IsWithin b.machine.moment.settings.storage t.at.before.1
@@ -151,9 +155,14 @@ module _ (b : Inside) (slot : ℕ) (x : Machine) (processes : List Process) (sho
             (get_or_from_slice_get b.machine.home.owns slot t.at.before.1 nobody t.at.own_was)
             (h.driven.within slot nobody (slice_get_within b.machine.home.owns slot t.at.before.1 t.at.own_was))
 
+  -- there are the same lanes
+  lanes_stay : HasLanes b.machine.moment.window x.drivers
+  lanes_stay = same_lanes b.machine.moment.window b.machine.drivers x.drivers drives.lines drives.words drives.bytes h.lanes
+
   -- it served as many requests as before
-  served_stays : x.drivers.stores.served ≡ b.machine.drivers.stores.served
-  served_stays = ap (λ (s : _). s.served) drives.bytes
+  served_stays : All (λ count. count ≤ b.machine.moment.steps + 1) x.drivers.stores.served
+  served_stays = few_still b.machine.moment.steps (b.machine.moment.steps + 1) x.drivers.stores.served (omega arith)
+      (subst (λ (s : StoredSlots). All (λ count. count ≤ b.machine.moment.steps) s.served) (sym drives.bytes) h.served)
 
   -- what is told of the alarms of all other processes stays true, a tick later
   pub others_later : TimeBringsNearer
@@ -200,7 +209,7 @@ module _ (b a : Inside) (slot : ℕ) (shown : Shown) (h : IsBoard b)
     (t : TurnsAt slot b.machine a.machine b.processes.items a.processes.items shown) where
   pub turned_board : (calm used : ℕ) (times : List (Option ℕ)) → DropsAtMostOne → TurnsKeepLines
       → is_ready (world_of b) (Run slot) ≡ true
-      → IsCalm b.machine.moment.settings.start (b.machine.moment.time + 1) calm a.machine.home.owns a.machine.drivers
+      → IsCalm b.machine.moment.settings.start b.machine.moment.window (b.machine.moment.time + 1) calm a.machine.home.owns a.machine.drivers
       → AlarmsTell (turn_later b.machine.moment) times a.machine.home.owns → used ≤ b.slice
       → IsBoard (record b {
         machine = record a.machine { moment = turn_later b.machine.moment };
@@ -226,7 +235,8 @@ module _ (b a : Inside) (slot : ℕ) (shown : Shown) (h : IsBoard b)
     few = omega (arith, as_many slot b.machine.home a.machine.home b.processes.items a.processes.items t.at, h.few);
     guard = t.guard;
     driven = turn_driven b slot a.machine a.processes.items shown h t keeps lives;
-    served = omega (arith, served_stays b slot a.machine a.processes.items shown h t, h.served);
+    lanes = lanes_stay b slot a.machine a.processes.items shown h t;
+    served = served_stays b slot a.machine a.processes.items shown h t;
     steps = omega (arith, (ready_within b slot h ready).0);
     time = omega (arith, h.time);
     calm = quiet;

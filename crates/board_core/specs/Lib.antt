@@ -4,3 +4,4 @@ pub mod Shows
 pub mod Makes
 pub mod Plays
 pub mod PartsOf
+pub mod LanesOf

@@ -7,8 +7,11 @@ use Rattle.tk_outside.specs.Writes.{WroteAll, WrotePart}
 use Rattle.kernel_model.specs.Record.{Record}
 use Rattle.kernel_model.specs.World.{World, is_ready}
 use Rattle.kernel_model.specs.Accounts.{IsAccountedFor}
-use Rattle.kernel_model.specs.Replay.{after_all, history}
+use Rattle.kernel_model.specs.Replay.{after_all, chosen, history}
 use Rattle.kernel_model.specs.Choices.{Throughout, are_ready, printed_by_all}
+use Rattle.kernel_partitions.specs.Alike.{AreAlikeIn, IsPartitioned}
+use Rattle.kernel_partitions.specs.Moments.{before, timed_history}
+use Rattle.kernel_partitions.specs.Partitions.{time_after}
 use Rattle.board_opening.specs.Alone.{IsReplayed, OpensAlone, alone}
 use Rattle.board_core.specs.declared.play.PlayEnd.{PlayEnd}
 use Rattle.board_core.specs.declared.play.PlayEnd.TheVariants.{NotReady, Failed}
@@ -32,6 +35,12 @@ pub record ChoicesMade (old new : World) (choices : List Choice) : Type 0 where
   pub alone : OpensAlone old → (slot : ℕ) (r : Record) → slice_get old.records slot ≡ Some r
       → slice_get new.records slot
       ≡ alone old.settings r.object r.process.object.address r.own.layout.start (history slot old choices)
+  -- with time partitions, and where the choices are those of a run of n steps by windows: in any other world that is
+  -- alike in a slot, and in a run of any length there, the same is told of the slot's process at the same times, up to
+  -- any time that both have reached
+  pub partitioned : IsPartitioned old → (n : ℕ) → choices ≡ chosen n old → (slot : ℕ) (other : World)
+      → AreAlikeIn slot old other → (m time : ℕ) → time ≤ time_after n old → time ≤ time_after m other
+      → before time (timed_history slot old choices) ≡ before time (timed_history slot other (chosen m other))
 
 -- all were made, and what they printed was written
 pub record PlayedAll {K : Type 0} (tells : K → SinkFacts) (old new : World) (choices : List Choice)

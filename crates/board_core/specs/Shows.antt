@@ -7,9 +7,8 @@ use Rattle.kernel_model.specs.Record.{Record}
 use Rattle.kernel_model.specs.World.{World}
 use Rattle.board_turns.specs.Guards.{GuardsOnly}
 use Rattle.board_drivers.specs.Residents.{HasLost, Resident, record_of, IsResident}
-use Rattle.board_opening.specs.Settings.{pace}
 use Rattle.board_drivers.specs.Calm.{AlarmsTell, IsCalm}
-use Rattle.board_drivers.specs.Driven.{AreDriven, devices_of}
+use Rattle.board_drivers.specs.Driven.{AreDriven, HasLanes, devices_of}
 use Rattle.board_core.specs.declared.board.Board.TheInside.{Inside}
 
 -- each process with what is its own
@@ -27,7 +26,7 @@ world_of b = record {
   records = map (recorded b) (zip (residents b) b.machine.drivers.stores.slots);
   unplaced = b.unplaced.items;
   settings = b.machine.moment.settings;
-  pace = pace b.slice;
+  pace = record { slice = b.slice; window = b.machine.moment.window };
   devices = devices_of b.machine.drivers;
   clock = record { time = b.machine.moment.time; steps = b.machine.moment.steps };
   present = record { slot = b.present; used = b.used };
@@ -40,10 +39,12 @@ pub record IsBoard (b : Inside) : Type 0 where
   pub few : length b.processes.items ≤ SLOT_COUNT
   pub guard : GuardsOnly b.machine.guard b.machine.home
   pub driven : AreDriven b.machine.moment.settings b.machine.moment.time b.machine.home.owns b.machine.drivers
-  pub served : b.machine.drivers.stores.served ≤ b.machine.moment.steps
+  pub lanes : HasLanes b.machine.moment.window b.machine.drivers
+  pub served : All (λ count. count ≤ b.machine.moment.steps) b.machine.drivers.stores.served
   pub steps : b.machine.moment.steps ≤ STEP_LIMIT
   pub time : b.machine.moment.time ≤ b.machine.moment.steps * 2 ^ 32
-  pub calm : IsCalm b.machine.moment.settings.start b.machine.moment.time b.calm b.machine.home.owns b.machine.drivers
+  pub calm : IsCalm b.machine.moment.settings.start b.machine.moment.window b.machine.moment.time b.calm
+      b.machine.home.owns b.machine.drivers
   pub alarms : AlarmsTell b.machine.moment b.alarms b.machine.home.owns
   pub slice : 1 ≤ b.slice
   pub used : b.used ≤ b.slice

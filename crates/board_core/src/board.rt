@@ -1,22 +1,25 @@
 //! The board.
-ghost use Rattle.std.specs.Prelude.{◌≡◌, ◌+◌, ◌-◌, ◌^◌, [], ◌∷◌, true, false, ◌≤◌, ◌<◌, ◌↔◌, All};
+ghost use Rattle.std.specs.Prelude.{◌≡◌, ◌+◌, ◌-◌, ◌*◌, ◌^◌, [], ◌∷◌, true, false, ◌≤◌, ◌<◌, ◌↔◌, All};
 ghost use Rattle.std.specs.Prelude.{map, length, slice_get, IsOk, IsTrue, IfOk, IfSome, Some, OnOk};
 ghost use Rattle.std.specs.Prelude.{OnErr, vec_len};
 ghost use Rattle.std.specs.List.{zip};
 ghost use Rattle.tk_base.specs.declared.process.Choice.TheVariants.{Run, Device, Pass};
 ghost use Rattle.tk_base.specs.declared.process.Dev.TheVariants.{Event, Alarm, Uart, Receive};
 ghost use Rattle.tk_base.specs.declared.process.Dev.TheVariants.{Random, Store};
-ghost use Rattle.tk_base.specs.declared.limits.TheConstants.{OBJECT_LIMIT, SENDING_LIMIT};
+ghost use Rattle.tk_base.specs.declared.limits.TheConstants.{OBJECT_LIMIT};
 ghost use Rattle.tk_base.specs.declared.limits.TheConstants.{SLOT_COUNT, STEP_LIMIT};
 ghost use Rattle.turn_scheduler.specs.RoundRobin.{used_after};
+ghost use Rattle.turn_scheduler.specs.Status.{IsChoiceAhead, choice_by, lanes_told};
 ghost use Rattle.turn_scheduler.specs.Status.{situation_shown as status_situation};
 ghost use Rattle.process_record.specs.Emit.{nothing};
 ghost use Rattle.process_record.specs.Name.{name_of};
 ghost use Rattle.process_model.specs.Flash.{object_in};
+ghost use Rattle.partition_turns.specs.Windows.{window_choice};
+ghost use Rattle.kernel_laws.specs.Windows.{lanes_in};
 ghost use Rattle.kernel_model.specs.World.{is_ready, after, labels, listed};
 ghost use Rattle.kernel_model.specs.Accounts.{IsAccountedFor};
 ghost use Rattle.kernel_model.specs.Causes.{AreWhole};
-ghost use Rattle.kernel_model.specs.Run.{next, situation_of};
+ghost use Rattle.kernel_model.specs.Run.{next, next_time, ready_slots, situation_of};
 ghost use Rattle.kernel_model.specs.Shown.{shown_by, summary_of};
 ghost use Rattle.board_opening.specs.Alone.{IsReplayed, OpensAlone};
 ghost use Rattle.board_opening.specs.Opening.{opening};
@@ -24,20 +27,22 @@ ghost use Rattle.board_opening.specs.Settings.{visible_settings};
 ghost use Rattle.board_devices.specs.Clock.{clock_at};
 ghost use Rattle.alarm_capsule.specs.Times.{OthersTell};
 ghost use Rattle.board_drivers.specs.Calm.{AlarmsTell, IsCalm};
+ghost use Rattle.board_drivers.specs.Driven.{AreFreeSoon};
 ghost use Rattle.board_devices.specs.Arriving.{is_time};
+ghost use Rattle.board_core.specs.LanesOf.{lanes_of};
 ghost use Rattle.board_core.specs.Makes.{MakesStep, act_meant, ready_in, shown_act, shown_printed};
 ghost use Rattle.board_drivers.specs.Tells.{tells_one};
 ghost use Rattle.board_drivers.specs.Residents.{InFlash, line_in, resident_turns, can_turn_in};
 ghost use Rattle.board_turns.specs.Turning.{nothing_shown, told_in_emit};
 
-use alarm_capsule::AlarmTimes;
+use alarm_capsule::{AlarmTimes, nearer_time};
 use arrayvec::ArrayVec;
 use board_drivers::{Drivers, Moment};
 use board_opening::{LoadedProcesses, first_crew, placed_in, unplaced};
 use board_turns::{ActivePmp, Machine, can_turn};
 use driver_model::{lines_follow_answers, time_brings_an_alarm_nearer};
 use grant_enter::Home;
-use kernel_laws::{grants_change_at_calls, turns_keep_lines};
+use kernel_laws::{grants_change_at_calls, next_is_of_the_window, turns_keep_lines};
 use kernel_lives::steps_are_accounted_for;
 use kernel_model::{
     Settings, a_record_is_the_replay_of_its_events, devices_answer_one, next_is_ready,
@@ -90,7 +95,7 @@ impl Model for Board {
 }
 
 /// Whether a slot can have a turn.
-fn can_run(home: &Home, processes: &[Process], slot: Slot) -> bool
+pub(crate) fn can_run(home: &Home, processes: &[Process], slot: Slot) -> bool
     requires { length home.now.owns ≡ length processes.now }
     ensures { result ≡ can_turn_in (slice_get (zip processes.now home.now.owns) slot) }
 {
@@ -216,29 +221,18 @@ fn calm_after(
     emit: &Emit,
 ) -> u64
     requires alarms { AlarmsTell moment.now alarms.now home.now.owns }
-    requires time { moment.now.time + 2 ^ 32 ≤ 2 ^ 64 }
-    requires free { drivers.now.uart.free ≤ moment.now.time + SENDING_LIMIT }
+    requires time { moment.now.time ≤ STEP_LIMIT * 2 ^ 32 }
+    requires free { AreFreeSoon moment.now.time drivers.now }
     requires calm { told_in_emit emit.now ≡ nothing_shown
-        → IsCalm moment.now.settings.start moment.now.time calm home.now.owns drivers.now }
-    ensures { IsCalm moment.now.settings.start moment.now.time result home.now.owns drivers.now }
+        → IsCalm moment.now.settings.start moment.now.window moment.now.time calm home.now.owns
+        drivers.now }
+    ensures { IsCalm moment.now.settings.start moment.now.window moment.now.time result
+        home.now.owns drivers.now }
 {
     if has_shown(emit) {
         return moment.look_ahead(home, alarms, drivers);
     }
     calm
-}
-
-/// Adds for each slot whether it is ready. The table is filled where it lies: moving it would cost
-/// more than filling it, at each step.
-fn add_ready(home: &Home, processes: &[Process], ready: &mut ArrayVec<bool, SLOT_COUNT>)
-    requires few { length processes.now ≤ SLOT_COUNT }
-    requires owns { length home.now.owns ≡ length processes.now }
-    requires fresh { ready.old.items ≡ [] }
-    ensures { ready.new.items ≡ map resident_turns (zip processes.now home.now.owns) }
-{
-    for (slot, process) in processes.iter().enumerate() {
-        ready.push(can_turn(home, process, Slot::new(slot)));
-    }
 }
 
 /// The name of the application whose object this is, as its line shows it.
@@ -304,7 +298,8 @@ impl Situated for Board {
     }
 
     fn slot_is_ready(&self, slot: Slot) -> bool {
-        can_run(&self.machine.home, &self.processes, slot)
+        self.machine.moment.served().serves(slot)
+            && can_run(&self.machine.home, &self.processes, slot)
     }
 
     fn slots(&self) -> usize {
@@ -313,9 +308,7 @@ impl Situated for Board {
 
     fn next(&self) -> Option<u64> {
         next_is_ready();
-        self.machine
-            .moment
-            .next_time(&self.machine.home, &self.alarms, &self.machine.drivers)
+        self.time_ahead()
     }
 
     fn time(&self) -> u64 {
@@ -346,7 +339,8 @@ impl Board {
         ensures world { IfOk result (λ board. board ≡ opening script flash.items) }
         ensures alone { IfOk result OpensAlone }
     {
-        let placed = placed_in(&flash, script.ram);
+        let window = script.partition.unwrap_or(0);
+        let placed = placed_in(&flash, script.ram, window != 0);
         let LoadedProcesses {
             processes,
             footprints,
@@ -356,6 +350,7 @@ impl Board {
         };
         let moment = Moment {
             settings: settings_of(&script),
+            window,
             time: 0,
             steps: 0,
         };
@@ -379,6 +374,24 @@ impl Board {
             present: None,
             used: 0,
         })
+    }
+
+    /// Up to when time passes where nothing is ready: to the nearest time at which a device step
+    /// becomes ready by itself; with time partitions no further than to the window's end, and as
+    /// long as anything is left to do for any slot.
+    fn time_ahead(&self) -> Option<u64>
+        ensures at { result ≡ next_time self.now }
+        ensures near { IfSome result (λ at. at - self.now.clock.time < 2 ^ 32) }
+    {
+        let moment = &self.machine.moment;
+        let next = moment.next_time(&self.machine.home, &self.alarms, &self.machine.drivers);
+        let Some(end) = moment.window_end() else {
+            return next;
+        };
+        if !self.is_left() {
+            return None;
+        }
+        nearer_time(next, Some(end))
     }
 
     /// Whether the process in a slot may have the next turn.
@@ -630,13 +643,31 @@ impl Board {
         }
     }
 
-    /// What the round robin reads of the board.
+    /// Adds for each slot whether it is ready. The table is filled where it lies: moving it would
+    /// cost more than filling it.
+    fn add_ready(&self, ready: &mut ArrayVec<bool, SLOT_COUNT>)
+        requires { ready.old.items ≡ [] }
+        ensures { ready.new.items ≡ ready_slots self.now }
+    {
+        for slot in 0..self.processes.len() {
+            ready.push(self.slot_is_ready(Slot::new(slot)));
+        }
+    }
+
+    /// What the next choice reads of the board: for the round robin, and with time partitions, what
+    /// there is in each slot's window. What [`turn_scheduler::next_choice`] makes of it is
+    /// [`Board::next_choice`].
     #[inline(never)]
     #[tactic(auto, unfolding(kernel_model::specs::Run::ready_devices))]
     pub fn status(&self) -> Status
         ensures status { status_situation result ≡ situation_of self.now }
+        ensures lanes { lanes_told result ≡ lanes_of self.now }
+        ensures next { choice_by (status_situation result) (lanes_told result) ≡ next self.now }
+        ensures ahead { IsChoiceAhead (status_situation result) (lanes_told result) }
         ensures near { IfSome result.next (λ at. at - result.time < 2 ^ 32) }
     {
+        next_is_ready();
+        next_is_of_the_window();
         let mut status = Status {
             ready: ArrayVec::new(),
             devices: devices_ready(
@@ -645,30 +676,31 @@ impl Board {
                 &self.machine.drivers,
                 &self.machine.moment,
             ),
-            next: self
-                .machine
-                .moment
-                .next_time(&self.machine.home, &self.alarms, &self.machine.drivers),
+            next: self.time_ahead(),
             time: self.machine.moment.time,
             present: self.present,
             used: self.used,
             slice: self.slice,
+            lanes: self.lanes(),
         };
-        add_ready(&self.machine.home, &self.processes, &mut status.ready);
+        self.add_ready(&mut status.ready);
         status
     }
 
-    /// The next choice of the round robin; None exactly where no process can have a turn, no device
-    /// has anything to do, nothing is still to come in, no write waits and no alarm is armed. It
-    /// may be made while fewer than 4,000,000,000 steps were made.
+    /// The next choice of the round robin, with time partitions that in the window of the slot whose
+    /// window it is; None exactly where no process can have a turn, no device has anything to do,
+    /// nothing is still to come in, no write waits and no alarm is armed. It may be made while fewer
+    /// than 4,000,000,000 steps were made.
     // Inlined, it saves 4 to 8 machine instructions a turn.
     #[inline(always)]
     pub fn next_choice(&self) -> Option<Choice>
         ensures next { result ≡ next self.now }
+        ensures window { 1 ≤ self.now.pace.window → result ≡ window_choice (lanes_in self.now) }
         ensures ready { IfSome result
             (λ choice. self.now.clock.steps < STEP_LIMIT → IsTrue (is_ready self.now choice)) }
     {
         next_is_ready();
+        next_is_of_the_window();
         // What comes most often needs no look at the devices.
         if self.machine.moment.time < self.calm {
             return next_in_calm(self);

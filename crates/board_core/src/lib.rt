@@ -3,6 +3,8 @@
 #![tactic(auto)]
 
 mod board;
+mod lanes;
+mod left;
 mod look;
 mod play;
 mod stretch;

@@ -12,6 +12,13 @@ use process_record::Process;
 use tk_base::{Dev, ProcessId, Slot, Upcall};
 
 impl Board {
+    /// The time, in ticks.
+    pub fn time(&self) -> u64
+        ensures { result ≡ self.now.clock.time }
+    {
+        self.machine.moment.time
+    }
+
     /// The process in a slot: its registers, its state, its counts, its last denial and its last
     /// refusal. None exactly where the slot has no process, as in each of these functions.
     pub fn process(&self, slot: Slot) -> Option<Process>

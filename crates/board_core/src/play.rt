@@ -3,6 +3,7 @@ ghost use Rattle.board_core.specs.Plays.{Plays};
 
 use crate::board::Board;
 use kernel_model::a_record_is_the_replay_of_its_events;
+use kernel_partitions::a_partition_sees_itself_alone;
 use process_record::Emit;
 use tk_base::Choice;
 use tk_outside::{Sink, put_all, writes_compose};
@@ -27,11 +28,16 @@ impl Board {
     /// printed was written. `Failed` comes only where the sink's count of faults rose; what was
     /// written is a front of what the choices made print, and they are as few as print more than
     /// that. No memory is taken.
+    ///
+    /// With time partitions, and where the choices are the board's own, what a slot's process does,
+    /// and when, is the same in any other world that is alike in that slot
+    /// ([`a_partition_sees_itself_alone`]).
     pub fn play<K: Sink>(&mut self, choices: &[Choice], out: &mut K) -> Result<(), PlayEnd>
         ensures { Plays K.tells self.old self.new choices.now out.old out.new result }
     {
         writes_compose::<K>();
         a_record_is_the_replay_of_its_events();
+        a_partition_sees_itself_alone();
         let mut emit = Emit::new();
         for (place, choice) in choices.iter().enumerate() {
             let Ok(()) = self.step(*choice, &mut emit) else {

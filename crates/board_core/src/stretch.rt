@@ -1,7 +1,7 @@
 //! A quiet stretch: turns of processes, one after another, that only execute an instruction.
-ghost use Rattle.std.specs.Prelude.{◌≡◌, ◌+◌, ◌-◌, ◌≤◌, ◌<◌, ◌^◌, true, false, ℕ, Some, IfSome};
+ghost use Rattle.std.specs.Prelude.{◌≡◌, ◌+◌, ◌-◌, ◌*◌, ◌≤◌, ◌<◌, ◌^◌, true, false, ℕ, Some, IfSome};
 ghost use Rattle.std.specs.Prelude.{IfNone, IsTrue, slice_get};
-ghost use Rattle.tk_base.specs.declared.limits.TheConstants.{SENDING_LIMIT, STEP_LIMIT};
+ghost use Rattle.tk_base.specs.declared.limits.TheConstants.{STEP_LIMIT};
 ghost use Rattle.turn_scheduler.specs.RoundRobin.{used_after};
 ghost use Rattle.tk_base.specs.declared.process.Choice.TheVariants.{Run};
 ghost use Rattle.kernel_model.specs.Accounts.{IsAccountedFor};
@@ -11,7 +11,8 @@ ghost use Rattle.kernel_model.specs.Run.{next};
 ghost use Rattle.kernel_model.specs.Stretch.{GoesOn, IsStretch};
 ghost use Rattle.kernel_model.specs.World.{is_ready};
 ghost use Rattle.board_drivers.specs.Calm.{AlarmsTell, HasCome, IsCalm};
-ghost use Rattle.board_drivers.specs.Calm.{ServesNobody, work_in};
+ghost use Rattle.board_drivers.specs.Calm.{ServesNobody, only_of, work_in};
+ghost use Rattle.board_drivers.specs.Driven.{AreFreeSoon};
 ghost use Rattle.board_core.specs.Stretches.{EndsStretch, slot_runs};
 
 use crate::board::Board;
@@ -84,13 +85,13 @@ fn calm_ahead(
     drivers: &Drivers,
 ) -> u64
     requires alarms { AlarmsTell moment.now alarms.now home.now.owns }
-    requires time { moment.now.time + 2 ^ 32 ≤ 2 ^ 64 }
-    requires free { drivers.now.uart.free ≤ moment.now.time + SENDING_LIMIT }
-    requires calm { IsCalm moment.now.settings.start moment.now.time calm home.now.owns
+    requires time { moment.now.time ≤ STEP_LIMIT * 2 ^ 32 }
+    requires free { AreFreeSoon moment.now.time drivers.now }
+    requires calm { IsCalm moment.now.settings.start moment.now.window moment.now.time calm home.now.owns
         drivers.now }
-    ensures calm { IsCalm moment.now.settings.start moment.now.time result home.now.owns
+    ensures calm { IsCalm moment.now.settings.start moment.now.window moment.now.time result home.now.owns
         drivers.now }
-    ensures come { result ≤ moment.now.time → ServesNobody drivers.now
+    ensures come { result ≤ moment.now.time → ServesNobody (only_of moment.now) drivers.now
         → HasCome moment.now.time (work_in moment.now home.now.owns drivers.now).next }
 {
     if moment.time < calm {

@@ -2,12 +2,13 @@
 //! one costs more than those of its parts.
 use super::*;
 use process_record::{Emit, State};
-use script_text::read_script;
+use script_text::{Script, read_script};
 use std::alloc::Global;
 use std::process::Abort;
 use test_objects::{Tlv, image, object};
 use tk_base::{Access, Choice, Denial, Rule, Slot};
 use tk_outside::MemSink;
+use turn_scheduler::next_choice;
 
 /// `j .`
 const SPIN: [u32; 1] = [0x0000_006f];
@@ -53,12 +54,17 @@ fn application<const N: usize>(code: &[u32]) -> [u8; N] {
     object(1, &[main], code)
 }
 
-/// A board with the two applications, without a script; None for want of memory.
-fn board_of(alloc: Global) -> Option<Board> {
+/// A board with the two applications under a script; None for want of memory.
+fn board_under(alloc: Global, script: Script) -> Option<Board> {
     let flash: [u8; 128] = image(&[&application::<64>(&SPIN), &application::<64>(&STRAY)]);
     let flash = Vec::from_slice(alloc, &flash).ok()?;
-    let script = read_script(alloc, b"").ok()?;
     Board::boot(alloc, flash, script).ok()
+}
+
+/// One without a script; None for want of memory.
+fn board_of(alloc: Global) -> Option<Board> {
+    let script = read_script(alloc, b"").ok()?;
+    board_under(alloc, script)
 }
 
 /// A board with three applications: one with this code, one that stops at an `ebreak`, and one that
@@ -179,6 +185,39 @@ fn two_applications_go_on_as_was_worked_out(rt: HostRuntime) {
     assert_eq!(rt;
         seen(&mut board, rt.alloc()),
         ([10, 91, 0], true, Some(PlayEnd::NotReady(3)), 106)
+    );
+}
+
+/// The next choice by the board's status, which is then made.
+fn go_on_by_status(board: &mut Board) -> Option<Choice> {
+    let choice = next_choice(&board.status());
+    go_on(board);
+    choice
+}
+
+/// The first five choices in windows of two ticks, by the board's status. None for want of memory.
+fn in_windows(alloc: Global) -> Option<[Option<Choice>; 5]> {
+    let script = read_script(alloc, b"partition 2\n").ok()?;
+    let mut board = board_under(alloc, script)?;
+    let mut choices = [None; 5];
+    for choice in choices.iter_mut() {
+        *choice = go_on_by_status(&mut board);
+    }
+    Some(choices)
+}
+
+#[test]
+fn a_status_tells_the_choice_in_a_window(rt: HostRuntime) {
+    let choices = in_windows(rt.alloc()).expect(&rt, "memory");
+    assert_eq!(rt;
+        choices,
+        [
+            Some(Choice::Run(Slot::new(0))),
+            Some(Choice::Run(Slot::new(0))),
+            Some(Choice::Run(Slot::new(1))),
+            Some(Choice::Run(Slot::new(1))),
+            Some(Choice::Pass(2)),
+        ]
     );
 }
 

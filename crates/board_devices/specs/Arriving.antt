@@ -1,7 +1,7 @@
 -- What is still to come in: bytes on the serial line, changes of buttons, and acts of an operator. Their times are this
 -- board's own.
 use Rattle.std.specs.Prelude.{ℕ, nat_le, Bool, true, false, not, if◌then◌else◌, List, [], ◌∷◌, Option, None, Some}
-use Rattle.std.specs.Prelude.{option_and_then}
+use Rattle.std.specs.Prelude.{map, option_and_then}
 use Rattle.tk_base.specs.Bits.{has_bit, with_bit}
 use Rattle.tk_base.specs.declared.process.Verb.{Verb}
 use Rattle.script_text.specs.Settings.{ScriptEvent, EventKind, Input, Press, Release, Act}
@@ -26,10 +26,10 @@ edge_of (Press button) = Some (button, true)
 edge_of (Release button) = Some (button, false)
 edge_of (Act verb name) = None
 
--- the line after an event: of all bytes in the ring the newest are kept
-abbrev pub line_after : EventKind → SerialLine → SerialLine
-line_after (Input bytes) line = with_input bytes line
-line_after other line = line
+-- the serial line of each lane after an event: bytes come in on all; of those in a ring the newest are kept
+abbrev pub lines_after : EventKind → List SerialLine → List SerialLine
+lines_after (Input bytes) lines = map (with_input bytes) lines
+lines_after other lines = lines
 
 -- whether a button has another state than this one by a mask of pressed buttons
 abbrev pub differs : ℕ → ℕ → Bool → Bool
@@ -53,10 +53,10 @@ with_edge (Some edge) mask = with_bit mask edge.0 edge.1
 abbrev pub pressed_after : EventKind → ℕ → ℕ
 pressed_after kind mask = with_edge (change_by kind mask) mask
 
--- the line after the first came in
-abbrev pub with_first_arrived : List ScriptEvent → SerialLine → SerialLine
-with_first_arrived [] line = line
-with_first_arrived (event ∷ rest) line = line_after event.kind line
+-- and after the first came in
+abbrev pub with_first_arrived : List ScriptEvent → List SerialLine → List SerialLine
+with_first_arrived [] lines = lines
+with_first_arrived (event ∷ rest) lines = lines_after event.kind lines
 
 -- the mask of pressed buttons after the first came in
 abbrev pub pressed_after_first : List ScriptEvent → ℕ → ℕ

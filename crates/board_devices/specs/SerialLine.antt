@@ -1,6 +1,6 @@
 -- A UART, as a process sees its two halves. How long a byte takes, and how many the ring holds, is this board's own
 -- rule.
-use Rattle.std.specs.Prelude.{ℕ, ◌-◌, List, ◌++◌, drop, length}
+use Rattle.std.specs.Prelude.{ℕ, ◌-◌, List, [], ◌++◌, drop, length, slice_index_or}
 use Rattle.tk_base.specs.declared.limits.TheConstants.{RING_SIZE}
 
 -- the bytes that came in and were not read, the oldest first; the ticks that it takes to send a byte; the time from
@@ -9,6 +9,14 @@ pub record SerialLine : Type 0 where
   pub ring : List ℕ
   pub ticks : ℕ
   pub free : ℕ
+
+-- a serial line that is nowhere
+abbrev pub no_line : SerialLine
+no_line = record { ring = []; ticks = 0; free = 0 }
+
+-- that of a lane
+abbrev pub line_at : ℕ → List SerialLine → SerialLine
+line_at lane lines = slice_index_or lines lane no_line
 
 -- what is kept of bytes that came in: the newest
 abbrev pub newest : List ℕ → List ℕ

@@ -1,16 +1,17 @@
 -- The storage of the slots, each of which reads and writes its own bytes alone. How many bytes it has, and when it
 -- fails, is this board's own rule.
-use Rattle.std.specs.Prelude.{◌≡◌, ℕ, ◌+◌, ◌^◌, ◌==◌, ◌<◌, Bool, List, [], ◌++◌, All, drop, length, replicate}
+use Rattle.std.specs.Prelude.{◌≡◌, ℕ, ◌+◌, ◌%◌, ◌^◌, ◌==◌, ◌<◌, Bool, List, [], ◌++◌, All, drop, length, replicate}
 use Rattle.std.specs.Prelude.{slice_index_or, slice_range, slice_set, take}
 use Rattle.std.specs.List.{list_any}
 use Rattle.tk_base.specs.declared.limits.TheConstants.{SLOT_COUNT}
+use Rattle.tk_outside.specs.Count.{counted}
 
--- the bytes of each slot, slot 0 first; how many each has; how many requests were served; and the numbers of those that
--- fail, counted from 1
+-- the bytes of each slot, slot 0 first; how many each has; how many requests were served in each lane; and the numbers
+-- of those that fail, counted from 1 in each lane
 pub record StoredSlots : Type 0 where
   pub slots : List (List ℕ)
   pub size : ℕ
-  pub served : ℕ
+  pub served : List ℕ
   pub faults : List ℕ
 
 -- each slot has so many bytes
@@ -23,9 +24,26 @@ pub record AreSized (size : ℕ) (slots : List (List ℕ)) : Type 0 where
 abbrev pub fresh_slots : ℕ → List (List ℕ)
 fresh_slots size = replicate SLOT_COUNT (replicate size 0xFF)
 
--- storage before the first request
-abbrev pub fresh_storage : ℕ → List ℕ → StoredSlots
-fresh_storage size faults = record { slots = fresh_slots size; size = size; served = 0; faults = faults }
+-- storage with so many lanes before the first request
+abbrev pub fresh_storage : ℕ → ℕ → List ℕ → StoredSlots
+fresh_storage lanes size faults = record {
+  slots = fresh_slots size;
+  size = size;
+  served = replicate lanes 0;
+  faults = faults;
+}
+
+-- the lane of a slot: the one that there is, or its own
+abbrev pub lane_of : ℕ → StoredSlots → ℕ
+lane_of slot s = slot % length s.served
+
+-- how many requests were served in the lane of a slot
+abbrev pub served_at : ℕ → StoredSlots → ℕ
+served_at slot s = slice_index_or s.served (lane_of slot s) 0
+
+-- one more is
+abbrev pub with_served : ℕ → StoredSlots → StoredSlots
+with_served slot s = record s { served = slice_set s.served (lane_of slot s) (counted (served_at slot s)) }
 
 abbrev pub slot_bytes : StoredSlots → ℕ → List ℕ
 slot_bytes s slot = slice_index_or s.slots slot []

@@ -4,12 +4,12 @@ ghost use Rattle.script_text.specs.Kinds.{kind_of};
 ghost use Rattle.script_text.specs.Settings.{IsKind};
 ghost use Rattle.tk_base.specs.declared.limits.TheConstants.{BUTTON_LIMIT};
 ghost use Rattle.board_devices.specs.Arriving.{first_arrival_time, is_time, if_differs, change_by, with_edge};
-ghost use Rattle.board_devices.specs.Arriving.{line_after, pressed_after, with_first_arrived, pressed_after_first, change_by_first};
+ghost use Rattle.board_devices.specs.Arriving.{lines_after, pressed_after, with_first_arrived, pressed_after_first, change_by_first};
 ghost use Rattle.board_devices.specs.Arriving.{first_act, act_of, act_told};
 ghost use Rattle.board_devices.specs.Buttons.{told_by};
 
 use crate::buttons::{Buttons, Edge};
-use crate::uart::Uart;
+use crate::lanes::Uarts;
 use arrayvec::ArrayVec;
 use script_text::{EventKind, EventList};
 use std::marker::Model;
@@ -57,20 +57,20 @@ fn change(buttons: &mut Buttons, button: u32, state: bool) -> Option<Edge>
     }
 }
 
-/// What an event of a kind does to the serial line and the buttons, and the change of a button, if
-/// that is one.
-fn happen(kind: &EventKind, uart: &mut Uart, buttons: &mut Buttons) -> Option<Edge>
+/// What an event of a kind does to the serial line of each lane and the buttons, and the change of
+/// a button, if that is one.
+fn happen(kind: &EventKind, uarts: &mut Uarts, buttons: &mut Buttons) -> Option<Edge>
     requires { IsKind BUTTON_LIMIT (kind_of kind.now) }
     ensures edge { option_map told_by result ≡ change_by (kind_of kind.now) buttons.old.pressed }
     ensures within { IfSome result (λ edge. edge.button < BUTTON_LIMIT) }
-    ensures line { uart.new ≡ line_after (kind_of kind.now) uart.old }
+    ensures lines { uarts.new ≡ lines_after (kind_of kind.now) uarts.old }
     ensures pressed { buttons.new ≡ record buttons.old {
       pressed = pressed_after (kind_of kind.now) buttons.old.pressed;
     } }
 {
     match kind {
         EventKind::Input(bytes) => {
-            uart.push(bytes);
+            uarts.push(bytes);
             None
         }
         EventKind::Press(button) => change(buttons, *button, true),
@@ -137,21 +137,21 @@ impl Arrivals {
         act_in(&next.kind)
     }
 
-    /// The next event comes in. Where it changes the state of a button, this change is answered. A
-    /// state that the button has already is no change, and an operator's act changes nothing here.
-    /// It asks that an event is left.
-    pub fn arrive(&mut self, uart: &mut Uart, buttons: &mut Buttons) -> Option<Edge>
+    /// The next event comes in, bytes on every lane. Where it changes the state of a button, this
+    /// change is answered. A state that the button has already is no change, and an operator's act
+    /// changes nothing here. It asks that an event is left.
+    pub fn arrive(&mut self, uarts: &mut Uarts, buttons: &mut Buttons) -> Option<Edge>
         requires { 0 < length self.old }
         ensures edge { option_map told_by result ≡ change_by_first self.old buttons.old.pressed }
         ensures within { IfSome result (λ edge. edge.button < BUTTON_LIMIT) }
         ensures left { self.new ≡ drop 1 self.old }
-        ensures line { uart.new ≡ with_first_arrived self.old uart.old }
+        ensures lines { uarts.new ≡ with_first_arrived self.old uarts.old }
         ensures pressed { buttons.new ≡ record buttons.old {
           pressed = pressed_after_first self.old buttons.old.pressed;
         } }
     {
         let event = &self.events.as_slice()[self.come];
-        let edge = happen(&event.kind, uart, buttons);
+        let edge = happen(&event.kind, uarts, buttons);
         self.come += 1;
         edge
     }

@@ -62,18 +62,20 @@ impl Store {
     }
 }
 
-/// The storage of each slot, and how many of the requests fail that are served over the whole board.
-/// Contracts see the bytes of each slot, slot 0 first, and the size of a slot in bytes, the count of
-/// requests served, and the numbers of those that fail, counted from 1.
+/// The storage of each slot, and which of the requests fail that are served in a lane: there is one
+/// for all slots, or one for each. Contracts see the bytes of each slot, slot 0 first, and the size of
+/// a slot in bytes, the count of requests served in each lane, and the numbers of those that fail,
+/// counted from 1.
 #[derive(Drop)]
 pub struct Stores {
     slots: Vec<Store>,
     size: u32,
-    served: u64,
+    served: Vec<u64>,
     faults: ArrayVec<u32, FAULT_LIMIT>,
 }
 
 impl Model for Stores {
+    ghost use Rattle.std.specs.Prelude.{◌<◌, length};
     ghost use Rattle.board_devices.specs.Storage.{StoredSlots, AreSized};
 
     ghost Value = { StoredSlots };
@@ -81,11 +83,11 @@ impl Model for Stores {
     ghost view = { λ s. record {
       slots = s.slots.items;
       size = s.size;
-      served = s.served;
+      served = s.served.items;
       faults = s.faults.items;
     } };
 
-    ghost invariant = { λ s. AreSized s.size s.slots.items };
+    ghost invariant = { λ s. AreSized s.size s.slots.items × (0 < length s.served.items) };
 }
 
 /// The erased storage of each slot.
@@ -99,29 +101,42 @@ fn erased_slots(alloc: Global, size: usize) -> Result<Vec<Store>, AllocError>
     Ok(slots)
 }
 
+/// No request was served in any of so many lanes.
+fn none_served(alloc: Global, lanes: usize) -> Result<Vec<u64>, AllocError>
+    ensures { IfOk result (λ served. served.items ≡ replicate lanes 0) }
+{
+    vec![in alloc; 0; lanes]
+}
+
 impl Stores {
     ghost use Rattle.tk_outside.specs.Count.{counted};
     ghost use Rattle.board_devices.specs.Storage.{AreSized, fresh_storage, bytes_from, slot_bytes, with_slot_bytes, is_fault};
+    ghost use Rattle.board_devices.specs.Storage.{lane_of, served_at, with_served};
 
-    /// The storage of all slots with so many bytes each, which are 0xFF, before the first request.
-    /// `faults` are the numbers of the requests that fail. It fails where there is no memory for the
-    /// bytes.
+    /// The storage of all slots with so many bytes each, which are 0xFF, before the first request in
+    /// so many lanes. `faults` are the numbers of the requests that fail. It asks for one lane at
+    /// least, and fails where there is no memory.
     pub fn new(
         alloc: Global,
+        lanes: usize,
         size: u32,
         faults: ArrayVec<u32, FAULT_LIMIT>,
     ) -> Result<Stores, NoMemory>
-        ensures { IfOk result (λ stores. stores ≡ fresh_storage size faults.items) }
+        requires { 0 < lanes }
+        ensures { IfOk result (λ stores. stores ≡ fresh_storage lanes size faults.items) }
     {
-        match erased_slots(alloc, size as usize) {
-            Ok(slots) => Ok(Stores {
-                slots,
-                size,
-                served: 0,
-                faults,
-            }),
-            Err(_) => Err(NoMemory),
-        }
+        let Ok(slots) = erased_slots(alloc, size as usize) else {
+            return Err(NoMemory);
+        };
+        let Ok(served) = none_served(alloc, lanes) else {
+            return Err(NoMemory);
+        };
+        Ok(Stores {
+            slots,
+            size,
+            served,
+            faults,
+        })
     }
 
     /// The bytes of a slot.
@@ -139,22 +154,38 @@ impl Stores {
         self.size
     }
 
-    /// Whether the next request that is served is one of those that fail.
-    pub fn fails_next(&self) -> bool
-        ensures { result ≡ is_fault self.now.faults (counted self.now.served) }
+    /// The place of the lane of a slot.
+    fn lane(&self, slot: Slot) -> usize
+        ensures place { result ≡ lane_of slot self.now }
+        ensures there { result < length self.now.served }
     {
-        let number = self.served.saturating_add(1);
+        slot.index() % self.served.len()
+    }
+
+    /// How many requests were served in the lane of a slot.
+    fn served(&self, slot: Slot) -> u64
+        ensures { result ≡ served_at slot self.now }
+    {
+        self.served[self.lane(slot)]
+    }
+
+    /// Whether the next request that is served in the lane of a slot is one of those that fail.
+    pub fn fails_next(&self, slot: Slot) -> bool
+        ensures { result ≡ is_fault self.now.faults (counted (served_at slot self.now)) }
+    {
+        let number = self.served(slot).saturating_add(1);
         self.faults.iter().any(|fault| u64::from(*fault) == number)
     }
 
-    /// Counts a request that is served, from 1, and says whether it is one of those that fail. The count
-    /// stands still at `2^64 - 1`. Nothing else changes.
-    pub fn count(&mut self) -> bool
-        ensures fault { result ≡ is_fault self.old.faults (counted self.old.served) }
-        ensures counted { self.new ≡ record self.old { served = counted self.old.served } }
+    /// Counts a request that is served in the lane of a slot, from 1, and says whether it is one of
+    /// those that fail. The count stands still at `2^64 - 1`. Nothing else changes.
+    pub fn count(&mut self, slot: Slot) -> bool
+        ensures fault { result ≡ is_fault self.old.faults (counted (served_at slot self.old)) }
+        ensures counted { self.new ≡ with_served slot self.old }
     {
-        let fails = self.fails_next();
-        self.served = self.served.saturating_add(1);
+        let fails = self.fails_next(slot);
+        let lane = self.lane(slot);
+        self.served[lane] = self.served[lane].saturating_add(1);
         fails
     }
 

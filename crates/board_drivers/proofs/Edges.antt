@@ -1,5 +1,5 @@
 -- What comes in, as a step of the board: bytes tell nobody anything, and an edge of a button is told to each process.
-use Rattle.std.proofs.Common.{◌≡◌, ℕ, zero, suc, ◌+◌, ◌^◌, ◌<◌, Bool, true, false}
+use Rattle.std.proofs.Common.{◌≡◌, ℕ, zero, suc, ◌+◌, ◌^◌, ◌<◌, ◌≤◌, Bool, true, false}
 use Rattle.std.proofs.Common.{if◌then◌else◌, List, [], ◌∷◌, drop, length, map, slice_get, slice_index_or, All}
 use Rattle.std.proofs.Common.{Option, None, Some, refl, sym, ap, ap₂, subst, ◌∙◌, arith}
 use Rattle.std.specs.List.{AllByRecursion, zip}
@@ -7,14 +7,14 @@ use Rattle.std.specs.Option.{option_map}
 use Rattle.std.proofs.lemmas.Bool.{false≢true}
 use Rattle.std.proofs.lemmas.List.Elements.{All-map, All-weaker}
 use Rattle.tk_base.specs.Bits.{bit_of}
-use Rattle.tk_base.specs.declared.limits.TheConstants.{STEP_LIMIT}
+use Rattle.tk_base.specs.declared.limits.TheConstants.{BYTE_TICKS_LIMIT, SENDING_LIMIT, STEP_LIMIT}
 use Rattle.tk_base.specs.declared.process.Dev.TheVariants as dev
 use Rattle.tk_base.specs.declared.process.ProcessId.{ProcessId}
 use Rattle.script_text.specs.Settings.{Act, EventKind, Input, Press, Release, ScriptEvent}
-use Rattle.board_devices.specs.Arriving.{change_by, change_by_first, differs, is_time, line_after, pressed_after}
+use Rattle.board_devices.specs.Arriving.{change_by, change_by_first, differs, is_time, lines_after, pressed_after}
 use Rattle.board_devices.specs.Arriving.{pressed_after_first, with_edge, with_first_arrived}
 use Rattle.board_devices.specs.Clock.{clock_at}
-use Rattle.board_devices.specs.SerialLine.{SerialLine}
+use Rattle.board_devices.specs.SerialLine.{SerialLine, with_input}
 use Rattle.process_model.specs.Own.{Own}
 use Rattle.process_record.specs.declared.process.Process.{Process}
 use Rattle.process_record.specs.Emit.{nothing}
@@ -240,9 +240,9 @@ later_with w records d = record w {
 -- what a step in which something comes in leaves of a world
 came_in : DevicesAnswerOne → (w : World) (kind : EventKind) (d : Devices) → MeansNobody kind w.records
     → (done w (Some (coming_in kind w.records d))).after
-    ≡ later_with w (records_by kind w.records) (record d { line = line_after kind d.line })
+    ≡ later_with w (records_by kind w.records) (record d { lines = lines_after kind d.lines })
 came_in law w (Input bytes) d nobody = ap (λ (s : Stepped). s.after) (law.nobody w (record d
-    { line = line_after (Input bytes) d.line }))
+    { lines = lines_after (Input bytes) d.lines }))
 came_in law w (Press button) d nobody = ap (λ (s : Stepped). s.after) (law.tells_edge w button true d)
 came_in law w (Release button) d nobody = ap (λ (s : Stepped). s.after) (law.tells_edge w button false d)
 came_in law w (Act verb name) d nobody =
@@ -254,7 +254,7 @@ shows_none : DevicesAnswerOne → (w : World) (kind : EventKind) (d : Devices) �
     → shown_by (done w (Some (coming_in kind w.records d))).labels ≡ nothing
 unfolding shown_by
 shows_none law w (Input bytes) d nobody = ap (λ (s : Stepped). shown_by s.labels) (law.nobody w (record d
-    { line = line_after (Input bytes) d.line }))
+    { lines = lines_after (Input bytes) d.lines }))
 shows_none law w (Press button) d nobody =
     ap (λ (s : Stepped). shown_by s.labels) (law.tells_edge w button true d) ∙ law.shows_nothing w button true
 shows_none law w (Release button) d nobody =
@@ -263,18 +263,33 @@ shows_none law w (Act verb name) d nobody =
     ap (λ (o : Option ℕ). shown_by (done w (Some (acting_on verb w.records d o))).labels) nobody
     ∙ ap (λ (s : Stepped). shown_by s.labels) (law.nobody w d)
 
--- the serial line takes as long for a byte as before, and is free as it was
-line_keeps : (kind : EventKind) (line : SerialLine)
-    → ((line_after kind line).ticks ≡ line.ticks) × ((line_after kind line).free ≡ line.free)
-line_keeps (Input bytes) line = (refl, refl)
-line_keeps (Press button) line = (refl, refl)
-line_keeps (Release button) line = (refl, refl)
-line_keeps (Act verb name) line = (refl, refl)
+-- what bytes that come in leave of each serial line, an event leaves of each
+lines_keep : (P : SerialLine → Type 0) → ((bytes : List ℕ) (line : SerialLine) → P line → P (with_input bytes line))
+    → (kind : EventKind) (lines : List SerialLine) → All P lines → All P (lines_after kind lines)
+lines_keep P keeps (Input bytes) lines all =
+    All-map P (with_input bytes) lines (All-weaker P (λ line. P (with_input bytes line)) (keeps bytes) lines all)
+lines_keep P keeps (Press button) lines all = all
+lines_keep P keeps (Release button) lines all = all
+lines_keep P keeps (Act verb name) lines all = all
 
-pub first_keeps : (events : List ScriptEvent) (line : SerialLine)
-    → ((with_first_arrived events line).ticks ≡ line.ticks) × ((with_first_arrived events line).free ≡ line.free)
-first_keeps [] line = (refl, refl)
-first_keeps (event ∷ events) line = line_keeps event.kind line
+pub first_keeps : (P : SerialLine → Type 0)
+    → ((bytes : List ℕ) (line : SerialLine) → P line → P (with_input bytes line))
+    → (events : List ScriptEvent) (lines : List SerialLine) → All P lines → All P (with_first_arrived events lines)
+first_keeps P keeps [] lines all = all
+first_keeps P keeps (event ∷ events) lines all = lines_keep P keeps event.kind lines all
+
+-- there are as many
+lines_length : (kind : EventKind) (lines : List SerialLine) → length (lines_after kind lines) ≡ length lines
+lines_length (Input bytes) [] = refl
+lines_length (Input bytes) (line ∷ lines) = ap suc (lines_length (Input bytes) lines)
+lines_length (Press button) lines = refl
+lines_length (Release button) lines = refl
+lines_length (Act verb name) lines = refl
+
+pub first_length : (events : List ScriptEvent) (lines : List SerialLine)
+    → length (with_first_arrived events lines) ≡ length lines
+first_length [] lines = refl
+first_length (event ∷ events) lines = lines_length event.kind lines
 
 -- some are left, where it is their time
 pub some_left : (time : ℕ) (events : List ScriptEvent) → is_time time events ≡ true → 0 < length events
@@ -306,7 +321,7 @@ module _ (b : BoardParts) where
 
   abbrev drivers_then : Drivers
   drivers_then = record b.drivers {
-    uart = with_first_arrived b.drivers.arrivals b.drivers.uart;
+    uarts = with_first_arrived b.drivers.arrivals b.drivers.uarts;
     buttons = record b.drivers.buttons {
       pressed = pressed_after_first b.drivers.arrivals b.drivers.buttons.pressed;
     };
@@ -337,14 +352,14 @@ module _ (b : BoardParts) where
           (zip (zip b.processes (owns_told (change_by_first events b.drivers.buttons.pressed) b.home.owns))
           b.drivers.stores.slots))
           (record (devices_of b.drivers) {
-            line = with_first_arrived events b.drivers.uart;
+            lines = with_first_arrived events b.drivers.uarts;
             arrivals = drop 1 events;
           })
       by_first [] e nobody = absurd (false≢true e)
       by_first (event ∷ rest) e nobody =
           came_in law w event.kind (record w.devices { arrivals = rest }) nobody
           ∙ ap (λ (rs : List Record). later_with w rs (record (devices_of b.drivers) {
-            line = line_after event.kind b.drivers.uart;
+            lines = lines_after event.kind b.drivers.uarts;
             arrivals = rest;
           }))
           (records_then b.home.flash b.drivers.buttons.pressed event.kind b.processes b.home.owns
@@ -383,18 +398,22 @@ module _ (b : BoardParts) where
           buttons = h.driven.buttons;
           size = h.driven.size;
           slots = h.driven.slots;
-          ticks = omega (arith, keeps.0, h.driven.ticks);
-          free = omega (arith, keeps.1, h.driven.free);
+          ticks = first_keeps (λ line. line.ticks ≤ BYTE_TICKS_LIMIT) (λ bytes line t. t) b.drivers.arrivals
+              b.drivers.uarts h.driven.ticks;
+          free = first_keeps (λ line. line.free ≤ b.moment.time + SENDING_LIMIT) (λ bytes line f. f)
+              b.drivers.arrivals b.drivers.uarts h.driven.free;
         };
-        served = omega (arith, h.served);
+        lanes = record {
+          lines = first_length b.drivers.arrivals b.drivers.uarts ∙ h.lanes.lines;
+          words = h.lanes.words;
+          served = h.lanes.served;
+        };
+        served = All-weaker (λ count. count ≤ b.moment.steps) (λ count. count ≤ b.moment.steps + 1)
+            (λ count few. omega (arith, few)) b.drivers.stores.served h.served;
         steps = omega (arith, below);
         time = omega (arith, h.time);
       })
     where
-      keeps : ((with_first_arrived b.drivers.arrivals b.drivers.uart).ticks ≡ b.drivers.uart.ticks)
-          × ((with_first_arrived b.drivers.arrivals b.drivers.uart).free ≡ b.drivers.uart.free)
-      keeps = first_keeps b.drivers.arrivals b.drivers.uart
-
       seated : All (IsResident b.home.flash (b.moment.steps + 1)) (zip b.processes (owns_told change b.home.owns))
       seated = subst (All (IsResident b.home.flash (b.moment.steps + 1)))
           (sym (told_pairs change b.processes b.home.owns))

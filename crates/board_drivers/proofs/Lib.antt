@@ -8,3 +8,6 @@ pub mod Records
 pub mod Serving
 pub mod Parts
 pub mod Edges
+pub mod Waiting
+pub mod Lanes
+pub mod Acts

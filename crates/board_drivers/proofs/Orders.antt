@@ -88,8 +88,7 @@ drives_nothing id d =
       leds = refl;
       lit = refl;
       buttons = refl;
-      line =
-          refl;
+      lines = refl;
       arrivals = refl;
       words = refl;
       bytes = refl;
@@ -106,7 +105,7 @@ by_list P acts (xs ∷ lists) (inr of) all = by_list P acts lists of all.1
 record OthersStay (d d' : Drivers) : Type 0 where
   leds : d'.leds ≡ d.leds
   buttons : d'.buttons ≡ d.buttons
-  line : d'.uart ≡ d.uart
+  lines : d'.uarts ≡ d.uarts
   arrivals : d'.arrivals ≡ d.arrivals
   words : d'.words ≡ d.words
   bytes : d'.stores ≡ d.stores
@@ -120,7 +119,7 @@ lists_drive id acts d d' stay unlit queues = record {
   leds = ap bits_of stay.leds ∙ sym unlit;
   lit = ap length stay.leds;
   buttons = stay.buttons;
-  line = stay.line;
+  lines = stay.lines;
   arrivals = stay.arrivals;
   words = stay.words;
   bytes = stay.bytes;
@@ -170,7 +169,7 @@ module _ (id : ProcessId) (d : Drivers) where
       )
     where
       stay : OthersStay d (record d { console = record { writes = writes; reads = reads } })
-      stay = record { leds = refl; buttons = refl; line = refl; arrivals = refl; words = refl; bytes = refl }
+      stay = record { leds = refl; buttons = refl; lines = refl; arrivals = refl; words = refl; bytes = refl }
 
   -- the source of random bytes
   pub random_drives : (randoms : List ProcessId) (acts : List BoardRequest)
@@ -193,7 +192,7 @@ module _ (id : ProcessId) (d : Drivers) where
       )
     where
       stay : OthersStay d (record d { random = record { waiting = randoms } })
-      stay = record { leds = refl; buttons = refl; line = refl; arrivals = refl; words = refl; bytes = refl }
+      stay = record { leds = refl; buttons = refl; lines = refl; arrivals = refl; words = refl; bytes = refl }
 
   -- the storage
   pub storage_drives : (stores : List ProcessId) (acts : List BoardRequest) → OneOf acts ([] ∷ (Waits Stores ∷ []) ∷ [])
@@ -216,7 +215,7 @@ module _ (id : ProcessId) (d : Drivers) where
       )
     where
       stay : OthersStay d (record d { storage = record { waiting = stores } })
-      stay = record { leds = refl; buttons = refl; line = refl; arrivals = refl; words = refl; bytes = refl }
+      stay = record { leds = refl; buttons = refl; lines = refl; arrivals = refl; words = refl; bytes = refl }
 
   -- the LEDs
   pub leds_drive : (lit : List Bool) (led : ℕ) (acts : List BoardRequest)
@@ -247,7 +246,7 @@ module _ (id : ProcessId) (d : Drivers) where
             leds = b;
             lit = n;
             buttons = refl;
-            line = refl;
+            lines = refl;
             arrivals = refl;
             words = refl;
             bytes = refl;

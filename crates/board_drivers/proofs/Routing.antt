@@ -67,12 +67,12 @@ slots_by slots Stores = refl
 
 -- devices that hold the same
 pub devices_same : (d e : Devices) → ((queue : QueueName) → slots_in queue d.waiting ≡ slots_in queue e.waiting)
-    → d.leds ≡ e.leds → d.line ≡ e.line → d.arrivals ≡ e.arrivals → d.words ≡ e.words → d.served ≡ e.served
+    → d.leds ≡ e.leds → d.lines ≡ e.lines → d.arrivals ≡ e.arrivals → d.words ≡ e.words → d.served ≡ e.served
     → d.faults ≡ e.faults → d ≡ e
 devices_same d e waiting leds line arrivals words served faults = λ i. record {
   waiting = waiting_by (λ queue. waiting queue i);
   leds = leds i;
-  line = line i;
+  lines = line i;
   arrivals = arrivals i;
   words = words i;
   served = served i;
@@ -118,7 +118,7 @@ drives_shown id acts d d' t =
           d.leds);
     })
     (λ queue. slots_by (λ (q : QueueName). slots_of (ids_waiting_in d' q)) queue ∙ ap slots_of (t.queues queue)
-    ∙ slots_acts queue id (ids_waiting_in d queue) acts ∙ sym (slots_by after queue)) t.leds t.line t.arrivals t.words
+    ∙ slots_acts queue id (ids_waiting_in d queue) acts ∙ sym (slots_by after queue)) t.leds t.lines t.arrivals t.words
     (ap (λ (s : StoredSlots). s.served) t.bytes) (ap (λ (s : StoredSlots). s.faults) t.bytes)
     ∙ sym (routed_is id.slot acts (devices_of d))
   where

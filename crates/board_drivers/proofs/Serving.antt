@@ -1,13 +1,15 @@
 -- What each device tells the process that it serves, as a step of the board.
 use Rattle.std.proofs.Common.{◌≡◌, ℕ, zero, suc, ◌+◌, ◌*◌, ◌^◌, ◌==◌, ◌<◌, ◌≤◌, Bool, true, false, not, ◌&&◌, nat_le}
 use Rattle.std.proofs.Common.{if◌then◌else◌, List, [], ◌∷◌, drop, take, length, slice_get, slice_set, Option, None}
+use Rattle.std.proofs.Common.{◌%◌, ◌||◌, is_none, nat_lt, slice_index_or}
 use Rattle.std.proofs.Common.{Some, Result, Ok, Err, is_ok, is_some, All, IfSome, OnErr, unwrap_or, refl, sym, ap, ap₂}
 use Rattle.std.proofs.Common.{subst, ◌∙◌, arith, eq-eqb}
 use Rattle.std.specs.List.{AllByRecursion}
 use Rattle.std.specs.Option.{option_map}
 use Rattle.std.proofs.lemmas.Bool.{false≢true}
 use Rattle.std.proofs.lemmas.Bool.Decides.{nat_tests}
-use Rattle.std.proofs.lemmas.List.{set-get_or}
+use Rattle.std.proofs.lemmas.List.{length-set, set-get_or}
+use Rattle.std.proofs.lemmas.List.Elements.{All-set, All-weaker}
 use Rattle.std.proofs.lemmas.Nat.{mul-le}
 use Rattle.std.proofs.lemmas.Option.{slice_get-get_or}
 use Rattle.tk_base.specs.declared.limits.TheConstants.{BYTE_TICKS_LIMIT, PRINT_LIMIT, SENDING_LIMIT, STEP_LIMIT}
@@ -18,8 +20,8 @@ use Rattle.tk_base.specs.declared.process.ProcessId.{ProcessId}
 use Rattle.board_devices.specs.declared.answer.Answer.{Answer}
 use Rattle.tk_base.specs.declared.process.NotReady.{NotReady}
 use Rattle.board_devices.specs.Clock.{clock_at}
-use Rattle.board_devices.specs.SerialLine.{SerialLine}
-use Rattle.board_devices.specs.Storage.{StoredSlots, is_fault}
+use Rattle.board_devices.specs.SerialLine.{SerialLine, line_at, no_line}
+use Rattle.board_devices.specs.Storage.{StoredSlots, is_fault, with_served}
 use Rattle.tk_outside.specs.Count.{counted}
 use Rattle.process_model.specs.Flash.{HasObject, ReadsOwnFlash, flash_byte, object_byte, object_in}
 use Rattle.process_model.specs.Handed.{HoldsInPlace, held}
@@ -36,22 +38,17 @@ use Rattle.driver_model.specs.Console.{write_done}
 use Rattle.driver_model.specs.Requests.{waiting_in}
 use Rattle.driver_model.specs.Steps.{DriverStep, own_after}
 use Rattle.driver_model.specs.Told.{drawn_told, received_told, sent_told, stored_told}
-use Rattle.driver_model.specs.Alarm.{answered, due_slot}
-use Rattle.driver_model.specs.Laws.{DueSlotIsThere}
+use Rattle.driver_model.specs.Alarm.{answered, due_for}
 use Rattle.driver_model.specs.Random as random
 use Rattle.driver_model.specs.Storage as storage
-use Rattle.alarm_capsule.specs.Answers as alarm_capsule
 use Rattle.random_capsule.specs.Answers.{answer_to as random_to}
 use Rattle.storage_capsule.specs.Answers.{answer_to as storage_to}
-use Rattle.storage_capsule.specs.Serving.{after_count, store_fails_next, storage_after}
+use Rattle.storage_capsule.specs.Serving.{store_fails_next, stored}
 use Rattle.grant_values.specs.declared.storage.StorageRequest.{StorageRequest}
 use Rattle.driver_requests.specs.Answers.{Answered, AnswersFirst, kinds}
 use Rattle.driver_requests.specs.Asking.{MayBeTold, in_life}
-use Rattle.driver_requests.specs.Waiting.{waiting_still}
+use Rattle.driver_requests.specs.Waiting.{first_of, waiting_still}
 use Rattle.console_capsule.specs.Answers.{cannot_give, cannot_send, received_by, sending_at, written_by}
-use Rattle.console_capsule.specs.declared.capsule.ConsoleCapsule.{ConsoleCapsule}
-use Rattle.random_capsule.specs.declared.capsule.RandomCapsule.{RandomCapsule}
-use Rattle.storage_capsule.specs.declared.capsule.StorageCapsule.{StorageCapsule}
 use Rattle.grant_enter.specs.Homes.{Homes, ChangesOnly, nobody, own_of}
 use Rattle.kernel_model.specs.declared.settings.Settings.{Settings}
 use Rattle.kernel_model.specs.Record.{Record, record_with_step}
@@ -59,9 +56,10 @@ use Rattle.kernel_model.specs.Turn.{Event, Alarmed, Taken, WriteDone, Input, Sto
 use Rattle.kernel_model.specs.Turn.{written_over}
 use Rattle.kernel_model.specs.Laws.{queue_after_answer}
 use Rattle.kernel_model.specs.World.{drawn_event, DeviceAnswer, Devices, World, alarmed, answering, can_act, random_step}
-use Rattle.kernel_model.specs.World.{is_waited_for, owns_in, receive_step, serving, storing}
-use Rattle.kernel_model.specs.World.{WaitingSlots, transmitting}
+use Rattle.kernel_model.specs.World.{WaitingSlots, is_waited_for, lane_by, may_serve, owns_in}
+use Rattle.kernel_model.specs.World.{receive_step, serving, storing, transmitting}
 use Rattle.board_drivers.specs.declared.drivers.Drivers.{Drivers}
+use Rattle.board_drivers.specs.Calm.{only_of}
 use Rattle.board_drivers.specs.Driven.{AreDriven, IsThere, devices_of, ids_waiting_in, slots_of, waiting_by}
 use Rattle.board_drivers.specs.Residents.{HasLost, IsResident, record_of}
 use Rattle.board_drivers.proofs.Records.{beside, bytes_of, record_found}
@@ -69,17 +67,8 @@ use Rattle.board_drivers.specs.Tells.{Acted, HoldsFor, IsFreeSoon, DeviceServes,
 use Rattle.board_drivers.proofs.Records.{found_at, lost_there, seated_there}
 use Rattle.board_drivers.proofs.OwnFlash.{answered_of_own, sent_of_own}
 use Rattle.board_drivers.proofs.Routing.{slots_without}
+use Rattle.board_drivers.proofs.Waiting.{first_in_lane, first_is, first_slot, lane_there, waits_if_first}
 use Rattle.board_drivers.specs.Parts.{AreBoardParts, BoardParts, world_shown}
-use Rattle.board_drivers.proofs.Parts.{owns_in_parts}
-
--- what holds of all that wait holds of the first
-pub first_is : (P : ProcessId → Type 0) (ids : List ProcessId) (id : ProcessId) → slice_get ids 0 ≡ Some id
-    → AllByRecursion P ids → P id
-first_is P [] id e all = cc
-first_is P (x ∷ ids) id e all = subst P (the_one x id e) all.0
-  where
-    the_one : (x y : ProcessId) → Some x ≡ Some y → x ≡ y
-    the_one x y e = cc
 
 -- those that wait after an answer, as the world has them
 slots_left : (completed : Bool) (slot : ℕ) (ids : List ProcessId)
@@ -94,19 +83,20 @@ each_left : (same completed : Bool) (slot : ℕ) (ids : List ProcessId)
 each_left true completed slot ids = slots_left completed slot ids
 each_left false completed slot ids = refl
 
--- the deed of a device for the first of those that wait in a queue, by those that wait afterwards
-first_deed : (deed : ℕ → Record → DeviceAnswer) (w : World) (here : QueueName)
+-- the deed of a device for the first of those that wait in a queue and may be served, by those that wait afterwards
+first_deed : (deed : ℕ → Record → DeviceAnswer) (w : World) (only : Option ℕ) (here : QueueName)
     (before after : QueueName → List ProcessId) (id : ProcessId) (r : Record) (completed : Bool)
     (shown : WaitingSlots → DeviceAnswer)
-    → slice_get (before here) 0 ≡ Some id → slice_get w.records id.slot ≡ Some r
+    → first_of only (before here) ≡ Some id → slice_get w.records id.slot ≡ Some r
     → ((queue : QueueName)
     → after queue ≡ waiting_still (queue_left_by here completed queue) id.slot (before queue))
     → deed id.slot r ≡ shown (waiting_by (λ queue. if is_same here queue
     then queue_after_answer completed id.slot (slots_of (before queue)) else slots_of (before queue)))
-    → serving w deed (slice_get (slots_of (before here)) 0)
+    → serving w deed (slice_get (may_serve only (slots_of (before here))) 0)
     ≡ Some (answering id.slot (shown (waiting_by (λ queue. slots_of (after queue)))))
-first_deed deed w here before after id r completed shown e f left does =
-    by_first (before here) e ∙ ap (option_map (λ (x : Record). answering id.slot (deed id.slot x))) f
+first_deed deed w only here before after id r completed shown e f left does =
+    ap (serving w deed) (first_slot only (before here) ∙ ap (option_map (λ (x : ProcessId). x.slot)) e)
+    ∙ ap (option_map (λ (x : Record). answering id.slot (deed id.slot x))) f
     ∙ ap (λ (a : DeviceAnswer). Some (answering id.slot a)) (does ∙ sym (ap shown lists))
   where
     lists : ◌≡◌ {A = WaitingSlots} (waiting_by (λ queue. slots_of (after queue))) (waiting_by (λ queue. if is_same
@@ -115,43 +105,60 @@ first_deed deed w here before after id r completed shown e f left does =
     lists = λ i. waiting_by (λ queue.
         (ap slots_of (left queue) ∙ each_left (is_same here queue) completed id.slot (before queue)) i)
 
-    the_one : (x y : ProcessId) → Some x ≡ Some y → x ≡ y
-    the_one x y e = cc
-
-    by_first : (ids : List ProcessId) → slice_get ids 0 ≡ Some id
-        → serving w deed (slice_get (slots_of ids) 0)
-        ≡ option_map (λ (x : Record). answering id.slot (deed id.slot x)) (slice_get w.records id.slot)
-    by_first [] e = cc
-    by_first (x ∷ ids) e =
-        ap (λ (y : ProcessId). serving w deed (Some y.slot)) (the_one x id e)
-
 -- a count that is far from its last value
 counted_next : (n : ℕ) → n < 2 ^ 32 → counted n ≡ n + 1
 counted_next n h = omega (arith, h)
 
 -- the UART can send, and can give what came in
-pub can_send : (ids : List ProcessId) (line : SerialLine) (time : ℕ)
-    → (is_waited_for (slots_of ids) && nat_le line.free time) ≡ not (cannot_send ids line time)
-can_send [] line time = refl
-can_send (id ∷ ids) line time = grind (arith, nat_tests)
-
-pub can_give : (ids : List ProcessId) (line : SerialLine)
-    → (is_waited_for (slots_of ids) && not (length line.ring == 0)) ≡ not (cannot_give ids line)
-can_give [] line = refl
-can_give (id ∷ ids) line = grind (arith, nat_tests)
-
--- some wait exactly where one was answered
-waited_for : {D : Type 0} (answer_to : ProcessId → Answered D) (ids : List ProcessId) (x : D) (old : Homes)
-    (o : Result Answer NotReady) (ids' : List ProcessId) (y : D) (new : Homes)
-    → OnErr o (ids ≡ []) → AnswersFirst answer_to ids x old o ids' y new → is_waited_for (slots_of ids) ≡ is_ok o
-waited_for answer_to ids x old (Err refusal) ids' y new none answers =
-    ap (λ (xs : List ProcessId). is_waited_for (slots_of xs)) none
-waited_for answer_to ids x old (Ok answer) ids' y new none answers = some_wait ids answer.to answers.0
+pub can_send : (only : Option ℕ) (ids : List ProcessId) (line : SerialLine) (time : ℕ)
+    → (is_waited_for (may_serve only (slots_of ids)) && nat_le line.free time) ≡ not (cannot_send only ids line time)
+can_send only ids line time =
+    ap (λ (b : Bool). b && nat_le line.free time) (waits_if_first only ids) ∙ by_first (first_of only ids)
   where
-    some_wait : (ids : List ProcessId) (id : ProcessId) → slice_get ids 0 ≡ Some id
-        → is_waited_for (slots_of ids) ≡ true
-    some_wait [] id e = cc
-    some_wait (x ∷ ids) id e = grind (arith, nat_tests)
+    by_first : (o : Option ProcessId)
+        → (is_some o && nat_le line.free time) ≡ not (is_none o || nat_lt time line.free)
+    by_first None = refl
+    by_first (Some id) = grind (arith, nat_tests)
+
+pub can_give : (only : Option ℕ) (ids : List ProcessId) (line : SerialLine)
+    → (is_waited_for (may_serve only (slots_of ids)) && not (length line.ring == 0)) ≡ not (cannot_give only ids line)
+can_give only ids line =
+    ap (λ (b : Bool). b && not (length line.ring == 0)) (waits_if_first only ids) ∙ by_first (first_of only ids)
+  where
+    by_first : (o : Option ProcessId)
+        → (is_some o && not (length line.ring == 0)) ≡ not (is_none o || length line.ring == 0)
+    by_first None = refl
+    by_first (Some id) = refl
+
+-- some wait that may be served exactly where one was answered
+pub waited_for : {D : Type 0} (only : Option ℕ) (answer_to : ProcessId → Answered D) (ids : List ProcessId) (x : D)
+    (old : Homes) (o : Result Answer NotReady) (ids' : List ProcessId) (y : D) (new : Homes)
+    → OnErr o (first_of only ids ≡ None) → AnswersFirst only answer_to ids x old o ids' y new
+    → is_waited_for (may_serve only (slots_of ids)) ≡ is_ok o
+waited_for only answer_to ids x old (Err refusal) ids' y new none answers =
+    waits_if_first only ids ∙ ap is_some none
+waited_for only answer_to ids x old (Ok answer) ids' y new none answers =
+    waits_if_first only ids ∙ ap is_some answers.0
+
+-- the slot that alone is served on a board, if one is; the lane by which devices serve; and its line
+abbrev pub only_on : BoardParts → Option ℕ
+only_on b = only_of b.moment
+
+abbrev pub lane_on : BoardParts → ℕ
+lane_on b = lane_by (only_on b)
+
+abbrev pub line_on : BoardParts → SerialLine
+line_on b = line_at (lane_on b) b.drivers.uarts
+
+abbrev pub words_on : BoardParts → List ℕ
+words_on b = slice_index_or b.drivers.words (lane_on b) []
+
+-- the drivers with another line in that lane, and with other words
+abbrev pub with_line : BoardParts → SerialLine → List SerialLine
+with_line b line = slice_set b.drivers.uarts (lane_on b) line
+
+abbrev pub with_words : BoardParts → List ℕ → List (List ℕ)
+with_words b words = slice_set b.drivers.words (lane_on b) words
 
 module _ (b : BoardParts) (h : AreBoardParts b) (id : ProcessId) (is_there : IsThere b.home.owns id) where
   own : Own
@@ -190,15 +197,40 @@ module _ (b : BoardParts) (h : AreBoardParts b) (id : ProcessId) (is_there : IsT
       (beside b.processes b.home.owns b.drivers.stores.slots h.owns h.few h.driven.slots)
 
   -- a device that does not serve the serial line leaves it as it is
-  uart_stays : IsFreeSoon b.moment.time b.drivers.uart b.drivers.uart
-  uart_stays = record { ticks = refl; free = h.driven.free }
+  uarts_stay : IsFreeSoon b.moment.time b.drivers.uarts b.drivers.uarts
+  uarts_stay = record { lanes = refl; ticks = h.driven.ticks; free = h.driven.free }
+
+  -- one that does leaves the others as they are
+  uart_changes : (line : SerialLine) → line.ticks ≡ (line_on b).ticks
+      → ((line_on b).ticks ≤ BYTE_TICKS_LIMIT → (line_on b).free ≤ b.moment.time + SENDING_LIMIT → line.free ≤ b.moment.time + SENDING_LIMIT)
+      → IsFreeSoon b.moment.time b.drivers.uarts (with_line b line)
+  uart_changes line ticks free =
+      let lines : List SerialLine = b.drivers.uarts in
+      let lane : ℕ = lane_on b in
+      let there : lane < length lines = omega (arith, lane_there b.moment.time b.moment.window, h.lanes.lines) in
+      let ticks_there : (line_on b).ticks ≤ BYTE_TICKS_LIMIT = h.driven.ticks lane no_line there in
+      let free_there : (line_on b).free ≤ b.moment.time + SENDING_LIMIT = h.driven.free lane no_line there in
+      record {
+        lanes = length-set lines lane line;
+        ticks = All-set (λ (l : SerialLine). l.ticks ≤ BYTE_TICKS_LIMIT) lines lane line
+            (omega (arith, ticks, ticks_there)) h.driven.ticks;
+        free = All-set (λ (l : SerialLine). l.free ≤ b.moment.time + SENDING_LIMIT) lines lane line
+            (free ticks_there free_there) h.driven.free;
+      }
 
   -- and one that is not the storage leaves the storage as it is
-  stores_stay : HoldsFor id.slot (bytes_of b.drivers.stores.slots id.slot) b.drivers.stores b.drivers.stores
-  stores_stay = record { size = refl; counts = omega arith; slots = sym (set-get_or b.drivers.stores.slots id.slot []) }
+  stores_stay : HoldsFor b.moment.steps id.slot (bytes_of b.drivers.stores.slots id.slot) b.drivers.stores
+      b.drivers.stores
+  stores_stay = record {
+    size = refl;
+    lanes = refl;
+    counts = All-weaker (λ count. count ≤ b.moment.steps) (λ count. count ≤ b.moment.steps + 1)
+        (λ count few. omega (arith, few)) b.drivers.stores.served h.served;
+    slots = sym (set-get_or b.drivers.stores.slots id.slot []);
+  }
 
   -- what a device did for a process is what it told it
-  told_by : (device : Dev) (printed : List ℕ) (o : Own) (home : Homes) (d : Drivers)
+  pub told_by : (device : Dev) (printed : List ℕ) (o : Own) (home : Homes) (d : Drivers)
       → ChangesOnly id.slot b.home home → own_of home id.slot ≡ o → can_act (world_shown b) device ≡ true
       → DeviceServes b its_process device id.slot printed o d → DeviceTold b device id.slot printed home d
   told_by device printed o home d only is may serves = record {
@@ -211,7 +243,7 @@ module _ (b : BoardParts) (h : AreBoardParts b) (id : ProcessId) (is_there : IsT
   }
 
 -- each buffer that a process holds may be lent
-abbrev Lent : Homes → Type 0
+abbrev pub Lent : Homes → Type 0
 Lent home = (slot : ℕ) → slot < length home.owns → HoldsInPlace (own_of home slot)
 
 -- whoever waits is there
@@ -220,31 +252,33 @@ waiters_there : (b : BoardParts) → AreBoardParts b → (here : QueueName)
 waiters_there b h here = (h.driven.queues here).there
 
 -- and may be told something
-pub first_may_be_told : (queue : QueueName) (settings : Settings) (time steps : ℕ) (home : Homes) (d : Drivers)
-    → AreDriven settings time home.owns d → All (HasLost steps) home.owns → steps < STEP_LIMIT
-    → IfSome (slice_get (ids_waiting_in d queue) 0) (MayBeTold home)
-first_may_be_told queue settings time steps home d driven lost below =
-    by_first (ids_waiting_in d queue) (driven.queues queue).there
+pub first_may_be_told : (only : Option ℕ) (queue : QueueName) (settings : Settings) (time steps : ℕ) (home : Homes)
+    (d : Drivers) → AreDriven settings time home.owns d → All (HasLost steps) home.owns → steps < STEP_LIMIT
+    → IfSome (first_of only (ids_waiting_in d queue)) (MayBeTold home)
+first_may_be_told only queue settings time steps home d driven lost below =
+    by_first (first_of only (ids_waiting_in d queue)) refl
   where
-    by_first : (ids : List ProcessId) → AllByRecursion (IsThere home.owns) ids
-        → IfSome (slice_get ids 0) (MayBeTold home)
-    by_first [] all = tt
-    by_first (id ∷ ids) all = record {
-      slot = all.0.0;
-      dropped = omega (arith, lost_there steps home id.slot lost, below);
-    }
+    by_first : (o : Option ProcessId) → first_of only (ids_waiting_in d queue) ≡ o → IfSome o (MayBeTold home)
+    by_first None e = tt
+    by_first (Some id) e =
+        let there : IsThere home.owns id =
+        first_is (IsThere home.owns) only (ids_waiting_in d queue) id e (driven.queues queue).there in
+        record {
+          slot = there.0;
+          dropped = omega (arith, lost_there steps home id.slot lost, below);
+        }
 
 -- A device that answers the first of a line: what its answer to a process comes to; the drivers by who waits in the
 -- line and by the device afterwards, and what was printed then.
-record Answering (D : Type 0) : Type 0 where
-  device : Dev
-  here : QueueName
-  answer_to : ProcessId → Answered D
-  after : List ProcessId → D → Drivers
-  prints : D → List ℕ
+pub record Answering (D : Type 0) : Type 0 where
+  pub device : Dev
+  pub here : QueueName
+  pub answer_to : ProcessId → Answered D
+  pub after : List ProcessId → D → Drivers
+  pub prints : D → List ℕ
 
 -- what such a device does for a process by an answer, where it is the first
-abbrev ServesFirst : {D : Type 0} (b : BoardParts) (h : AreBoardParts b) (id : ProcessId) → IsThere b.home.owns id
+abbrev pub ServesFirst : {D : Type 0} (b : BoardParts) (h : AreBoardParts b) (id : ProcessId) → IsThere b.home.owns id
     → Answering D
     → Answered D → Type 0
 ServesFirst b h id there is a =
@@ -252,23 +286,24 @@ ServesFirst b h id there is a =
     (is.after (waiting_still a.completed id.slot (ids_waiting_in b.drivers is.here)) a.device)
 
 -- and that it does it for whoever is the first
-abbrev ServesWhoeverIsFirst : {D : Type 0} (b : BoardParts) → AreBoardParts b → Answering D → Type 0
+abbrev pub ServesWhoeverIsFirst : {D : Type 0} (b : BoardParts) → AreBoardParts b → Answering D → Type 0
 ServesWhoeverIsFirst b h is = (id : ProcessId) (there : IsThere b.home.owns id)
-    → slice_get (ids_waiting_in b.drivers is.here) 0 ≡ Some id → ServesFirst b h id there is (is.answer_to id)
+    → first_of (only_on b) (ids_waiting_in b.drivers is.here) ≡ Some id
+    → ServesFirst b h id there is (is.answer_to id)
 
 -- So it does where it is to act: it serves the first, or may not act, and then nothing changes.
-acts_on : {D : Type 0} (b : BoardParts) (h : AreBoardParts b) (is : Answering D) (x : D)
+pub acts_on : {D : Type 0} (b : BoardParts) (h : AreBoardParts b) (is : Answering D) (x : D)
     → is.after (ids_waiting_in b.drivers is.here) x ≡ b.drivers → ServesWhoeverIsFirst b h is
     → (o : Result Answer NotReady) (home : Homes) (ids : List ProcessId) (y : D)
     → can_act (world_shown b) is.device ≡ is_ok o
-    → AnswersFirst is.answer_to (ids_waiting_in b.drivers is.here) x b.home o ids y home
+    → AnswersFirst (only_on b) is.answer_to (ids_waiting_in b.drivers is.here) x b.home o ids y home
     → Acted b is.device o (is.prints y) home (is.after ids y)
 acts_on b h is x before serves (Err refusal) home ids y may answers =
     (may, answers.2, ap₂ is.after answers.0 answers.1 ∙ before)
 acts_on b h is x before serves (Ok answer) home ids y may answers =
     let id : ProcessId = answer.to in
     let there : IsThere b.home.owns id =
-    first_is (IsThere b.home.owns) (ids_waiting_in b.drivers is.here) id answers.0 (waiters_there b h is.here) in
+    first_is (IsThere b.home.owns) (only_on b) (ids_waiting_in b.drivers is.here) id answers.0 (waiters_there b h is.here) in
     let a = is.answer_to id in
     told_by b h id there is.device (is.prints y) (own_after a.step) home (is.after ids y) answers.5 answers.2 may
     (subst (λ (xs : List ProcessId). DeviceServes b (its_process b h id there) is.device id.slot (is.prints y)
@@ -339,7 +374,7 @@ sent_few flash own = by_write (waiting_in console_writes own)
     by_write (Some write) = by_portion (portion write own == 0) write
 
 -- the UART, as it takes bytes of a write
-abbrev sends : BoardParts → Answering (ArrayVec ℕ)
+abbrev pub sends : BoardParts → Answering (ArrayVec ℕ)
 sends b = record {
   device = Uart;
   here = Writes;
@@ -347,13 +382,12 @@ sends b = record {
   after = λ ids printed.
       record b.drivers {
         console = record { writes = ids; reads = b.drivers.console.reads };
-        uart =
-            sending_at b.moment.time printed.items b.drivers.uart;
+        uarts = with_line b (sending_at b.moment.time printed.items (line_on b));
       };
   prints = λ printed. printed.items;
 }
 
-serves_sent : (b : BoardParts) (h : AreBoardParts b) → LinesFollowAnswers → EventsTellSteps → ReadsOwnFlash
+pub serves_sent : (b : BoardParts) (h : AreBoardParts b) → LinesFollowAnswers → EventsTellSteps → ReadsOwnFlash
     → Lent b.home
     → ServesWhoeverIsFirst b h (sends b)
 serves_sent b h lines events law lent id is_there first =
@@ -378,23 +412,20 @@ serves_sent b h lines events law lent id is_there first =
       lines = elim [ Writes ↦ refl | Reads ↦ refl | Randoms ↦ refl | Stores ↦ refl ];
       leds = refl;
       buttons = refl;
-      uart = record {
-        ticks = refl;
-        free =
-            free_soon b.moment.time b.drivers.uart.ticks b.drivers.uart.free s.printed h.driven.ticks
-            (sent_few (flash_of r) own) h.driven.free;
-      };
+      lines_ready = uart_changes b h id is_there (sending_at b.moment.time s.printed (line_on b)) refl
+          (λ ticks. free_soon b.moment.time (line_on b).ticks (line_on b).free s.printed ticks
+          (sent_few (flash_of r) own));
+      words_left = refl;
       bytes = bytes_of b.drivers.stores.slots id.slot;
       stores = stores_stay b h id is_there;
       event = if s.completed then WriteDone else Taken;
-      deed = first_deed (transmitting b.moment.time (devices_of b.drivers)) (world_shown b) Writes (ids_waiting_in
-          b.drivers) (ids_waiting_in ((sends b).after
+      deed = first_deed (transmitting (lane_on b) b.moment.time (devices_of b.drivers)) (world_shown b) (only_on b)
+          Writes (ids_waiting_in b.drivers) (ids_waiting_in ((sends b).after
           (waiting_still s.completed id.slot b.drivers.console.writes) (record { items = s.printed }))) id r
           s.completed (λ (slots : WaitingSlots). telling (if s.completed then WriteDone else Taken) s.printed
           (record (devices_of b.drivers) {
             waiting = slots;
-            line =
-                sending_at b.moment.time s.printed b.drivers.uart;
+            lines = with_line b (sending_at b.moment.time s.printed (line_on b));
           }))
           first (its_record_was b h id is_there)
           (elim [ Writes ↦ refl | Reads ↦ refl | Randoms ↦ refl | Stores ↦ refl ]) refl;
@@ -407,29 +438,31 @@ unfolding apply
 input_applied settings bytes r step e = ap (record_with_step r) (sym e)
 
 -- the UART, as bytes that came in go to a read
-abbrev receives : BoardParts → Answering SerialLine
+abbrev pub receives : BoardParts → Answering SerialLine
 receives b = record {
   device = Receive;
   here = Reads;
-  answer_to = received_by b.drivers.uart b.home;
+  answer_to = received_by (line_on b) b.home;
   after = λ ids line.
-      record b.drivers { console = record { writes = b.drivers.console.writes; reads = ids }; uart = line };
+      record b.drivers {
+        console = record { writes = b.drivers.console.writes; reads = ids };
+        uarts = with_line b line;
+      };
   prints = λ line. [];
 }
 
-serves_received : (b : BoardParts) (h : AreBoardParts b) → LinesFollowAnswers → EventsTellSteps
+pub serves_received : (b : BoardParts) (h : AreBoardParts b) → LinesFollowAnswers → EventsTellSteps
     → ServesWhoeverIsFirst b h (receives b)
 serves_received b h lines events id is_there first =
     let own : Own = own_of b.home id.slot in
     let r : Record = its_record b h id is_there in
-    let ring : List ℕ = b.drivers.uart.ring in
+    let ring : List ℕ = (line_on b).ring in
     let s : Received = received ring own in
     subst (λ (x : Received). ServesFirst b h id is_there (receives b)
     (record {
       kind = received_told kinds x;
       step = x.step;
-      device =
-          record b.drivers.uart { ring = drop (length x.moved) ring };
+      device = record (line_on b) { ring = drop (length x.moved) ring };
       completed = x.completed;
     })) (sym (in_its_life id.life own s (unreceived own) is_there.1))
     (record {
@@ -438,19 +471,20 @@ serves_received b h lines events id is_there first =
       lines = elim [ Writes ↦ refl | Reads ↦ refl | Randoms ↦ refl | Stores ↦ refl ];
       leds = refl;
       buttons = refl;
-      uart = record { ticks = refl; free = h.driven.free };
+      lines_ready = uart_changes b h id is_there (record (line_on b) { ring = drop (length s.moved) ring }) refl
+          (λ ticks free. free);
+      words_left = refl;
       bytes = bytes_of b.drivers.stores.slots id.slot;
       stores = stores_stay b h id is_there;
       event = Input s.moved;
-      deed = first_deed (receive_step (devices_of b.drivers)) (world_shown b) Reads (ids_waiting_in b.drivers)
-          (ids_waiting_in ((receives b).after
+      deed = first_deed (receive_step (lane_on b) (devices_of b.drivers)) (world_shown b) (only_on b) Reads
+          (ids_waiting_in b.drivers) (ids_waiting_in ((receives b).after
           (waiting_still s.completed id.slot b.drivers.console.reads)
-          (record b.drivers.uart { ring = drop (length s.moved) ring }))) id r
+          (record (line_on b) { ring = drop (length s.moved) ring }))) id r
           s.completed (λ (slots : WaitingSlots). telling (Input s.moved) []
           (record (devices_of b.drivers) {
             waiting = slots;
-            line =
-                record b.drivers.uart { ring = drop (length s.moved) ring };
+            lines = with_line b (record (line_on b) { ring = drop (length s.moved) ring });
           }))
           first (its_record_was b h id is_there)
           (elim [ Writes ↦ refl | Reads ↦ refl | Randoms ↦ refl | Stores ↦ refl ]) refl;
@@ -466,21 +500,21 @@ drawn_applied settings None r step e = ap (record_with_step r) (sym e)
 drawn_applied settings (Some word) r step e = ap (record_with_step r) (sym e)
 
 -- the source of random bytes, as it answers a request
-abbrev draws : BoardParts → Answering (List ℕ)
+abbrev pub draws : BoardParts → Answering (List ℕ)
 draws b = record {
   device = Random;
   here = Randoms;
-  answer_to = random_to b.drivers.words b.home;
-  after = λ ids words. record b.drivers { random = record { waiting = ids }; words = words };
+  answer_to = random_to (words_on b) b.home;
+  after = λ ids words. record b.drivers { random = record { waiting = ids }; words = with_words b words };
   prints = λ words. [];
 }
 
-serves_drawn : (b : BoardParts) (h : AreBoardParts b) → LinesFollowAnswers → EventsTellSteps
+pub serves_drawn : (b : BoardParts) (h : AreBoardParts b) → LinesFollowAnswers → EventsTellSteps
     → ServesWhoeverIsFirst b h (draws b)
 serves_drawn b h lines events id is_there first =
     let own : Own = own_of b.home id.slot in
     let r : Record = its_record b h id is_there in
-    let words : List ℕ = b.drivers.words in
+    let words : List ℕ = words_on b in
     let word : Option ℕ = slice_get words 0 in
     let s : random.RandomAnswered = random.answered word own in
     subst (λ (x : random.RandomAnswered). ServesFirst b h id is_there (draws b)
@@ -496,15 +530,19 @@ serves_drawn b h lines events id is_there first =
       lines = elim [ Writes ↦ refl | Reads ↦ refl | Randoms ↦ refl | Stores ↦ refl ];
       leds = refl;
       buttons = refl;
-      uart = uart_stays b h id is_there;
+      lines_ready = uarts_stay b h id is_there;
+      words_left = length-set b.drivers.words (lane_on b) (random.words_after s.drawn words);
       bytes = bytes_of b.drivers.stores.slots id.slot;
       stores = stores_stay b h id is_there;
       event = drawn_event s.drawn;
-      deed = first_deed (random_step (devices_of b.drivers)) (world_shown b) Randoms (ids_waiting_in b.drivers)
-          (ids_waiting_in ((draws b).after
+      deed = first_deed (random_step (lane_on b) (devices_of b.drivers)) (world_shown b) (only_on b) Randoms
+          (ids_waiting_in b.drivers) (ids_waiting_in ((draws b).after
           (waiting_still s.completed id.slot b.drivers.random.waiting) (random.words_after s.drawn words))) id r
           s.completed (λ (slots : WaitingSlots). telling (drawn_event s.drawn) []
-          (record (devices_of b.drivers) { waiting = slots; words = random.words_after s.drawn words }))
+          (record (devices_of b.drivers) {
+            waiting = slots;
+            words = with_words b (random.words_after s.drawn words);
+          }))
           first (its_record_was b h id is_there)
           (elim [ Writes ↦ refl | Reads ↦ refl | Randoms ↦ refl | Stores ↦ refl ]) refl;
       tells = drawn_applied b.moment.settings s.drawn r s.step (events.randoms word own);
@@ -530,7 +568,7 @@ not_written fault flash bytes own e = by_request (waiting_in storage.storages ow
 -- the bytes of the slots after an answer
 slots_after : (s : StoredSlots) (slot : ℕ) (completed : Bool) (written : Option (ℕ × List ℕ))
     → (completed ≡ false → written ≡ None)
-    → (if completed then storage_after slot written (after_count s) else s).slots
+    → (if completed then stored slot written s else s).slots
     ≡ slice_set s.slots slot (written_over (bytes_of s.slots slot) written)
 slots_after s slot true None none = sym (set-get_or s.slots slot [])
 slots_after s slot true (Some written) none = refl
@@ -539,12 +577,28 @@ slots_after s slot false written none =
     ∙ set-get_or s.slots slot [])
 
 -- what else the storage has
-kept_beside : (s : StoredSlots) (slot : ℕ) (completed : Bool) (written : Option (ℕ × List ℕ)) → s.served < 2 ^ 32 →
-    let s' : StoredSlots = if completed then storage_after slot written (after_count s) else s in
-    (s'.size ≡ s.size) × (s'.faults ≡ s.faults) × (s'.served ≡ (if completed then s.served + 1 else s.served))
-kept_beside s slot true None few = (refl, refl, counted_next s.served few)
-kept_beside s slot true (Some written) few = (refl, refl, counted_next s.served few)
-kept_beside s slot false written few = (refl, refl, refl)
+kept_beside : (s : StoredSlots) (slot : ℕ) (completed : Bool) (written : Option (ℕ × List ℕ))
+    → let s' : StoredSlots = if completed then stored slot written s else s in
+    (s'.size ≡ s.size) × (s'.faults ≡ s.faults)
+kept_beside s slot true None = (refl, refl)
+kept_beside s slot true (Some written) = (refl, refl)
+kept_beside s slot false written = (refl, refl)
+
+-- how many requests were served in each lane
+served_then : (s : StoredSlots) (slot lane : ℕ) (completed : Bool) (written : Option (ℕ × List ℕ))
+    → slot % length s.served ≡ lane → slice_index_or s.served lane 0 < 2 ^ 32
+    → (if completed then stored slot written s else s).served
+    ≡ (let count = slice_index_or s.served lane 0 in
+    slice_set s.served lane (if completed then count + 1 else count))
+served_then s slot lane false written is few = sym (set-get_or s.served lane 0)
+served_then s slot lane true written is few =
+    by_written written
+    ∙ ap (λ (l : ℕ). slice_set s.served l (counted (slice_index_or s.served l 0))) is
+    ∙ ap (slice_set s.served lane) (counted_next (slice_index_or s.served lane 0) few)
+  where
+    by_written : (o : Option (ℕ × List ℕ)) → (stored slot o s).served ≡ (with_served slot s).served
+    by_written None = refl
+    by_written (Some w) = refl
 
 stored_applied : (settings : Settings) (fails : Bool) (r : Record)
     → let a = storage.answered fails (flash_of r) r.storage r.own in
@@ -555,7 +609,7 @@ stored_applied settings true r = refl
 stored_applied settings false r = refl
 
 -- the storage, as it serves a request
-abbrev stores : BoardParts → Answering StoredSlots
+abbrev pub stores : BoardParts → Answering StoredSlots
 stores b = record {
   device = Store;
   here = Stores;
@@ -564,32 +618,41 @@ stores b = record {
   prints = λ s. [];
 }
 
-serves_stored : (b : BoardParts) (h : AreBoardParts b) → LinesFollowAnswers → ReadsOwnFlash → Lent b.home
+pub serves_stored : (b : BoardParts) (h : AreBoardParts b) → LinesFollowAnswers → ReadsOwnFlash → Lent b.home
     → ServesWhoeverIsFirst b h (stores b)
 serves_stored b h lines law lent id is_there first =
     let own : Own = own_of b.home id.slot in
     let r : Record = its_record b h id is_there in
     let s : StoredSlots = b.drivers.stores in
-    let few : s.served < 2 ^ 32 = omega (arith, h.served, h.steps) in
-    let fails : Bool = is_fault s.faults (s.served + 1) in
+    let lane : ℕ = lane_on b in
+    let there : lane < length s.served = omega (arith, lane_there b.moment.time b.moment.window, h.lanes.served) in
+    let count : ℕ = slice_index_or s.served lane 0 in
+    let counted_few : count ≤ b.moment.steps = h.served lane 0 there in
+    let few : count < 2 ^ 32 = omega (arith, counted_few, h.steps) in
+    let lane_is : id.slot % length s.served ≡ lane = ap (λ (n : ℕ). id.slot % n) h.lanes.served
+    ∙ first_in_lane b.moment.time b.moment.window b.drivers.storage.waiting id first
+    (omega (arith, is_there.0, h.owns, h.few)) in
+    let fails : Bool = is_fault s.faults (count + 1) in
     let bytes : List ℕ = bytes_of s.slots id.slot in
     let a : storage.StorageAnswered = storage.answered fails (flash_of r) bytes own in
     let flash : ℕ → ℕ = flash_byte b.home.flash in
-    let answered = storage.answered (store_fails_next s) flash bytes own in
+    let answered = storage.answered (store_fails_next id.slot s) flash bytes own in
     let same : in_life id.life own answered (storage.unanswered own) ≡ a =
     in_its_life id.life own answered (storage.unanswered own) is_there.1
-    ∙ ap (λ (n : ℕ). storage.answered (is_fault s.faults n) flash bytes own) (counted_next s.served few)
+    ∙ ap (λ (n : ℕ). storage.answered (is_fault s.faults n) flash bytes own)
+    (ap (λ (l : ℕ). counted (slice_index_or s.served l 0)) lane_is ∙ counted_next count few)
     ∙ answered_of_own fails b.home.flash bytes own law (its_object b h id is_there) (lent id.slot is_there.0)
     ∙ ap (λ (o : _). storage.answered fails (object_byte o (object_in b.home.flash o)) bytes own)
     (its_seat b h id is_there).own.object_is in
-    let s' : StoredSlots = if a.completed then storage_after id.slot a.written (after_count s) else s in
-    let kept = kept_beside s id.slot a.completed a.written few in
+    let s' : StoredSlots = if a.completed then stored id.slot a.written s else s in
+    let kept = kept_beside s id.slot a.completed a.written in
+    let served = served_then s id.slot lane a.completed a.written lane_is few in
     subst (λ (x : storage.StorageAnswered). ServesFirst b h id is_there (stores b)
     (record {
-      kind = stored_told kinds (store_fails_next s);
+      kind = stored_told kinds (store_fails_next id.slot s);
       step = x.step;
       device =
-          if x.completed then storage_after id.slot x.written (after_count s) else s;
+          if x.completed then stored id.slot x.written s else s;
       completed = x.completed;
     }))
     (sym same)
@@ -599,41 +662,46 @@ serves_stored b h lines law lent id is_there first =
       lines = elim [ Writes ↦ refl | Reads ↦ refl | Randoms ↦ refl | Stores ↦ refl ];
       leds = refl;
       buttons = refl;
-      uart = uart_stays b h id is_there;
+      lines_ready = uarts_stay b h id is_there;
+      words_left = refl;
       bytes = written_over bytes a.written;
       stores = record {
         size = kept.0;
-        counts = at_most_one a.completed s.served s'.served kept.2;
+        lanes = ap length served ∙ length-set s.served lane (if a.completed then count + 1 else count);
+        counts = subst (All (λ n. n ≤ b.moment.steps + 1)) (sym served)
+            (All-set (λ n. n ≤ b.moment.steps + 1) s.served lane (if a.completed then count + 1 else count)
+            (one_more a.completed count b.moment.steps counted_few)
+            (All-weaker (λ n. n ≤ b.moment.steps) (λ n. n ≤ b.moment.steps + 1) (λ n few. omega (arith, few))
+            s.served h.served));
         slots =
             slots_after s id.slot a.completed a.written (not_written fails (flash_of r) bytes own);
       };
       event = Stored (not fails);
-      deed = first_deed (storing (devices_of b.drivers)) (world_shown b) Stores (ids_waiting_in b.drivers)
-          (ids_waiting_in ((stores b).after
+      deed = first_deed (storing lane (devices_of b.drivers)) (world_shown b) (only_on b) Stores
+          (ids_waiting_in b.drivers) (ids_waiting_in ((stores b).after
           (waiting_still a.completed id.slot b.drivers.storage.waiting) s')) id r
           a.completed (λ (slots : WaitingSlots). telling (Stored (not fails)) []
           (record (devices_of b.drivers) {
             waiting = slots;
-            served =
-                if a.completed then s.served + 1 else s.served;
+            served = slice_set s.served lane (if a.completed then count + 1 else count);
           }))
           first (its_record_was b h id is_there)
           (elim [ Writes ↦ refl | Reads ↦ refl | Randoms ↦ refl | Stores ↦ refl ]) refl
-          ∙ ap (λ (a : DeviceAnswer). Some (answering id.slot a)) (ap₂ (λ (n : ℕ) (faults : List ℕ). telling (Stored
+          ∙ ap (λ (a : DeviceAnswer). Some (answering id.slot a)) (ap₂ (λ (ns faults : List ℕ). telling (Stored
           (not fails)) []
           (record (devices_of b.drivers) {
             waiting = waiting_by (λ queue. slots_of (ids_waiting_in ((stores b).after
                 (waiting_still a.completed id.slot b.drivers.storage.waiting) s') queue));
-            served = n;
+            served = ns;
             faults = faults;
           }))
-          (sym kept.2) (sym kept.1));
+          (sym served) (sym kept.1));
       tells = stored_applied b.moment.settings fails r;
     })
   where
-    at_most_one : (c : Bool) (n m : ℕ) → m ≡ (if c then n + 1 else n) → m ≤ n + 1
-    at_most_one true n m e = omega (arith, e)
-    at_most_one false n m e = omega (arith, e)
+    one_more : (c : Bool) (n m : ℕ) → n ≤ m → (if c then n + 1 else n) ≤ m + 1
+    one_more true n m e = omega (arith, e)
+    one_more false n m e = omega (arith, e)
 
 alarm_applied : (settings : Settings) (now : ℕ) (r : Record)
     → apply settings (Alarmed now) r ≡ record_with_step r (answered now r.own)
@@ -641,9 +709,9 @@ unfolding apply
 alarm_applied settings now r = refl
 
 -- the alarm of the lowest slot whose alarm is due fired
-serves_alarmed : (b : BoardParts) (h : AreBoardParts b) (id : ProcessId) (is_there : IsThere b.home.owns id)
+pub serves_alarmed : (b : BoardParts) (h : AreBoardParts b) (id : ProcessId) (is_there : IsThere b.home.owns id)
     → let now = clock_at b.moment.settings.start b.moment.time in
-    LinesFollowAnswers → due_slot now (owns_in (world_shown b)) ≡ Some id.slot
+    LinesFollowAnswers → due_for (only_on b) now (owns_in (world_shown b)) ≡ Some id.slot
     → DeviceServes b (its_process b h id is_there) Alarm id.slot []
     (own_after (answered now (own_of b.home id.slot))) b.drivers
 serves_alarmed b h id is_there lines due =
@@ -654,7 +722,8 @@ serves_alarmed b h id is_there lines due =
       lines = λ line. refl;
       leds = refl;
       buttons = refl;
-      uart = uart_stays b h id is_there;
+      lines_ready = uarts_stay b h id is_there;
+      words_left = refl;
       bytes = bytes_of b.drivers.stores.slots id.slot;
       stores = stores_stay b h id is_there;
       event = Alarmed now;
@@ -663,102 +732,3 @@ serves_alarmed b h id is_there lines due =
           (alarmed b.moment.settings b.moment.time (devices_of b.drivers)))) (its_record_was b h id is_there);
       tells = alarm_applied b.moment.settings now (its_record b h id is_there);
     }
-
--- what a device did, by which device it is
-pub acted_by : (b : BoardParts) (device is : Dev) (o : Result Answer NotReady) (printed : List ℕ) (home : Homes)
-    (d : Drivers) → device ≡ is → Acted b is o printed home d → Acted b device o printed home d
-acted_by b device is o printed home d e acted = subst (λ (x : Dev). Acted b x o printed home d) (sym e) acted
-
--- nothing was printed
-acted_silent : (b : BoardParts) (device : Dev) (o : Result Answer NotReady) (home : Homes) (d : Drivers)
-    (printed : List ℕ)
-    → printed ≡ [] → Acted b device o [] home d → Acted b device o printed home d
-acted_silent b device o home d printed empty acted =
-    subst (λ (xs : List ℕ). Acted b device o xs home d) (sym empty) acted
-
--- What each device does where it is to act: it serves the first of those that wait, or may not act, and then nothing
--- changes.
-pub acts_alarmed : (b : BoardParts) (h : AreBoardParts b) (o : Result Answer NotReady) (home : Homes)
-    → LinesFollowAnswers → DueSlotIsThere
-    → alarm_capsule.AlarmAnswers (clock_at b.moment.settings.start b.moment.time) b.home o home
-    → (printed : List ℕ) → printed ≡ [] → Acted b Alarm o printed home b.drivers
-acts_alarmed b h (Err refusal) home lines law answers printed empty = (
-  ap is_some (ap (due_slot (clock_at b.moment.settings.start b.moment.time)) (owns_in_parts b h) ∙ answers.0),
-  answers.1,
-  refl,
-)
-acts_alarmed b h (Ok answer) home lines law answers printed empty =
-    let id : ProcessId = answer.to in
-    let now : ℕ = clock_at b.moment.settings.start b.moment.time in
-    let there : IsThere b.home.owns id = (law now id.slot b.home.owns answers.0, sym answers.1) in
-    let due : due_slot now (owns_in (world_shown b)) ≡ Some id.slot = ap (due_slot now) (owns_in_parts b h)
-    ∙ answers.0 in
-    acted_silent b Alarm (Ok answer) home b.drivers printed empty
-    (told_by b h id there Alarm [] (own_after (answered now (own_of b.home id.slot))) home b.drivers answers.4 answers.3
-    (ap is_some due) (serves_alarmed b h id there lines due))
-
-pub acts_sent : (b : BoardParts) (h : AreBoardParts b) (o : Result Answer NotReady) (home : Homes)
-    (capsule : ConsoleCapsule)
-    (line : SerialLine) (printed : ArrayVec ℕ)
-    → LinesFollowAnswers → EventsTellSteps → ReadsOwnFlash → Lent b.home → (before : ArrayVec ℕ) → before.items ≡ []
-    → is_ok o ≡ not (cannot_send b.drivers.console.writes b.drivers.uart b.moment.time)
-    → AnswersFirst (written_by b.home) b.drivers.console.writes before b.home o capsule.writes printed home
-    → line ≡ sending_at b.moment.time printed.items b.drivers.uart
-    → capsule.reads ≡ b.drivers.console.reads
-    → Acted b Uart o printed.items home (record b.drivers { console = capsule; uart = line })
-acts_sent b h o home capsule line printed lines events law lent before empty can answers uart reads =
-    subst (λ (xs : List ProcessId). Acted b Uart o printed.items home
-    (record b.drivers { console = record { writes = capsule.writes; reads = xs }; uart = line })) (sym reads)
-    (subst (λ (l : SerialLine). Acted b Uart o printed.items home
-    (record b.drivers { console = record { writes = capsule.writes; reads = b.drivers.console.reads }; uart = l }))
-    (sym uart)
-    (acts_on b h (sends b) before (ap (λ (xs : List ℕ). record b.drivers
-    { uart = sending_at b.moment.time xs b.drivers.uart }) empty) (serves_sent b h lines events law lent)
-    o home capsule.writes printed (can_send b.drivers.console.writes b.drivers.uart b.moment.time ∙ sym can) answers))
-
-pub acts_received : (b : BoardParts) (h : AreBoardParts b) (o : Result Answer NotReady) (home : Homes)
-    (capsule : ConsoleCapsule)
-    (line : SerialLine)
-    → LinesFollowAnswers → EventsTellSteps
-    → is_ok o ≡ not (cannot_give b.drivers.console.reads b.drivers.uart)
-    → AnswersFirst (received_by b.drivers.uart b.home) b.drivers.console.reads b.drivers.uart b.home o capsule.reads
-    line home
-    → capsule.writes ≡ b.drivers.console.writes
-    → (printed : List ℕ) → printed ≡ []
-    → Acted b Receive o printed home (record b.drivers { console = capsule; uart = line })
-acts_received b h o home capsule line lines events can answers writes printed empty =
-    acted_silent b Receive o home _ printed empty
-    (subst (λ (xs : List ProcessId). Acted b Receive o [] home
-    (record b.drivers { console = record { writes = xs; reads = capsule.reads }; uart = line })) (sym writes)
-    (acts_on b h (receives b) b.drivers.uart refl (serves_received b h lines events)
-    o home capsule.reads line (can_give b.drivers.console.reads b.drivers.uart ∙ sym can) answers))
-
-pub acts_drawn : (b : BoardParts) (h : AreBoardParts b) (o : Result Answer NotReady) (home : Homes)
-    (capsule : RandomCapsule)
-    (words : List ℕ)
-    → LinesFollowAnswers → EventsTellSteps
-    → OnErr o (b.drivers.random.waiting ≡ [])
-    → AnswersFirst (random_to b.drivers.words b.home) b.drivers.random.waiting b.drivers.words b.home o capsule.waiting
-    words home
-    → (printed : List ℕ) → printed ≡ []
-    → Acted b Random o printed home (record b.drivers { random = capsule; words = words })
-acts_drawn b h o home capsule words lines events none answers printed empty =
-    acted_silent b Random o home _ printed empty
-    (acts_on b h (draws b) b.drivers.words refl (serves_drawn b h lines events)
-    o home capsule.waiting words (waited_for (random_to b.drivers.words b.home) b.drivers.random.waiting b.drivers.words
-    b.home o capsule.waiting words home none answers) answers)
-
-pub acts_stored : (b : BoardParts) (h : AreBoardParts b) (o : Result Answer NotReady) (home : Homes)
-    (capsule : StorageCapsule)
-    (bytes : StoredSlots)
-    → LinesFollowAnswers → ReadsOwnFlash → Lent b.home
-    → OnErr o (b.drivers.storage.waiting ≡ [])
-    → AnswersFirst (storage_to b.drivers.stores b.home) b.drivers.storage.waiting b.drivers.stores b.home o
-    capsule.waiting bytes home
-    → (printed : List ℕ) → printed ≡ []
-    → Acted b Store o printed home (record b.drivers { storage = capsule; stores = bytes })
-acts_stored b h o home capsule bytes lines law lent none answers printed empty =
-    acted_silent b Store o home _ printed empty
-    (acts_on b h (stores b) b.drivers.stores refl (serves_stored b h lines law lent)
-    o home capsule.waiting bytes (waited_for (storage_to b.drivers.stores b.home) b.drivers.storage.waiting
-    b.drivers.stores b.home o capsule.waiting bytes home none answers) answers)

@@ -21,7 +21,7 @@ use Rattle.driver_model.specs.Leds.{lit_after}
 use Rattle.driver_requests.specs.Waiting.{queue_after, waits}
 use Rattle.grant_enter.specs.Homes.{nobody}
 use Rattle.kernel_model.specs.declared.settings.Settings.{Settings}
-use Rattle.kernel_model.specs.World.{Devices, WaitingSlots}
+use Rattle.kernel_model.specs.World.{Devices, WaitingSlots, lane_count}
 use Rattle.kernel_calls.specs.Own.{Beside}
 use Rattle.board_drivers.specs.declared.moment.Moment.{Moment}
 use Rattle.board_drivers.specs.declared.drivers.Drivers.{Drivers}
@@ -48,7 +48,7 @@ abbrev pub devices_of : Drivers → Devices
 devices_of d = record {
   waiting = waiting_by (λ queue. slots_of (ids_waiting_in d queue));
   leds = bits_of d.leds;
-  line = d.uart;
+  lines = d.uarts;
   arrivals = d.arrivals;
   words = d.words;
   served = d.stores.served;
@@ -64,15 +64,16 @@ abbrev pub storage_bytes : Drivers → List (List ℕ)
 storage_bytes d = d.stores.slots
 
 -- the drivers under a script before the first step: nobody waits, all LEDs are off, no button is pressed, nothing was
--- drawn or served
+-- drawn or served in any lane
 pub record AreFresh (script : Script) (d : Drivers) : Type 0 where
   pub queues : (queue : QueueName) → ids_waiting_in d queue ≡ []
-  pub line : d.uart ≡ record { ring = []; ticks = script.uart; free = 0 }
+  pub lines : d.uarts
+      ≡ replicate (lane_count script.partition) (record { ring = []; ticks = script.uart; free = 0 })
   pub leds : d.leds ≡ replicate script.leds false
   pub buttons : d.buttons ≡ record { count = script.buttons; pressed = 0 }
   pub arrivals : d.arrivals ≡ script.events
-  pub words : d.words ≡ script.words
-  pub stores : d.stores ≡ fresh_storage script.storage script.faults
+  pub words : d.words ≡ replicate (lane_count script.partition) script.words
+  pub stores : d.stores ≡ fresh_storage (lane_count script.partition) script.storage script.faults
 
 -- a process is in the slot of an id, in that life
 abbrev pub IsThere : List Own → ProcessId → Type 0
@@ -84,6 +85,10 @@ pub record IsQueueOf (queue : QueueName) (ids : List ProcessId) (owns : List Own
   pub each : (slot : ℕ) → slot < length owns
       → waits slot ids ≡ has_waiting queue (slice_index_or owns slot nobody)
 
+-- the UART is free soon, in each lane
+abbrev pub AreFreeSoon : ℕ → Drivers → Type 0
+AreFreeSoon time d = All (λ line. line.free ≤ time + SENDING_LIMIT) d.uarts
+
 -- The drivers of a board with these settings, at a time: who waits has a request that waits; each request for storage
 -- lies in what a slot has; so many LEDs and buttons there are; the UART is free soon.
 pub record AreDriven (settings : Settings) (time : ℕ) (owns : List Own) (d : Drivers) : Type 0 where
@@ -93,8 +98,14 @@ pub record AreDriven (settings : Settings) (time : ℕ) (owns : List Own) (d : D
   pub buttons : d.buttons.count ≡ settings.buttons
   pub size : d.stores.size ≡ settings.storage
   pub slots : length d.stores.slots ≡ SLOT_COUNT
-  pub ticks : d.uart.ticks ≤ BYTE_TICKS_LIMIT
-  pub free : d.uart.free ≤ time + SENDING_LIMIT
+  pub ticks : All (λ line. line.ticks ≤ BYTE_TICKS_LIMIT) d.uarts
+  pub free : AreFreeSoon time d
+
+-- there are as many lanes as slots that are served apart
+pub record HasLanes (window : ℕ) (d : Drivers) : Type 0 where
+  pub lines : length d.uarts ≡ lane_count window
+  pub words : length d.words ≡ lane_count window
+  pub served : length d.stores.served ≡ lane_count window
 
 -- what the drivers do for a process of what is asked of them: who waits where, and the LEDs; nothing else changes
 pub record Drives (id : ProcessId) (acts : List BoardRequest) (old new : Drivers) : Type 0 where
@@ -102,7 +113,7 @@ pub record Drives (id : ProcessId) (acts : List BoardRequest) (old new : Drivers
   pub leds : bits_of new.leds ≡ lit_after acts (bits_of old.leds)
   pub lit : length new.leds ≡ length old.leds
   pub buttons : new.buttons ≡ old.buttons
-  pub line : new.uart ≡ old.uart
+  pub lines : new.uarts ≡ old.uarts
   pub arrivals : new.arrivals ≡ old.arrivals
   pub words : new.words ≡ old.words
   pub bytes : new.stores ≡ old.stores

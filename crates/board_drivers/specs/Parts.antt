@@ -7,7 +7,7 @@ use Rattle.grant_enter.specs.Homes.{Homes}
 use Rattle.kernel_model.specs.World.{World}
 use Rattle.board_drivers.specs.declared.drivers.Drivers.{Drivers}
 use Rattle.board_drivers.specs.declared.moment.Moment.{Moment}
-use Rattle.board_drivers.specs.Driven.{AreDriven, devices_of}
+use Rattle.board_drivers.specs.Driven.{AreDriven, HasLanes, devices_of}
 use Rattle.board_drivers.specs.Residents.{HasLost, IsResident, record_of}
 
 -- the processes with their memory, the drivers, the moment, and a world that has the rest
@@ -24,6 +24,7 @@ world_shown p = record p.rest {
   records = map (record_of p.home.flash p.drivers.buttons.pressed)
       (zip (zip p.processes p.home.owns) p.drivers.stores.slots);
   settings = p.moment.settings;
+  pace = record p.rest.pace { window = p.moment.window };
   devices = devices_of p.drivers;
   clock = record { time = p.moment.time; steps = p.moment.steps };
 }
@@ -35,6 +36,7 @@ pub record AreBoardParts (p : BoardParts) : Type 0 where
   pub owns : length p.home.owns ≡ length p.processes
   pub few : length p.processes ≤ SLOT_COUNT
   pub driven : AreDriven p.moment.settings p.moment.time p.home.owns p.drivers
-  pub served : p.drivers.stores.served ≤ p.moment.steps
+  pub lanes : HasLanes p.moment.window p.drivers
+  pub served : All (λ count. count ≤ p.moment.steps) p.drivers.stores.served
   pub steps : p.moment.steps ≤ STEP_LIMIT
   pub time : p.moment.time ≤ p.moment.steps * 2 ^ 32

@@ -1,7 +1,7 @@
 -- What a device tells a process, as a step of the board. Only proofs use this.
 use Rattle.std.specs.Prelude.{◌≡◌, ◌≤◌, ◌<◌, ℕ, ◌+◌, Bool, true, false, List, [], drop, length, map, slice_get}
-use Rattle.std.specs.Prelude.{slice_set, slice_index_or, Option, None, Some, Result, Ok, Err}
-use Rattle.tk_base.specs.declared.limits.TheConstants.{SENDING_LIMIT}
+use Rattle.std.specs.Prelude.{All, slice_set, slice_index_or, Option, None, Some, Result, Ok, Err}
+use Rattle.tk_base.specs.declared.limits.TheConstants.{BYTE_TICKS_LIMIT, SENDING_LIMIT}
 use Rattle.tk_base.specs.declared.process.Dev.{Dev}
 use Rattle.tk_base.specs.declared.process.Dev.TheVariants.{Event as Arrival, Alarm, Uart, Receive, Random, Store}
 use Rattle.board_devices.specs.declared.answer.Answer.{Answer}
@@ -35,15 +35,17 @@ tells_one Receive = true
 tells_one Random = true
 tells_one Store = true
 
--- the UART takes as long for a byte as before, and is free soon
-pub record IsFreeSoon (time : ℕ) (old new : SerialLine) : Type 0 where
-  pub ticks : new.ticks ≡ old.ticks
-  pub free : new.free ≤ time + SENDING_LIMIT
+-- the UART takes as long for a byte as it may, and is free soon, in each lane, of which there are as many
+pub record IsFreeSoon (time : ℕ) (old new : List SerialLine) : Type 0 where
+  pub lanes : length new ≡ length old
+  pub ticks : All (λ line. line.ticks ≤ BYTE_TICKS_LIMIT) new
+  pub free : All (λ line. line.free ≤ time + SENDING_LIMIT) new
 
--- the storage has these bytes for a slot, and counts one request more at most
-pub record HoldsFor (slot : ℕ) (bytes : List ℕ) (old new : StoredSlots) : Type 0 where
+-- the storage has these bytes for a slot, and has counted at most as many requests as steps in each lane
+pub record HoldsFor (steps slot : ℕ) (bytes : List ℕ) (old new : StoredSlots) : Type 0 where
   pub size : new.size ≡ old.size
-  pub counts : new.served ≤ old.served + 1
+  pub lanes : length new.served ≡ length old.served
+  pub counts : All (λ count. count ≤ steps + 1) new.served
   pub slots : new.slots ≡ slice_set old.slots slot bytes
 
 -- What a device did for the process in a slot, whose own is then another: this follows what the device answered; the
@@ -56,9 +58,10 @@ pub record DeviceServes (b : BoardParts) (process : Process) (device : Dev) (slo
       → ids_waiting_in d line ≡ waiting_still (left line) slot (ids_waiting_in b.drivers line)
   pub leds : length d.leds ≡ length b.drivers.leds
   pub buttons : d.buttons ≡ b.drivers.buttons
-  pub uart : IsFreeSoon b.moment.time b.drivers.uart d.uart
+  pub lines_ready : IsFreeSoon b.moment.time b.drivers.uarts d.uarts
+  pub words_left : length d.words ≡ length b.drivers.words
   pub bytes : List ℕ
-  pub stores : HoldsFor slot bytes b.drivers.stores d.stores
+  pub stores : HoldsFor b.moment.steps slot bytes b.drivers.stores d.stores
   pub event : Event
   pub deed : device_step_of (world_shown b) device ≡ Some (answering slot (record {
     answer = record { event = event; printed = printed };
@@ -102,7 +105,7 @@ owns_told (Some edge) owns = map (λ own. own_after (edged edge.0 edge.1 own)) o
 -- of a button changed.
 pub record Arrives (home : Homes) (d : Drivers) (home_after : Homes) (d_after : Drivers) : Type 0 where
   pub drivers : d_after ≡ record d {
-    uart = with_first_arrived d.arrivals d.uart;
+    uarts = with_first_arrived d.arrivals d.uarts;
     buttons = record d.buttons { pressed = pressed_after_first d.arrivals d.buttons.pressed };
     arrivals = drop 1 d.arrivals;
   }

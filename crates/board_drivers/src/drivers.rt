@@ -1,21 +1,23 @@
 //! The drivers of the board.
 ghost use Rattle.std.specs.Prelude.{◌≡◌, ◌+◌, ◌*◌, ◌<◌, ◌≤◌, ◌^◌, ◌↔◌, ℕ, true, false, [], length};
-ghost use Rattle.std.specs.Prelude.{All, IfOk, IfSome};
+ghost use Rattle.std.specs.Prelude.{All, IfOk, IfSome, replicate};
 ghost use Rattle.board_devices.specs.Arriving.{first_arrival_time};
 ghost use Rattle.driver_model.specs.Commands.{leaving_all};
 ghost use Rattle.grant_enter.specs.Homes.{own_of, ChangesOnly};
 ghost use Rattle.grant_enter.specs.Visits.{is_stale};
-ghost use Rattle.kernel_model.specs.World.{sending_time};
+ghost use Rattle.kernel_model.specs.World.{can_act_at, lane_count, sending_time};
+ghost use Rattle.tk_base.specs.declared.process.Dev.TheVariants.{Receive};
 ghost use Rattle.board_drivers.specs.Residents.{HasLost};
 ghost use Rattle.board_drivers.specs.Tells.{Acts, Arrives, tells_one};
 ghost use Rattle.tk_base.specs.declared.limits.TheConstants.{SLOT_COUNT, STEP_LIMIT};
-ghost use Rattle.board_drivers.specs.Driven.{AreDriven, AreFresh, Commands, Drives, IsTaken};
+ghost use Rattle.board_drivers.specs.Driven.{AreDriven, AreFresh, Commands, Drives, HasLanes, IsTaken};
 ghost use Rattle.board_drivers.specs.Driven.{MayAsk, devices_of};
 
 use crate::moment::Moment;
+use crate::served::Served;
 use alarm_capsule::AlarmCapsule;
 use arrayvec::ArrayVec;
-use board_devices::{Answer, Arrivals, Buttons, Leds, Stores, Uart, Words};
+use board_devices::{Answer, Arrivals, Buttons, Leds, Stores, Uarts, WordLanes};
 use console_capsule::ConsoleCapsule;
 use driver_model::{
     a_due_slot_is_there, drivers_ask_for_their_own, events_tell_steps, lines_follow_answers,
@@ -28,7 +30,7 @@ use script_text::Script;
 use std::alloc::Global;
 use storage_capsule::StorageCapsule;
 use syscall_abi::Reply;
-use tk_base::{CallRule, Dev, NotReady, PRINT_LIMIT, ProcessId};
+use tk_base::{CallRule, Dev, NotReady, PRINT_LIMIT, ProcessId, SLOT_COUNT};
 use tk_outside::NoMemory;
 
 /// The drivers that have processes wait, each with who waits for it, and the devices that they
@@ -38,11 +40,13 @@ pub struct Drivers {
     pub console: ConsoleCapsule,
     pub random: RandomCapsule,
     pub storage: StorageCapsule,
-    pub uart: Uart,
+    /// By lane: of all slots there is one, with time partitions of each.
+    pub uarts: Uarts,
     pub leds: Leds,
     pub buttons: Buttons,
     pub arrivals: Arrivals,
-    pub words: Words,
+    /// By lane.
+    pub words: WordLanes,
     pub stores: Stores,
 }
 
@@ -55,23 +59,33 @@ pub struct Order {
     pub a3: u32,
 }
 
+/// How many lanes there are, where a window has so many ticks: one without time partitions, else one
+/// for each slot.
+fn lane_count(window: u32) -> usize
+    ensures { result ≡ lane_count window }
+{
+    if window == 0 { 1 } else { SLOT_COUNT }
+}
+
 impl Drivers {
     /// The drivers and devices under a script, before the first step: nobody waits. The one error
     /// is want of memory.
     pub fn new(alloc: Global, script: Script) -> Result<Drivers, NoMemory>
         ensures { IfOk result (AreFresh script) }
     {
-        let uart = Uart::new(alloc, script.uart)?;
-        let stores = Stores::new(alloc, script.storage, script.faults)?;
+        let lanes = lane_count(script.partition.unwrap_or(0));
+        let uarts = Uarts::new(alloc, lanes, script.uart)?;
+        let words = WordLanes::new(alloc, lanes, script.words)?;
+        let stores = Stores::new(alloc, lanes, script.storage, script.faults)?;
         Ok(Drivers {
             console: ConsoleCapsule::default(),
             random: RandomCapsule::default(),
             storage: StorageCapsule::default(),
-            uart,
+            uarts,
             leds: Leds::new(script.leds),
             buttons: Buttons::new(script.buttons),
             arrivals: Arrivals::new(script.events),
-            words: Words::new(script.words),
+            words,
             stores,
         })
     }
@@ -96,15 +110,25 @@ impl Drivers {
         Some(u64::from(at))
     }
 
-    /// The time from which on the UART is free, if a write waits for it.
-    pub fn sending_time(&self) -> Option<u64>
-        ensures { result ≡ sending_time (devices_of self.now) }
+    /// The time from which on the UART is free in the lane of whom it serves, if a write waits for it
+    /// that is served.
+    #[tactic(auto, using(crate::proofs::Waiting::waits_if_first))]
+    pub fn sending_time(&self, served: &Served) -> Option<u64>
+        ensures { result ≡ sending_time served.now.only (devices_of self.now) }
     {
-        if self.console.writes.is_empty() {
-            None
+        if self.console.writes.has_one(served.only()) {
+            Some(self.uarts.free(served.lane()))
         } else {
-            Some(self.uart.free())
+            None
         }
+    }
+
+    /// Whether a read waits that is served, and bytes came in on its lane.
+    #[tactic(auto, using(crate::proofs::Waiting::waits_if_first))]
+    pub fn can_receive(&self, served: &Served) -> bool
+        ensures { result ≡ can_act_at served.now.only 0 0 [] (devices_of self.now) Receive }
+    {
+        self.console.reads.has_one(served.only()) && self.uarts.held(served.lane()) > 0
     }
 
     /// The next event comes in, of which it asks that there is one: bytes, which the UART holds
@@ -118,7 +142,7 @@ impl Drivers {
         requires dropped { All (λ own. own.inbox.dropped + 1 < 2 ^ 32) home.old.owns }
         ensures { Arrives home.old self.old home.new self.new }
     {
-        if let Some(edge) = self.arrivals.arrive(&mut self.uart, &mut self.buttons) {
+        if let Some(edge) = self.arrivals.arrive(&mut self.uarts, &mut self.buttons) {
             button_capsule::edges(home, slots, edge.button, edge.state);
         }
     }
@@ -137,6 +161,7 @@ impl Drivers {
     ) -> Result<Answer, NotReady>
         requires tells { tells_one device ≡ true }
         requires driven { AreDriven moment.now.settings moment.now.time home.old.owns self.old }
+        requires lanes { HasLanes moment.now.window self.old }
         requires lost { All (HasLost moment.now.steps) home.old.owns }
         requires limit { moment.now.steps < STEP_LIMIT }
         requires time { moment.now.time ≤ moment.now.steps * 2 ^ 32 }
@@ -149,15 +174,20 @@ impl Drivers {
         events_tell_steps();
         reads_own_flash();
         home.held_buffers_lie_in_place();
+        let served = moment.served();
+        let only = served.only();
+        let lane = served.lane();
         match device {
             Dev::Event => Err(NotReady),
-            Dev::Alarm => AlarmCapsule.answer(home, moment.tick()),
-            Dev::Uart => self
-                .console
-                .transmit(home, &mut self.uart, moment.time, printed),
-            Dev::Receive => self.console.receive(home, &mut self.uart),
-            Dev::Random => self.random.answer(home, &mut self.words),
-            Dev::Store => self.storage.answer(home, &mut self.stores),
+            Dev::Alarm => AlarmCapsule.answer(home, moment.tick(), only),
+            Dev::Uart => {
+                let uart = self.uarts.at(lane);
+                self.console
+                    .transmit(home, uart, moment.time, printed, only)
+            }
+            Dev::Receive => self.console.receive(home, self.uarts.at(lane), only),
+            Dev::Random => self.random.answer(home, self.words.at(lane), only),
+            Dev::Store => self.storage.answer(home, &mut self.stores, only),
         }
     }
 

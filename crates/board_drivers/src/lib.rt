@@ -4,6 +4,8 @@
 
 mod drivers;
 mod moment;
+mod served;
 
 pub use drivers::{Drivers, Order};
 pub use moment::Moment;
+pub use served::Served;

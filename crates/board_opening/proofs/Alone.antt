@@ -15,7 +15,7 @@ use Rattle.process_layout.specs.LayoutView.{LayoutView}
 use Rattle.flash_walk.specs.Image.{ends_at, found_at, object_bytes, objects_from, size_at, verdict_of}
 use Rattle.app_placement.specs.Applications.{application, application_in, application_of, applications, is_app}
 use Rattle.app_placement.specs.Placement.{block_length, block_start, extents, filled_after, is_start_taken, place_of}
-use Rattle.app_placement.specs.Placement.{places_from, Place}
+use Rattle.app_placement.specs.Placement.{places_from, room_of, Place}
 use Rattle.app_placement.specs.declared.application.Application.{Application}
 use Rattle.app_placement.specs.declared.placed.Filled.{Filled}
 use Rattle.kernel_model.specs.Record.{Record}
@@ -24,6 +24,7 @@ use Rattle.kernel_model.specs.Replay.{replay}
 use Rattle.kernel_model.specs.World.{World, after}
 use Rattle.board_opening.specs.Alone.{IsFirstAlone, IsReplayed, OpeningsAreAlone, RunsAreAlone, SameViewSameRecord}
 use Rattle.board_opening.specs.Alone.{extents_of, first_alone, first_by}
+use Rattle.board_opening.specs.Settings.{is_partitioned}
 use Rattle.board_opening.specs.Opening.{first_record, opening_record, opened_by, opening, record_placed}
 use Rattle.board_opening.specs.Opening.{record_with_place}
 use Rattle.board_opening.proofs.Openings.{with_first}
@@ -72,15 +73,16 @@ module _ (flash : List ℕ) where
       by_end false later =
           asked_one at (filter_map (application_of flash) (objects_from n flash (at + size_at flash at))) later
 
-  module _ (storage ram : ℕ) where
+  module _ (partition : Bool) (storage ram : ℕ) where
     -- its place is what it asks for, from where its block starts
-    laid : (filled : Filled) (app : Application) (place : Place) → place_of ram filled app ≡ Ok place
+    laid : (filled : Filled) (app : Application) (place : Place) → place_of partition ram filled app ≡ Ok place
         → extents app place.1.start ≡ place.1
     unfolding place_of
     laid filled app place is =
-        let start = block_start filled.last_end app.fixed_start in
-        by_conditions (nat_le SLOT_COUNT filled.count) (is_start_taken filled.last_end app.fixed_start)
-        (nat_lt (RAM_START + ram) (start + block_length app.minimum_ram)) start is
+        let room = room_of partition ram filled in
+        let start = block_start room.from app.fixed_start in
+        by_conditions (nat_le SLOT_COUNT filled.count) (is_start_taken partition room.from app.fixed_start)
+        (nat_lt room.to (start + block_length app.minimum_ram)) start is
       where
         by_conditions : (b c d : Bool) (start : ℕ)
             → ◌≡◌ {A = Result Place PlaceFault} (cond b (Err NoSlot)
@@ -121,26 +123,26 @@ module _ (flash : List ℕ) where
                 ∙ ap (λ (e : LayoutView). Some (first_record storage object address e h m)) there)
 
     placed_alone : (filled : Filled) (app : Application) (place : Result Place PlaceFault)
-        → place_of ram filled app ≡ place → IsAsked app
+        → place_of partition ram filled app ≡ place → IsAsked app
         → IfSome (record_with_place storage flash app.offset place) (IsFirstAlone storage)
     placed_alone filled app (Err fault) is asked = tt
     placed_alone filled app (Ok place) is asked = opened_alone app place asked (laid filled app place is)
 
     all_alone : (apps : List Application) (filled : Filled) → AllByRecursion IsAsked apps → (slot : ℕ)
-        → IfSome (slice_get (filter_map (record_placed storage flash) (places_from ram filled apps)) slot)
+        → IfSome (slice_get (filter_map (record_placed storage flash) (places_from partition ram filled apps)) slot)
         (IsFirstAlone storage)
     unfolding places_from
     all_alone [] filled asked slot = tt
     all_alone (app ∷ apps) filled asked slot =
-        let place = place_of ram filled app in
+        let place = place_of partition ram filled app in
         with_first (IsFirstAlone storage) (record_with_place storage flash app.offset place)
-        (filter_map (record_placed storage flash) (places_from ram (filled_after filled place) apps))
+        (filter_map (record_placed storage flash) (places_from partition ram (filled_after filled place) apps))
         (placed_alone filled app place refl asked.0) (all_alone apps (filled_after filled place) asked.1) slot
 
 pub openings_are_alone : OpeningsAreAlone
 unfolding opening
 openings_are_alone script flash slot =
-    all_alone flash script.storage script.ram (applications flash) (record { last_end = RAM_START; count = 0 })
+    all_alone flash (is_partitioned script) script.storage script.ram (applications flash) (record { last_end = RAM_START; count = 0 })
     (asked_from flash OBJECT_LIMIT 0) slot
 
 pub same_view_same_record : SameHistorySameRecord → SameViewSameRecord

@@ -21,9 +21,10 @@ use Rattle.flash_walk.specs.Image.{ends_at, found_at, object_bytes, objects_from
 use Rattle.script_text.specs.Settings.{ScriptSettings as Script}
 use Rattle.app_placement.specs.Applications.{application, application_in, application_of, applications, is_app}
 use Rattle.app_placement.specs.Placement.{block_length, block_start, extents, filled_after, is_start_taken, place_of}
-use Rattle.app_placement.specs.Placement.{places_from, Place}
+use Rattle.app_placement.specs.Placement.{places_from, room_of, Place}
 use Rattle.app_placement.specs.declared.application.Application.{Application}
 use Rattle.app_placement.specs.declared.placed.Filled.{Filled}
+use Rattle.app_placement.specs.declared.placed.Room.{Room}
 use Rattle.kernel_model.specs.Record.{Record}
 use Rattle.kernel_model.specs.Calls.{restart, restarted_by, restarted_main}
 use Rattle.tbf_headers.specs.Meaning.{main_by}
@@ -41,6 +42,7 @@ use Rattle.kernel_model.specs.Lives.{LivesAsItRuns}
 use Rattle.kernel_model.specs.Replay.{after_all}
 use Rattle.kernel_histories.specs.Drops.{DropsAddUp, drops_of}
 use Rattle.board_opening.specs.Certified.{CountsFromBootAddUp, DropsFromBootAddUp}
+use Rattle.board_opening.specs.Settings.{is_partitioned}
 use Rattle.board_opening.specs.Opening.{opening_record, opened_by, opening, record_placed, record_with_place}
 
 -- an application asks for what its object says
@@ -88,43 +90,68 @@ all_asked flash (suc n) at = by_end (ends_at flash at) (all_asked flash n (at + 
     by_end true later = tt
     by_end false later = one_asked flash at _ later
 
+-- the next block may lie where the last one ends, or above
+abbrev HasRoom : Bool → ℕ → Filled → Type 0
+HasRoom partition ram filled = filled.last_end ≤ (room_of partition ram filled).from
+
 -- a place, where an application has one
-record IsPlace (filled : Filled) (app : Application) (place : Place) : Type 0 where
+record IsPlace (partition : Bool) (ram : ℕ) (filled : Filled) (app : Application) (place : Place) : Type 0 where
   start : ℕ
   layout : place.1 ≡ extents app start
   above : filled.last_end ≤ start
+  next : HasRoom partition ram (filled_after filled (Ok place))
 
-starts_above : (last_end : ℕ) (fixed : Option ℕ) → is_start_taken last_end fixed ≡ false
-    → last_end ≤ block_start last_end fixed
-starts_above last_end None e = omega arith
-starts_above last_end (Some fixed) e = by_test (fixed % 8 == 0) (nat_lt fixed last_end) refl e
+starts_above : (partition : Bool) (from : ℕ) (fixed : Option ℕ) → is_start_taken partition from fixed ≡ false
+    → from ≤ block_start from fixed
+starts_above partition from None e = omega arith
+starts_above true from (Some fixed) e = grind (arith, nat_tests)
+starts_above false from (Some fixed) e = by_test (fixed % 8 == 0) (nat_lt fixed from) refl e
   where
-    by_test : (a b : Bool) → nat_lt fixed last_end ≡ b → (not a || b) ≡ false → last_end ≤ fixed
+    by_test : (a b : Bool) → nat_lt fixed from ≡ b → (not a || b) ≡ false → from ≤ fixed
     by_test true true is e = absurd (false≢true (sym e))
     by_test true false is e = grind (arith, nat_tests)
     by_test false b is e = absurd (false≢true (sym e))
 
-is_place : (ram : ℕ) (filled : Filled) (app : Application) (place : Place) → place_of ram filled app ≡ Ok place
-    → IsPlace filled app place
+next_room : (partition : Bool) (ram : ℕ) (filled : Filled) (place : Place)
+    → place.1.end ≤ (room_of partition ram filled).to → HasRoom partition ram (filled_after filled (Ok place))
+next_room true ram filled place ends = ends
+next_room false ram filled place ends = omega arith
+
+first_room : (partition : Bool) (ram : ℕ) → HasRoom partition ram (record { last_end = RAM_START; count = 0 })
+first_room true ram = omega arith
+first_room false ram = omega arith
+
+is_place : (partition : Bool) (ram : ℕ) (filled : Filled) (app : Application) (place : Place)
+    → HasRoom partition ram filled → place_of partition ram filled app ≡ Ok place
+    → IsPlace partition ram filled app place
 unfolding place_of
-is_place ram filled app place is =
-    by_test (nat_le SLOT_COUNT filled.count) (is_start_taken filled.last_end app.fixed_start)
-    (nat_lt (RAM_START + ram) (block_start filled.last_end app.fixed_start + block_length app.minimum_ram)) refl is
+is_place partition ram filled app place has is =
+    by_test (nat_le SLOT_COUNT filled.count) (is_start_taken partition room.from app.fixed_start)
+    (nat_lt room.to (start + block_length app.minimum_ram)) refl refl is
   where
-    by_test : (a b c : Bool) → is_start_taken filled.last_end app.fixed_start ≡ b
+    room : Room
+    room = room_of partition ram filled
+
+    start : ℕ
+    start = block_start room.from app.fixed_start
+
+    by_test : (a b c : Bool) → is_start_taken partition room.from app.fixed_start ≡ b
+        → nat_lt room.to (start + block_length app.minimum_ram) ≡ c
         → cond a (Err NoSlot) (cond b (Err FixedTaken)
-        (cond c (Err NoRoom) (Ok (filled.count, extents app (block_start filled.last_end app.fixed_start))))) ≡ Ok place
-        → IsPlace filled app place
-    by_test true b c e f = absurd (cc)
-    by_test false true c e f = absurd (cc)
-    by_test false false true e f = absurd (cc)
-    by_test false false false e f =
-        let same : ◌≡◌ {A = Place} (filled.count, extents app (block_start filled.last_end app.fixed_start)) place =
-        cc in
+        (cond c (Err NoRoom) (Ok (filled.count, extents app start)))) ≡ Ok place
+        → IsPlace partition ram filled app place
+    by_test true b c e g f = absurd (cc)
+    by_test false true c e g f = absurd (cc)
+    by_test false false true e g f = absurd (cc)
+    by_test false false false e g f =
+        let same : ◌≡◌ {A = Place} (filled.count, extents app start) place = cc in
+        let fits : start + block_length app.minimum_ram ≤ room.to = grind (arith, nat_tests) in
         record {
-          start = block_start filled.last_end app.fixed_start;
+          start = start;
           layout = ap (λ (p : Place). p.1) (sym same);
-          above = starts_above filled.last_end app.fixed_start e;
+          above = omega (arith, has, starts_above partition room.from app.fixed_start e);
+          next = next_room partition ram filled place
+              (subst (λ (p : Place). p.1.end ≤ room.to) same fits);
         }
 
 -- An opened process, and one after another: each block starts at or above the end of the one before.
@@ -146,9 +173,9 @@ AreOpened storage flash low (r ∷ rs) = IsOpened storage flash low r × AreOpen
 some_application : (x y : Application) → Some x ≡ Some y → x ≡ y
 some_application x y e = cc
 
-module _ (storage ram : ℕ) (flash : List ℕ) where
+module _ (partition : Bool) (storage ram : ℕ) (flash : List ℕ) where
   one_opened : (filled : Filled) (app : Application) (place : Place) (rest : List Record) → IsAsked flash app
-      → IsPlace filled app place → AreOpened storage flash place.1.end rest
+      → IsPlace partition ram filled app place → AreOpened storage flash place.1.end rest
       → AreOpened storage flash filled.last_end
       (cons_option (record_with_place storage flash app.offset (Ok place)) rest)
   unfolding AreOpened opening_record
@@ -185,28 +212,30 @@ module _ (storage ram : ℕ) (flash : List ℕ) where
       by_header (Err fault) read e = absurd (cc)
       by_header (Ok h) read e = by_main h h.main read refl e
 
-  all_opened : (apps : List Application) (filled : Filled) → Each (IsAsked flash) apps
-      → AreOpened storage flash filled.last_end (filter_map (record_placed storage flash) (places_from ram filled apps))
+  all_opened : (apps : List Application) (filled : Filled) → HasRoom partition ram filled → Each (IsAsked flash) apps
+      → AreOpened storage flash filled.last_end (filter_map (record_placed storage flash) (places_from partition ram filled apps))
   unfolding AreOpened Each places_from
-  all_opened [] filled asked = tt
-  all_opened (app ∷ apps) filled asked = by_place (place_of ram filled app) refl (λ f. all_opened apps f asked.1)
+  all_opened [] filled has asked = tt
+  all_opened (app ∷ apps) filled has asked =
+      by_place (place_of partition ram filled app) refl (λ f room. all_opened apps f room asked.1)
     where
-      by_place : (r : Result Place PlaceFault) → place_of ram filled app ≡ r
-          → ((f : Filled)
-          → AreOpened storage flash f.last_end (filter_map (record_placed storage flash) (places_from ram f apps)))
+      by_place : (r : Result Place PlaceFault) → place_of partition ram filled app ≡ r
+          → ((f : Filled) → HasRoom partition ram f
+          → AreOpened storage flash f.last_end (filter_map (record_placed storage flash) (places_from partition ram f apps)))
           → AreOpened storage flash filled.last_end
           (cons_option (record_with_place storage flash app.offset r)
-          (filter_map (record_placed storage flash) (places_from ram (filled_after filled r) apps)))
-      by_place (Err fault) is later = later filled
+          (filter_map (record_placed storage flash) (places_from partition ram (filled_after filled r) apps)))
+      by_place (Err fault) is later = later filled has
       by_place (Ok place) is later =
-          one_opened filled app place _ asked.0 (is_place ram filled app place is)
-          (later (filled_after filled (Ok place)))
+          let p = is_place partition ram filled app place has is in
+          one_opened filled app place _ asked.0 p (later (filled_after filled (Ok place)) p.next)
 
 opening_opened : (script : Script) (flash : List ℕ)
     → AreOpened script.storage flash RAM_START (opening script flash).records
 unfolding opening
 opening_opened script flash =
-    all_opened script.storage script.ram flash (applications flash) (record { last_end = RAM_START; count = 0 })
+    all_opened (is_partitioned script) script.storage script.ram flash (applications flash)
+    (record { last_end = RAM_START; count = 0 }) (first_room (is_partitioned script) script.ram)
     (all_asked flash OBJECT_LIMIT 0)
 
 -- what is so of each that is opened is so of each process

@@ -53,7 +53,7 @@ use Rattle.board_opening.specs.Opening.{opening_record, opened_by, record_placed
 use Rattle.board_opening.specs.Opening.{placed_applications, opening}
 use Rattle.board_drivers.specs.Residents.{IsResident, record_of}
 use Rattle.kernel_model.specs.declared.settings.Settings.{Settings}
-use Rattle.board_opening.specs.Settings.{erased, visible_settings, pace}
+use Rattle.board_opening.specs.Settings.{erased, is_partitioned, pace, visible_settings}
 use Rattle.board_drivers.proofs.Pairs.{zip-more, length-firsts}
 
 -- a byte of an object is one of flash
@@ -543,7 +543,7 @@ module _ (script : Script) (flash : List ℕ) where
         records = records;
         unplaced = unplaced;
         settings = visible;
-        pace = pace script.slice;
+        pace = pace script;
         devices =
             devices;
         clock = record { time = 0; steps = 0 };
@@ -555,8 +555,8 @@ module _ (script : Script) (flash : List ℕ) where
       → home ≡ record { flash = flash; owns = map own_opened footprints } → length processes ≡ length footprints
       → length processes ≤ SLOT_COUNT
       → map (fresh_record script.storage flash) (zip processes (map own_opened footprints))
-      ≡ filter_map (record_placed script.storage flash) (placed_applications script.ram flash)
-      → unplaced.items ≡ filter_map unplaced_at (placed_applications script.ram flash)
+      ≡ filter_map (record_placed script.storage flash) (placed_applications (is_partitioned script) script.ram flash)
+      → unplaced.items ≡ filter_map unplaced_at (placed_applications (is_partitioned script) script.ram flash)
       → visible ≡ visible_settings script
       → AreFresh script d
       → world_with (map (record_of home.flash d.buttons.pressed) (zip (zip processes home.owns) d.stores.slots))
@@ -567,10 +567,10 @@ module _ (script : Script) (flash : List ℕ) where
       let residents : length (zip processes owns) ≤ SLOT_COUNT =
       omega (arith, few, length-firsts processes owns (length-map footprints own_opened ∙ sym count)) in
       let records : map (record_of home.flash d.buttons.pressed) (zip (zip processes home.owns) d.stores.slots)
-      ≡ filter_map (record_placed script.storage flash) (placed_applications script.ram flash) =
+      ≡ filter_map (record_placed script.storage flash) (placed_applications (is_partitioned script) script.ram flash) =
       ap (λ (x : Homes). map (record_of x.flash d.buttons.pressed) (zip (zip processes x.owns) d.stores.slots)) h
       ∙ records_fresh script d flash (zip processes owns) residents fresh ∙ e in
       ap₂ (λ (rs : List Record) (us : List Unplaced). world_with rs us visible (devices_of d)) records u
       ∙ ap₂ (λ (s : Settings) (ds : Devices). world_with
-      (filter_map (record_placed script.storage flash) (placed_applications script.ram flash))
-      (filter_map unplaced_at (placed_applications script.ram flash)) s ds) v (devices_fresh script d fresh)
+      (filter_map (record_placed script.storage flash) (placed_applications (is_partitioned script) script.ram flash))
+      (filter_map unplaced_at (placed_applications (is_partitioned script) script.ram flash)) s ds) v (devices_fresh script d fresh)

@@ -2,8 +2,8 @@
 use Rattle.std.proofs.Common.{◌≡◌, ℕ, zero, suc, ◌+◌, ◌*◌, ◌≤◌, false, List, [], ◌∷◌, length, map, replicate}
 use Rattle.std.proofs.Common.{slice_index_or, All, refl, sym, ap, subst, ◌∙◌, arith}
 use Rattle.std.specs.List.{zip}
-use Rattle.std.proofs.lemmas.List.{length-replicate}
-use Rattle.tk_base.specs.declared.limits.TheConstants.{BYTE_TICKS_LIMIT, SLOT_COUNT}
+use Rattle.std.proofs.lemmas.List.{get_or-replicate, length-replicate}
+use Rattle.tk_base.specs.declared.limits.TheConstants.{BYTE_TICKS_LIMIT, SENDING_LIMIT, SLOT_COUNT}
 use Rattle.tk_base.specs.declared.process.ProcessId.{ProcessId}
 use Rattle.script_text.specs.Settings.{ScriptSettings as Script}
 use Rattle.board_devices.specs.Buttons.{ButtonsView}
@@ -16,12 +16,22 @@ use Rattle.driver_model.specs.Commands.{QueueName}
 use Rattle.driver_model.specs.Lines.{IsWithin, has_waiting}
 use Rattle.grant_enter.specs.Homes.{nobody}
 use Rattle.kernel_model.specs.Record.{Record}
+use Rattle.kernel_model.specs.World.{lane_count}
 use Rattle.board_drivers.specs.declared.drivers.Drivers.{Drivers}
 use Rattle.board_opening.specs.Boot.{fresh_record}
-use Rattle.board_drivers.specs.Driven.{AreDriven, AreFresh, IsQueueOf, devices_of, ids_waiting_in, slots_of, waiting_by}
+use Rattle.board_drivers.specs.Driven.{AreDriven, AreFresh, HasLanes, IsQueueOf, devices_of, ids_waiting_in, slots_of, waiting_by}
 use Rattle.board_drivers.proofs.Routing.{devices_same, slots_by}
 use Rattle.board_drivers.specs.Residents.{Resident, record_of}
 use Rattle.board_opening.specs.Settings.{erased, visible_settings}
+
+-- what holds of one holds of as many of it as may be
+pub all_same : {X : Type 0} (P : X → Type 0) (n : ℕ) (x : X) → P x → All P (replicate n x)
+all_same P n x holds i d h =
+    subst P (sym (get_or-replicate n i x d (omega (arith, h, length-replicate n x)))) holds
+
+-- the serial line of a lane before the first step
+abbrev first_line : Script → SerialLine
+first_line script = record { ring = []; ticks = script.uart; free = 0 }
 
 leds_off : (n : ℕ) → bits_of (replicate n false) ≡ 0
 leds_off zero = refl
@@ -33,28 +43,26 @@ module _ (script : Script) (d : Drivers) where
       → devices_of d ≡ record {
         waiting = waiting_by (λ queue. []);
         leds = 0;
-        line =
-            record { ring = []; ticks = script.uart; free = 0 };
+        lines = replicate (lane_count script.partition) (record { ring = []; ticks = script.uart; free = 0 });
         arrivals = script.events;
-        words = script.words;
-        served =
-            0;
+        words = replicate (lane_count script.partition) script.words;
+        served = replicate (lane_count script.partition) 0;
         faults = script.faults;
       }
   devices_fresh fresh =
       devices_same (devices_of d) (record {
         waiting = waiting_by (λ queue. []);
         leds = 0;
-        line = record { ring = []; ticks = script.uart; free = 0 };
+        lines = replicate (lane_count script.partition) (record { ring = []; ticks = script.uart; free = 0 });
         arrivals = script.events;
-        words = script.words;
-        served = 0;
+        words = replicate (lane_count script.partition) script.words;
+        served = replicate (lane_count script.partition) 0;
         faults = script.faults;
       })
       (λ queue. slots_by (λ (q : QueueName). slots_of (ids_waiting_in d q)) queue ∙ ap slots_of (fresh.queues queue)
       ∙ sym (slots_by (λ q. []) queue))
       (ap bits_of fresh.leds ∙ leds_off script.leds)
-      fresh.line
+      fresh.lines
       fresh.arrivals
       fresh.words
       (ap (λ (s : StoredSlots). s.served) fresh.stores)
@@ -75,6 +83,14 @@ module _ (script : Script) (d : Drivers) where
       ap (λ (b : ButtonsView). map (record_of flash b.pressed) (zip rs d.stores.slots)) fresh.buttons
       ∙ ap (λ (s : StoredSlots). map (record_of flash 0) (zip rs s.slots)) fresh.stores
       ∙ records_beside flash rs SLOT_COUNT few
+
+  -- there are as many lanes as are to be
+  pub lanes_first : AreFresh script d → HasLanes script.partition d
+  lanes_first fresh = record {
+    lines = ap length fresh.lines ∙ length-replicate (lane_count script.partition) (first_line script);
+    words = ap length fresh.words ∙ length-replicate (lane_count script.partition) script.words;
+    served = ap (λ (s : StoredSlots). length s.served) fresh.stores ∙ length-replicate (lane_count script.partition) 0;
+  }
 
   -- a process that was not started yet waits for nothing
   none_waiting : (queue : QueueName) (fs : List Footprint) (slot : ℕ)
@@ -102,6 +118,9 @@ module _ (script : Script) (d : Drivers) where
     buttons = ap (λ (b : ButtonsView). b.count) fresh.buttons;
     size = ap (λ (s : StoredSlots). s.size) fresh.stores;
     slots = ap (λ (s : StoredSlots). length s.slots) fresh.stores;
-    ticks = omega (arith, ap (λ (l : SerialLine). l.ticks) fresh.line, slow);
-    free = omega (arith, ap (λ (l : SerialLine). l.free) fresh.line);
+    ticks = subst (All (λ line. line.ticks ≤ BYTE_TICKS_LIMIT)) (sym fresh.lines)
+        (all_same (λ line. line.ticks ≤ BYTE_TICKS_LIMIT) (lane_count script.partition) (first_line script) slow);
+    free = subst (All (λ line. line.free ≤ 0 + SENDING_LIMIT)) (sym fresh.lines)
+        (all_same (λ line. line.free ≤ 0 + SENDING_LIMIT) (lane_count script.partition) (first_line script)
+        (omega arith));
   }

@@ -22,6 +22,7 @@ use Rattle.app_placement.specs.declared.placed.Placed.{Placed}
 use Rattle.kernel_model.specs.Record.{Record}
 use Rattle.tbf_headers.specs.Meaning.{main_by}
 use Rattle.kernel_model.specs.Histories.{HandedNothing}
+use Rattle.board_opening.specs.Settings.{is_partitioned}
 use Rattle.board_opening.specs.Opening.{opening_record, opened_by, opening, placed_applications, record_placed}
 use Rattle.board_opening.specs.Opening.{record_with_place}
 use Rattle.board_opening.specs.Histories.{OpensWithNothingHanded}
@@ -67,15 +68,15 @@ module _ (storage : ℕ) (flash : List ℕ) where
 pub opens_with_nothing_handed : OpensWithNothingHanded
 unfolding opening
 opens_with_nothing_handed script flash slot =
-    all_nothing script.storage flash (placed_applications script.ram flash) slot
+    all_nothing script.storage flash (placed_applications (is_partitioned script) script.ram flash) slot
 
 -- of the applications that are left no more get a place than there are slots left
-module _ (storage ram : ℕ) (flash : List ℕ) where
+module _ (partition : Bool) (storage ram : ℕ) (flash : List ℕ) where
   one_more : (o : Option Record) (records : List Record) → length (cons_option o records) ≤ length records + 1
   one_more None records = omega arith
   one_more (Some r) records = omega arith
 
-  slot_left : (filled : Filled) (app : Application) (place : Place) → place_of ram filled app ≡ Ok place
+  slot_left : (filled : Filled) (app : Application) (place : Place) → place_of partition ram filled app ≡ Ok place
       → filled.count < SLOT_COUNT
   unfolding place_of
   slot_left filled app place is = by_count (nat_le SLOT_COUNT filled.count) _ refl is
@@ -86,33 +87,38 @@ module _ (storage ram : ℕ) (flash : List ℕ) where
       by_count false rest e f = grind (arith, nat_tests)
 
   few_placed : (apps : List Application) (filled : Filled) → filled.count ≤ SLOT_COUNT
-      → length (filter_map (record_placed storage flash) (places_from ram filled apps)) + filled.count ≤ SLOT_COUNT
+      → length (filter_map (record_placed storage flash) (places_from partition ram filled apps)) + filled.count ≤ SLOT_COUNT
   unfolding places_from
   few_placed [] filled few = omega (arith, few)
-  few_placed (app ∷ apps) filled few = by_place (place_of ram filled app) refl (few_placed apps)
+  few_placed (app ∷ apps) filled few = by_place (place_of partition ram filled app) refl (few_placed apps)
     where
-      by_place : (place : Result Place PlaceFault) → place_of ram filled app ≡ place
+      by_place : (place : Result Place PlaceFault) → place_of partition ram filled app ≡ place
           → ((filled : Filled) → filled.count ≤ SLOT_COUNT
-          → length (filter_map (record_placed storage flash) (places_from ram filled apps)) + filled.count
+          → length (filter_map (record_placed storage flash) (places_from partition ram filled apps)) + filled.count
           ≤ SLOT_COUNT)
           → length (cons_option (record_with_place storage flash app.offset place)
-          (filter_map (record_placed storage flash) (places_from ram (filled_after filled place) apps)))
+          (filter_map (record_placed storage flash) (places_from partition ram (filled_after filled place) apps)))
           + filled.count ≤ SLOT_COUNT
       by_place (Err fault) is later = later filled few
       by_place (Ok place) is later =
           let left = slot_left filled app place is in
           let rest = later (filled_after filled (Ok place)) (omega (arith, left)) in
           let more = one_more (record_with_place storage flash app.offset (Ok place))
-          (filter_map (record_placed storage flash) (places_from ram (filled_after filled (Ok place)) apps)) in
+          (filter_map (record_placed storage flash) (places_from partition ram (filled_after filled (Ok place)) apps)) in
           omega (arith, rest, more)
 
 pub opens_no_more_than_slots : (script : Script) (flash : List ℕ) → length (opening script flash).records ≤ SLOT_COUNT
 unfolding opening
 opens_no_more_than_slots script flash =
-    let few = few_placed script.storage script.ram flash (applications flash)
+    let few = few_placed (is_partitioned script) script.storage script.ram flash (applications flash)
     (record { last_end = RAM_START; count = 0 }) (omega arith) in
     omega (arith, few)
 
 pub opens_with_slice : (script : Script) (flash : List ℕ) → 1 ≤ script.slice → 1 ≤ (opening script flash).pace.slice
 unfolding opening
 opens_with_slice script flash one = one
+
+pub opens_without_windows : (script : Script) (flash : List ℕ) → script.partition ≡ 0
+    → (opening script flash).pace.window ≡ 0
+unfolding opening
+opens_without_windows script flash none = none

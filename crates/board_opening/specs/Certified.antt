@@ -1,10 +1,10 @@
 -- Laws of each run from a boot, by any choices. They speak of processes as Levy et al., SOSP 2017, and of buffers as
 -- TRD 104.
-use Rattle.std.specs.Prelude.{◌≡◌, ◌≢◌, ◌↔◌, ℕ, ◌+◌, true, List, ◌++◌, length, slice_get, All, Some, None, IfSome}
+use Rattle.std.specs.Prelude.{◌≡◌, ◌≢◌, ◌↔◌, ◌<◌, ℕ, ◌+◌, true, List, ◌++◌, length, slice_get, All, Some, None, IfSome}
 use Rattle.tk_base.specs.declared.process.Choice.{Choice}
 use Rattle.script_text.specs.Settings.{ScriptSettings as Script}
 use Rattle.kernel_model.specs.Record.{Record}
-use Rattle.kernel_model.specs.World.{World, Label, after, labels}
+use Rattle.kernel_model.specs.World.{World, Label, after, labels, lane_count, words_in}
 use Rattle.kernel_model.specs.Run.{next, round}
 use Rattle.kernel_model.specs.Accounts.{IsAccountedFor}
 use Rattle.kernel_model.specs.Choices.{Throughout, are_ready, labels_of_all}
@@ -13,7 +13,7 @@ use Rattle.kernel_histories.specs.Drops.{drops_of}
 use Rattle.kernel_lives.specs.Lists.{ListsAreOfRequests}
 use Rattle.kernel_laws.specs.OneRun.{NothingIsLeft}
 use Rattle.kernel_lives.specs.Counts.{ticks_passed, turns_made, turns_of_all}
-use Rattle.kernel_laws.specs.Words.{words_told}
+use Rattle.kernel_laws.specs.Words.{of_lane, words_told}
 use Rattle.kernel_model.specs.Causes.{AllHaveCauses}
 use Rattle.kernel_model.specs.Lives.{BlocksAreApart, IsAsAtFirst}
 use Rattle.board_opening.specs.Alone.{alone}
@@ -68,11 +68,14 @@ abbrev pub ListsFromBootAreOfRequests : Type 0
 ListsFromBootAreOfRequests = (script : Script) (flash : List ℕ) (choices : List Choice) →
     ListsAreOfRequests (after_all (opening script flash) choices)
 
--- the random words that processes were told, in that order, and then those that are left are the script's
+-- in each lane the random words that its processes were told, in that order, and then those that are left are the
+-- script's
 abbrev pub WordsFromBootAreTheScripts : Type 0
-WordsFromBootAreTheScripts = (script : Script) (flash : List ℕ) (choices : List Choice) →
+WordsFromBootAreTheScripts = (script : Script) (flash : List ℕ) (choices : List Choice) (lane : ℕ) →
     let w = opening script flash in
-    script.words ≡ words_told (labels_of_all w choices) ++ (after_all w choices).devices.words
+    lane < lane_count script.partition → script.words
+    ≡ words_told (of_lane script.partition lane (labels_of_all w choices))
+    ++ words_in lane (after_all w choices).devices
 
 -- no step among any choices from a boot changes a byte of a process without a cause among its labels
 abbrev pub ChangesFromBootHaveCauses : Type 0

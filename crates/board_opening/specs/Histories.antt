@@ -1,6 +1,6 @@
 -- What holds of each run from a boot. Pairs and upcalls are those of TRD 104, "Subscribe", "Read-Only Allow" and
 -- "Read-Write Allow"; fairness is this board's own rule.
-use Rattle.std.specs.Prelude.{◌≤◌, ℕ, List, slice_get, IfSome}
+use Rattle.std.specs.Prelude.{◌≡◌, ◌≤◌, ℕ, List, slice_get, IfSome}
 use Rattle.script_text.specs.Settings.{ScriptSettings as Script}
 use Rattle.kernel_histories.specs.Deliveries.{DeliversTheLast}
 use Rattle.kernel_histories.specs.Edges.{EdgesComeOnce}
@@ -34,6 +34,7 @@ abbrev pub EdgesFromBootComeOnce : Type 0
 EdgesFromBootComeOnce =
     (script : Script) (flash : List ℕ) (slot : ℕ) → EdgesComeOnce (opening script flash) slot
 
--- the run by round robin from there is fair, where a slice has some turns
+-- the run by round robin from there is fair, where a slice has some turns and there are no time partitions
 abbrev pub RunsFromBootAreFair : Type 0
-RunsFromBootAreFair = (script : Script) (flash : List ℕ) → 1 ≤ script.slice → IsFair (opening script flash)
+RunsFromBootAreFair =
+    (script : Script) (flash : List ℕ) → 1 ≤ script.slice → script.partition ≡ 0 → IsFair (opening script flash)

@@ -1,6 +1,6 @@
 -- The opening world of a flash image under a script: its applications in their places, before the first step. Where
 -- they start is the Tock Binary Format, "Main"; what the devices begin with is this board's own rule.
-use Rattle.std.specs.Prelude.{ℕ, ◌+◌, ◌-◌, List, [], filter_map, Option, None, Some, option_map, Result, Ok, Err}
+use Rattle.std.specs.Prelude.{ℕ, ◌+◌, ◌-◌, Bool, List, [], filter_map, replicate, Option, None, Some, option_map, Result, Ok, Err}
 use Rattle.tk_base.specs.declared.access.TheConstants.{FLASH_START}
 use Rattle.tk_base.specs.declared.process.PlaceFault.{PlaceFault}
 use Rattle.tbf_headers.specs.declared.fault.HeaderFault.{HeaderFault}
@@ -16,8 +16,8 @@ use Rattle.process_record.specs.Process.{started}
 use Rattle.process_record.specs.Summary.{Unplaced}
 use Rattle.script_text.specs.Settings.{ScriptSettings as Script}
 use Rattle.kernel_model.specs.Record.{Record}
-use Rattle.kernel_model.specs.World.{World}
-use Rattle.board_opening.specs.Settings.{erased, visible_settings, pace}
+use Rattle.kernel_model.specs.World.{World, lane_count}
+use Rattle.board_opening.specs.Settings.{erased, is_partitioned, pace, visible_settings}
 
 -- the first record of an application with these bytes, whose object stands at an address: at its start, its block
 -- zeroed, so many bytes of storage erased, and no button pressed
@@ -59,25 +59,26 @@ unplaced_in offset (Err fault) = Some (offset, fault)
 abbrev pub unplaced_at : Placed → Option Unplaced
 unplaced_at p = unplaced_in p.offset p.place
 
--- the places of the applications of a flash image, in so many bytes of RAM
-abbrev pub placed_applications : ℕ → List ℕ → List Placed
-placed_applications ram flash = placements ram (applications flash)
+-- the places of the applications of a flash image, in so many bytes of RAM, with time partitions or without
+abbrev pub placed_applications : Bool → ℕ → List ℕ → List Placed
+placed_applications partition ram flash = placements partition ram (applications flash)
 
--- the world before the first step: time and all counts are 0, nobody waits, all LEDs are off, nothing came in, and no
--- slot is present
+-- the world before the first step: time and all counts are 0, nobody waits, all LEDs are off, nothing came in on any lane,
+-- the words are left in each, and no slot is present
 unfoldable pub opening : Script → List ℕ → World
 opening script flash = record {
-  records = filter_map (record_placed script.storage flash) (placed_applications script.ram flash);
-  unplaced = filter_map unplaced_at (placed_applications script.ram flash);
+  records = filter_map (record_placed script.storage flash)
+      (placed_applications (is_partitioned script) script.ram flash);
+  unplaced = filter_map unplaced_at (placed_applications (is_partitioned script) script.ram flash);
   settings = visible_settings script;
-  pace = pace script.slice;
+  pace = pace script;
   devices = record {
     waiting = record { writes = []; reads = []; randoms = []; stores = [] };
     leds = 0;
-    line = record { ring = []; ticks = script.uart; free = 0 };
+    lines = replicate (lane_count script.partition) (record { ring = []; ticks = script.uart; free = 0 });
     arrivals = script.events;
-    words = script.words;
-    served = 0;
+    words = replicate (lane_count script.partition) script.words;
+    served = replicate (lane_count script.partition) 0;
     faults = script.faults;
   };
   clock = record { time = 0; steps = 0 };

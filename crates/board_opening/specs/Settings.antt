@@ -1,5 +1,5 @@
 -- The settings of a board under a script. They are this board's own.
-use Rattle.std.specs.Prelude.{ℕ, List, replicate}
+use Rattle.std.specs.Prelude.{ℕ, ◌==◌, Bool, not, List, replicate}
 use Rattle.script_text.specs.Settings.{ScriptSettings as Script}
 use Rattle.kernel_model.specs.declared.settings.Settings.{Settings}
 use Rattle.kernel_model.specs.World.{Pace}
@@ -17,9 +17,13 @@ visible_settings script = record {
   strict = script.strict;
 }
 
--- slices of so many turns
-abbrev pub pace : ℕ → Pace
-pace slice = record { slice = slice }
+-- slices of so many turns, and windows of so many ticks
+abbrev pub pace : Script → Pace
+pace script = record { slice = script.slice; window = script.partition }
+
+-- whether a script divides time and RAM among the slots
+abbrev pub is_partitioned : Script → Bool
+is_partitioned script = not (script.partition == 0)
 
 -- so many bytes of storage that nobody wrote yet
 abbrev pub erased : ℕ → List ℕ

@@ -21,12 +21,12 @@ use tbf_headers::{object_at, read_header, word_at};
 use tk_base::{FLASH_LIMIT, FLASH_START, OBJECT_LIMIT, PlaceFault, RAM_LIMIT, Slot};
 use tk_outside::NoMemory;
 
-/// The applications of a flash image, each with its place in so many bytes of RAM or why it has
-/// none.
-pub fn placed_in(flash: &[u8], ram: u32) -> ArrayVec<Placed, OBJECT_LIMIT>
+/// The applications of a flash image, each with its place in so many bytes of RAM, with time
+/// partitions or without, or why it has none.
+pub fn placed_in(flash: &[u8], ram: u32, partition: bool) -> ArrayVec<Placed, OBJECT_LIMIT>
     requires flash { length flash.now ≤ FLASH_LIMIT }
     requires ram { ram ≤ RAM_LIMIT }
-    ensures places { result.items ≡ placed_applications ram flash.now }
+    ensures places { result.items ≡ placed_applications partition ram flash.now }
     ensures flash { All (LiesInFlash flash.now) result.items }
     ensures ram { All (LiesInRam ram) result.items }
     ensures starts { All StartsInRam result.items }
@@ -36,7 +36,7 @@ pub fn placed_in(flash: &[u8], ram: u32) -> ArrayVec<Placed, OBJECT_LIMIT>
 {
     let mut found = ArrayVec::new();
     walk(flash, &mut found);
-    place(&found, flash, ram)
+    place(&found, flash, ram, partition)
 }
 
 /// The processes of the applications that have a place, slot 0 first, and what each takes up of

@@ -47,9 +47,9 @@ pub fn edges_from_boot_come_once()
     each_edge_comes_once();
 }
 
-/// No process that is ready waits for good after a boot: in the run by round robin, every window of
-/// as many turns of processes as all slots have in a slice each, in which a process is ready
-/// throughout, has a turn of that process.
+/// No process that is ready waits for good after a boot without time partitions: in the run by
+/// round robin, every window of as many turns of processes as all slots have in a slice each, in
+/// which a process is ready throughout, has a turn of that process.
 pub fn runs_from_boot_are_fair()
     ensures { RunsFromBootAreFair }
 {

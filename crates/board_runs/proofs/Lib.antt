@@ -1,4 +1,3 @@
 pub mod Running
 pub mod Runs
-pub mod Tallies
 pub mod RunWriter

@@ -26,12 +26,12 @@ use Rattle.kernel_model.specs.Shown.{act_shown, shown_by}
 use Rattle.board_report.specs.Trace.{act_text, out_line, out_text, trace_text, turn_text}
 use Rattle.board_runs.proofs.Runs.{of_stepped, printed-round, round-step, steps-step, steps-stop}
 use Rattle.board_runs.proofs.Runs.{steps-zero}
-use Rattle.board_runs.proofs.Tallies.{counting-tally_of}
-use Rattle.board_runs.specs.declared.run.Mode.{Mode}
-use Rattle.board_runs.specs.declared.run.Mode.TheVariants.{Boot, Trace, Soak}
+use Rattle.run_text.proofs.Tallies.{counting-tally_of}
+use Rattle.run_text.specs.declared.mode.Mode.{Mode}
+use Rattle.run_text.specs.declared.mode.Mode.TheVariants.{Boot, Trace, Soak}
 use Rattle.board_runs.specs.declared.teller.RunWriter.{RunWriter}
 use Rattle.board_runs.specs.declared.teller.RunWriter.TheVariants as tellings
-use Rattle.board_runs.specs.RunText.{Step, step_lines, step_of, steps, label_lines, shown_in, tally_of}
+use Rattle.run_text.specs.RunText.{Step, step_lines, step_of, steps, label_lines, shown_in, tally_of}
 use Rattle.board_runs.specs.RunWriter.{counted_bytes, passed_on, step_text, steps_text, telling_of, told_on, told_text}
 use Rattle.board_runs.specs.RunWriter.{total_text}
 

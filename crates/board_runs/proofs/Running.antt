@@ -22,10 +22,10 @@ use Rattle.board_runs.proofs.Runs.{of_stepped, printed_in, printed-round, round-
 use Rattle.board_runs.proofs.Runs.{round-more, steps-plus, steps-stop, steps-step, steps-zero}
 use Rattle.kernel_model.proofs.Labels.{shown_by-printed}
 use Rattle.board_runs.proofs.RunWriter.{nothing_told, passed_on-steps, told_on-step, told_text-step}
-use Rattle.board_runs.specs.declared.run.Mode.{Mode}
-use Rattle.board_runs.specs.declared.run.Mode.TheVariants.{Boot, Trace, Soak}
+use Rattle.run_text.specs.declared.mode.Mode.{Mode}
+use Rattle.run_text.specs.declared.mode.Mode.TheVariants.{Boot, Trace, Soak}
 use Rattle.board_runs.specs.declared.teller.RunWriter.{RunWriter}
-use Rattle.board_runs.specs.RunText.{Step, step_of, steps, IsWorldOf}
+use Rattle.run_text.specs.RunText.{Step, step_of, steps, IsWorldOf}
 use Rattle.board_runs.specs.RunWriter.{counted_bytes, passed_on, step_text, steps_text, telling_of, told_on, told_text}
 
 -- After i steps of a run of n steps, from a world to another: what the mode tells of the steps done is put behind what

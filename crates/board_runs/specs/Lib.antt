@@ -1,2 +1,1 @@
-pub mod RunText
 pub mod RunWriter

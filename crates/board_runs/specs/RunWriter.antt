@@ -1,17 +1,17 @@
 -- Only the loop over a run's steps and its proof use this: what it writes at each step, and what it keeps for that.
--- `RunText.antt` says the whole text.
-use Rattle.std.specs.Prelude.{ℕ, ◌+◌, ◌%◌, ◌^◌, List, [], length, sum}
+-- `RunText.antt` of `run_text` says the whole text.
+use Rattle.std.specs.Prelude.{ℕ, List, []}
 use Rattle.std.specs.List.{flat_map}
 use Rattle.process_record.specs.declared.emit.Emit.{Emit}
 use Rattle.kernel_model.specs.World.{World}
 use Rattle.kernel_model.specs.Run.{printed}
 use Rattle.board_report.specs.Trace.{trace_text}
-use Rattle.board_runs.specs.declared.run.Mode.{Mode}
-use Rattle.board_runs.specs.declared.run.Mode.TheVariants.{Boot, Trace, Soak}
-use Rattle.board_runs.specs.declared.tally.Tally.{Tally}
+use Rattle.run_text.specs.declared.mode.Mode.{Mode}
+use Rattle.run_text.specs.declared.mode.Mode.TheVariants.{Boot, Trace, Soak}
 use Rattle.board_runs.specs.declared.teller.RunWriter.{RunWriter}
 use Rattle.board_runs.specs.declared.teller.RunWriter.TheVariants as tellings
-use Rattle.board_runs.specs.RunText.{Step, step_lines, tally_line, tally_of}
+use Rattle.run_text.specs.RunText.{Step, step_lines, tally_line, tally_of}
+use Rattle.run_text.specs.Tallies.{tallying}
 
 -- what is written at once of a step
 abbrev pub step_text : Mode → Step → List ℕ
@@ -33,10 +33,6 @@ abbrev pub told_text : RunWriter → Emit → List ℕ
 told_text tellings.Boot step = step.printed.items
 told_text (tellings.Trace time) step = trace_text time step
 told_text (tellings.Soak tally) step = []
-
--- a count and a sum with more bytes
-abbrev pub tallying : List ℕ → Tally → Tally
-tallying bytes tally = record { count = tally.count + length bytes; sum = (tally.sum + sum bytes) % 2 ^ 32 }
 
 -- what is kept after a step, which led to a world
 abbrev pub told_on : RunWriter → World → Emit → RunWriter

@@ -3,7 +3,6 @@
 #![tactic(auto)]
 
 mod run;
-mod tally;
 mod teller;
 
-pub use run::{Mode, run_out};
+pub use run::run_out;

@@ -4,7 +4,7 @@ ghost use Rattle.tk_base.specs.declared.limits.TheConstants.{STEP_LIMIT};
 ghost use Rattle.tk_outside.specs.Writes.{Writes};
 ghost use Rattle.gathered_output.specs.Puts.{Puts};
 ghost use Rattle.kernel_model.specs.Run.{round, printed};
-ghost use Rattle.board_runs.specs.RunText.{run_text, run_end_of, ending_text, steps, IsWorldOf};
+ghost use Rattle.run_text.specs.RunText.{run_text, run_end_of, ending_text, steps, IsWorldOf};
 ghost use Rattle.board_runs.specs.RunWriter.{steps_text, telling_of};
 
 use crate::teller::RunWriter;
@@ -14,18 +14,8 @@ use gathered_output::{OutputBuffer, Text, puts_compose};
 use kernel_laws::rounds_join;
 use kernel_model::devices_answer_one;
 use process_record::Emit;
+use run_text::Mode;
 use tk_outside::{Failed, Sink, put_all, writes_compose};
-
-/// What is written of a run before its end.
-#[derive(Clone, Copy, Debug, PartialEq, Eq)]
-pub enum Mode {
-    /// The bytes that it prints, as they come.
-    Boot,
-    /// The lines of its steps: each system call, each denial, and what was printed.
-    Trace,
-    /// How many bytes it printed, and their sum.
-    Soak,
-}
 
 /// What was told is written after so many steps at the latest, so that whoever watches sees it as
 /// it comes.
@@ -78,7 +68,7 @@ fn run_steps<K: Sink>(
 }
 
 /// How a run that led to this board ended.
-#[tactic(auto, unfolding(crate::specs::RunText::run_end_of))]
+#[tactic(auto, unfolding(run_text::specs::RunText::run_end_of))]
 fn end_of_run(board: &Board) -> End
     ensures { result ≡ run_end_of board.now }
 {
@@ -106,7 +96,7 @@ struct EndOfRun<'a> {
 
 impl Text for EndOfRun<'_> {
     ghost use Rattle.std.specs.Prelude.{◌++◌};
-    ghost use Rattle.board_runs.specs.RunText.{ending_text};
+    ghost use Rattle.run_text.specs.RunText.{ending_text};
     ghost use Rattle.board_runs.specs.RunWriter.{total_text};
 
     ghost bytes = { λ end. total_text end.telling ++ ending_text end.board.now };

@@ -6,12 +6,11 @@ ghost use Rattle.gathered_output.specs.Puts.{Puts};
 ghost use Rattle.board_runs.specs.RunWriter.{counted_bytes, passed_on, telling_of, told_text};
 ghost use Rattle.board_runs.specs.RunWriter.{told_on, total_text};
 
-use crate::run::Mode;
-use crate::tally::Tally;
 use board_core::Board;
 use board_report::write_trace;
 use gathered_output::{OutputBuffer, Text, puts_compose};
 use process_record::Emit;
+use run_text::{Mode, Tally};
 use tk_outside::{Failed, Sink, put_all};
 
 /// What is told of a run, with what has to be kept for it from step to step.
@@ -53,9 +52,7 @@ impl RunWriter {
     {
         match mode {
             Mode::Boot => RunWriter::Boot,
-            Mode::Trace => RunWriter::Trace {
-                time: board.status().time,
-            },
+            Mode::Trace => RunWriter::Trace { time: board.time() },
             Mode::Soak => RunWriter::Soak {
                 tally: Tally::new(),
             },
@@ -129,7 +126,7 @@ impl RunWriter {
     {
         match self {
             RunWriter::Boot => {}
-            RunWriter::Trace { time } => *time = board.status().time,
+            RunWriter::Trace { time } => *time = board.time(),
             RunWriter::Soak { tally } => tally.add(&step.printed),
         }
     }
@@ -140,7 +137,7 @@ impl RunWriter {
         ensures { self.new ≡ passed_on self.old board.now }
     {
         if let RunWriter::Trace { time } = self {
-            *time = board.status().time;
+            *time = board.time();
         }
     }
 

@@ -1,5 +1,5 @@
 -- What the console answers (Tock's driver 0x1).
-use Rattle.std.specs.Prelude.{ℕ, ◌==◌, ◌||◌, nat_lt, Bool, List, drop, length, slice_get, is_none}
+use Rattle.std.specs.Prelude.{ℕ, ◌==◌, ◌||◌, nat_lt, Bool, List, Option, drop, length, is_none}
 use Rattle.arrayvec.specs.ArrayVec.{ArrayVec}
 use Rattle.tk_base.specs.declared.process.ProcessId.{ProcessId}
 use Rattle.board_devices.specs.SerialLine.{SerialLine}
@@ -9,14 +9,15 @@ use Rattle.driver_model.specs.Console.{free_after, received, sent, unreceived, u
 use Rattle.driver_model.specs.Told.{received_told, sent_told}
 use Rattle.driver_requests.specs.Answers.{Answered, kinds}
 use Rattle.driver_requests.specs.Asking.{in_life}
+use Rattle.driver_requests.specs.Waiting.{first_of}
 
--- whether the UART can take nothing at a time: no write waits, or it is not free yet
-abbrev pub cannot_send : List ProcessId → SerialLine → ℕ → Bool
-cannot_send ids line time = is_none (slice_get ids 0) || nat_lt time line.free
+-- whether the UART can take nothing at a time: no write waits that is served, or it is not free yet
+abbrev pub cannot_send : Option ℕ → List ProcessId → SerialLine → ℕ → Bool
+cannot_send only ids line time = is_none (first_of only ids) || nat_lt time line.free
 
--- whether it can give nothing: no read waits, or nothing came in
-abbrev pub cannot_give : List ProcessId → SerialLine → Bool
-cannot_give ids line = is_none (slice_get ids 0) || length line.ring == 0
+-- whether it can give nothing: no read waits that is served, or nothing came in
+abbrev pub cannot_give : Option ℕ → List ProcessId → SerialLine → Bool
+cannot_give only ids line = is_none (first_of only ids) || length line.ring == 0
 
 -- the step of the write of the process of an id, with the bytes that are printed; none where it is not in that life
 abbrev pub written_by : Homes → ProcessId → Answered (ArrayVec ℕ)

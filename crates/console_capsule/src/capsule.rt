@@ -1,10 +1,10 @@
 //! The console, and who waits for it.
-ghost use Rattle.std.specs.Prelude.{◌≡◌, ◌+◌, ◌*◌, ◌<◌, ◌^◌, [], is_ok, not, slice_get, IfSome};
+ghost use Rattle.std.specs.Prelude.{◌≡◌, ◌+◌, ◌*◌, ◌<◌, ◌^◌, [], is_ok, not, IfSome};
 ghost use Rattle.tk_base.specs.declared.limits.TheConstants.{PRINT_LIMIT};
 ghost use Rattle.driver_model.specs.Commands.{Reads, Writes};
 ghost use Rattle.driver_model.specs.Console.{command, console_reads, console_writes};
 ghost use Rattle.driver_requests.specs.Answers.{AnswersFirst};
-ghost use Rattle.driver_requests.specs.Waiting.{without};
+ghost use Rattle.driver_requests.specs.Waiting.{first_of, without};
 ghost use Rattle.driver_requests.specs.Asking.{MayAskAt, MayBeTold, Obeys, Replies};
 ghost use Rattle.console_capsule.specs.Answers.{cannot_give, cannot_send, received_by, sending_at};
 ghost use Rattle.console_capsule.specs.Answers.{written_by};
@@ -19,7 +19,7 @@ use driver_requests::RequestQueue;
 use grant_enter::Home;
 use grant_values::{WaitingRead, WaitingWrite};
 use syscall_abi::Reply;
-use tk_base::{CallRule, NotReady, PRINT_LIMIT, ProcessId};
+use tk_base::{CallRule, NotReady, PRINT_LIMIT, ProcessId, Slot};
 
 /// The console.
 #[derive(Default, Drop)]
@@ -93,17 +93,17 @@ impl ConsoleCapsule {
         reply_of(self.obey(home, id, number, count))
     }
 
-    /// Has the UART take a step of the write that waits longest, at a time: it takes the next bytes
-    /// out of the buffer that the process has allowed now, at most [`PRINT_LIMIT`], and `printed`
+    /// Has the UART take a step of the write that waits longest, or of that of the one slot which is
+    /// served, at a time: it takes the next bytes out of the buffer that the process has allowed now, at most [`PRINT_LIMIT`], and `printed`
     /// is then those; it is free again once they are sent. Where none is left the write completes:
     /// upcall 1 has the count of bytes that were taken, 0 and 0, and the process waits no more. As
     /// many bytes are taken as were asked for, and no more than the buffer has. Nothing changes
     /// where the process is not there in that life, or has no write; and nothing of another slot.
     /// The answer is whom it served, and what it told it: that the UART took the next bytes, or has
-    /// taken all. [`NotReady`] comes exactly where no write waits or the UART is not free yet, and
-    /// then nothing changes.
+    /// taken all. [`NotReady`] comes exactly where no write waits that is served or the UART is not
+    /// free yet, and then nothing changes.
     ///
-    /// It asks that the slot of the first is one of the home's, that its count of dropped upcalls
+    /// It asks that the slot of whom it serves is one of the home's, that its count of dropped upcalls
     /// has room for one more, that `printed` is empty, and that the time at which so many bytes are
     /// sent is below 2^64.
     pub fn transmit(
@@ -112,46 +112,52 @@ impl ConsoleCapsule {
         uart: &mut Uart,
         time: u64,
         printed: &mut ArrayVec<u8, PRINT_LIMIT>,
+        only: Option<Slot>,
     ) -> Result<Answer, NotReady>
-        requires told { IfSome (slice_get self.old.writes 0) (MayBeTold home.old) }
+        requires told { IfSome (first_of only self.old.writes) (MayBeTold home.old) }
         requires empty { printed.old.items ≡ [] }
         requires time { time + PRINT_LIMIT * uart.old.ticks < 2 ^ 64 }
-        ensures ready { is_ok result ≡ not (cannot_send self.old.writes uart.old time) }
-        ensures answers { AnswersFirst (written_by home.old) self.old.writes printed.old home.old
-            result self.new.writes printed.new home.new }
+        ensures ready { is_ok result ≡ not (cannot_send only self.old.writes uart.old time) }
+        ensures answers { AnswersFirst only (written_by home.old) self.old.writes printed.old
+            home.old result self.new.writes printed.new home.new }
         ensures uart { uart.new ≡ sending_at time printed.new.items uart.old }
         ensures reads { self.new.reads ≡ self.old.reads }
     {
         if time < uart.free() {
             return Err(NotReady);
         }
-        let answer = self.writes.answer::<ConsoleCapsule>(home, printed)?;
+        let answer = self.writes.answer::<ConsoleCapsule>(home, printed, only)?;
         keep_busy(uart, time, printed);
         Ok(answer)
     }
 
-    /// Moves the oldest bytes that came in to the read that waits longest, to the start of the
-    /// buffer that the process has allowed now, as many as it asks for, and no more than came in or
+    /// Moves the oldest bytes that came in to the read that waits longest, or to that of the one slot
+    /// which is served, to the start of the buffer that the process has allowed now, as many as it asks for, and no more than came in or
     /// than the buffer has. The read completes: upcall 2 has a status, the count of bytes and 0,
     /// and the process waits no more. The status is 0, or that of TRD 104, "Error codes", for a
     /// size where the buffer has no bytes; then no byte is moved. Nothing changes where the process
     /// is not there in that life, or has no read; and nothing of another slot. The answer is whom
-    /// it served, and the bytes. [`NotReady`] comes exactly where no read waits or nothing came in,
-    /// and then nothing changes.
+    /// it served, and the bytes. [`NotReady`] comes exactly where no read waits that is served or
+    /// nothing came in, and then nothing changes.
     ///
-    /// It asks that the slot of the first is one of the home's, and that its count of dropped
+    /// It asks that the slot of whom it serves is one of the home's, and that its count of dropped
     /// upcalls has room for one more.
-    pub fn receive(&mut self, home: &mut Home, uart: &mut Uart) -> Result<Answer, NotReady>
-        requires told { IfSome (slice_get self.old.reads 0) (MayBeTold home.old) }
-        ensures ready { is_ok result ≡ not (cannot_give self.old.reads uart.old) }
-        ensures answers { AnswersFirst (received_by uart.old home.old) self.old.reads uart.old
+    pub fn receive(
+        &mut self,
+        home: &mut Home,
+        uart: &mut Uart,
+        only: Option<Slot>,
+    ) -> Result<Answer, NotReady>
+        requires told { IfSome (first_of only self.old.reads) (MayBeTold home.old) }
+        ensures ready { is_ok result ≡ not (cannot_give only self.old.reads uart.old) }
+        ensures answers { AnswersFirst only (received_by uart.old home.old) self.old.reads uart.old
             home.old result self.new.reads uart.new home.new }
         ensures writes { self.new.writes ≡ self.old.writes }
     {
         if uart.held() == 0 {
             return Err(NotReady);
         }
-        self.reads.answer::<ConsoleCapsule>(home, uart)
+        self.reads.answer::<ConsoleCapsule>(home, uart, only)
     }
 
     /// The process of an id ended, or starts again: no write and no read of it waits any more. The

@@ -35,12 +35,24 @@ found_passes p (y ∷ ys) x e = by_test (p y) refl e (found_passes p ys x)
     by_test true f g later = let same : y ≡ x = cc in ap p (sym same) ∙ f
     by_test false f g later = later g
 
-pub due_slot_is_there : DueSlotIsThere
-unfolding due_slot
-due_slot_is_there now slot owns e =
-    by_own (slice_get owns slot) refl (found_passes (λ s. has_due now (slice_get owns s)) (range_with_len 0 SLOT_COUNT)
-    slot e)
+-- a slot with an alarm that is due is there
+due_is_there : (now slot : ℕ) (owns : List Own) → has_due now (slice_get owns slot) ≡ true → slot < length owns
+due_is_there now slot owns due = by_own (slice_get owns slot) refl due
   where
     by_own : (o : Option Own) → slice_get owns slot ≡ o → has_due now o ≡ true → slot < length owns
     by_own None f due = cc
     by_own (Some own) f due = slice_get_within owns slot own f
+
+pub due_slot_is_there : DueSlotIsThere
+unfolding due_slot
+due_slot_is_there None now slot owns e =
+    due_is_there now slot owns
+    (found_passes (λ s. has_due now (slice_get owns s)) (range_with_len 0 SLOT_COUNT) slot e)
+due_slot_is_there (Some only) now slot owns e = by_test (has_due now (slice_get owns only)) refl e
+  where
+    by_test : (b : Bool) → has_due now (slice_get owns only) ≡ b
+        → cond {A = Option ℕ} b (Some only) None ≡ Some slot → slot < length owns
+    by_test true f e =
+        let same : only ≡ slot = cc in
+        subst (λ s. s < length owns) same (due_is_there now only owns f)
+    by_test false f e = absurd (cc)

@@ -9,8 +9,8 @@ use Rattle.std.specs.List.{range_with_len}
 use Rattle.tk_base.specs.declared.limits.TheConstants.{SLOT_COUNT}
 use Rattle.grant_values.specs.declared.alarm.Armed.{Armed}
 use Rattle.process_model.specs.Own.{Own}
-use Rattle.driver_model.specs.Alarm.{alarm_in, due_slot, has_due, if_due, is_due, ticks_left, ticks_left_in}
-use Rattle.driver_model.specs.Alarm.{ticks_left_of}
+use Rattle.driver_model.specs.Alarm.{alarm_in, due_for, due_slot, has_due, if_due, is_due, left_for, ticks_left}
+use Rattle.driver_model.specs.Alarm.{ticks_left_in, ticks_left_of}
 use Rattle.driver_model.specs.Alarm.{nearer, nearer_with, next_left}
 use Rattle.driver_model.specs.Laws.{IsDueWhereNoneAreLeft, QuietUntilNext, TimeBringsNearer}
 
@@ -82,10 +82,21 @@ now_if_zero : (least : Option ℕ) → least ≡ Some 0 → is_now least ≡ tru
 unfolding is_now
 now_if_zero least e = ap is_now e
 
+-- and of one slot alone
+left_now : (only : Option ℕ) (now : ℕ) (owns : List Own)
+    → is_now (left_for only now owns) ≡ is_some (due_for only now owns)
+left_now None now owns = next_now now owns
+left_now (Some only) now owns =
+    slot_now now (slice_get owns only) ∙ this_if (has_due now (slice_get owns only))
+  where
+    this_if : (b : Bool) → b ≡ is_some (cond {A = Option ℕ} b (Some only) None)
+    this_if true = refl
+    this_if false = refl
+
 pub is_due_where_none_are_left : IsDueWhereNoneAreLeft
-is_due_where_none_are_left now owns = (
-  λ zero. sym (next_now now owns) ∙ now_if_zero (next_left now owns) zero,
-  λ due. zero_if_now (next_left now owns) (next_now now owns ∙ due),
+is_due_where_none_are_left only now owns = (
+  λ zero. sym (left_now only now owns) ∙ now_if_zero (left_for only now owns) zero,
+  λ due. zero_if_now (left_for only now owns) (left_now only now owns ∙ due),
 )
 
 elapsed : (now passed from : ℕ) → now < 2 ^ 32 → from < 2 ^ 32 → (now + (2 ^ 32 - from)) % 2 ^ 32 + passed < 2 ^ 32
@@ -162,4 +173,6 @@ all_quiet now passed owns (slot ∷ slots) least more =
 
 pub quiet_until_next : QuietUntilNext
 unfolding next_left due_slot
-quiet_until_next now passed owns more = (all_quiet now passed owns (range_with_len 0 SLOT_COUNT) None more).0
+quiet_until_next None now passed owns more = (all_quiet now passed owns (range_with_len 0 SLOT_COUNT) None more).0
+quiet_until_next (Some only) now passed owns more =
+    ap (λ (b : Bool). cond {A = Option ℕ} b (Some only) None) (slot_quiet now passed (slice_get owns only) more)

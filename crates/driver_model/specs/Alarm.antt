@@ -106,6 +106,11 @@ has_due now own = is_some (option_and_then (due_alarm now) own)
 unfoldable pub due_slot : ℕ → List Own → Option ℕ
 due_slot now owns = find (λ slot. has_due now (slice_get owns slot)) (range_with_len 0 SLOT_COUNT)
 
+-- and of one slot alone, or of all
+abbrev pub due_for : Option ℕ → ℕ → List Own → Option ℕ
+due_for None now owns = due_slot now owns
+due_for (Some only) now owns = if has_due now (slice_get owns only) then Some only else None
+
 -- how many ticks are left until an alarm becomes due: 0 where it is due
 abbrev pub ticks_left : ℕ → Armed → ℕ
 ticks_left now alarm = alarm.delta - (now + (2 ^ 32 - alarm.reference)) % 2 ^ 32
@@ -131,3 +136,8 @@ nearer_with now owns least slot = nearer least (ticks_left_in now owns slot)
 -- the ticks that are left until the next alarm becomes due: the least over all slots
 unfoldable pub next_left : ℕ → List Own → Option ℕ
 next_left now owns = fold (nearer_with now owns) None (range_with_len 0 SLOT_COUNT)
+
+-- and until that of one slot alone does, or that of any
+abbrev pub left_for : Option ℕ → ℕ → List Own → Option ℕ
+left_for None now owns = next_left now owns
+left_for (Some only) now owns = ticks_left_in now owns only

@@ -1,11 +1,11 @@
 -- Laws of the drivers' definitions.
 use Rattle.std.specs.Prelude.{◌≡◌, ◌↔◌, ◌<◌, ◌≤◌, ℕ, ◌+◌, ◌-◌, ◌%◌, ◌^◌, List, length}
-use Rattle.std.specs.Prelude.{None, Some, Err, is_some, IfSome, IsTrue}
+use Rattle.std.specs.Prelude.{Option, None, Some, Err, is_some, IfSome, IsTrue}
 use Rattle.tk_base.specs.declared.call.CallRule.{CallRule}
 use Rattle.grant_values.specs.declared.alarm.Armed.{Armed}
 use Rattle.process_model.specs.Own.{Own}
 use Rattle.driver_model.specs.Steps.{own_after}
-use Rattle.driver_model.specs.Alarm.{answered, due_slot, next_left, ticks_left}
+use Rattle.driver_model.specs.Alarm.{answered, due_for, left_for, ticks_left}
 use Rattle.driver_model.specs.Commands.{refusing}
 use Rattle.driver_model.specs.Drivers.{CommandContext, CommandHandler, handler_of}
 
@@ -28,10 +28,12 @@ CommandDropsAtMostOne =
     handler_of driver ≡ Some taker →
     IsAtMostOneMore own.inbox.dropped (own_after (taker around number a2 a3 own).step).inbox.dropped
 
--- no ticks are left until the next alarm exactly where some slot has an alarm that is due
+-- no ticks are left until the next alarm, of all slots or of one alone, exactly where one of them has an alarm that is
+-- due
 abbrev pub IsDueWhereNoneAreLeft : Type 0
 IsDueWhereNoneAreLeft =
-    (now : ℕ) (owns : List Own) → (next_left now owns ≡ Some 0) ↔ IsTrue (is_some (due_slot now owns))
+    (only : Option ℕ) (now : ℕ) (owns : List Own) →
+    (left_for only now owns ≡ Some 0) ↔ IsTrue (is_some (due_for only now owns))
 
 -- as many ticks as pass, up to when it is due, so many fewer are left of an alarm
 abbrev pub TimeBringsNearer : Type 0
@@ -52,16 +54,18 @@ CommandsStayInPlace =
     (around : CommandContext) (number a2 a3 : ℕ) (own : Own) → StaysInPlace own
     (own_after (taker around number a2 a3 own).step)
 
--- until as many ticks have passed as are left until the next alarm, none is due; none ever is, where none is armed
+-- until as many ticks have passed as are left until the next alarm, of all slots or of one alone, none of them is due;
+-- none ever is, where none is armed
 abbrev pub QuietUntilNext : Type 0
 QuietUntilNext =
-    (now passed : ℕ) (owns : List Own) →
-    IfSome (next_left now owns) (λ left. passed < left) →
-    due_slot ((now + passed) % 2 ^ 32) owns ≡ None
+    (only : Option ℕ) (now passed : ℕ) (owns : List Own) →
+    IfSome (left_for only now owns) (λ left. passed < left) →
+    due_for only ((now + passed) % 2 ^ 32) owns ≡ None
 
 -- a slot whose alarm is due is one of those that there are
 abbrev pub DueSlotIsThere : Type 0
-DueSlotIsThere = (now slot : ℕ) (owns : List Own) → due_slot now owns ≡ Some slot → slot < length owns
+DueSlotIsThere =
+    (only : Option ℕ) (now slot : ℕ) (owns : List Own) → due_for only now owns ≡ Some slot → slot < length owns
 
 -- what an alarm changes of a process is its bytes, where the clock is shown, what waits to be delivered, the count of
 -- dropped upcalls, and what it keeps for the alarm; one upcall may be dropped

@@ -2,3 +2,4 @@ pub mod Keeping
 mod Busy
 mod Room
 mod Visiting
+mod Found

@@ -1,6 +1,7 @@
 -- The processes that wait for one device, the first one first: who waits, and who does after a command, and after an
 -- answer.
-use Rattle.std.specs.Prelude.{ℕ, ◌==◌, ◌<◌, Bool, not, if◌then◌else◌, List, [], ◌∷◌, ◌++◌, filter}
+use Rattle.std.specs.Prelude.{ℕ, ◌==◌, ◌<◌, Bool, not, if◌then◌else◌, List, [], ◌∷◌, ◌++◌, filter, find, slice_get}
+use Rattle.std.specs.Prelude.{Option, None, Some}
 use Rattle.std.specs.List.{AllByRecursion, IsDistinct, list_any}
 use Rattle.tk_base.specs.declared.limits.TheConstants.{SLOT_COUNT}
 use Rattle.tk_base.specs.declared.process.ProcessId.{ProcessId}
@@ -9,6 +10,11 @@ use Rattle.driver_model.specs.Commands.{BoardRequest, Waits, Leaves, Lights, Que
 -- whether the process of a slot waits
 abbrev pub waits : ℕ → List ProcessId → Bool
 waits slot ids = list_any (λ id. id.slot == slot) ids
+
+-- of those that wait the first one, or that of the slot which alone is served
+abbrev pub first_of : Option ℕ → List ProcessId → Option ProcessId
+first_of None ids = slice_get ids 0
+first_of (Some only) ids = find (λ id. id.slot == only) ids
 
 -- those that wait without the one of a slot
 abbrev pub without : ℕ → List ProcessId → List ProcessId

@@ -1,10 +1,10 @@
 //! The processes that wait for a device.
-ghost use Rattle.std.specs.Prelude.{◌≡◌, ◌==◌, [], length, slice_get, IfSome, OnErr};
+ghost use Rattle.std.specs.Prelude.{◌≡◌, ◌==◌, [], is_some, None, IfSome, OnErr};
 ghost use Rattle.grant_enter.specs.Homes.{own_of};
 ghost use Rattle.driver_requests.specs.Asking.{MayAskAt, MayBeTold, Obeys};
 ghost use Rattle.driver_requests.specs.Answers.{AnswersFirst};
 ghost use Rattle.driver_model.specs.Requests.{asking};
-ghost use Rattle.driver_requests.specs.Waiting.{without};
+ghost use Rattle.driver_requests.specs.Waiting.{first_of, without};
 
 use crate::begin::Begin;
 use crate::request::Request;
@@ -51,11 +51,11 @@ impl<R> RequestQueue<R> {
         self.waiting.as_slice()
     }
 
-    /// Whether none waits.
-    pub fn is_empty(&self) -> bool
-        ensures { result ≡ (length self.now == 0) }
+    /// Whether one waits, or that of the one slot which is served.
+    pub fn has_one(&self, only: Option<Slot>) -> bool
+        ensures { result ≡ is_some (first_of only self.now) }
     {
-        self.waiting.is_empty()
+        self.waiting.first(only).is_some()
     }
 
     /// The process of a slot waits no more. The others keep their order.
@@ -97,24 +97,26 @@ impl<R: Request + Drop> RequestQueue<R> {
         Ok(Reply::Success)
     }
 
-    /// Has a capsule's device answer the process that waits longest, which waits no more exactly
-    /// where its request completed. Nothing of another slot changes. It tells whom it served, and
-    /// what it told it; [`NotReady`] comes exactly where none waits, and then nothing changes.
+    /// Has a capsule's device answer the process that waits longest, or that of the one slot which
+    /// is served; it waits no more exactly where its request completed. Nothing of another slot
+    /// changes. It tells whom it served, and what it told it; [`NotReady`] comes exactly where none
+    /// waits that is served, and then nothing changes.
     ///
     /// It asks that the process may be told something, and what the device asks.
     pub fn answer<C: Serve<R>>(
         &mut self,
         home: &mut Home,
         device: &mut C::Device,
+        only: Option<Slot>,
     ) -> Result<Answer, NotReady>
-        requires told { IfSome (slice_get self.old 0) (MayBeTold home.old) }
-        requires asks { IfSome (slice_get self.old 0)
+        requires told { IfSome (first_of only self.old) (MayBeTold home.old) }
+        requires asks { IfSome (first_of only self.old)
             (λ id. C.asks device.old (own_of home.old id.slot)) }
-        ensures none { OnErr result (self.old ≡ []) }
-        ensures answers { AnswersFirst (C.answer_to device.old home.old) self.old device.old
+        ensures none { OnErr result (first_of only self.old ≡ None) }
+        ensures answers { AnswersFirst only (C.answer_to device.old home.old) self.old device.old
             home.old result self.new device.new home.new }
     {
-        let Some(id) = self.waiting.first() else {
+        let Some(id) = self.waiting.first(only) else {
             return Err(NotReady);
         };
         let Service { kind, completed } = C::serve(home, &id, device);

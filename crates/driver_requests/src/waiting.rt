@@ -1,5 +1,6 @@
 //! The list of processes that wait for one device.
-ghost use Rattle.std.specs.Prelude.{◌≡◌, ◌==◌, length, false, [], ◌∷◌, ◌++◌, slice_get, IfNone};
+ghost use Rattle.std.specs.Prelude.{◌≡◌, ◌==◌, length, false, find, [], ◌∷◌, ◌++◌, slice_get};
+ghost use Rattle.driver_requests.specs.Waiting.{first_of};
 
 use arrayvec::ArrayVec;
 use std::marker::Model;
@@ -56,6 +57,7 @@ impl Model for WaitingList {
 }
 
 impl WaitingList {
+    ghost use Rattle.std.specs.List.{position};
     ghost use Rattle.driver_requests.specs.Waiting.{waits, without};
 
     /// A list in which none waits.
@@ -77,12 +79,47 @@ impl WaitingList {
     }
 
     /// The process that waits longest. None exactly where none waits.
-    pub fn first(&self) -> Option<ProcessId>
-        ensures first { result ≡ slice_get self.now 0 }
-        ensures none { IfNone result (self.now ≡ []) }
+    fn longest(&self) -> Option<ProcessId>
+        ensures { result ≡ slice_get self.now 0 }
     {
         let first = self.ids.as_slice().first()?;
         Some(first.id)
+    }
+
+    /// The place at which the process of a slot waits, where it does.
+    fn place_of(&self, slot: Slot) -> Option<usize>
+        ensures { result ≡ position (λ id. id.slot == slot) self.now }
+    {
+        self.ids.iter().position(|waiting| waiting.id.slot == slot)
+    }
+
+    /// The process at a place.
+    fn at(&self, place: usize) -> Option<ProcessId>
+        ensures { result ≡ slice_get self.now place }
+    {
+        let waiting = self.ids.as_slice().get(place)?;
+        Some(waiting.id)
+    }
+
+    /// The process of a slot, where it waits.
+    fn of_slot(&self, slot: Slot) -> Option<ProcessId>
+        ensures { result ≡ find (λ id. id.slot == slot) self.now }
+    {
+        match self.place_of(slot) {
+            None => None,
+            Some(place) => self.at(place),
+        }
+    }
+
+    /// The process that waits longest, or that of the one slot that is served. None exactly where
+    /// none waits that is served.
+    pub fn first(&self, only: Option<Slot>) -> Option<ProcessId>
+        ensures { result ≡ first_of only self.now }
+    {
+        match only {
+            None => self.longest(),
+            Some(slot) => self.of_slot(slot),
+        }
     }
 
     /// Those that wait, the one that waits longest first.
@@ -90,13 +127,6 @@ impl WaitingList {
         ensures { result.now ≡ self.now }
     {
         self.ids.as_slice()
-    }
-
-    /// Whether none waits.
-    pub fn is_empty(&self) -> bool
-        ensures { result ≡ (length self.now == 0) }
-    {
-        self.ids.is_empty()
     }
 
     /// Takes the process of a slot out, where it waits. The others keep their order.

@@ -18,7 +18,7 @@ use Rattle.kernel_model.specs.World.{DeviceAnswer, Devices, Stepped, World, acte
 use Rattle.kernel_model.specs.World.{carried_out}
 use Rattle.kernel_model.specs.World.{coming_in, device_step_of, done, is_ready, queue_without, ran, random_step}
 use Rattle.kernel_model.specs.World.{acting_on, acts_of, operating, receive_step, routed, served_by, serving}
-use Rattle.kernel_model.specs.World.{slot_of_name, storing, telling_nobody, transmitting, with_queue}
+use Rattle.kernel_model.specs.World.{lane_in, slot_of_name, storing, telling_nobody, transmitting, with_queue}
 use Rattle.kernel_model.specs.Edges.{arrival_in, first_for}
 use Rattle.kernel_model.proofs.Places.{stepped_else, stepped_ready}
 
@@ -85,14 +85,14 @@ module _ (w : World) where
   of_device dev.Alarm =
       serving_arrivals (λ slot r. alarmed w.settings w.clock.time w.devices) (λ slot r. refl) (served_by w dev.Alarm)
   of_device dev.Uart =
-      serving_arrivals (transmitting w.clock.time w.devices) (λ slot r. refl)
+      serving_arrivals (transmitting (lane_in w) w.clock.time w.devices) (λ slot r. refl)
       (served_by w dev.Uart)
   of_device dev.Receive =
-      serving_arrivals (receive_step w.devices) (λ slot r. refl) (served_by w dev.Receive)
+      serving_arrivals (receive_step (lane_in w) w.devices) (λ slot r. refl) (served_by w dev.Receive)
   of_device dev.Random =
-      serving_arrivals (random_step w.devices) (λ slot r. refl) (served_by w dev.Random)
+      serving_arrivals (random_step (lane_in w) w.devices) (λ slot r. refl) (served_by w dev.Random)
   of_device dev.Store =
-      serving_arrivals (storing w.devices) (λ slot r. refl) (served_by w dev.Store)
+      serving_arrivals (storing (lane_in w) w.devices) (λ slot r. refl) (served_by w dev.Store)
 
   of_choice : (choice : Choice)
       → w.devices.arrivals

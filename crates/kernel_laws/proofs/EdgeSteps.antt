@@ -45,7 +45,7 @@ use Rattle.kernel_model.specs.Turn.{Act, apply, surroundings, turned}
 use Rattle.kernel_model.specs.World.{Answer, DeviceAnswer, DeviceStep, Devices, World, acting_on, after, alarmed}
 use Rattle.kernel_model.specs.World.{answering, arrived, drawn_event}
 use Rattle.kernel_model.specs.World.{coming_in, edge_told, happens, is_ready, operating, random_step, receive_step}
-use Rattle.kernel_model.specs.World.{served_by, serving, slot_of_name, storing, telling_nobody, transmitting}
+use Rattle.kernel_model.specs.World.{lane_in, served_by, serving, slot_of_name, storing, telling_nobody, transmitting}
 use Rattle.kernel_laws.specs.Scheduled.{answer_schedules, answer_step, call_schedules, command_schedules}
 use Rattle.kernel_laws.specs.Scheduled.{event_schedules, scheduled_by}
 use Rattle.kernel_laws.specs.Scheduled.{upcall_told}
@@ -358,16 +358,16 @@ module _ (law : DriversScheduleTheirOwn) (refuse : RefusedByAnyDriver) (of_ecall
         serves_event w.settings _ r (serving_no_edge w slot (λ at x. alarmed w.settings w.clock.time w.devices)
         (λ at x. refl) (served_by w dev.Alarm))
     of_device dev.Uart =
-        serves_event w.settings _ r (serving_no_edge w slot (transmitting w.clock.time w.devices)
+        serves_event w.settings _ r (serving_no_edge w slot (transmitting (lane_in w) w.clock.time w.devices)
         (λ at x. sent_no_edge _) (served_by w dev.Uart))
     of_device dev.Receive =
-        serves_event w.settings _ r (serving_no_edge w slot (receive_step w.devices) (λ at x. refl)
+        serves_event w.settings _ r (serving_no_edge w slot (receive_step (lane_in w) w.devices) (λ at x. refl)
         (served_by w dev.Receive))
     of_device dev.Random =
-        serves_event w.settings _ r (serving_no_edge w slot (random_step w.devices) (λ at x. drawn_no_edge _)
+        serves_event w.settings _ r (serving_no_edge w slot (random_step (lane_in w) w.devices) (λ at x. drawn_no_edge _)
         (served_by w dev.Random))
     of_device dev.Store =
-        serves_event w.settings _ r (serving_no_edge w slot (storing w.devices) (λ at x. refl)
+        serves_event w.settings _ r (serving_no_edge w slot (storing (lane_in w) w.devices) (λ at x. refl)
         (served_by w dev.Store))
 
     of_choice : (choice : Choice) → ServesFor w.settings (edge_by (first_for choice w.devices.arrivals) r) r

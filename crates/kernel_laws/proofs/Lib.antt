@@ -12,3 +12,4 @@ mod Commands
 pub mod Scheduled
 pub mod EdgeSteps
 pub mod Arrivals
+mod Windows

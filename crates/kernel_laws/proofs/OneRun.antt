@@ -1,9 +1,11 @@
 -- The run by round robin and its choices, and when it is done.
 use Rattle.std.proofs.Common.{◌≡◌, ◌≤◌, ◌<◌, ℕ, zero, suc, ◌+◌, ◌-◌, ◌==◌, Bool, true, false, cond, not, ◌&&◌, nat_le}
+use Rattle.std.proofs.Common.{◌/◌, ◌||◌, ◌↔◌, if◌then◌else◌, is_some}
 use Rattle.std.proofs.Common.{nat_lt, List, [], ◌∷◌, length, map, fold, find, slice_get, slice_index_or, Option, None}
 use Rattle.std.proofs.Common.{Some, IfSome, IsTrue, option_and_then, option_map, refl, sym, ap, subst, ◌∙◌, arith}
 use Rattle.std.specs.List.{range_with_len}
 use Rattle.std.specs.Option.{option_map, option_or}
+use Rattle.std.proofs.Math.Nat.{mod-lt}
 use Rattle.std.proofs.lemmas.Bool.{false≢true}
 use Rattle.std.proofs.lemmas.Bool.Decides.{nat_tests}
 use Rattle.std.proofs.lemmas.List.Folds.{find-append}
@@ -22,18 +24,18 @@ use Rattle.process_model.specs.Own.{Own}
 use Rattle.driver_model.specs.Commands.{Writes}
 use Rattle.kernel_model.specs.Record.{Record}
 use Rattle.kernel_model.specs.Turn.{may_turn}
-use Rattle.kernel_model.specs.World.{World, after, can_act, can_run, is_ready, is_waited_for, now_in, owns_in}
-use Rattle.kernel_model.specs.World.{slots_in, stepped}
-use Rattle.kernel_model.specs.Run.{runs_on, next, next_time, on_choice, ready_devices, ready_slots, round}
-use Rattle.kernel_model.specs.Run.{stays}
-use Rattle.kernel_model.specs.World.{sending_time}
-use Rattle.kernel_model.proofs.Runs.{alarm_time}
+use Rattle.kernel_model.specs.World.{World, after, can_run, is_ready, is_waited_for, line_in, may_serve, now_in}
+use Rattle.kernel_model.specs.World.{only_in, owns_in, sending_time, slots_in, stepped, work_of}
+use Rattle.kernel_model.specs.Run.{is_left, is_left_for, next, next_time, on_choice, ready_devices, ready_slots, round}
+use Rattle.kernel_model.specs.Run.{runs_on, stays, work_for}
+use Rattle.kernel_model.proofs.Runs.{alarm_time, going_is_ready}
+use Rattle.partition_turns.specs.Windows.{window_end, window_slot}
 use Rattle.kernel_model.specs.Choices.{are_ready, labels_of_all}
 use Rattle.kernel_model.specs.Replay.{after_all, chosen}
 use Rattle.kernel_laws.specs.OneRun.{ChosenAreReady, HasNoAlarm, IsDoneWhereNothingIsLeft, NothingIsLeft, OneRun}
 use Rattle.kernel_model.proofs.Places.{of_world}
 use Rattle.kernel_laws.proofs.Turns.{step_same}
-use Rattle.kernel_model.proofs.Runs.{next_ready, passed_over, ready_at}
+use Rattle.kernel_model.proofs.Runs.{next_ready, passed_over}
 
 pub one_run : OneRun
 unfolding round chosen
@@ -143,8 +145,27 @@ none_in_order p (Some at) slot e h =
         let high : slot < at + 1 = grind (arith, nat_tests) in
         none_in_range p 0 (at + 1) slot parts.1 (omega arith) (omega (arith, high))
 
+none_to : (p : ℕ → Bool) (from count : ℕ) → ((slot : ℕ) → from ≤ slot → slot < from + count → p slot ≡ false)
+    → find p (range_with_len from count) ≡ None
+none_to p from zero none = refl
+none_to p from (suc count) none =
+    ap (λ (b : Bool). cond b (Some from) (find p (range_with_len (from + 1) count))) (none from (omega arith) (omega arith))
+    ∙ none_to p (from + 1) count (λ slot low high. none slot (omega (arith, low)) (omega (arith, high)))
+
+-- no choice is left where no device step is ready, no slot is, and none becomes so
+none_chosen : (w : World) → ready_device (ready_devices w) ≡ None
+    → next_slot (ready_slots w) w.present.slot w.present.used w.pace.slice ≡ None → next_time w ≡ None → next w ≡ None
+unfolding next choice
+none_chosen w device turn time =
+    ap (λ (o : Option Dev). option_or (option_map Device o)
+    (option_or (option_map Run (next_slot (ready_slots w) w.present.slot w.present.used w.pace.slice))
+    (option_map (λ (at : ℕ). Pass (at - w.clock.time)) (next_time w)))) device
+    ∙ ap (λ (o : Option ℕ). option_or (option_map Run o)
+    (option_map (λ (at : ℕ). Pass (at - w.clock.time)) (next_time w))) turn
+    ∙ ap (option_map (λ (at : ℕ). Pass (at - w.clock.time))) time
+
 -- no slot has the next turn exactly where none is ready
-no_turn : (ready : List Bool) (present : Option ℕ) (used slice slot : ℕ) → next_slot ready present used slice ≡ None
+pub no_turn : (ready : List Bool) (present : Option ℕ) (used slice slot : ℕ) → next_slot ready present used slice ≡ None
     → slot < SLOT_COUNT → is_ready_at ready slot ≡ false
 unfolding next_slot
 no_turn ready None used slice slot e h = none_in_order (is_ready_at ready) None slot e h
@@ -264,74 +285,196 @@ within_or_beyond w slot P few none some = by_side (nat_lt slot SLOT_COUNT) refl
         let above : SLOT_COUNT ≤ slot = grind (arith, nat_tests) in
         subst P (sym (beyond w.records slot (omega (arith, few, above)))) none
 
-none_acts : (w : World) → ready_device (ready_devices w) ≡ None → (device : Dev) → can_act w device ≡ false
-unfolding ready_device
-none_acts w e device =
-    let event = passed_over (can_act w dev.Event) dev.Event _ e in
-    let alarm = passed_over (can_act w dev.Alarm) dev.Alarm _ event.1 in
-    let uart = passed_over (can_act w dev.Uart) dev.Uart _ alarm.1 in
-    let receive = passed_over (can_act w dev.Receive) dev.Receive _ uart.1 in
-    let random = passed_over (can_act w dev.Random) dev.Random _ receive.1 in
-    let store = passed_over (can_act w dev.Store) dev.Store _ random.1 in
-    by_device device event.0 alarm.0 uart.0 receive.0 random.0 store.0
-  where
-    by_device : (device : Dev) → can_act w dev.Event ≡ false → can_act w dev.Alarm ≡ false → can_act w dev.Uart ≡ false
-        → can_act w dev.Receive ≡ false → can_act w dev.Random ≡ false → can_act w dev.Store ≡ false
-        → can_act w device ≡ false
-    by_device dev.Event a b c d e f = a
-    by_device dev.Alarm a b c d e f = b
-    by_device dev.Uart a b c d e f = c
-    by_device dev.Receive a b c d e f = d
-    by_device dev.Random a b c d e f = e
-    by_device dev.Store a b c d e f = f
+-- no device step is ready exactly where none is the first that is
+module _ (ready : Dev → Bool) where
+  none_acts : ready_device (map ready device_order) ≡ None → (device : Dev) → ready device ≡ false
+  unfolding ready_device
+  none_acts e device =
+      let event = passed_over (ready dev.Event) dev.Event _ e in
+      let alarm = passed_over (ready dev.Alarm) dev.Alarm _ event.1 in
+      let uart = passed_over (ready dev.Uart) dev.Uart _ alarm.1 in
+      let receive = passed_over (ready dev.Receive) dev.Receive _ uart.1 in
+      let random = passed_over (ready dev.Random) dev.Random _ receive.1 in
+      let store = passed_over (ready dev.Store) dev.Store _ random.1 in
+      by_device device event.0 alarm.0 uart.0 receive.0 random.0 store.0
+    where
+      by_device : (device : Dev) → ready dev.Event ≡ false → ready dev.Alarm ≡ false → ready dev.Uart ≡ false
+          → ready dev.Receive ≡ false → ready dev.Random ≡ false → ready dev.Store ≡ false → ready device ≡ false
+      by_device dev.Event a b c d e f = a
+      by_device dev.Alarm a b c d e f = b
+      by_device dev.Uart a b c d e f = c
+      by_device dev.Receive a b c d e f = d
+      by_device dev.Random a b c d e f = e
+      by_device dev.Store a b c d e f = f
 
-nothing_left : (w : World) → length w.records ≤ SLOT_COUNT → next w ≡ None → NothingIsLeft w
+  ready_in : (device : Dev) → is_ready_at (map ready device_order) (device_place device) ≡ ready device
+  ready_in dev.Event = refl
+  ready_in dev.Alarm = refl
+  ready_in dev.Uart = refl
+  ready_in dev.Receive = refl
+  ready_in dev.Random = refl
+  ready_in dev.Store = refl
+
+  acts_none : ((device : Dev) → ready device ≡ false) → ready_device (map ready device_order) ≡ None
+  unfolding ready_device
+  acts_none none =
+      none_found (λ d. is_ready_at (map ready device_order) (device_place d)) device_order
+      (λ d. ready_in d ∙ none d)
+
+-- a world with windows of so many ticks
+abbrev at_window : ℕ → World → World
+at_window n w = record w { pace = record w.pace { window = n } }
+
+-- a board without time partitions has nothing left where it is done
+plainly_left : (u : World) → length u.records ≤ SLOT_COUNT → next (at_window 0 u) ≡ None → NothingIsLeft (at_window 0 u)
 unfolding next choice next_left
-nothing_left w few e =
+plainly_left u few e =
+    let w = at_window 0 u in
     let device = none_before (option_map Device (ready_device (ready_devices w))) _ e in
     let turn = none_before (option_map Run (next_slot (ready_slots w) w.present.slot w.present.used w.pace.slice)) _
     device.1 in
     let times = nearer_none (arrival_time w.devices.arrivals) _
     (mapped_none (λ (at : ℕ). Pass (at - w.clock.time)) (next_time w) turn.1) in
-    let later = nearer_none (alarm_time w.clock.time (now_in w) (owns_in w)) (sending_time w.devices) times.1 in
+    let later = nearer_none (alarm_time None w.clock.time (now_in w) (owns_in w)) (sending_time None w.devices) times.1 in
     let alarms = (folded_none (now_in w) (owns_in w) 0 SLOT_COUNT None
     (mapped_none (λ (left : ℕ). w.clock.time + left) (next_left (now_in w) (owns_in w)) later.0)).1 in
     record {
       slots = λ slot. within_or_beyond w slot (λ o. can_run o ≡ false) few refl (λ h.
           sym (told_ready w.records slot)
           ∙ no_turn (ready_slots w) w.present.slot w.present.used w.pace.slice slot (mapped_none Run _ turn.0) h);
-      devices = none_acts w (mapped_none Device _ device.0);
+      devices = λ slot h. none_acts (work_of w).ready (mapped_none Device _ device.0);
       arrivals = no_arrivals w.devices.arrivals times.0;
       alarms = λ slot. within_or_beyond w slot (λ o. IfSome o HasNoAlarm) few tt
           (λ h. no_alarm w slot (alarms slot (omega arith) (omega (arith, h))));
-      writes = no_writes (slots_in Writes w.devices.waiting) w.devices.line.free later.1;
+      writes = λ slot h. no_writes (slots_in Writes w.devices.waiting) (line_in 0 w.devices).free later.1;
     }
 
-is_done : (w : World) → NothingIsLeft w → next w ≡ None
-unfolding next choice ready_device next_left
-is_done w none =
-    let device : ready_device (ready_devices w) ≡ None =
-    none_found (λ d. is_ready_at (ready_devices w) (device_place d)) device_order
-    (λ d. ready_at w d ∙ none.devices d) in
+plainly_done : (u : World) → NothingIsLeft (at_window 0 u) → next (at_window 0 u) ≡ None
+unfolding next choice next_left
+plainly_done u none =
+    let w = at_window 0 u in
+    let device : ready_device (ready_devices w) ≡ None = acts_none (work_of w).ready (none.devices 0 (omega arith)) in
     let turn = none_has_turn (ready_slots w) w.present.slot w.present.used w.pace.slice
     (λ slot. told_ready w.records slot ∙ none.slots slot) in
-    let alarm : alarm_time w.clock.time (now_in w) (owns_in w) ≡ None =
+    let alarm : alarm_time None w.clock.time (now_in w) (owns_in w) ≡ None =
     ap (option_map (λ (left : ℕ). w.clock.time + left))
     (none_folded (now_in w) (owns_in w) (range_with_len 0 SLOT_COUNT)
     (λ slot. no_alarm_left w slot (none.alarms slot))) in
     let time : next_time w ≡ None =
-    ap (λ (a : List Arrival). nearer (arrival_time a) (nearer (alarm_time w.clock.time (now_in w) (owns_in w))
-    (sending_time w.devices))) none.arrivals
-    ∙ ap (λ (o : Option ℕ). nearer o (sending_time w.devices)) alarm
-    ∙ ap (λ (writes : List ℕ). cond (is_waited_for writes) (Some w.devices.line.free) None) none.writes in
-    ap (λ (o : Option Dev). option_or (option_map Device o)
-    (option_or (option_map Run (next_slot (ready_slots w) w.present.slot w.present.used w.pace.slice))
-    (option_map (λ (at : ℕ). Pass (at - w.clock.time)) (next_time w)))) device
-    ∙ ap (λ (o : Option ℕ). option_or (option_map Run o)
-    (option_map (λ (at : ℕ). Pass (at - w.clock.time)) (next_time w))) turn
-    ∙ ap (option_map (λ (at : ℕ). Pass (at - w.clock.time))) time
+    ap (λ (a : List Arrival). nearer (arrival_time a) (nearer (alarm_time None w.clock.time (now_in w) (owns_in w))
+    (sending_time None w.devices))) none.arrivals
+    ∙ ap (λ (o : Option ℕ). nearer o (sending_time None w.devices)) alarm
+    ∙ ap (λ (writes : List ℕ). cond (is_waited_for writes) (Some (line_in 0 w.devices).free) None)
+    (none.writes 0 (omega arith)) in
+    none_chosen w device turn time
+
+-- with time partitions nothing is left for a slot where none of what there may be for it is
+none_for : (slot_ready : Bool) (device : Option Dev) (next : Option ℕ)
+    → (slot_ready || (is_some device || is_some next)) ≡ false
+    → (slot_ready ≡ false) × ((device ≡ None) × (next ≡ None))
+none_for true device next e = absurd (false≢true (sym e))
+none_for false (Some device) next e = absurd (false≢true (sym e))
+none_for false None (Some at) e = absurd (false≢true (sym e))
+none_for false None None e = (refl, (refl, refl))
+
+not_found : {X : Type 0} (o : Option X) → is_some o ≡ false → o ≡ None
+not_found None e = refl
+not_found (Some x) e = absurd (false≢true (sym e))
+
+nearer_some : (a : Option ℕ) (n : ℕ) → nearer a (Some n) ≡ None → ⊥
+nearer_some None n e = cc
+nearer_some (Some m) n e = cc
+
+windows_left : (u : World) (n : ℕ) → length u.records ≤ SLOT_COUNT → next (at_window (suc n) u) ≡ None
+    → NothingIsLeft (at_window (suc n) u)
+unfolding next choice is_left
+windows_left u n few e =
+    let device = none_before (option_map Device (ready_device (ready_devices w))) _ e in
+    let turn = none_before (option_map Run (next_slot (ready_slots w) w.present.slot w.present.used w.pace.slice)) _
+    device.1 in
+    of_none (not_left (is_left w) refl (mapped_none (λ (at : ℕ). Pass (at - w.clock.time)) (next_time w) turn.1))
+  where
+    w : World
+    w = at_window (suc n) u
+
+    not_left : (b : Bool) → is_left w ≡ b
+        → (if b then nearer (work_of w).next (Some (window_end w.clock.time (suc n))) else None) ≡ None
+        → find (is_left_for w) (range_with_len 0 SLOT_COUNT) ≡ None
+    not_left true is none = absurd (nearer_some (work_of w).next (window_end w.clock.time (suc n)) none)
+    not_left false is none = not_found (find (is_left_for w) (range_with_len 0 SLOT_COUNT)) is
+
+    of_none : find (is_left_for w) (range_with_len 0 SLOT_COUNT) ≡ None → NothingIsLeft w
+    of_none none =
+        let for_slot = λ (slot : ℕ) (h : slot < SLOT_COUNT).
+        none_for (can_run (slice_get w.records slot)) (ready_device (map (work_for w slot).ready device_order))
+        (work_for w slot).next
+        (none_in_range (is_left_for w) 0 SLOT_COUNT slot none (omega arith) (omega (arith, h))) in
+        let later = λ (slot : ℕ) (h : slot < SLOT_COUNT).
+        nearer_none (arrival_time w.devices.arrivals) _ (for_slot slot h).1.1 in
+        let times = λ (slot : ℕ) (h : slot < SLOT_COUNT).
+        nearer_none (alarm_time (Some slot) w.clock.time (now_in w) (owns_in w)) (sending_time (Some slot) w.devices)
+        (later slot h).1 in
+        record {
+          slots = λ slot. within_or_beyond w slot (λ o. can_run o ≡ false) few refl (λ h. (for_slot slot h).0);
+          devices = λ slot h. none_acts (work_for w slot).ready (for_slot slot h).1.0;
+          arrivals = no_arrivals w.devices.arrivals (later 0 (omega arith)).0;
+          alarms = λ slot. within_or_beyond w slot (λ o. IfSome o HasNoAlarm) few tt
+              (λ h. no_alarm w slot (mapped_none (λ (left : ℕ). w.clock.time + left)
+              (ticks_left_in (now_in w) (owns_in w) slot) (times slot h).0));
+          writes = λ slot h. no_writes (may_serve (Some slot) (slots_in Writes w.devices.waiting))
+              (line_in slot w.devices).free (times slot h).1;
+        }
+
+windows_done : (u : World) (n : ℕ) → NothingIsLeft (at_window (suc n) u) → next (at_window (suc n) u) ≡ None
+unfolding next choice is_left
+windows_done u n none = none_chosen w device turn time
+  where
+    w : World
+    w = at_window (suc n) u
+
+    only : ℕ
+    only = window_slot w.clock.time (suc n)
+
+    device : ready_device (ready_devices w) ≡ None
+    device = acts_none (work_of w).ready (none.devices only (mod-lt (w.clock.time / suc n) (omega arith)))
+
+    turn : next_slot (ready_slots w) w.present.slot w.present.used w.pace.slice ≡ None
+    turn = none_has_turn (ready_slots w) w.present.slot w.present.used w.pace.slice (λ slot. by_test slot
+        (is_ready_at (ready_slots w) slot) refl)
+      where
+        by_test : (slot : ℕ) (b : Bool) → is_ready_at (ready_slots w) slot ≡ b → is_ready_at (ready_slots w) slot ≡ false
+        by_test slot false e = e
+        by_test slot true e =
+            absurd (false≢true (sym (told_ready w.records slot ∙ none.slots slot)
+            ∙ going_is_ready (only_in w) (map may_turn w.records) slot e))
+
+    none_next : (slot : ℕ) → slot < SLOT_COUNT → (work_for w slot).next ≡ None
+    none_next slot h =
+        ap (λ (a : List Arrival). nearer (arrival_time a) (nearer
+        (alarm_time (Some slot) w.clock.time (now_in w) (owns_in w)) (sending_time (Some slot) w.devices))) none.arrivals
+        ∙ ap (λ (left : Option ℕ). nearer (option_map (λ (left : ℕ). w.clock.time + left) left)
+        (sending_time (Some slot) w.devices)) (no_alarm_left w slot (none.alarms slot))
+        ∙ ap (λ (writes : List ℕ). cond (is_waited_for writes) (Some (line_in slot w.devices).free) None)
+        (none.writes slot h)
+
+    none_left : (slot : ℕ) → slot < SLOT_COUNT → is_left_for w slot ≡ false
+    none_left slot h =
+        ap (λ (b : Bool). b || (is_some (ready_device (map (work_for w slot).ready device_order))
+        || is_some (work_for w slot).next)) (none.slots slot)
+        ∙ ap (λ (o : Option Dev). is_some o || is_some (work_for w slot).next)
+        (acts_none (work_for w slot).ready (none.devices slot h))
+        ∙ ap is_some (none_next slot h)
+
+    time : next_time w ≡ None
+    time = ap (λ (o : Option ℕ). if is_some o then nearer (work_of w).next (Some (window_end w.clock.time (suc n)))
+        else None) (none_to (is_left_for w) 0 SLOT_COUNT (λ slot low high. none_left slot (omega (arith, high))))
+
+pub is_done_here : (w : World) (n : ℕ) → length w.records ≤ SLOT_COUNT
+    → (next (at_window n w) ≡ None) ↔ NothingIsLeft (at_window n w)
+is_done_here w zero few = (plainly_left w few, plainly_done w)
+is_done_here w (suc n) few = (windows_left w n few, windows_done w n)
 
 pub is_done_where_nothing_is_left : IsDoneWhereNothingIsLeft
-is_done_where_nothing_is_left w [] few = (nothing_left w few, is_done w)
+is_done_where_nothing_is_left w [] few = is_done_here w w.pace.window few
 is_done_where_nothing_is_left w (choice ∷ choices) few =
     is_done_where_nothing_is_left (after w choice) choices (omega (arith, few, (step_same w choice).records))

@@ -1,6 +1,6 @@
 -- The round robin in a quiet stretch.
 use Rattle.std.proofs.Common.{◌≡◌, ℕ, zero, suc, ◌+◌, ◌-◌, ◌<◌, ◌≤◌, Bool, true, false, ◌&&◌, ◌==◌, nat_lt, not}
-use Rattle.std.proofs.Common.{if◌then◌else◌, List, [], ◌∷◌, length, find, ◌++◌, slice_get, slice_set, Option, None}
+use Rattle.std.proofs.Common.{map, if◌then◌else◌, List, [], ◌∷◌, length, find, ◌++◌, slice_get, slice_set, Option, None}
 use Rattle.std.proofs.Common.{Some, All, refl, sym, ap, ap₂, subst, ◌∙◌, arith, append_assoc, length-append}
 use Rattle.std.specs.Option.{option_map, option_or}
 use Rattle.std.proofs.lemmas.Bool.Decides.{nat_tests}
@@ -21,7 +21,9 @@ use Rattle.kernel_model.specs.declared.settings.Settings.{Settings}
 use Rattle.kernel_model.specs.Record.{Record, instruction}
 use Rattle.kernel_model.specs.Turn.{TurnTrace, Turned, at_turn_end, has_turn, may_turn, turn_in, turned}
 use Rattle.upcall_queue.specs.Pending.{due}
-use Rattle.kernel_model.specs.World.{World, Label, Stepped, after_turn_of, can_run, carried_out, is_ready, ran}
+use Rattle.kernel_model.specs.World.{World, Label, Stepped, after_turn_of, can_run, carried_out, is_let, is_ready}
+use Rattle.kernel_model.specs.World.{only_in, ran}
+use Rattle.kernel_model.proofs.Runs.{ready_goes}
 use Rattle.kernel_model.specs.World.{stepped, turn_label}
 use Rattle.kernel_model.specs.Run.{Ran, next, next_time, on_choice, printed, ready_devices, ready_slots, round, stays}
 use Rattle.kernel_model.specs.Run.{runs_on, told_first}
@@ -57,7 +59,7 @@ went s time r runs e =
 -- a present slot whose process runs goes on with its slice
 pub stays_on : PresentStaysOn
 unfolding next_slot
-stays_on w slot r p at runs free u =
+stays_on w slot r p at runs free u lets =
     subst (λ (o : Option ℕ). next_slot (ready_slots w) o w.present.used w.pace.slice ≡ Some slot) (sym p)
     (ap (λ (g : Bool). if g then Some slot else find (is_ready_at (ready_slots w)) (slots_after (Some slot)))
     (ap (λ (b : Bool). b && nat_lt w.present.used w.pace.slice) ready ∙ left))
@@ -66,8 +68,9 @@ stays_on w slot r p at runs free u =
     may = ap₂ (λ (held : Bool) (state : State). not held && has_turn state (due r.own.inbox)) free runs
 
     ready : is_ready_at (ready_slots w) slot ≡ true
-    ready = get_or_from_slice_get (ready_slots w) slot true false
-        (slice_get-map may_turn w.records slot ∙ ap (option_map may_turn) at ∙ ap Some may)
+    ready = ready_goes (only_in w) (map may_turn w.records) slot lets
+        (get_or_from_slice_get (map may_turn w.records) slot true false
+        (slice_get-map may_turn w.records slot ∙ ap (option_map may_turn) at ∙ ap Some may))
 
     left : (true && nat_lt w.present.used w.pace.slice) ≡ true
     left = grind (arith, nat_tests)
@@ -100,14 +103,15 @@ module _ (w : World) (slot : ℕ) (r : Record) (p : w.present.slot ≡ Some slot
       (none_more w.present.used)
 
   -- the present slot goes on
-  goes_on_next : ready_device (ready_devices w) ≡ None → w.present.used < w.pace.slice → next w ≡ Some (Run slot)
+  goes_on_next : ready_device (ready_devices w) ≡ None → w.present.used < w.pace.slice
+      → is_let (only_in w) slot ≡ true → next w ≡ Some (Run slot)
   unfolding next choice
-  goes_on_next calm u =
+  goes_on_next calm u lets =
       let passes : Option Choice = option_map (λ n. Pass (n - w.clock.time)) (next_time w) in
       ap (λ (o : Option Dev). option_or (option_map Device o)
       (option_or (option_map Run (next_slot (ready_slots w) w.present.slot w.present.used w.pace.slice)) passes))
       calm
-      ∙ ap (λ (o : Option ℕ). option_or (option_map Run o) passes) (stays_on w slot r p at runs free u)
+      ∙ ap (λ (o : Option ℕ). option_or (option_map Run o) passes) (stays_on w slot r p at runs free u lets)
 
   used_more : w.present.used < w.pace.slice
       → used_after w.present.slot w.present.used w.pace.slice slot ≡ w.present.used + 1
@@ -240,12 +244,12 @@ free_still zero r = refl
 free_still (suc k) r = free_still k (instruction_made r)
 
 pub present_is_next_on_the_way : PresentIsNextOnTheWay
-present_is_next_on_the_way k slot w r p at runs free u none j h =
+present_is_next_on_the_way k slot w r p at runs free u lets none j h =
     let later = after_instructions j r in
     goes_on_next (after_stretch j w slot later) slot later refl
     (slice_get-set_same w.records slot later (slice_get_within w.records slot r at)) (runs_still j r ∙ runs)
     (free_still j r ∙ free) (none j h)
-    (omega (arith, u, h))
+    (omega (arith, u, h)) (lets j h)
 
 -- a slot that has the next turn uses one turn of its slice by it, whether it is the present one already or not
 uses_one : (o : Option ℕ) (used slice slot : ℕ) → used_after o used slice slot - 1 < slice

@@ -19,14 +19,14 @@ use Rattle.turn_scheduler.specs.Turns.{AreTurns, GivesTurn, ReadyHasTurn}
 use Rattle.kernel_model.specs.Record.{Record}
 use Rattle.kernel_model.specs.Turn.{has_turn, may_turn}
 use Rattle.kernel_model.specs.World.{Pace, Present, Stepped, World, after, can_run, carried_out, is_ready}
-use Rattle.kernel_model.specs.World.{may_be_made, ran}
-use Rattle.kernel_model.specs.Run.{next, on_choice, ready_slots, situation_of}
+use Rattle.kernel_model.specs.World.{is_let, may_be_made, only_at, only_in, ran}
+use Rattle.kernel_model.specs.Run.{may_go, next, on_choice, ready_slots, situation_of}
 use Rattle.kernel_model.specs.Replay.{chosen}
 use Rattle.kernel_laws.specs.Fairness.{HasTurn, IsReadyIn, ReadyProcessesHaveTurns, is_turn, makes_turn, turn_worlds}
 use Rattle.kernel_laws.specs.Fairness.{worlds}
 use Rattle.kernel_model.proofs.Places.{of_acted, of_stepped, of_world, stepped_else, stepped_ready}
 use Rattle.kernel_model.proofs.Told.{told_length}
-use Rattle.kernel_model.proofs.Runs.{next_slot_ready, ready_runs}
+use Rattle.kernel_model.proofs.Runs.{going_is_let, going_is_ready, going_length, next_slot_ready, ready_runs}
 
 -- a world with as many records as another, and its pace
 pub record SameBoard (w v : World) : Type 0 where
@@ -86,8 +86,16 @@ pub turn_is_ready : (w : World) (slot : ℕ) → next w ≡ Some (Run slot) → 
 unfolding next choice
 turn_is_ready w slot e =
     let s = situation_of w in
-    ready_runs w.records slot
+    ready_runs w.records slot (going_is_ready (only_in w) (map may_turn w.records) slot
     (next_slot_ready s.ready s.present s.used s.slice slot
+    (chosen_slot (ready_device s.devices) (next_slot s.ready s.present s.used s.slice) s.next _ slot e)))
+
+-- and with time partitions it is let
+pub turn_is_let : (w : World) (slot : ℕ) → next w ≡ Some (Run slot) → is_let (only_in w) slot ≡ true
+unfolding next choice
+turn_is_let w slot e =
+    let s = situation_of w in
+    going_is_let (only_in w) (map may_turn w.records) slot (next_slot_ready s.ready s.present s.used s.slice slot
     (chosen_slot (ready_device s.devices) (next_slot s.ready s.present s.used s.slice) s.next _ slot e))
 
 -- and its process is not held
@@ -249,6 +257,21 @@ slot_ready [] slot e = e
 slot_ready (r ∷ rs) zero e = e
 slot_ready (r ∷ rs) (suc slot) e = slot_ready rs slot e
 
+-- what follows of each element by two things that hold of each
+all_by_both : {X : Type 0} (P Q R : X → Type 0) → ((x : X) → P x → Q x → R x) → (xs : List X) → All P xs → All Q xs
+    → All R xs
+all_by_both P Q R both [] p q = All-nil R
+all_by_both P Q R both (x ∷ xs) p q =
+    All-cons R x xs (both x (All-head P x xs p) (All-head Q x xs q))
+    (all_by_both P Q R both xs (All-tail P x xs p) (All-tail Q x xs q))
+
+-- and without time partitions it is in the situation
+ready_plainly : (v : World) (slot : ℕ) → v.pace.window ≡ 0 → can_run (slice_get v.records slot) ≡ true
+    → is_ready_at (ready_slots v) slot ≡ true
+ready_plainly v slot none e =
+    subst (λ (n : ℕ). is_ready_at (may_go (only_at v.clock.time n) (map may_turn v.records)) slot ≡ true) (sym none)
+    (slot_ready v.records slot e)
+
 -- a turn that is given in a situation is given in its world
 turn_in_world : (slot : ℕ) (window : List World) (k : ℕ) (s : Situation) → k < length (map situation_of window)
     → slice_index_or (map situation_of window) k s ≡ s → GivesTurn s slot → Any (HasTurn slot) window
@@ -261,16 +284,20 @@ turn_in_world slot (v ∷ vs) (suc k) s lt is gives =
     (suc a.0, a.1, omega (arith, a.2), a.3, a.4)
 
 few_slots : (w v : World) → SameBoard w v → length w.records ≤ SLOT_COUNT → length (ready_slots v) ≤ SLOT_COUNT
-few_slots w v same few = let mapped = length-map v.records may_turn in omega (arith, mapped, same.records)
+few_slots w v same few =
+    let mapped = length-map v.records may_turn in
+    let goes = going_length (only_in v) (map may_turn v.records) in
+    omega (arith, mapped, goes, same.records)
 
 pub ready_processes_have_turns : ReadyHasTurn → ReadyProcessesHaveTurns
-ready_processes_have_turns law w few one n slot earlier window later split long ready =
+ready_processes_have_turns law w few one none n slot earlier window later split long ready =
     let has = in_window w earlier window later (subst (Follow w) split (run_follows n w)) in
     let mapped = length-map window situation_of in
     let a = law (map situation_of window) slot w.pace.slice (record {
       in_turn = has.0;
       ready = All-map (λ s. is_ready_at s.ready slot ≡ true) situation_of window
-          (All-weaker (IsReadyIn slot) _ (λ v. slot_ready v.records slot) window ready);
+          (all_by_both (SameBoard w) (IsReadyIn slot) _ (λ v same. ready_plainly v slot
+          (ap (λ (p : Pace). p.window) same.pace ∙ none)) window has.1 ready);
       slots = All-map (λ s. length s.ready ≤ SLOT_COUNT) situation_of window
           (All-weaker (SameBoard w) _ (λ v same. few_slots w v same few) window has.1);
       slice = All-map (λ s. s.slice ≡ w.pace.slice) situation_of window

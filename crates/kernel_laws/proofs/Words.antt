@@ -1,9 +1,12 @@
 -- Which random words the steps tell, and which are left.
-use Rattle.std.proofs.Common.{◌≡◌, ℕ, Bool, true, false, cond, List, [], ◌∷◌, ◌++◌, slice_get}
-use Rattle.std.proofs.Common.{IfSome, Option, None, Some, refl, sym, ap, ap₂, ◌∙◌}
+use Rattle.std.proofs.Common.{◌≡◌, ◌≤◌, ℕ, zero, suc, ◌==◌, Bool, true, false, cond, List, [], ◌∷◌, ◌++◌, filter}
+use Rattle.std.proofs.Common.{length, slice_get, slice_index_or, slice_set, IfSome, Option, None, Some, refl, sym, ap, ap₂}
+use Rattle.std.proofs.Common.{subst, ◌∙◌, arith, eqb-true, eq-eqb}
+use Rattle.std.proofs.lemmas.Bool.{false≢true}
+use Rattle.std.proofs.lemmas.List.{get_or-set_other}
 use Rattle.std.specs.Prelude.{All}
 use Rattle.std.proofs.lemmas.List.{append_assoc, append-nil}
-use Rattle.std.proofs.lemmas.List.Elements.{All-head, All-tail}
+use Rattle.std.proofs.lemmas.List.Elements.{All-head, All-tail, filter-append}
 use Rattle.tk_base.specs.declared.process.Choice.{Choice}
 use Rattle.tk_base.specs.declared.process.Choice.TheVariants.{Run, Device, Pass}
 use Rattle.tk_base.specs.declared.process.Dev.{Dev}
@@ -16,13 +19,18 @@ use Rattle.kernel_model.specs.Record.{Record}
 use Rattle.kernel_model.specs.Turn.{WriteDone, Taken, flash_of, turned}
 use Rattle.kernel_model.specs.World.{drawn_event, Answer, Devices, Label, Stepped, World, acted, after, carried_out}
 use Rattle.kernel_model.specs.World.{device_step_of, done, labels, ran, random_step, routed, stepped}
-use Rattle.kernel_model.specs.World.{acts_of, queue_without, telling_edge, transmitting, with_queue}
+use Rattle.kernel_model.specs.World.{DeviceAnswer, Pace, acts_of, alarmed, answer_label, lane_by, lane_in}
+use Rattle.kernel_model.specs.World.{may_serve, only_at, only_for, operating, queue_without, receive_step, served_by}
+use Rattle.kernel_model.specs.World.{slots_in, storing, telling_edge, transmitting, turn_label, with_queue, words_in}
 use Rattle.kernel_model.specs.Laws.{edge_done, edge_labels, one_answered}
 use Rattle.kernel_model.proofs.Told.{edge_answer, of_device, told_labels, with_rest}
 use Rattle.kernel_model.specs.Choices.{labels_of_all}
 use Rattle.kernel_model.specs.Replay.{after_all}
-use Rattle.kernel_laws.specs.Words.{WordsAreDrawnInOrder, word_in, word_told, words_told}
+use Rattle.kernel_laws.specs.Words.{WordsAreDrawnInOrder, of_lane, word_in, word_told, words_told}
 use Rattle.kernel_model.proofs.Places.{of_stepped}
+use Rattle.kernel_laws.proofs.Turns.{step_same}
+use Rattle.partition_turns.specs.Windows.{window_slot}
+use Rattle.tk_base.specs.declared.process.Dev.TheVariants as dev
 
 -- what a turn asks of the board draws none
 queue_words : (name : QueueName) (change : List ℕ → List ℕ) (d : Devices) → (with_queue name change d).words ≡ d.words
@@ -61,36 +69,122 @@ drawn_is (first ∷ words) (Some word) next = ap (λ (w : ℕ). w ∷ words) (th
     the_one : (x y : ℕ) → Some x ≡ Some y → x ≡ y
     the_one x y e = cc
 
-module _ (tell : EventsTellSteps) (w : World) where
-  -- the words that were left before are those that a step tells, and then those that are left
-  abbrev DrawsInOrder : Stepped → Type 0
-  DrawsInOrder s = w.devices.words ≡ words_told s.labels ++ s.after.devices.words
+-- whom a lane serves is of that lane
+first_served : (only slot : ℕ) (slots : List ℕ) → slice_get (filter (λ (s : ℕ). s == only) slots) 0 ≡ Some slot
+    → slot ≡ only
+first_served only slot [] e = absurd (cc)
+first_served only slot (s ∷ slots) e = by_test (s == only) refl (first_served only slot slots) e
+  where
+    by_test : (b : Bool) → (s == only) ≡ b
+        → (slice_get (filter (λ (s : ℕ). s == only) slots) 0 ≡ Some slot → slot ≡ only)
+        → slice_get (cond b (s ∷ filter (λ (s : ℕ). s == only) slots) (filter (λ (s : ℕ). s == only) slots)) 0 ≡ Some slot
+        → slot ≡ only
+    by_test true is later e =
+        let same : s ≡ slot = cc in
+        sym same ∙ eqb-true s only is
+    by_test false is later e = later e
 
-  -- an answer that tells no word, and leaves them
-  sends : (slot : ℕ) (r : Record) → DrawsInOrder (one_answered w slot r (transmitting w.clock.time w.devices slot r))
-  sends slot r =
-      let s = console.sent (flash_of r) r.own in
-      sym (ap (λ (words : List ℕ). (words ++ []) ++ w.devices.words) (sent_none s.completed))
+served_here : (time window slot : ℕ) (slots : List ℕ)
+    → slice_get (may_serve (only_at time window) slots) 0 ≡ Some slot
+    → lane_by (only_for window slot) ≡ lane_by (only_at time window)
+served_here time zero slot slots e = refl
+served_here time (suc n) slot slots e = first_served (window_slot time (suc n)) slot slots e
 
-  draws : (slot : ℕ) (r : Record) → DrawsInOrder (one_answered w slot r (random_step w.devices slot r))
-  draws slot r =
-      let word = slice_get w.devices.words 0 in
-      let drawn = (random.answered word r.own).drawn in
-      drawn_is w.devices.words drawn (tell.drawn word r.own)
-      ∙ ap (λ (words : List ℕ). words ++ random.words_after drawn w.devices.words)
-      (sym (append-nil (word_in (drawn_event drawn))))
+-- what stands at a place of a list once it was put there
+put_there : (xs : List (List ℕ)) (i : ℕ) (v : List ℕ) → (length xs ≤ i → v ≡ []) → slice_index_or (slice_set xs i v) i [] ≡ v
+put_there [] i v beyond = sym (beyond (omega arith))
+put_there (x ∷ xs) zero v beyond = refl
+put_there (x ∷ xs) (suc i) v beyond = put_there xs i v (λ h. beyond (omega (arith, h)))
 
-  -- an edge of a button tells no word
-  tells_none : (ls : List Label) → All (λ label. word_told label ≡ []) ls → words_told ls ≡ []
+-- beyond a list there are no words, and none are left
+none_there : (xs : List (List ℕ)) (i : ℕ) → length xs ≤ i → slice_index_or xs i [] ≡ []
+none_there [] i h = refl
+none_there (x ∷ xs) zero h = absurd (omega (arith, h))
+none_there (x ∷ xs) (suc i) h = none_there xs i (omega (arith, h))
+
+none_after : (drawn : Option ℕ) → random.words_after drawn [] ≡ []
+none_after None = refl
+none_after (Some word) = refl
+
+module _ (window lane : ℕ) where
+  -- a label that tells no word tells none in any lane
+  one_silent : (label : Label) → word_told label ≡ [] → words_told (of_lane window lane (label ∷ [])) ≡ []
+  one_silent label none = by_test (lane_by (only_for window label.slot) == lane)
+    where
+      by_test : (b : Bool) → words_told (cond b (label ∷ []) []) ≡ []
+      by_test true = ap (λ (words : List ℕ). words ++ []) none
+      by_test false = refl
+
+  tells_none : (ls : List Label) → All (λ label. word_told label ≡ []) ls → words_told (of_lane window lane ls) ≡ []
   tells_none [] none = refl
   tells_none (label ∷ ls) none =
-      ap₂ (λ (first later : List ℕ). first ++ later) (All-head (λ label. word_told label ≡ []) label ls none)
+      by_test (lane_by (only_for window label.slot) == lane)
       (tells_none ls (All-tail (λ label. word_told label ≡ []) label ls none))
+    where
+      by_test : (b : Bool) → words_told (of_lane window lane ls) ≡ []
+          → words_told (cond b (label ∷ of_lane window lane ls) (of_lane window lane ls)) ≡ []
+      by_test true rest =
+          ap₂ (λ (first later : List ℕ). first ++ later) (All-head (λ label. word_told label ≡ []) label ls none) rest
+      by_test false rest = rest
+
+module _ (tell : EventsTellSteps) (w : World) (lane : ℕ) where
+  -- the words that were left in a lane before are those that a step tells there, and then those that are left
+  abbrev DrawsInOrder : Stepped → Type 0
+  DrawsInOrder s =
+      words_in lane w.devices ≡ words_told (of_lane w.pace.window lane s.labels) ++ words_in lane s.after.devices
+
+  -- a step that tells one process no word, and leaves them
+  quietly : (label : Label) (d : Devices) → word_told label ≡ [] → d.words ≡ w.devices.words
+      → words_in lane w.devices ≡ words_told (of_lane w.pace.window lane (label ∷ [])) ++ words_in lane d
+  quietly label d none same =
+      sym (ap (λ (words : List ℕ). words ++ words_in lane d) (one_silent w.pace.window lane label none)
+      ∙ ap (λ (words : List (List ℕ)). slice_index_or words lane []) same)
+
+  answers_quietly : (slot : ℕ) (r : Record) (a : DeviceAnswer) → word_in a.answer.event ≡ []
+      → a.devices.words ≡ w.devices.words → DrawsInOrder (one_answered w slot r a)
+  answers_quietly slot r a none same = quietly (answer_label slot a.answer) a.devices none same
+
+  -- a word is drawn in the lane that serves, and in no other
+  draws : (slot : ℕ) (r : Record) → served_by w dev.Random ≡ Some slot
+      → DrawsInOrder (one_answered w slot r (random_step (lane_in w) w.devices slot r))
+  draws slot r first = by_lane (lane_by (only_for w.pace.window slot) == lane) refl
+    where
+      here : lane_by (only_for w.pace.window slot) ≡ lane_in w
+      here = served_here w.clock.time w.pace.window slot (slots_in Randoms w.devices.waiting) first
+
+      words : List ℕ
+      words = words_in (lane_in w) w.devices
+
+      drawn : Option ℕ
+      drawn = (random.answered (slice_get words 0) r.own).drawn
+
+      label : Label
+      label = answer_label slot (record { event = drawn_event drawn; printed = [] })
+
+      left : List (List ℕ)
+      left = slice_set w.devices.words (lane_in w) (random.words_after drawn words)
+
+      left_here : slice_index_or left (lane_in w) [] ≡ random.words_after drawn words
+      left_here = put_there w.devices.words (lane_in w) (random.words_after drawn words)
+          (λ h. ap (random.words_after drawn) (none_there w.devices.words (lane_in w) h) ∙ none_after drawn)
+
+      by_lane : (b : Bool) → (lane_by (only_for w.pace.window slot) == lane) ≡ b
+          → words_in lane w.devices ≡ words_told (cond b (label ∷ []) []) ++ slice_index_or left lane []
+      by_lane true is =
+          let same : lane ≡ lane_in w = sym (eqb-true (lane_by (only_for w.pace.window slot)) lane is) ∙ here in
+          subst (λ (l : ℕ). words_in l w.devices ≡ (word_in (drawn_event drawn) ++ []) ++ slice_index_or left l [])
+          (sym same)
+          (drawn_is words drawn (tell.drawn (slice_get words 0) r.own)
+          ∙ ap₂ (λ (told rest : List ℕ). told ++ rest) (sym (append-nil (word_in (drawn_event drawn)))) (sym left_here))
+      by_lane false is =
+          sym (get_or-set_other w.devices.words (lane_in w) lane (random.words_after drawn words) []
+          (λ same. false≢true (sym is ∙ eq-eqb (lane_by (only_for w.pace.window slot)) lane (here ∙ sym same))))
 
   edges : (button : ℕ) (pressed : Bool) (rest : List Arrival)
       → DrawsInOrder (edge_done w button pressed (with_rest w.devices rest))
   edges button pressed rest =
-      sym (ap (λ (words : List ℕ). words ++ w.devices.words) (tells_none (edge_labels button pressed w)
+      sym (ap (λ (words : List ℕ). words ++ words_in lane w.devices) (tells_none w.pace.window lane
+      (edge_labels button pressed w)
       (told_labels (λ label. word_told label ≡ []) (telling_edge button pressed w.records w.devices).told 0 w.records
       (λ slot at r a here there is.
       ap (λ (x : Answer). word_in x.event) (edge_answer button pressed (slice_get w.records at) a is)))))
@@ -102,22 +196,26 @@ module _ (tell : EventsTellSteps) (w : World) where
         arrives = λ bytes rest. refl;
         edges = edges;
         nobody = λ rest. refl;
-        acts = λ verb rest slot r is. sym (routed_words slot (acts_of verb r) (with_rest w.devices rest));
-        alarms = λ slot r is. refl;
-        sends = λ slot r is. sends slot r;
-        receives = λ slot r is. refl;
-        draws = λ slot r is. draws slot r;
-        stores = λ slot r is. refl;
+        acts = λ verb rest slot r is. answers_quietly slot r (operating verb (with_rest w.devices rest) slot r) refl
+            (routed_words slot (acts_of verb r) (with_rest w.devices rest));
+        alarms = λ slot r is. answers_quietly slot r (alarmed w.settings w.clock.time w.devices) refl refl;
+        sends = λ slot r is. answers_quietly slot r (transmitting (lane_in w) w.clock.time w.devices slot r)
+            (sent_none (console.sent (flash_of r) r.own).completed) refl;
+        receives = λ slot r is. answers_quietly slot r (receive_step (lane_in w) w.devices slot r) refl refl;
+        draws = λ slot r first is. draws slot r first;
+        stores = λ slot r is. answers_quietly slot r (storing (lane_in w) w.devices slot r) refl refl;
       }) device
 
   choice_draws : (choice : Choice) → DrawsInOrder (carried_out w choice)
   unfolding carried_out
   choice_draws (Run slot) = by_record (slice_get w.records slot)
     where
-      by_record : (o : Option Record)
-          → w.devices.words ≡ words_told (ran w slot o).labels ++ (ran w slot o).after.devices.words
+      by_record : (o : Option Record) → DrawsInOrder (ran w slot o)
       by_record None = refl
-      by_record (Some r) = sym (routed_words slot (turned w.settings w.clock.time r).acts w.devices)
+      by_record (Some r) =
+          let t = turned w.settings w.clock.time r in
+          quietly (turn_label slot w.clock.time t.told) (routed slot t.acts w.devices) refl
+          (routed_words slot t.acts w.devices)
   choice_draws (Device device) = deed_draws device
   choice_draws (Pass ticks) = refl
 
@@ -125,12 +223,18 @@ module _ (tell : EventsTellSteps) (w : World) where
   step_draws choice = of_stepped DrawsInOrder w choice refl (λ ready. choice_draws choice)
 
 pub words_are_drawn_in_order : EventsTellSteps → WordsAreDrawnInOrder
-words_are_drawn_in_order tell w [] = refl
-words_are_drawn_in_order tell w (choice ∷ choices) =
+words_are_drawn_in_order tell w [] lane = refl
+words_are_drawn_in_order tell w (choice ∷ choices) lane =
     let v = after w choice in
-    let first = words_told (labels w choice) in
-    let later = words_told (labels_of_all v choices) in
-    let left = (after_all v choices).devices.words in
-    step_draws tell w choice ∙ ap (λ (words : List ℕ). first ++ words) (words_are_drawn_in_order tell v choices)
+    let window = w.pace.window in
+    let first = words_told (of_lane window lane (labels w choice)) in
+    let later = words_told (of_lane window lane (labels_of_all v choices)) in
+    let left = words_in lane (after_all v choices).devices in
+    let on : words_in lane v.devices ≡ later ++ left =
+    subst (λ (n : ℕ). words_in lane v.devices ≡ words_told (of_lane n lane (labels_of_all v choices)) ++ left)
+    (ap (λ (p : Pace). p.window) (step_same w choice).pace) (words_are_drawn_in_order tell v choices lane) in
+    step_draws tell w lane choice ∙ ap (λ (words : List ℕ). first ++ words) on
     ∙ sym (append_assoc first later left)
-    ∙ ap (λ (words : List ℕ). words ++ left) (sym (joined (labels w choice) (labels_of_all v choices)))
+    ∙ ap (λ (words : List ℕ). words ++ left) (sym (ap words_told (filter-append
+    (λ (label : Label). lane_by (only_for window label.slot) == lane) (labels w choice) (labels_of_all v choices))
+    ∙ joined (of_lane window lane (labels w choice)) (of_lane window lane (labels_of_all v choices))))

@@ -46,6 +46,7 @@ IsFair w =
     All (IsReadyIn slot) window →
     Any (HasTurn slot) window
 
--- so it is on a board of no more processes than slots
+-- so it is on a board of no more processes than slots, without time partitions
 abbrev pub ReadyProcessesHaveTurns : Type 0
-ReadyProcessesHaveTurns = (w : World) → length w.records ≤ SLOT_COUNT → 1 ≤ w.pace.slice → IsFair w
+ReadyProcessesHaveTurns =
+    (w : World) → length w.records ≤ SLOT_COUNT → 1 ≤ w.pace.slice → w.pace.window ≡ 0 → IsFair w

@@ -4,3 +4,4 @@ pub mod Tables
 pub mod Words
 pub mod Clock
 pub mod Scheduled
+pub mod Windows

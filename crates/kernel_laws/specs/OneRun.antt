@@ -1,13 +1,13 @@
 -- A run by round robin is one run, whether its steps are made one by one or its choices first; and when it is done.
 -- When it is done is this board's own rule.
-use Rattle.std.specs.Prelude.{◌≡◌, ◌≤◌, ◌↔◌, ℕ, ◌+◌, true, false, List, [], length, slice_get, None, IfSome}
+use Rattle.std.specs.Prelude.{◌≡◌, ◌<◌, ◌≤◌, ◌↔◌, ℕ, ◌+◌, true, false, List, [], length, slice_get, None, IfSome}
 use Rattle.tk_base.specs.declared.limits.TheConstants.{SLOT_COUNT, STEP_LIMIT}
 use Rattle.tk_base.specs.declared.process.Choice.{Choice}
 use Rattle.tk_base.specs.declared.process.Dev.{Dev}
 use Rattle.driver_model.specs.Alarm.{alarm_in}
 use Rattle.driver_model.specs.Commands.{Writes}
 use Rattle.kernel_model.specs.Record.{Record}
-use Rattle.kernel_model.specs.World.{World, can_act, can_run, slots_in}
+use Rattle.kernel_model.specs.World.{Work, World, can_run, may_serve, now_in, only_for, owns_in, slots_in, work_at}
 use Rattle.kernel_model.specs.Run.{next, round}
 use Rattle.kernel_model.specs.Choices.{are_ready, labels_of_all}
 use Rattle.kernel_model.specs.Replay.{after_all, chosen}
@@ -25,14 +25,19 @@ ChosenAreReady = (n : ℕ) (w : World) → w.clock.steps + n ≤ STEP_LIMIT → 
 abbrev pub HasNoAlarm : Record → Type 0
 HasNoAlarm r = r.own.lives ≡ true → alarm_in r.own ≡ None
 
--- Nothing is left to do: no process is ready and no device is, nothing is still to come in, no process that lives has
--- an alarm armed, and no write waits.
+-- the work for a slot: that of all slots, or with time partitions its own
+abbrev pub work_with : World → ℕ → Work
+work_with w slot = work_at (only_for w.pace.window slot) w.clock.time (now_in w) (owns_in w) w.devices
+
+-- Nothing is left to do: no process is ready and no device is, in whichever slot's window, nothing is still to come in,
+-- no process that lives has an alarm armed, and no write waits.
 pub record NothingIsLeft (w : World) : Type 0 where
   pub slots : (slot : ℕ) → can_run (slice_get w.records slot) ≡ false
-  pub devices : (device : Dev) → can_act w device ≡ false
+  pub devices : (slot : ℕ) → slot < SLOT_COUNT → (device : Dev) → (work_with w slot).ready device ≡ false
   pub arrivals : w.devices.arrivals ≡ []
   pub alarms : (slot : ℕ) → IfSome (slice_get w.records slot) HasNoAlarm
-  pub writes : slots_in Writes w.devices.waiting ≡ []
+  pub writes : (slot : ℕ) → slot < SLOT_COUNT
+      → may_serve (only_for w.pace.window slot) (slots_in Writes w.devices.waiting) ≡ []
 
 -- on a board of no more processes than slots the round robin is done, after any choices, exactly where nothing is left
 -- to do

@@ -1,10 +1,10 @@
 -- That the random words which processes are told, and then those that are left, are those of before. The words are
 -- those of this board's own script.
-use Rattle.std.specs.Prelude.{◌≡◌, ℕ, List, [], ◌∷◌, ◌++◌}
+use Rattle.std.specs.Prelude.{◌≡◌, ℕ, ◌==◌, List, [], ◌∷◌, ◌++◌, filter}
 use Rattle.std.specs.List.{flat_map}
 use Rattle.tk_base.specs.declared.process.Choice.{Choice}
 use Rattle.kernel_model.specs.Turn.{Event, Word}
-use Rattle.kernel_model.specs.World.{World, Label}
+use Rattle.kernel_model.specs.World.{World, Label, lane_by, only_for, words_in}
 use Rattle.kernel_model.specs.Choices.{labels_of_all}
 use Rattle.kernel_model.specs.Replay.{after_all}
 
@@ -21,8 +21,13 @@ word_told label = word_in label.event
 abbrev pub words_told : List Label → List ℕ
 words_told labels = flat_map word_told labels
 
--- Whatever choices are made: the words that were left before them are those that processes were told, in that order,
--- and then those that are left. So no word is drawn twice, and none is passed over.
+-- of what steps tell those labels that are of a lane, where a window has so many ticks
+abbrev pub of_lane : ℕ → ℕ → List Label → List Label
+of_lane window lane labels = filter (λ label. lane_by (only_for window label.slot) == lane) labels
+
+-- Whatever choices are made, in each lane: the words that were left before them are those that its processes were told,
+-- in that order, and then those that are left. So no word is drawn twice, and none is passed over.
 abbrev pub WordsAreDrawnInOrder : Type 0
-WordsAreDrawnInOrder = (w : World) (choices : List Choice) →
-    w.devices.words ≡ words_told (labels_of_all w choices) ++ (after_all w choices).devices.words
+WordsAreDrawnInOrder = (w : World) (choices : List Choice) (lane : ℕ) →
+    words_in lane w.devices
+    ≡ words_told (of_lane w.pace.window lane (labels_of_all w choices)) ++ words_in lane (after_all w choices).devices

@@ -9,7 +9,10 @@ mod steps;
 
 pub use bytes::{answers_have_causes, steps_have_causes, turns_have_causes};
 pub use edges::edges_schedule_once;
-pub use rounds::{a_run_is_one_run, ready_processes_have_turns, round_is_stretch, rounds_join};
+pub use rounds::{
+    a_run_is_one_run, next_is_of_the_window, ready_processes_have_turns, round_is_stretch,
+    rounds_join,
+};
 pub use steps::{
     grants_change_at_calls, refusals_change_little, tables_name_the_same_drivers, turns_keep_lines,
     words_are_drawn_in_order,

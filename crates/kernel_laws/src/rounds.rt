@@ -1,6 +1,7 @@
 //! Laws of runs by round robin.
 ghost use Rattle.kernel_model.specs.Stretch.{NoneIsStretch, PresentIsNextOnTheWay, PresentStaysOn};
 ghost use Rattle.kernel_model.specs.Stretch.{RoundIsStretch, RoundsJoin, StretchesJoin};
+ghost use Rattle.kernel_laws.specs.Windows.{LanesAreAhead, NextIsOfTheWindow};
 ghost use Rattle.kernel_laws.specs.Fairness.{ReadyProcessesHaveTurns};
 ghost use Rattle.kernel_laws.specs.OneRun.{ChosenAreReady, IsDoneWhereNothingIsLeft, OneRun};
 
@@ -43,6 +44,17 @@ pub fn a_run_is_one_run()
     ensures one { OneRun }
     ensures ready { ChosenAreReady }
     ensures done { IsDoneWhereNothingIsLeft }
+{
+    an_alarm_is_due_where_no_ticks_are_left();
+}
+
+/// With time partitions the next choice of a world is that of the slot whose window it is
+/// ([`partition_turns::next_in_window`]), and each time at which a device step becomes ready for that
+/// slot lies ahead where it is not ready now.
+#[tactic(auto, using(crate::proofs::Windows::next_is_of_the_window))]
+pub fn next_is_of_the_window()
+    ensures next { NextIsOfTheWindow }
+    ensures ahead { LanesAreAhead }
 {
     an_alarm_is_due_where_no_ticks_are_left();
 }

@@ -20,7 +20,7 @@ use Rattle.script_text.specs.Settings.{ScriptEvent as Arrival, EventKind}
 use Rattle.script_text.specs.Settings as script
 use Rattle.board_devices.specs.Arriving.{differs}
 use Rattle.process_model.specs.Own.{Own}
-use Rattle.driver_model.specs.Alarm.{due_slot}
+use Rattle.driver_model.specs.Alarm.{due_for}
 use Rattle.driver_model.specs.Laws.{DueSlotIsThere}
 use Rattle.driver_model.specs.Commands.{BoardRequest, Waits, Leaves, Lights, QueueName, Writes, Reads, Randoms, Stores}
 use Rattle.driver_model.specs.Commands.{is_same}
@@ -38,7 +38,7 @@ use Rattle.kernel_model.specs.World.{arrived, can_act, can_run, carried_out, dev
 use Rattle.kernel_model.specs.World.{is_waited_for, may_be_made, now_in, owns_in, queue_without}
 use Rattle.kernel_model.specs.World.{ran}
 use Rattle.kernel_model.specs.World.{random_step, receive_step, routed, serving, slots_in, storing, transmitting}
-use Rattle.kernel_model.specs.World.{with_queue}
+use Rattle.kernel_model.specs.World.{lane_in, may_serve, only_in, with_queue}
 use Rattle.kernel_model.specs.Choices.{are_ready}
 use Rattle.kernel_model.specs.Replay.{after_all}
 use Rattle.kernel_lives.specs.Counts.{AddsUp, CountsAddUp, WaitingAreThere, ticks_passed, turns_made, turns_of_all}
@@ -241,23 +241,36 @@ module _ (law : DueSlotIsThere) (w : World) (h : AreThere (length w.records) w.d
       queue_there (length w.records) name (queue_after_answer completed slot) w.devices
       (left (length w.records) slot completed) h
 
+  -- those that wait and may be served are there
+  abbrev served : QueueName → List ℕ
+  served queue = may_serve (only_in w) (slots_in queue w.devices.waiting)
+
+  served_there : (queue : QueueName) → All (λ s. s < length w.records) (served queue)
+  served_there queue = by_only (only_in w)
+    where
+      by_only : (only : Option ℕ)
+          → All (λ s. s < length w.records) (may_serve only (slots_in queue w.devices.waiting))
+      by_only None = h queue
+      by_only (Some only) =
+          All-filter (λ slot. slot == only) (λ s. s < length w.records) (slots_in queue w.devices.waiting) (h queue)
+
   deed_made : (device : Dev) → can_act w device ≡ true → IsMade (length w.records) (device_step_of w device)
   deed_made dev.Event e = arrival_made w.devices.arrivals e
   deed_made dev.Alarm e =
-      alarm_made (due_slot (now_in w) (owns_in w))
-      (λ slot due. omega (arith, law (now_in w) slot (owns_in w) due, length-map w.records (λ r. r.own))) e
+      alarm_made (due_for (only_in w) (now_in w) (owns_in w))
+      (λ slot due. omega (arith, law (only_in w) (now_in w) slot (owns_in w) due, length-map w.records (λ r. r.own))) e
   deed_made dev.Uart e =
-      first_made (transmitting w.clock.time w.devices) (slots_in Writes w.devices.waiting) (h Writes) (both _ _ e) (λ
-      slot r. left_there Writes slot _)
+      first_made (transmitting (lane_in w) w.clock.time w.devices) (served Writes) (served_there Writes) (both _ _ e)
+      (λ slot r. left_there Writes slot _)
   deed_made dev.Receive e =
-      first_made (receive_step w.devices) (slots_in Reads w.devices.waiting) (h Reads) (both _ _ e) (λ slot r.
-      left_there Reads slot _)
+      first_made (receive_step (lane_in w) w.devices) (served Reads) (served_there Reads) (both _ _ e)
+      (λ slot r. left_there Reads slot _)
   deed_made dev.Random e =
-      first_made (random_step w.devices) (slots_in Randoms w.devices.waiting) (h Randoms) e (λ slot r. left_there
-      Randoms slot _)
+      first_made (random_step (lane_in w) w.devices) (served Randoms) (served_there Randoms) e
+      (λ slot r. left_there Randoms slot _)
   deed_made dev.Store e =
-      first_made (storing w.devices) (slots_in Stores w.devices.waiting) (h Stores) e (λ slot r. left_there Stores
-      slot _)
+      first_made (storing (lane_in w) w.devices) (served Stores) (served_there Stores) e
+      (λ slot r. left_there Stores slot _)
 
 -- an edge leaves the turns, and so does an answer
 edge_turns : (button : ℕ) (pressed : Bool) (rs : List Record)

@@ -31,7 +31,7 @@ use Rattle.kernel_model.specs.Turn.{edge_known, operated, turned, turn_in, untra
 use Rattle.driver_model.specs.Steps.{DriverStep, own_after}
 use Rattle.kernel_model.specs.World.{DeviceAnswer, Devices, Stepped, World, acted, after, alarmed}
 use Rattle.kernel_model.specs.World.{acts_of, carried_out, device_step_of, done, drawn_event, now_in, operating}
-use Rattle.kernel_model.specs.World.{queue_without}
+use Rattle.kernel_model.specs.World.{lane_in, line_in, queue_without, served_in, words_in}
 use Rattle.kernel_model.specs.World.{ran, random_step, receive_step, routed, slots_in, storing, transmitting}
 use Rattle.kernel_model.specs.Laws.{CanStartAgain, KeepsLines, queue_after_answer, TurnsKeepLines}
 use Rattle.kernel_model.proofs.Lines.{keeps_ended, keeps_restarted}
@@ -370,10 +370,10 @@ module _ (follow : LinesFollowAnswers) (tell : EventsTellSteps) (w : World) (h :
       (waits queue) (h queue)
 
   sends : (slot : ℕ) (r : Record) → slice_get w.records slot ≡ Some r
-      → AreLists (one_answered w slot r (transmitting w.clock.time w.devices slot r)).after
+      → AreLists (one_answered w slot r (transmitting (lane_in w) w.clock.time w.devices slot r)).after
   sends slot r is =
       let s = console.sent (flash_of r) r.own in
-      answered_each slot r is (transmitting w.clock.time w.devices slot r)
+      answered_each slot r is (transmitting (lane_in w) w.clock.time w.devices slot r)
       (queue_left_by Writes s.completed)
       (λ here. queue_with here Writes (queue_after_answer s.completed slot) w.devices
       ∙ left_or_not (is_same Writes here) s.completed (queue_without slot (slots_in here w.devices.waiting))
@@ -383,36 +383,36 @@ module _ (follow : LinesFollowAnswers) (tell : EventsTellSteps) (w : World) (h :
       (follow.writes (flash_of r) r.own).lines)
 
   receives : (slot : ℕ) (r : Record) → slice_get w.records slot ≡ Some r
-      → AreLists (one_answered w slot r (receive_step w.devices slot r)).after
+      → AreLists (one_answered w slot r (receive_step (lane_in w) w.devices slot r)).after
   receives slot r is =
-      let s = console.received w.devices.line.ring r.own in
-      answered_each slot r is (receive_step w.devices slot r)
+      let s = console.received (line_in (lane_in w) w.devices).ring r.own in
+      answered_each slot r is (receive_step (lane_in w) w.devices slot r)
       (queue_left_by Reads s.completed)
       (λ here. queue_with here Reads (queue_after_answer s.completed slot) w.devices
       ∙ left_or_not (is_same Reads here) s.completed (queue_without slot (slots_in here w.devices.waiting))
       (slots_in here w.devices.waiting))
       (moved_own (queue_left_by Reads s.completed) r.own (own_after s.step) _
-      (input_own w.settings r s.moved ∙ ap own_after (sym (tell.reads w.devices.line.ring r.own)))
-      (follow.reads w.devices.line.ring r.own).lines)
+      (input_own w.settings r s.moved ∙ ap own_after (sym (tell.reads (line_in (lane_in w) w.devices).ring r.own)))
+      (follow.reads (line_in (lane_in w) w.devices).ring r.own).lines)
 
   draws : (slot : ℕ) (r : Record) → slice_get w.records slot ≡ Some r
-      → AreLists (one_answered w slot r (random_step w.devices slot r)).after
+      → AreLists (one_answered w slot r (random_step (lane_in w) w.devices slot r)).after
   draws slot r is =
-      let a = random.answered (slice_get w.devices.words 0) r.own in
-      answered_each slot r is (random_step w.devices slot r) (queue_left_by Randoms a.completed)
+      let a = random.answered (slice_get (words_in (lane_in w) w.devices) 0) r.own in
+      answered_each slot r is (random_step (lane_in w) w.devices slot r) (queue_left_by Randoms a.completed)
       (λ here. queue_with here Randoms (queue_after_answer a.completed slot) w.devices
       ∙ left_or_not (is_same Randoms here) a.completed (queue_without slot (slots_in here w.devices.waiting))
       (slots_in here w.devices.waiting))
       (moved_own (queue_left_by Randoms a.completed) r.own (own_after a.step) _
-      (drawn_own w.settings r a.drawn ∙ ap own_after (sym (tell.randoms (slice_get w.devices.words 0) r.own)))
-      (follow.randoms (slice_get w.devices.words 0) r.own).lines)
+      (drawn_own w.settings r a.drawn ∙ ap own_after (sym (tell.randoms (slice_get (words_in (lane_in w) w.devices) 0) r.own)))
+      (follow.randoms (slice_get (words_in (lane_in w) w.devices) 0) r.own).lines)
 
   stores : (slot : ℕ) (r : Record) → slice_get w.records slot ≡ Some r
-      → AreLists (one_answered w slot r (storing w.devices slot r)).after
+      → AreLists (one_answered w slot r (storing (lane_in w) w.devices slot r)).after
   stores slot r is =
-      let fails = is_fault w.devices.faults (w.devices.served + 1) in
+      let fails = is_fault w.devices.faults (served_in (lane_in w) w.devices + 1) in
       let a = storage.answered fails (flash_of r) r.storage r.own in
-      answered_each slot r is (storing w.devices slot r)
+      answered_each slot r is (storing (lane_in w) w.devices slot r)
       (queue_left_by Stores a.completed)
       (λ here. queue_with here Stores (queue_after_answer a.completed slot) w.devices
       ∙ left_or_not (is_same Stores here) a.completed (queue_without slot (slots_in here w.devices.waiting))
@@ -475,7 +475,7 @@ module _ (follow : LinesFollowAnswers) (tell : EventsTellSteps) (w : World) (h :
         alarms = fires;
         sends = sends;
         receives = receives;
-        draws = draws;
+        draws = λ slot r first. draws slot r;
         stores = stores;
       }) device
 

@@ -17,7 +17,7 @@ use Rattle.kernel_model.specs.Record.{Record}
 use Rattle.tk_base.specs.declared.process.Verb.{Verb}
 use Rattle.kernel_model.specs.Turn.{Act, Event, Taken, WriteDone, flash_of, turned}
 use Rattle.kernel_model.specs.World.{Label, Stepped, World, answer_label, carried_out, device_step_of, done, labels}
-use Rattle.kernel_model.specs.World.{Answer, listed, ran, telling_edge, transmitting, turn_label}
+use Rattle.kernel_model.specs.World.{Answer, lane_in, listed, ran, telling_edge, transmitting, turn_label}
 use Rattle.kernel_model.specs.Laws.{edge_labels, one_answered}
 use Rattle.kernel_model.proofs.Told.{edge_answer, of_device, told_labels}
 use Rattle.kernel_model.specs.Replay.{after_all}
@@ -86,7 +86,7 @@ module _ (w : World) where
   silently slot event = silent (answer_label slot (record { event = event; printed = [] })) refl
 
   sends : (slot : ℕ) (r : Record) → slice_get w.records slot ≡ Some r
-      → Tells (one_answered w slot r (transmitting w.clock.time w.devices slot r))
+      → Tells (one_answered w slot r (transmitting (lane_in w) w.clock.time w.devices slot r))
   sends slot r is =
       let bytes = (console.sent (flash_of r) r.own).printed in
       All-cons (PrintsItsBuffer w) _ [] (λ some.
@@ -126,7 +126,7 @@ module _ (w : World) where
         alarms = λ slot r is. silently slot _;
         sends = sends;
         receives = λ slot r is. silently slot _;
-        draws = λ slot r is. silently slot _;
+        draws = λ slot r first is. silently slot _;
         stores = λ slot r is. silently slot _;
       }) device
 

@@ -1,27 +1,31 @@
 -- The next choice of the round robin is ready.
 use Rattle.std.proofs.Common.{◌≡◌, ℕ, zero, suc, ◌+◌, ◌-◌, ◌<◌, Bool, true, false, cond, ◌&&◌, nat_le, nat_lt, List, []}
-use Rattle.std.proofs.Common.{◌∷◌, map, find, slice_get, slice_index_or, Option, None, Some, is_some, IfSome, IsTrue}
-use Rattle.std.proofs.Common.{refl, sym, ap, subst, ◌∙◌, arith}
+use Rattle.std.proofs.Common.{length, ◌∷◌, ◌*◌, ◌/◌, ◌%◌, if◌then◌else◌, slice_set, map, find, slice_get, slice_index_or, Option, None, Some, is_some, IfSome, IsTrue}
+use Rattle.std.proofs.Common.{◌==◌, refl, sym, ap, subst, ◌∙◌, arith, eqb-true}
 use Rattle.std.specs.Option.{option_map, option_or}
+use Rattle.std.proofs.lemmas.Bool.{false≢true}
 use Rattle.std.proofs.lemmas.Bool.Decides.{nat_tests}
+use Rattle.std.proofs.Math.Nat.{lt-div-mul-add}
+use Rattle.std.proofs.lemmas.List.{length-map, length-set}
 use Rattle.tk_base.specs.declared.limits.TheConstants.{STEP_LIMIT}
 use Rattle.tk_base.specs.declared.process.Choice.{Choice}
 use Rattle.tk_base.specs.declared.process.Choice.TheVariants.{Run, Device, Pass}
 use Rattle.tk_base.specs.declared.process.Dev.{Dev}
 use Rattle.tk_base.specs.declared.process.Dev.TheVariants.{Event, Alarm, Uart, Receive, Random, Store}
+use Rattle.partition_turns.specs.Windows.{window_end}
 use Rattle.turn_scheduler.specs.RoundRobin.{choice, device_order, place_is_ready as is_ready_at, next_slot}
 use Rattle.turn_scheduler.specs.RoundRobin.{device_place, ready_device, slots_after}
 use Rattle.process_model.specs.Own.{Own}
-use Rattle.driver_model.specs.Alarm.{due_slot, nearer, next_left}
+use Rattle.driver_model.specs.Alarm.{due_for, left_for, nearer}
 use Rattle.driver_model.specs.Laws.{IsDueWhereNoneAreLeft}
 use Rattle.script_text.specs.Settings.{ScriptEvent as Arrival}
 use Rattle.board_devices.specs.Arriving.{is_time, first_arrival_time as arrival_time}
 use Rattle.driver_model.specs.Commands.{Writes}
 use Rattle.kernel_model.specs.Record.{Record}
 use Rattle.kernel_model.specs.Turn.{may_turn}
-use Rattle.kernel_model.specs.World.{Devices, World, can_act, can_run, is_ready, is_waited_for, may_be_made, now_in}
-use Rattle.kernel_model.specs.World.{owns_in, slots_in}
-use Rattle.kernel_model.specs.Run.{next, next_time, ready_devices, ready_slots}
+use Rattle.kernel_model.specs.World.{Devices, World, can_act, can_run, is_ready, lane_by, line_in, may_be_made, now_in}
+use Rattle.kernel_model.specs.World.{is_let, only_in, owns_in, waits_in, work_of}
+use Rattle.kernel_model.specs.Run.{is_left, may_go, next, next_time, passes_to, ready_devices, ready_slots}
 use Rattle.kernel_model.specs.World.{sending_time}
 
 pub found_passes : {X : Type 0} (p : X → Bool) (xs : List X) (x : X) → find p xs ≡ Some x → p x ≡ true
@@ -51,6 +55,64 @@ pub ready_runs : (records : List Record) (s : ℕ) → slice_index_or (map may_t
 ready_runs [] s e = e
 ready_runs (r ∷ rs) zero e = e
 ready_runs (r ∷ rs) (suc s) e = ready_runs rs s e
+
+-- a slot that may go is ready
+none_flagged : (flags : List Bool) (s : ℕ) → slice_index_or (map (λ (flag : Bool). false) flags) s false ≡ true → ⊥
+none_flagged [] s e = false≢true e
+none_flagged (f ∷ fs) zero e = false≢true e
+none_flagged (f ∷ fs) (suc s) e = none_flagged fs s e
+
+one_flagged : (flags : List Bool) (only s : ℕ)
+    → slice_index_or (slice_set (map (λ (flag : Bool). false) flags) only (slice_index_or flags only false)) s false ≡ true
+    → slice_index_or flags s false ≡ true
+one_flagged [] only s e = e
+one_flagged (f ∷ fs) zero zero e = e
+one_flagged (f ∷ fs) zero (suc s) e = absurd (none_flagged fs s e)
+one_flagged (f ∷ fs) (suc only) zero e = absurd (false≢true e)
+one_flagged (f ∷ fs) (suc only) (suc s) e = one_flagged fs only s e
+
+pub going_is_ready : (only : Option ℕ) (flags : List Bool) (s : ℕ) → slice_index_or (may_go only flags) s false ≡ true
+    → slice_index_or flags s false ≡ true
+going_is_ready None flags s e = e
+going_is_ready (Some only) flags s e = one_flagged flags only s e
+
+same_next : (s t : ℕ) → s ≡ t → (suc s == suc t) ≡ true
+same_next s t same = grind (arith, nat_tests)
+
+one_is_let : (flags : List Bool) (only s : ℕ) (x : Bool)
+    → slice_index_or (slice_set (map (λ (flag : Bool). false) flags) only x) s false ≡ true → (s == only) ≡ true
+one_is_let [] only s x e = absurd (false≢true e)
+one_is_let (f ∷ fs) zero zero x e = refl
+one_is_let (f ∷ fs) zero (suc s) x e = absurd (none_flagged fs s e)
+one_is_let (f ∷ fs) (suc only) zero x e = absurd (false≢true e)
+one_is_let (f ∷ fs) (suc only) (suc s) x e = same_next s only (eqb-true s only (one_is_let fs only s x e))
+
+-- a slot that may go is let
+pub going_is_let : (only : Option ℕ) (flags : List Bool) (s : ℕ) → slice_index_or (may_go only flags) s false ≡ true
+    → is_let only s ≡ true
+going_is_let None flags s e = refl
+going_is_let (Some only) flags s e = one_is_let flags only s (slice_index_or flags only false) e
+
+one_goes : (flags : List Bool) (slot : ℕ) → slice_index_or flags slot false ≡ true
+    → slice_index_or (slice_set (map (λ (flag : Bool). false) flags) slot (slice_index_or flags slot false)) slot false
+    ≡ true
+one_goes [] slot e = e
+one_goes (f ∷ fs) zero e = e
+one_goes (f ∷ fs) (suc slot) e = one_goes fs slot e
+
+-- and one that is ready may, where it is let
+pub ready_goes : (only : Option ℕ) (flags : List Bool) (slot : ℕ) → is_let only slot ≡ true
+    → slice_index_or flags slot false ≡ true → slice_index_or (may_go only flags) slot false ≡ true
+ready_goes None flags slot let_go e = e
+ready_goes (Some only) flags slot let_go e =
+    subst (λ (o : ℕ). slice_index_or (slice_set (map (λ (flag : Bool). false) flags) o (slice_index_or flags o false))
+    slot false ≡ true) (eqb-true slot only let_go) (one_goes flags slot e)
+
+pub going_length : (only : Option ℕ) (flags : List Bool) → length (may_go only flags) ≡ length flags
+going_length None flags = refl
+going_length (Some only) flags =
+    length-set (map (λ (flag : Bool). false) flags) only (slice_index_or flags only false)
+    ∙ length-map flags (λ (flag : Bool). false)
 
 no_choice : {P : Type 0} (c : Choice) → ◌≡◌ {A = Option Choice} None (Some c) → P
 no_choice c e = cc
@@ -107,43 +169,71 @@ arrival_ahead time [] e = tt
 arrival_ahead time (arrival ∷ rest) e = grind (arith, nat_tests)
 
 -- when the next alarm becomes due, of a time with what the clock shows then
-abbrev pub alarm_time : ℕ → ℕ → List Own → Option ℕ
-alarm_time time now owns = option_map (λ left. time + left) (next_left now owns)
+abbrev pub alarm_time : Option ℕ → ℕ → ℕ → List Own → Option ℕ
+alarm_time only time now owns = option_map (λ left. time + left) (left_for only now owns)
 
 alarm_ahead : (w : World) → IsDueWhereNoneAreLeft → can_act w Alarm ≡ false
-    → Ahead w.clock.time (alarm_time w.clock.time (now_in w) (owns_in w))
-alarm_ahead w law none = by_left (next_left (now_in w) (owns_in w)) refl
+    → Ahead w.clock.time (alarm_time (only_in w) w.clock.time (now_in w) (owns_in w))
+alarm_ahead w law none = by_left (left_for (only_in w) (now_in w) (owns_in w)) refl
   where
     not_both : (b : Bool) → IsTrue b → b ≡ false → ⊥
     not_both true h e = cc
     not_both false h e = cc
 
-    by_left : (left : Option ℕ) → next_left (now_in w) (owns_in w) ≡ left
+    by_left : (left : Option ℕ) → left_for (only_in w) (now_in w) (owns_in w) ≡ left
         → Ahead w.clock.time (option_map (λ ticks. w.clock.time + ticks) left)
     by_left None e = tt
     by_left (Some zero) e =
-        absurd (not_both (is_some (due_slot (now_in w) (owns_in w))) ((law (now_in w) (owns_in w)).0 e) none)
+        absurd (not_both (is_some (due_for (only_in w) (now_in w) (owns_in w)))
+        ((law (only_in w) (now_in w) (owns_in w)).0 e) none)
     by_left (Some (suc ticks)) e = omega arith
 
-sending_ahead : (time : ℕ) (d : Devices) → (is_waited_for (slots_in Writes d.waiting) && nat_le d.line.free time)
-    ≡ false
-    → Ahead time (sending_time d)
-sending_ahead time d e = by_waiting (is_waited_for (slots_in Writes d.waiting)) e
+sending_ahead : (only : Option ℕ) (time : ℕ) (d : Devices)
+    → (waits_in only Writes d && nat_le (line_in (lane_by only) d).free time) ≡ false → Ahead time (sending_time only d)
+sending_ahead only time d e = by_waiting (waits_in only Writes d) (line_in (lane_by only) d).free e
   where
-    by_waiting : (b : Bool) → (b && nat_le d.line.free time) ≡ false → Ahead time (cond b (Some d.line.free) None)
-    by_waiting true f = grind (arith, nat_tests)
-    by_waiting false f = tt
+    by_waiting : (b : Bool) (free : ℕ) → (b && nat_le free time) ≡ false → Ahead time (cond b (Some free) None)
+    by_waiting true free f = grind (arith, nat_tests)
+    by_waiting false free f = tt
 
 -- the nearest time at which a device step becomes ready lies ahead, where none is
-pub lies_ahead : (w : World) → IsDueWhereNoneAreLeft → ready_device (ready_devices w) ≡ None
-    → IfSome (next_time w) (λ at. w.clock.time < at)
-lies_ahead w law none =
+work_ahead : (w : World) → IsDueWhereNoneAreLeft → ready_device (ready_devices w) ≡ None
+    → Ahead w.clock.time (work_of w).next
+work_ahead w law none =
     let n = none_acts w none in
-    let alarm = alarm_time w.clock.time (now_in w) (owns_in w) in
-    let sends = sending_time w.devices in
+    let only = only_in w in
+    let alarm = alarm_time only w.clock.time (now_in w) (owns_in w) in
+    let sends = sending_time only w.devices in
     nearer_ahead w.clock.time (arrival_time w.devices.arrivals) (nearer alarm sends)
     (arrival_ahead w.clock.time w.devices.arrivals n.event)
-    (nearer_ahead w.clock.time alarm sends (alarm_ahead w law n.alarm) (sending_ahead w.clock.time w.devices n.uart))
+    (nearer_ahead w.clock.time alarm sends (alarm_ahead w law n.alarm)
+    (sending_ahead only w.clock.time w.devices n.uart))
+
+-- so does a window's end
+end_ahead : (time n : ℕ) → time < window_end time (suc n)
+end_ahead time n =
+    let more : time < time / suc n * suc n + suc n = lt-div-mul-add (omega arith) in
+    let split : (time / suc n + 1) * suc n ≡ time / suc n * suc n + suc n = grind arith in
+    omega (arith, more, split)
+
+-- so the time to which a pass leads lies ahead
+pub lies_ahead : (w : World) → IsDueWhereNoneAreLeft → ready_device (ready_devices w) ≡ None
+    → IfSome (next_time w) (λ at. w.clock.time < at)
+lies_ahead w law none = by_pace w.pace.window
+  where
+    ahead : Ahead w.clock.time (work_of w).next
+    ahead = work_ahead w law none
+
+    by_left : (n : ℕ) (b : Bool)
+        → Ahead w.clock.time (if b then nearer (work_of w).next (Some (window_end w.clock.time (suc n))) else None)
+    by_left n true =
+        nearer_ahead w.clock.time (work_of w).next (Some (window_end w.clock.time (suc n))) ahead
+        (end_ahead w.clock.time n)
+    by_left n false = tt
+
+    by_pace : (window : ℕ) → Ahead w.clock.time (passes_to w window)
+    by_pace zero = ahead
+    by_pace (suc n) = by_left n (is_left w)
 
 module _ (w : World) (c : Choice) (law : IsDueWhereNoneAreLeft) (h : w.clock.steps < STEP_LIMIT) where
   by_time : (at : Option ℕ) → Ahead w.clock.time at → option_map (λ n. Pass (n - w.clock.time)) at ≡ Some c
@@ -167,7 +257,8 @@ module _ (w : World) (c : Choice) (law : IsDueWhereNoneAreLeft) (h : w.clock.ste
       let same : Run s ≡ c = cc in
       subst (λ (x : Choice). IsTrue (is_ready w x)) same
       (below_limit w (can_run (slice_get w.records s))
-      (ready_runs w.records s (next_slot_ready (ready_slots w) w.present.slot w.present.used w.pace.slice s e)) h)
+      (ready_runs w.records s (going_is_ready (only_in w) (map may_turn w.records) s
+      (next_slot_ready (ready_slots w) w.present.slot w.present.used w.pace.slice s e))) h)
 
   by_device : (o : Option Dev) → ready_device (ready_devices w) ≡ o
       → option_or (option_map Device o) (option_or

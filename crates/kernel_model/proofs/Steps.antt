@@ -24,7 +24,7 @@ use Rattle.kernel_model.specs.Turn.{TurnTrace, Turned, apply, is_act, is_turn, o
 use Rattle.kernel_model.specs.Calls.{restart}
 use Rattle.kernel_model.specs.World.{Answer, DeviceAnswer, DeviceStep, Devices, Label, Stepped, World, after, alarmed}
 use Rattle.kernel_model.specs.World.{answering, arrived, carried_out, coming_in, device_step_of, done, drawn_event}
-use Rattle.kernel_model.specs.World.{happens, labels, labels_of, labels_told, ran, random_step, receive_step, served_by}
+use Rattle.kernel_model.specs.World.{happens, labels, lane_in, labels_of, labels_told, ran, random_step, receive_step, served_by}
 use Rattle.kernel_model.specs.World.{acting_on, operating, serving, slot_of_name, storing, telling_edge}
 use Rattle.kernel_model.specs.World.{telling_nobody, transmitting, unmade}
 use Rattle.kernel_model.specs.Histories.{is_end, is_ended_in, turns_in}
@@ -158,10 +158,10 @@ of_answers w P none quietly edges each acts device =
       nobody = λ rest. quietly (with_rest w.devices rest);
       acts = λ verb rest. acts verb (with_rest w.devices rest);
       alarms = λ slot r is. each slot r is (alarmed w.settings w.clock.time w.devices) refl;
-      sends = λ slot r is. each slot r is (transmitting w.clock.time w.devices slot r) (sent_is_answer _);
-      receives = λ slot r is. each slot r is (receive_step w.devices slot r) refl;
-      draws = λ slot r is. each slot r is (random_step w.devices slot r) (drawn_is_answer _);
-      stores = λ slot r is. each slot r is (storing w.devices slot r) refl;
+      sends = λ slot r is. each slot r is (transmitting (lane_in w) w.clock.time w.devices slot r) (sent_is_answer _);
+      receives = λ slot r is. each slot r is (receive_step (lane_in w) w.devices slot r) refl;
+      draws = λ slot r first is. each slot r is (random_step (lane_in w) w.devices slot r) (drawn_is_answer _);
+      stores = λ slot r is. each slot r is (storing (lane_in w) w.devices slot r) refl;
     }) device
 
 -- what is told is no turn
@@ -223,12 +223,12 @@ device_answers w dev.Event = arrived_answers w w.devices.arrivals
 device_answers w dev.Alarm =
     serving_answers w (λ slot r. alarmed w.settings w.clock.time w.devices) (λ slot r. refl) (served_by w dev.Alarm)
 device_answers w dev.Uart =
-    serving_answers w (transmitting w.clock.time w.devices) (λ slot r. answer_no_turn _ (sent_is_answer _)) (served_by w dev.Uart)
+    serving_answers w (transmitting (lane_in w) w.clock.time w.devices) (λ slot r. answer_no_turn _ (sent_is_answer _)) (served_by w dev.Uart)
 device_answers w dev.Receive =
-    serving_answers w (receive_step w.devices) (λ slot r. refl) (served_by w dev.Receive)
+    serving_answers w (receive_step (lane_in w) w.devices) (λ slot r. refl) (served_by w dev.Receive)
 device_answers w dev.Random =
-    serving_answers w (random_step w.devices) (λ slot r. answer_no_turn _ (drawn_is_answer _)) (served_by w dev.Random)
-device_answers w dev.Store = serving_answers w (storing w.devices) (λ slot r. refl) (served_by w dev.Store)
+    serving_answers w (random_step (lane_in w) w.devices) (λ slot r. answer_no_turn _ (drawn_is_answer _)) (served_by w dev.Random)
+device_answers w dev.Store = serving_answers w (storing (lane_in w) w.devices) (λ slot r. refl) (served_by w dev.Store)
 
 -- each device that lets nothing come in tells answers alone
 abbrev pub AnswersOnly : (ℕ → Option Answer) → Type 0
@@ -257,12 +257,12 @@ only_answers w dev.Event apart = absurd (apart refl)
 only_answers w dev.Alarm apart =
     serving_only w (λ slot r. alarmed w.settings w.clock.time w.devices) (λ slot r. refl) (served_by w dev.Alarm)
 only_answers w dev.Uart apart =
-    serving_only w (transmitting w.clock.time w.devices) (λ slot r. sent_is_answer _) (served_by w dev.Uart)
+    serving_only w (transmitting (lane_in w) w.clock.time w.devices) (λ slot r. sent_is_answer _) (served_by w dev.Uart)
 only_answers w dev.Receive apart =
-    serving_only w (receive_step w.devices) (λ slot r. refl) (served_by w dev.Receive)
+    serving_only w (receive_step (lane_in w) w.devices) (λ slot r. refl) (served_by w dev.Receive)
 only_answers w dev.Random apart =
-    serving_only w (random_step w.devices) (λ slot r. drawn_is_answer _) (served_by w dev.Random)
-only_answers w dev.Store apart = serving_only w (storing w.devices) (λ slot r. refl) (served_by w dev.Store)
+    serving_only w (random_step (lane_in w) w.devices) (λ slot r. drawn_is_answer _) (served_by w dev.Random)
+only_answers w dev.Store apart = serving_only w (storing (lane_in w) w.devices) (λ slot r. refl) (served_by w dev.Store)
 
 -- what holds of each thing that a step may do to the process in a slot: of whether an operator's act ended a life of
 -- it, of what its turn tells, if it has one, and of its record afterwards

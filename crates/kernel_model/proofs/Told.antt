@@ -27,7 +27,7 @@ use Rattle.kernel_model.specs.Laws.{one_answered, quiet}
 use Rattle.kernel_model.specs.World.{Answer, DeviceAnswer, Devices, Label, Stepped, World, alarmed, answer_label}
 use Rattle.kernel_model.specs.World.{acting_on, answering, arrived, coming_in, device_step_of, done, edge_told, happens}
 use Rattle.kernel_model.specs.World.{labels_of}
-use Rattle.kernel_model.specs.World.{labels_told, random_step, receive_step, records_told, served_by, serving, storing}
+use Rattle.kernel_model.specs.World.{labels_told, lane_in, random_step, receive_step, records_told, served_by, serving, storing}
 use Rattle.kernel_model.specs.World.{operating, slot_of_name, telling_edge, telling_nobody, transmitting, unmade}
 
 -- there are as many records
@@ -161,7 +161,7 @@ module _ {Y : Type 0} (read : List Label → Y) (add : Label → Y → Y)
 
 -- the devices once bytes came in
 abbrev pub with_arrived : Devices → List ℕ → List Arrival → Devices
-with_arrived d bytes rest = record d { line = with_input bytes d.line; arrivals = rest }
+with_arrived d bytes rest = record d { lines = map (with_input bytes) d.lines; arrivals = rest }
 
 -- and once an edge did
 abbrev pub with_rest : Devices → List Arrival → Devices
@@ -272,25 +272,25 @@ pub record OfEachDevice (w : World) (P : Stepped → Type 0) : Type 0 where
   pub alarms : (slot : ℕ) (r : Record) → slice_get w.records slot ≡ Some r
       → P (one_answered w slot r (alarmed w.settings w.clock.time w.devices))
   pub sends : (slot : ℕ) (r : Record) → slice_get w.records slot ≡ Some r
-      → P (one_answered w slot r (transmitting w.clock.time w.devices slot r))
+      → P (one_answered w slot r (transmitting (lane_in w) w.clock.time w.devices slot r))
   pub receives : (slot : ℕ) (r : Record) → slice_get w.records slot ≡ Some r
-      → P (one_answered w slot r (receive_step w.devices slot r))
-  pub draws : (slot : ℕ) (r : Record) → slice_get w.records slot ≡ Some r
-      → P (one_answered w slot r (random_step w.devices slot r))
+      → P (one_answered w slot r (receive_step (lane_in w) w.devices slot r))
+  pub draws : (slot : ℕ) (r : Record) → served_by w dev.Random ≡ Some slot → slice_get w.records slot ≡ Some r
+      → P (one_answered w slot r (random_step (lane_in w) w.devices slot r))
   pub stores : (slot : ℕ) (r : Record) → slice_get w.records slot ≡ Some r
-      → P (one_answered w slot r (storing w.devices slot r))
+      → P (one_answered w slot r (storing (lane_in w) w.devices slot r))
 
 module _ (w : World) (P : Stepped → Type 0) (none : P (unmade w)) where
-  of_serving : (answer : ℕ → Record → DeviceAnswer)
-      → ((slot : ℕ) (r : Record) → slice_get w.records slot ≡ Some r → P (one_answered w slot r (answer slot r)))
-      → (served : Option ℕ) → P (done w (serving w answer served))
-  of_serving answer each None = none
-  of_serving answer each (Some slot) = by_record (slice_get w.records slot) refl
+  of_serving : (answer : ℕ → Record → DeviceAnswer) (served : Option ℕ)
+      → ((slot : ℕ) (r : Record) → served ≡ Some slot → slice_get w.records slot ≡ Some r
+      → P (one_answered w slot r (answer slot r))) → P (done w (serving w answer served))
+  of_serving answer None each = none
+  of_serving answer (Some slot) each = by_record (slice_get w.records slot) refl
     where
       by_record : (o : Option Record) → slice_get w.records slot ≡ o
           → P (done w (option_map (λ (r : Record). answering slot (answer slot r)) o))
       by_record None e = none
-      by_record (Some r) e = subst P (sym (done_one w slot (answer slot r) r e)) (each slot r e)
+      by_record (Some r) e = subst P (sym (done_one w slot (answer slot r) r e)) (each slot r refl e)
 
   of_arrived : ((bytes : List ℕ) (rest : List Arrival) → P (quiet w (with_arrived w.devices bytes rest)))
       → ((button : ℕ) (pressed : Bool) (rest : List Arrival)
@@ -335,13 +335,18 @@ pub of_device : (w : World) (P : Stepped → Type 0) → OfEachDevice w P → (d
 of_device w P each dev.Event =
     of_arrived w P each.none each.arrives each.edges each.nobody each.acts w.devices.arrivals
 of_device w P each dev.Alarm =
-    of_serving w P each.none (λ slot r. alarmed w.settings w.clock.time w.devices) each.alarms (served_by w dev.Alarm)
+    of_serving w P each.none (λ slot r. alarmed w.settings w.clock.time w.devices) (served_by w dev.Alarm)
+    (λ slot r first. each.alarms slot r)
 of_device w P each dev.Uart =
-    of_serving w P each.none (transmitting w.clock.time w.devices) each.sends (served_by w dev.Uart)
+    of_serving w P each.none (transmitting (lane_in w) w.clock.time w.devices) (served_by w dev.Uart)
+    (λ slot r first. each.sends slot r)
 of_device w P each dev.Receive =
-    of_serving w P each.none (receive_step w.devices) each.receives (served_by w dev.Receive)
-of_device w P each dev.Random = of_serving w P each.none (random_step w.devices) each.draws (served_by w dev.Random)
-of_device w P each dev.Store = of_serving w P each.none (storing w.devices) each.stores (served_by w dev.Store)
+    of_serving w P each.none (receive_step (lane_in w) w.devices) (served_by w dev.Receive)
+    (λ slot r first. each.receives slot r)
+of_device w P each dev.Random =
+    of_serving w P each.none (random_step (lane_in w) w.devices) (served_by w dev.Random) each.draws
+of_device w P each dev.Store =
+    of_serving w P each.none (storing (lane_in w) w.devices) (served_by w dev.Store) (λ slot r first. each.stores slot r)
 
 -- so it is with each device's step
 comes_to : (w : World) (device : Dev) → ComesTo w (done w (device_step_of w device))
@@ -358,10 +363,10 @@ comes_to w device =
       nobody = λ rest. inr (inl (with_rest w.devices rest, refl));
       acts = λ verb rest slot r is. answers slot r is (operating verb (with_rest w.devices rest) slot r);
       alarms = λ slot r is. answers slot r is (alarmed w.settings w.clock.time w.devices);
-      sends = λ slot r is. answers slot r is (transmitting w.clock.time w.devices slot r);
-      receives = λ slot r is. answers slot r is (receive_step w.devices slot r);
-      draws = λ slot r is. answers slot r is (random_step w.devices slot r);
-      stores = λ slot r is. answers slot r is (storing w.devices slot r);
+      sends = λ slot r is. answers slot r is (transmitting (lane_in w) w.clock.time w.devices slot r);
+      receives = λ slot r is. answers slot r is (receive_step (lane_in w) w.devices slot r);
+      draws = λ slot r first is. answers slot r is (random_step (lane_in w) w.devices slot r);
+      stores = λ slot r is. answers slot r is (storing (lane_in w) w.devices slot r);
     }) device
   where
     answers : (slot : ℕ) (r : Record) → slice_get w.records slot ≡ Some r → (a : DeviceAnswer)

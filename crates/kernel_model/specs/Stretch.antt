@@ -9,7 +9,7 @@ use Rattle.process_record.specs.declared.process.State.TheVariants.{Running}
 use Rattle.turn_scheduler.specs.RoundRobin.{next_slot, ready_device, used_after}
 use Rattle.kernel_model.specs.Record.{Record, instruction, with_effect}
 use Rattle.kernel_model.specs.Turn.{is_turn, turn_counted}
-use Rattle.kernel_model.specs.World.{World, Label}
+use Rattle.kernel_model.specs.World.{World, Label, is_let, only_at, only_in}
 use Rattle.kernel_model.specs.Run.{next, printed, ready_devices, ready_slots, round, told_first}
 
 -- a turn that made no call, wrote no flag and was not denied
@@ -75,7 +75,12 @@ abbrev pub IsNextOnTheWay : ℕ → World → ℕ → Record → Type 0
 IsNextOnTheWay k w slot r =
     (j : ℕ) → j < k → next (after_stretch j w slot (after_instructions j r)) ≡ Some (Run slot)
 
--- the round robin chooses the present slot on the way as long as no device step is ready, up to the end of its slice
+-- with time partitions the slot's window lasts on the way
+abbrev pub IsLetOnTheWay : ℕ → World → ℕ → Type 0
+IsLetOnTheWay k w slot = (j : ℕ) → j < k → is_let (only_at (w.clock.time + j) w.pace.window) slot ≡ true
+
+-- the round robin chooses the present slot on the way as long as no device step is ready, up to the end of its slice,
+-- and of its window
 abbrev pub PresentIsNextOnTheWay : Type 0
 PresentIsNextOnTheWay =
     (k slot : ℕ) (w : World) (r : Record)
@@ -84,6 +89,7 @@ PresentIsNextOnTheWay =
     → r.process.state ≡ Running
     → r.process.held ≡ false
     → w.present.used + k ≤ w.pace.slice
+    → IsLetOnTheWay k w slot
     → NoneActs k w slot r
     → IsNextOnTheWay k w slot r
 
@@ -102,7 +108,7 @@ RoundIsStretch =
     → IsNextOnTheWay k (at_turn w slot) slot r
     → IsStretch k w (after_stretch k (at_turn w slot) slot (after_instructions k r))
 
--- the present slot has the next turn of a process, where its process runs and its slice lasts
+-- the present slot has the next turn of a process, where its process runs, and its slice and its window last
 abbrev pub PresentStaysOn : Type 0
 PresentStaysOn =
     (w : World) (slot : ℕ) (r : Record)
@@ -111,6 +117,7 @@ PresentStaysOn =
     → r.process.state ≡ Running
     → r.process.held ≡ false
     → w.present.used < w.pace.slice
+    → is_let (only_in w) slot ≡ true
     → next_slot (ready_slots w) w.present.slot w.present.used w.pace.slice ≡ Some slot
 
 -- a run is one of its first steps, and then one of the others

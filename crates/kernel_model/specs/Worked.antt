@@ -78,14 +78,14 @@ board slice records = record {
   records = records;
   unplaced = [];
   settings = worked_settings;
-  pace = record { slice = slice };
+  pace = record { slice = slice; window = 0 };
   devices = record {
     waiting = record { writes = []; reads = []; randoms = []; stores = [] };
     leds = 0;
-    line = record { ring = []; ticks = 1; free = 0 };
+    lines = record { ring = []; ticks = 1; free = 0 } ∷ [];
     arrivals = [];
-    words = [];
-    served = 0;
+    words = [] ∷ [];
+    served = 0 ∷ [];
     faults = [];
   };
   clock = record { time = 0; steps = 0 };

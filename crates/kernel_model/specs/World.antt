@@ -1,10 +1,11 @@
 -- The world only routes: a step finds whose turn it is, or whom a device answers, and applies that event to that one
 -- record. Which steps there are, and what the devices do, is this board's own rule.
-use Rattle.std.specs.Prelude.{ℕ, suc, ◌+◌, ◌==◌, Bool, true, false, not, ◌&&◌, nat_le, nat_lt, if◌then◌else◌, List}
+use Rattle.std.specs.Prelude.{ℕ, zero, suc, ◌+◌, ◌==◌, Bool, true, false, not, ◌&&◌, nat_le, nat_lt, if◌then◌else◌, List}
 use Rattle.std.specs.Prelude.{[], ◌∷◌, ◌++◌, option_and_then, unwrap_or}
-use Rattle.std.specs.Prelude.{drop, filter, length, map, slice_get, slice_set, Option, None, Some, is_some}
+use Rattle.std.specs.Prelude.{drop, filter, length, map, slice_get, slice_index_or, slice_set, Option, None, Some}
+use Rattle.std.specs.Prelude.{is_some}
 use Rattle.std.specs.Option.{option_map}
-use Rattle.tk_base.specs.declared.limits.TheConstants.{STEP_LIMIT}
+use Rattle.tk_base.specs.declared.limits.TheConstants.{SLOT_COUNT, STEP_LIMIT}
 use Rattle.tk_base.specs.declared.process.Choice.{Choice}
 use Rattle.tk_base.specs.declared.process.Choice.TheVariants.{Run, Device, Pass}
 use Rattle.tk_base.specs.declared.process.Dev.{Dev}
@@ -15,11 +16,12 @@ use Rattle.process_record.specs.Summary.{Unplaced}
 use Rattle.process_record.specs.Lines.{list_text, slot_named}
 use Rattle.process_record.specs.Operator.{ends_by}
 use Rattle.turn_scheduler.specs.RoundRobin.{used_after}
+use Rattle.partition_turns.specs.Windows.{window_slot}
 use Rattle.kernel_model.specs.Record.{Record, slot_line_of}
 use Rattle.kernel_model.specs.declared.settings.Settings.{Settings}
 use Rattle.board_devices.specs.Arriving.{differs, first_arrival_time, is_time}
 use Rattle.board_devices.specs.Clock.{clock_at}
-use Rattle.board_devices.specs.SerialLine.{SerialLine, with_input}
+use Rattle.board_devices.specs.SerialLine.{SerialLine, line_at, with_input}
 use Rattle.board_devices.specs.Storage.{is_fault}
 use Rattle.script_text.specs.Settings.{ScriptEvent as Arrival, EventKind}
 use Rattle.script_text.specs.Settings as script
@@ -36,9 +38,11 @@ use Rattle.kernel_model.specs.Turn.{Act, Event, Turn, Alarmed, Edge, Taken, Writ
 use Rattle.kernel_model.specs.Turn.{TurnTrace, Turned, untraced}
 use Rattle.kernel_model.specs.Turn.{apply, flash_of, turned, may_turn}
 
--- what of the settings no process sees: how many turns a slice has
+-- what of the settings no process sees: how many turns a slice has; how many ticks a window has, 0 without time
+-- partitions
 pub record Pace : Type 0 where
   pub slice : ℕ
+  pub window : ℕ
 
 -- the slots that wait in each queue, the first one first
 pub record WaitingSlots : Type 0 where
@@ -47,16 +51,17 @@ pub record WaitingSlots : Type 0 where
   pub randoms : List ℕ
   pub stores : List ℕ
 
--- What the devices hold: the slots that wait; the LEDs, bit n for LED n; the serial line; what is still to come in, and
--- when, bytes, edges of buttons and an operator's acts; the random words that are left; how many storage requests were
--- served, and the numbers of those that fail
+-- What the devices hold: the slots that wait; the LEDs, bit n for LED n; what is still to come in, and when, bytes,
+-- edges of buttons and an operator's acts; the numbers of the storage requests that fail; and by lane the serial line,
+-- the random words that are left, and how many storage requests were served. There is one lane for all slots, or with
+-- time partitions one for each.
 pub record Devices : Type 0 where
   pub waiting : WaitingSlots
   pub leds : ℕ
-  pub line : SerialLine
+  pub lines : List SerialLine
   pub arrivals : List Arrival
-  pub words : List ℕ
-  pub served : ℕ
+  pub words : List (List ℕ)
+  pub served : List ℕ
   pub faults : List ℕ
 
 -- the time in ticks, and how many steps were made
@@ -126,6 +131,56 @@ pub record DeviceStep : Type 0 where
 abbrev pub answering : ℕ → DeviceAnswer → DeviceStep
 answering slot a = record { told = λ other. if other == slot then Some a.answer else None; devices = a.devices }
 
+-- the slot that alone is served at a time, where a window has so many ticks: that whose window it is; none without time
+-- partitions
+abbrev pub only_at : ℕ → ℕ → Option ℕ
+only_at time zero = None
+only_at time (suc n) = Some (window_slot time (suc n))
+
+-- the slot that alone is served with a slot, where a window has so many ticks: itself; none without time partitions
+abbrev pub only_for : ℕ → ℕ → Option ℕ
+only_for zero slot = None
+only_for (suc n) slot = Some slot
+
+-- how many lanes there are, where a window has so many ticks
+abbrev pub lane_count : ℕ → ℕ
+lane_count zero = 1
+lane_count (suc n) = SLOT_COUNT
+
+-- that of a world
+abbrev pub only_in : World → Option ℕ
+only_in w = only_at w.clock.time w.pace.window
+
+-- the lane by which devices serve: the one that there is, or that of the slot that alone is served
+abbrev pub lane_by : Option ℕ → ℕ
+lane_by only = unwrap_or only 0
+
+-- that of a world
+abbrev pub lane_in : World → ℕ
+lane_in w = lane_by (only_in w)
+
+-- the serial line of a lane
+abbrev pub line_in : ℕ → Devices → SerialLine
+line_in lane d = line_at lane d.lines
+
+-- the random words that are left in a lane
+abbrev pub words_in : ℕ → Devices → List ℕ
+words_in lane d = slice_index_or d.words lane []
+
+-- how many storage requests were served in a lane
+abbrev pub served_in : ℕ → Devices → ℕ
+served_in lane d = slice_index_or d.served lane 0
+
+-- whether a slot may be served: each may, or the one that alone is
+abbrev pub is_let : Option ℕ → ℕ → Bool
+is_let None slot = true
+is_let (Some only) slot = slot == only
+
+-- of some slots those that may be served
+abbrev pub may_serve : Option ℕ → List ℕ → List ℕ
+may_serve None slots = slots
+may_serve (Some only) slots = filter (λ slot. slot == only) slots
+
 -- the slots but one
 abbrev pub queue_without : ℕ → List ℕ → List ℕ
 queue_without slot slots = filter (λ s. not (s == slot)) slots
@@ -156,51 +211,58 @@ telling event d = record { answer = record { event = event; printed = [] }; devi
 abbrev pub alarmed : Settings → ℕ → Devices → DeviceAnswer
 alarmed settings time d = telling (Alarmed (clock_at settings.start time)) d
 
--- the UART takes the next bytes of the write of the process in a slot, or the write completes
-abbrev pub transmitting : ℕ → Devices → ℕ → Record → DeviceAnswer
-transmitting time d slot r =
+-- the UART of a lane takes the next bytes of the write of the process in a slot, or the write completes
+abbrev pub transmitting : ℕ → ℕ → Devices → ℕ → Record → DeviceAnswer
+transmitting lane time d slot r =
     let s = console.sent (flash_of r) r.own in
+    let line = line_in lane d in
+    let sent = record line { free = console.free_after time line.ticks s.printed line.free } in
     record {
       answer = record { event = if s.completed then WriteDone else Taken; printed = s.printed };
-      devices = record (after_answer Writes s.completed slot d) {
-        line = record d.line { free = console.free_after time d.line.ticks s.printed d.line.free };
-      };
+      devices = record (after_answer Writes s.completed slot d) { lines = slice_set d.lines lane sent };
     }
 
--- the bytes that came in go to the read of the process in a slot
-abbrev pub receive_step : Devices → ℕ → Record → DeviceAnswer
-receive_step d slot r =
-    let s = console.received d.line.ring r.own in
-    let line = record d.line { ring = drop (length s.moved) d.line.ring } in
-    telling (Input s.moved) (record (after_answer Reads s.completed slot d) { line = line })
+-- the bytes that came in on a lane go to the read of the process in a slot
+abbrev pub receive_step : ℕ → Devices → ℕ → Record → DeviceAnswer
+receive_step lane d slot r =
+    let line = line_in lane d in
+    let s = console.received line.ring r.own in
+    let rest = record line { ring = drop (length s.moved) line.ring } in
+    telling (Input s.moved) (record (after_answer Reads s.completed slot d) { lines = slice_set d.lines lane rest })
 
 -- the event of a word that was drawn, or of none
 abbrev pub drawn_event : Option ℕ → Event
 drawn_event drawn = unwrap_or (option_map Word drawn) NoWord
 
--- a word is drawn for the request of the process in a slot, or none
-abbrev pub random_step : Devices → ℕ → Record → DeviceAnswer
-random_step d slot r =
-    let a = random.answered (slice_get d.words 0) r.own in
-    let words = random.words_after a.drawn d.words in
+-- a word of a lane is drawn for the request of the process in a slot, or none
+abbrev pub random_step : ℕ → Devices → ℕ → Record → DeviceAnswer
+random_step lane d slot r =
+    let a = random.answered (slice_get (words_in lane d) 0) r.own in
+    let words = slice_set d.words lane (random.words_after a.drawn (words_in lane d)) in
     telling (drawn_event a.drawn) (record (after_answer Randoms a.completed slot d) { words = words })
 
--- the storage request of the process in a slot is served, or fails, by its number among all that were
-abbrev pub storing : Devices → ℕ → Record → DeviceAnswer
-storing d slot r =
-    let fails = is_fault d.faults (d.served + 1) in
+-- the storage request of the process in a slot is served, or fails, by its number among all that were in a lane
+abbrev pub storing : ℕ → Devices → ℕ → Record → DeviceAnswer
+storing lane d slot r =
+    let count = served_in lane d in
+    let fails = is_fault d.faults (count + 1) in
     let a = storage.answered fails (flash_of r) r.storage r.own in
-    let served = if a.completed then d.served + 1 else d.served in
+    let served = slice_set d.served lane (if a.completed then count + 1 else count) in
     telling (Stored (not fails)) (record (after_answer Stores a.completed slot d) { served = served })
 
--- whom a device serves: the lowest slot whose alarm is due, or the first of those that wait; what comes in is nobody's
+-- the first of those that wait in a queue and may be served
+abbrev pub first_in : Option ℕ → QueueName → Devices → Option ℕ
+first_in only queue d = slice_get (may_serve only (slots_in queue d.waiting)) 0
+
+-- whom a device serves: the lowest slot whose alarm is due, or the first of those that wait, of those that may be
+-- served; what comes in is nobody's
 abbrev pub served_by : World → Dev → Option ℕ
 served_by w dev.Event = None
-served_by w dev.Alarm = alarm.due_slot (now_in w) (owns_in w)
-served_by w dev.Uart = slice_get (slots_in Writes w.devices.waiting) 0
-served_by w dev.Receive = slice_get (slots_in Reads w.devices.waiting) 0
-served_by w dev.Random = slice_get (slots_in Randoms w.devices.waiting) 0
-served_by w dev.Store = slice_get (slots_in Stores w.devices.waiting) 0
+served_by w dev.Alarm = alarm.due_for (only_in w) (now_in w) (owns_in w)
+served_by w dev.Uart = first_in (only_in w) Writes w.devices
+served_by w dev.Receive = first_in (only_in w) Reads w.devices
+served_by w dev.Random = first_in (only_in w) Randoms w.devices
+served_by w dev.Store = first_in (only_in w) Stores w.devices
 
 -- what a device does for the process that it serves, by its record
 abbrev pub serving : World → (ℕ → Record → DeviceAnswer) → Option ℕ → Option DeviceStep
@@ -260,10 +322,10 @@ acting_on verb rs d None = telling_nobody d
 acting_on verb rs d (Some slot) =
     unwrap_or (option_map (λ r. answering slot (operating verb d slot r)) (slice_get rs slot)) (telling_nobody d)
 
--- what comes in: bytes, which tells nobody anything, and of those in the ring the newest are kept; an edge of a button;
--- or an operator's act on the process of a name
+-- what comes in: bytes, in every lane, which tells nobody anything, and of those in a ring the newest are kept; an edge
+-- of a button; or an operator's act on the process of a name
 abbrev pub coming_in : EventKind → List Record → Devices → DeviceStep
-coming_in (script.Input bytes) rs d = telling_nobody (record d { line = with_input bytes d.line })
+coming_in (script.Input bytes) rs d = telling_nobody (record d { lines = map (with_input bytes) d.lines })
 coming_in (script.Press button) rs d = telling_edge button true rs d
 coming_in (script.Release button) rs d = telling_edge button false rs d
 coming_in (script.Act verb name) rs d = acting_on verb rs d (slot_of_name name rs)
@@ -278,29 +340,34 @@ abbrev pub device_step_of : World → Dev → Option DeviceStep
 device_step_of w dev.Event = arrived w.records w.devices w.devices.arrivals
 device_step_of w dev.Alarm =
     serving w (λ slot r. alarmed w.settings w.clock.time w.devices) (served_by w dev.Alarm)
-device_step_of w dev.Uart = serving w (transmitting w.clock.time w.devices) (served_by w dev.Uart)
-device_step_of w dev.Receive = serving w (receive_step w.devices) (served_by w dev.Receive)
-device_step_of w dev.Random = serving w (random_step w.devices) (served_by w dev.Random)
-device_step_of w dev.Store = serving w (storing w.devices) (served_by w dev.Store)
+device_step_of w dev.Uart = serving w (transmitting (lane_in w) w.clock.time w.devices) (served_by w dev.Uart)
+device_step_of w dev.Receive = serving w (receive_step (lane_in w) w.devices) (served_by w dev.Receive)
+device_step_of w dev.Random = serving w (random_step (lane_in w) w.devices) (served_by w dev.Random)
+device_step_of w dev.Store = serving w (storing (lane_in w) w.devices) (served_by w dev.Store)
 
 -- whether one waits
 abbrev pub is_waited_for : List ℕ → Bool
 is_waited_for slots = not (length slots == 0)
 
--- Whether a device step is ready at a time, when the alarm's clock shows a tick: something is to come in; an alarm is
--- due; a write waits and the UART is free; a read waits and bytes came in; a request for random bytes waits; one for
--- storage waits.
-abbrev pub can_act_at : ℕ → ℕ → List Own → Devices → Dev → Bool
-can_act_at time now owns d dev.Event = is_time time d.arrivals
-can_act_at time now owns d dev.Alarm = is_some (alarm.due_slot now owns)
-can_act_at time now owns d dev.Uart = is_waited_for (slots_in Writes d.waiting) && nat_le d.line.free time
-can_act_at time now owns d dev.Receive = is_waited_for (slots_in Reads d.waiting) && not (length d.line.ring == 0)
-can_act_at time now owns d dev.Random = is_waited_for (slots_in Randoms d.waiting)
-can_act_at time now owns d dev.Store = is_waited_for (slots_in Stores d.waiting)
+-- whether one waits in a queue that may be served
+abbrev pub waits_in : Option ℕ → QueueName → Devices → Bool
+waits_in only queue d = is_waited_for (may_serve only (slots_in queue d.waiting))
 
--- when the UART is free again, where a write waits
-abbrev pub sending_time : Devices → Option ℕ
-sending_time d = if is_waited_for (slots_in Writes d.waiting) then Some d.line.free else None
+-- Whether a device step is ready at a time, when the alarm's clock shows a tick, of those that serve all slots, or one
+-- alone: something is to come in; an alarm is due; a write waits and the UART is free; a read waits and bytes came in; a
+-- request for random bytes waits; one for storage waits.
+abbrev pub can_act_at : Option ℕ → ℕ → ℕ → List Own → Devices → Dev → Bool
+can_act_at only time now owns d dev.Event = is_time time d.arrivals
+can_act_at only time now owns d dev.Alarm = is_some (alarm.due_for only now owns)
+can_act_at only time now owns d dev.Uart = waits_in only Writes d && nat_le (line_in (lane_by only) d).free time
+can_act_at only time now owns d dev.Receive =
+    waits_in only Reads d && not (length (line_in (lane_by only) d).ring == 0)
+can_act_at only time now owns d dev.Random = waits_in only Randoms d
+can_act_at only time now owns d dev.Store = waits_in only Stores d
+
+-- when the UART is free again, where a write waits that may be served
+abbrev pub sending_time : Option ℕ → Devices → Option ℕ
+sending_time only d = if waits_in only Writes d then Some (line_in (lane_by only) d).free else None
 
 -- What there is to do for the devices: which device steps are ready now; and the nearest time at which one becomes
 -- ready by itself: something comes in, an alarm becomes due, or the UART is free for a write that waits.
@@ -308,17 +375,18 @@ pub record Work : Type 0 where
   pub ready : Dev → Bool
   pub next : Option ℕ
 
--- the work at a time with what the clock shows then, by what processes keep and by the devices
-abbrev pub work_at : ℕ → ℕ → List Own → Devices → Work
-work_at time now owns d = record {
-  ready = can_act_at time now owns d;
+-- the work for all slots, or for one alone, at a time with what the clock shows then, by what processes keep and by the
+-- devices
+abbrev pub work_at : Option ℕ → ℕ → ℕ → List Own → Devices → Work
+work_at only time now owns d = record {
+  ready = can_act_at only time now owns d;
   next = nearer (first_arrival_time d.arrivals)
-      (nearer (option_map (λ left. time + left) (alarm.next_left now owns)) (sending_time d));
+      (nearer (option_map (λ left. time + left) (alarm.left_for only now owns)) (sending_time only d));
 }
 
 -- that of a world
 abbrev pub work_of : World → Work
-work_of w = work_at w.clock.time (now_in w) (owns_in w) w.devices
+work_of w = work_at (only_in w) w.clock.time (now_in w) (owns_in w) w.devices
 
 -- whether a device step is ready
 abbrev pub can_act : World → Dev → Bool

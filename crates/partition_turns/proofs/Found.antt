@@ -8,15 +8,15 @@ use Rattle.partition_turns.specs.LanesView.{LanesView}
 use Rattle.partition_turns.specs.Windows.{device_is_ready, device_order, device_in_window}
 
 -- what is found passes
-find-passes : {X : Type 0} (p : X → Bool) (xs : List X) (x : X) → find p xs ≡ Some x → p x ≡ true
+pub find-passes : {X : Type 0} (p : X → Bool) (xs : List X) (x : X) → find p xs ≡ Some x → p x ≡ true
 find-passes p [] x h = absurd (cc)
 find-passes {X} p (y ∷ ys) x h = by (p y) refl (find-passes p ys x) h where
   by : (b : Bool) → p y ≡ b → (find p ys ≡ Some x → p x ≡ true) → cond b (Some y) (find p ys) ≡ Some x → p x ≡ true
   by true e others h = let same : y ≡ x = cc in ap p (sym same) ∙ e
   by false e others h = others h
 
--- a slot for which nothing is left is passed over
-passes_first : (p : ℕ → Bool) (from n m : ℕ) → n ≡ suc m → p from ≡ false
+-- one that does not pass is passed over
+pub passes_first : (p : ℕ → Bool) (from n m : ℕ) → n ≡ suc m → p from ≡ false
     → find p (range_with_len from n) ≡ find p (range_with_len (from + 1) m)
 passes_first p from n m e f = rw (e, f) refl
 

@@ -1,5 +1,5 @@
 mod Rotation
-mod Found
+pub mod Found
 mod Passing
 mod Made
 mod Remaining

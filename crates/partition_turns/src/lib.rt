@@ -1,5 +1,4 @@
-//! Time partitions: whose window it is, and which step the board makes next in it. No board is run
-//! so yet.
+//! Time partitions: whose window it is, and which step the board makes next in it.
 #![tactic(auto)]
 
 mod choice;

@@ -1,9 +1,9 @@
 //! The source of random bytes, and who waits for it.
-ghost use Rattle.std.specs.Prelude.{◌≡◌, [], slice_get, IfSome, OnErr};
+ghost use Rattle.std.specs.Prelude.{◌≡◌, None, IfSome, OnErr};
 ghost use Rattle.driver_model.specs.Commands.{Randoms};
 ghost use Rattle.driver_model.specs.Random.{command, randoms as request_kind};
 ghost use Rattle.driver_requests.specs.Answers.{AnswersFirst};
-ghost use Rattle.driver_requests.specs.Waiting.{without};
+ghost use Rattle.driver_requests.specs.Waiting.{first_of, without};
 ghost use Rattle.driver_requests.specs.Asking.{MayAskAt, MayBeTold, Obeys, Replies};
 ghost use Rattle.random_capsule.specs.Answers.{answer_to};
 
@@ -14,7 +14,7 @@ use driver_requests::RequestQueue;
 use grant_enter::Home;
 use grant_values::RandomRequest;
 use syscall_abi::Reply;
-use tk_base::{CallRule, NotReady, ProcessId};
+use tk_base::{CallRule, NotReady, ProcessId, Slot};
 
 /// The source of random bytes.
 #[derive(Default, Drop)]
@@ -69,21 +69,26 @@ impl RandomCapsule {
         reply_of(self.obey(home, id, number, count))
     }
 
-    /// Answers the process that waits longest: a step of its request, with the next word where it
+    /// Answers the process that waits longest, or that of the one slot which is served: a step of its request, with the next word where it
     /// takes one. The process waits no more exactly where its request completed. Nothing of it
     /// changes where it is not there in that life, or has no request; and nothing of another slot.
     /// The answer is whom it served, and what it told it: the word that was drawn, or that none
-    /// was. [`NotReady`] comes exactly where none waits, and then nothing changes.
+    /// was. [`NotReady`] comes exactly where none waits that is served, and then nothing changes.
     ///
-    /// It asks that the slot of the first is one of the home's, and that its count of dropped
+    /// It asks that the slot of whom it serves is one of the home's, and that its count of dropped
     /// upcalls has room for one more.
-    pub fn answer(&mut self, home: &mut Home, words: &mut Words) -> Result<Answer, NotReady>
-        requires { IfSome (slice_get self.old.waiting 0) (MayBeTold home.old) }
-        ensures none { OnErr result (self.old.waiting ≡ []) }
-        ensures answers { AnswersFirst (answer_to words.old home.old) self.old.waiting words.old
+    pub fn answer(
+        &mut self,
+        home: &mut Home,
+        words: &mut Words,
+        only: Option<Slot>,
+    ) -> Result<Answer, NotReady>
+        requires { IfSome (first_of only self.old.waiting) (MayBeTold home.old) }
+        ensures none { OnErr result (first_of only self.old.waiting ≡ None) }
+        ensures answers { AnswersFirst only (answer_to words.old home.old) self.old.waiting words.old
             home.old result self.new.waiting words.new home.new }
     {
-        self.waiting.answer::<RandomCapsule>(home, words)
+        self.waiting.answer::<RandomCapsule>(home, words, only)
     }
 
     /// The process of an id ended, or starts again: no request of it waits any more. The others

@@ -1,6 +1,6 @@
 -- The first rule that a line breaks, from what was found of it.
 use Rattle.std.proofs.Common.{◌≡◌, ◌==◌, ◌&&◌, ℕ, Bool, true, false, cond, not, List, ◌∷◌, slice_index, Option, Some}
-use Rattle.std.proofs.Common.{None, is_none, refl, sym, ap, ◌∙◌}
+use Rattle.std.proofs.Common.{None, refl, sym, ap, ◌∙◌}
 use Rattle.std.specs.Option.{option_map_or}
 use Rattle.script_text.specs.declared.rule.ScriptRule.{ScriptRule}
 use Rattle.script_text.specs.declared.rule.ScriptRule.TheVariants.{UnknownWord, Words, BadNumber, BadHex, OutOfRange}
@@ -10,7 +10,7 @@ use Rattle.script_text.specs.declared.table.Form.{Form}
 use Rattle.script_text.specs.declared.table.Line.{Line}
 use Rattle.script_text.specs.Alone.{IsLine, broken_alone}
 use Rattle.script_text.specs.Rules.{skips, miscounts, misspells, has_bad_hex, context_of, is_outside, is_single}
-use Rattle.script_text.specs.Rules.{disorders, exceeds, breaks_rule, broken}
+use Rattle.script_text.specs.Rules.{is_unknown, disorders, exceeds, breaks_rule, broken}
 use Rattle.script_text.specs.Said.{settings, stands}
 use Rattle.script_text.specs.Table.{row, line_of}
 use Rattle.script_text.specs.Text.{words}
@@ -28,7 +28,8 @@ first_of skipped unknown counts spells hex outside again order many =
 
 abbrev broken_at : List (List ℕ) → List (List ℕ) → Bool → Option Line → Option ScriptRule
 broken_at before ws skipped line =
-    first_of skipped (is_none line) (option_map_or (breaks_rule Words before ws) line false)
+    first_of skipped (option_map_or (breaks_rule UnknownWord before ws) line true)
+    (option_map_or (breaks_rule Words before ws) line false)
     (option_map_or (breaks_rule BadNumber before ws) line false)
     (option_map_or (breaks_rule BadHex before ws) line false)
     (option_map_or (breaks_rule OutOfRange before ws) line false)
@@ -49,18 +50,25 @@ pub skipped_is_whole : (before : List (List ℕ)) (text : List ℕ) → skips (w
 skipped_is_whole before text h =
     broken_is before text ∙ ap (λ s. broken_at before (words text) s (line_of (words text))) h
 
--- the rules that a line of the table may break
+-- the first rule that a line of the table breaks, from whether it is unknown
+abbrev of_line : List (List ℕ) → List (List ℕ) → Line → Bool → Option ScriptRule
+of_line before ws line unknown =
+    first_of false unknown (miscounts (row line).form ws) (misspells (row line).form ws)
+    (has_bad_hex (row line).form ws) (is_outside (context_of (settings before)) (row line).form ws)
+    (is_single line && stands line before) (disorders line (settings before) ws) (exceeds line (settings before) ws)
+
 broken_by : (before : List (List ℕ)) (text : List ℕ) (line : Line) → skips (words text) ≡ false
     → line_of (words text) ≡ Some line
-    → broken before text
-    ≡ first_of false false (miscounts (row line).form (words text)) (misspells (row line).form (words text))
-    (has_bad_hex (row line).form (words text))
-    (is_outside (context_of (settings before)) (row line).form (words text))
-    (is_single line && stands line before) (disorders line (settings before) (words text))
-    (exceeds line (settings before) (words text))
+    → broken before text ≡ of_line before (words text) line (is_unknown (context_of (settings before)) line)
 broken_by before text line s l =
     broken_is before text
     ∙ (ap (λ b. broken_at before (words text) b (line_of (words text))) s ∙ ap (broken_at before (words text) false) l)
+
+-- the same of a line that is known
+known_by : (before : List (List ℕ)) (text : List ℕ) (line : Line) → skips (words text) ≡ false
+    → line_of (words text) ≡ Some line → is_unknown (context_of (settings before)) line ≡ false
+    → broken before text ≡ of_line before (words text) line false
+known_by before text line s l k = broken_by before text line s l ∙ ap (of_line before (words text) line) k
 
 -- what is known of a line that begins with a word and is not skipped
 goes_on : (ws : List (List ℕ)) (w : List ℕ) (rest : List (List ℕ)) → ws ≡ w ∷ rest → (slice_index w 0 == 35) ≡ false
@@ -75,7 +83,14 @@ unknown_word text w rest context h e l before same =
     ∙ (ap (λ b. broken_at before (words text) b (line_of (words text))) (goes_on _ w rest h e)
     ∙ ap (broken_at before (words text) false) l)
 
--- the rules that look at the line alone come first
+pub not_known : (text w : List ℕ) (rest : List (List ℕ)) (line : Line) (context : Context) → words text ≡ w ∷ rest
+    → (slice_index w 0 == 35) ≡ false → line_of (words text) ≡ Some line → is_unknown context line ≡ true
+    → (before : List (List ℕ)) → context_of (settings before) ≡ context → broken before text ≡ Some UnknownWord
+not_known text w rest line context h e l u before same =
+    broken_by before text line (goes_on _ w rest h e) l
+    ∙ ap (of_line before (words text) line) (ap (λ (c : Context). is_unknown c line) same ∙ u)
+
+-- the rules that look at a known line alone come first
 abbrev alone_of : Bool → Bool → Bool → Bool → Option ScriptRule
 alone_of counts spells hex outside =
     cond counts (Some Words) (cond spells (Some BadNumber)
@@ -98,22 +113,32 @@ breaks_no false false false false e = (refl, refl, refl, refl)
 
 pub bad_alone : (text w : List ℕ) (rest : List (List ℕ)) (line : Line) (form : Form) (context : Context)
     (rule : ScriptRule) → words text ≡ w ∷ rest → (slice_index w 0 == 35) ≡ false → line_of (words text) ≡ Some line
-    → form ≡ (row line).form → broken_alone context form (words text) ≡ Some rule → (before : List (List ℕ))
+    → is_unknown context line ≡ false → form ≡ (row line).form → broken_alone context form (words text) ≡ Some rule
+    → (before : List (List ℕ))
     → context_of (settings before) ≡ context → broken before text ≡ Some rule
-bad_alone text w rest line form context rule h e l f b before same =
+bad_alone text w rest line form context rule h e l k f b before same =
     let ws = words text in
-    broken_by before text line (goes_on _ w rest h e) l
+    known_by before text line (goes_on _ w rest h e) l (ap (λ (c : Context). is_unknown c line) same ∙ k)
     ∙ come_first _ _ _ _ _ _ _ rule (ap (λ k. broken_alone (context_of (settings before)) k ws) (sym f)
     ∙ ap (λ (c : Context). broken_alone c form ws) same ∙ b)
 
 pub good_alone : (text w : List ℕ) (rest : List (List ℕ)) (line : Line) (form : Form) (context : Context)
     → words text ≡ w ∷ rest → (slice_index w 0 == 35) ≡ false → line_of (words text) ≡ Some line
-    → form ≡ (row line).form → broken_alone context form (words text) ≡ None → IsLine context (words text) line
-good_alone text w rest line form context h e l f b =
+    → is_unknown context line ≡ false → form ≡ (row line).form → broken_alone context form (words text) ≡ None
+    → IsLine context (words text) line
+good_alone text w rest line form context h e l k f b =
     let ws = words text in
     let none = breaks_no (miscounts (row line).form ws) (misspells (row line).form ws) (has_bad_hex (row line).form ws)
-    (is_outside context (row line).form ws) (ap (λ k. broken_alone context k ws) (sym f) ∙ b) in
-    record { goes_on = goes_on _ w rest h e; is = l; counted = none.0; spelled = none.1; hex = none.2; within = none.3 }
+    (is_outside context (row line).form ws) (ap (λ f. broken_alone context f ws) (sym f) ∙ b) in
+    record {
+      goes_on = goes_on _ w rest h e;
+      is = l;
+      known = k;
+      counted = none.0;
+      spelled = none.1;
+      hex = none.2;
+      within = none.3;
+    }
 
 -- a line of the table breaks one of the rules that look at those before it, or none
 abbrev pub last_of : Bool → Bool → Bool → Option ScriptRule
@@ -125,6 +150,6 @@ pub broken_after : (before : List (List ℕ)) (text : List ℕ) (line : Line)
     ≡ last_of (is_single line && stands line before) (disorders line (settings before) (words text))
     (exceeds line (settings before) (words text))
 broken_after before text line h =
-    broken_by before text line h.goes_on h.is ∙ rw (h.counted, h.spelled, h.hex, h.within) refl
+    known_by before text line h.goes_on h.is h.known ∙ rw (h.counted, h.spelled, h.hex, h.within) refl
 
-pub ruleset refusals = (unknown_word, bad_alone, good_alone)
+pub ruleset refusals = (unknown_word, not_known)

@@ -11,9 +11,10 @@ use Rattle.std.specs.Option.{option_map_or}
 use Rattle.std.specs.Str.{bytes_eq}
 use Rattle.fault_policy.specs.declared.Policy.TheVariants as policies
 use Rattle.script_text.specs.declared.table.Line.{Line}
-use Rattle.script_text.specs.declared.table.Line.TheVariants.{Ram, Leds, Buttons, Slice, Start, Uart, Storage}
-use Rattle.script_text.specs.declared.table.Line.TheVariants.{Stop, Restart, Threshold, FilterOpen, FilterStrict}
-use Rattle.script_text.specs.declared.table.Line.TheVariants.{StorageFault, Random, Input, Press, Release, Act}
+use Rattle.script_text.specs.declared.table.Line.TheVariants.{Ram, Leds, Buttons, Slice, Partition, Start, Uart}
+use Rattle.script_text.specs.declared.table.Line.TheVariants.{Storage, Stop, Restart, Threshold, FilterOpen}
+use Rattle.script_text.specs.declared.table.Line.TheVariants.{FilterStrict, StorageFault, Random, Input}
+use Rattle.script_text.specs.declared.table.Line.TheVariants.{Press, Release, Act}
 use Rattle.script_text.specs.Progress.{with_line, stood_in}
 use Rattle.script_text.specs.Rules.{is_single, skips}
 use Rattle.script_text.specs.Said.{lines_of, stands, settings, number_on, policy_on, policy_by, is_strict}
@@ -40,13 +41,14 @@ lines_more line before text =
     (filter (λ t. bytes_eq (word (words t) 0) (row line).name) before)
 
 -- the settings from the lines of each name
-abbrev assembled : (ram leds buttons slice start uart storage policies filters faults randoms events : List (List ℕ))
-    → ScriptSettings
-assembled ram leds buttons slice start uart storage policy filters faults randoms events = record {
+abbrev assembled : (ram leds buttons slice partition start uart storage : List (List ℕ))
+    (policies filters faults randoms events : List (List ℕ)) → ScriptSettings
+assembled ram leds buttons slice partition start uart storage policy filters faults randoms events = record {
   ram = slice_index_or (map number_on ram) 0 (row Ram).default;
   leds = slice_index_or (map number_on leds) 0 (row Leds).default;
   buttons = slice_index_or (map number_on buttons) 0 (row Buttons).default;
   slice = slice_index_or (map number_on slice) 0 (row Slice).default;
+  partition = slice_index_or (map number_on partition) 0 (row Partition).default;
   start = slice_index_or (map number_on start) 0 (row Start).default;
   uart = slice_index_or (map number_on uart) 0 (row Uart).default;
   storage = slice_index_or (map number_on storage) 0 (row Storage).default;
@@ -61,7 +63,8 @@ abbrev settings_at : List (List ℕ) → List ℕ → List ℕ → ScriptSetting
 settings_at before text first =
     assembled (more text first Ram (lines_of Ram before)) (more text first Leds (lines_of Leds before))
     (more text first Buttons (lines_of Buttons before))
-    (more text first Slice (lines_of Slice before)) (more text first Start (lines_of Start before))
+    (more text first Slice (lines_of Slice before)) (more text first Partition (lines_of Partition before))
+    (more text first Start (lines_of Start before))
     (more text first Uart (lines_of Uart before)) (more text first Storage (lines_of Storage before))
     (more text first Stop (lines_of Stop before)) (more text first FilterOpen (lines_of FilterOpen before))
     (more text first StorageFault (lines_of StorageFault before)) (more text first Random (lines_of Random before))
@@ -75,6 +78,7 @@ settings_more before text =
       lines_more Leds before text,
       lines_more Buttons before text,
       lines_more Slice before text,
+      lines_more Partition before text,
       lines_more Start before text,
       lines_more Uart before text,
       lines_more Storage before text,
@@ -96,7 +100,8 @@ stood_from before text first =
     ∷ some (more text first Slice (lines_of Slice before)) ∷ some (more text first Start (lines_of Start before))
     ∷ some (more text first Uart (lines_of Uart before)) ∷ some (more text first Storage (lines_of Storage before))
     ∷ some (more text first Stop (lines_of Stop before))
-    ∷ some (more text first FilterOpen (lines_of FilterOpen before)) ∷ []
+    ∷ some (more text first FilterOpen (lines_of FilterOpen before))
+    ∷ some (more text first Partition (lines_of Partition before)) ∷ []
 
 stood_more : (before : List (List ℕ)) (text : List ℕ)
     → stood_in (before ++ text ∷ []) ≡ stood_from before text (word (words text) 0)
@@ -106,6 +111,7 @@ stood_more before text =
       lines_more Leds before text,
       lines_more Buttons before text,
       lines_more Slice before text,
+      lines_more Partition before text,
       lines_more Start before text,
       lines_more Uart before text,
       lines_more Storage before text,
@@ -125,6 +131,7 @@ stood_is Ram before = refl
 stood_is Leds before = refl
 stood_is Buttons before = refl
 stood_is Slice before = refl
+stood_is Partition before = refl
 stood_is Start before = refl
 stood_is Uart before = refl
 stood_is Storage before = refl
@@ -224,6 +231,9 @@ settings_with Buttons before text l s =
 settings_with Slice before text l s =
     by_name Slice before text l
     ∙ ap (λ n. record (settings before) { slice = n }) (first_number Slice before text s)
+settings_with Partition before text l s =
+    by_name Partition before text l
+    ∙ ap (λ n. record (settings before) { partition = n }) (first_number Partition before text s)
 settings_with Start before text l s =
     by_name Start before text l
     ∙ ap (λ n. record (settings before) { start = n }) (first_number Start before text s)
@@ -274,6 +284,8 @@ stood_with Leds before text l = stood_by_name Leds before text l ∙ rw (stands_
 stood_with Buttons before text l =
     stood_by_name Buttons before text l ∙ rw (stands_now (lines_of Buttons before) text) refl
 stood_with Slice before text l = stood_by_name Slice before text l ∙ rw (stands_now (lines_of Slice before) text) refl
+stood_with Partition before text l =
+    stood_by_name Partition before text l ∙ rw (stands_now (lines_of Partition before) text) refl
 stood_with Start before text l = stood_by_name Start before text l ∙ rw (stands_now (lines_of Start before) text) refl
 stood_with Uart before text l = stood_by_name Uart before text l ∙ rw (stands_now (lines_of Uart before) text) refl
 stood_with Storage before text l =
@@ -316,6 +328,7 @@ settings_skipped before text h =
       not_named ws Leds (λ b. refl) refl h,
       not_named ws Buttons (λ b. refl) refl h,
       not_named ws Slice (λ b. refl) refl h,
+      not_named ws Partition (λ b. refl) refl h,
       not_named ws Start (λ b. refl) refl h,
       not_named ws Uart (λ b. refl) refl h,
       not_named ws Storage (λ b. refl) refl h,
@@ -336,6 +349,7 @@ stood_skipped before text h =
       not_named ws Leds (λ b. refl) refl h,
       not_named ws Buttons (λ b. refl) refl h,
       not_named ws Slice (λ b. refl) refl h,
+      not_named ws Partition (λ b. refl) refl h,
       not_named ws Start (λ b. refl) refl h,
       not_named ws Uart (λ b. refl) refl h,
       not_named ws Storage (λ b. refl) refl h,

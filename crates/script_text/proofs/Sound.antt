@@ -15,15 +15,16 @@ use Rattle.tk_base.specs.declared.limits.TheConstants.{BUTTON_LIMIT, BYTE_TICKS_
 use Rattle.tk_base.specs.declared.limits.TheConstants.{INPUT_LIMIT}
 use Rattle.tk_base.specs.declared.limits.TheConstants.{LED_LIMIT, NAME_LIMIT, RAM_LEAST, RAM_LIMIT, RAM_UNIT}
 use Rattle.tk_base.specs.declared.limits.TheConstants.{SLICE_LIMIT}
-use Rattle.tk_base.specs.declared.limits.TheConstants.{STORAGE_LIMIT, WORD_LIMIT}
+use Rattle.tk_base.specs.declared.limits.TheConstants.{STORAGE_LIMIT, WINDOW_LIMIT, WORD_LIMIT}
 use Rattle.fault_policy.specs.declared.Policy.{Policy}
 use Rattle.fault_policy.specs.declared.Policy.TheVariants as policies
 use Rattle.decimal_number.specs.Number.{number}
 use Rattle.script_text.specs.declared.line.Context.{Context}
 use Rattle.script_text.specs.declared.table.Line.{Line}
-use Rattle.script_text.specs.declared.table.Line.TheVariants.{Ram, Leds, Buttons, Slice, Start, Uart, Storage}
-use Rattle.script_text.specs.declared.table.Line.TheVariants.{Stop, Restart, Threshold, FilterOpen, FilterStrict}
-use Rattle.script_text.specs.declared.table.Line.TheVariants.{StorageFault, Random, Input, Press, Release, Act}
+use Rattle.script_text.specs.declared.table.Line.TheVariants.{Ram, Leds, Buttons, Slice, Partition, Start, Uart}
+use Rattle.script_text.specs.declared.table.Line.TheVariants.{Storage, Stop, Restart, Threshold, FilterOpen}
+use Rattle.script_text.specs.declared.table.Line.TheVariants.{FilterStrict, StorageFault, Random, Input}
+use Rattle.script_text.specs.declared.table.Line.TheVariants.{Press, Release, Act}
 use Rattle.script_text.specs.Alone.{IsLine}
 use Rattle.script_text.specs.Progress.{with_line, stood_in}
 use Rattle.script_text.specs.Rules.{context_of, disorders, exceeds, is_hex}
@@ -186,6 +187,7 @@ without_range s start policy strict a = record {
   buttons = a.buttons;
   slice_least = a.slice_least;
   slice_most = a.slice_most;
+  partition = a.partition;
   uart = a.uart;
   storage = a.storage;
   faults = a.faults;
@@ -204,6 +206,7 @@ with_event s e kind few after a = record {
   buttons = a.buttons;
   slice_least = a.slice_least;
   slice_most = a.slice_most;
+  partition = a.partition;
   uart = a.uart;
   storage = a.storage;
   faults = a.faults;
@@ -223,6 +226,7 @@ sound_with Ram text s h d x a =
       slice_least =
           a.slice_least;
       slice_most = a.slice_most;
+      partition = a.partition;
       uart = a.uart;
       storage = a.storage;
       faults = a.faults;
@@ -239,6 +243,7 @@ sound_with Leds text s h d x a =
       slice_least = a.slice_least;
       slice_most =
           a.slice_most;
+      partition = a.partition;
       uart = a.uart;
       storage = a.storage;
       faults = a.faults;
@@ -252,6 +257,7 @@ sound_with Buttons text s h d x a =
       buttons = at_most 0 BUTTON_LIMIT (number (word (words text) 1)) (allowed _ _ h.within);
       slice_least = a.slice_least;
       slice_most = a.slice_most;
+      partition = a.partition;
       uart = a.uart;
       storage = a.storage;
       faults = a.faults;
@@ -267,9 +273,24 @@ sound_with Slice text s h d x a =
           at_least 1 SLICE_LIMIT (number (word (words text) 1)) (allowed _ _ h.within);
       slice_most =
           at_most 1 SLICE_LIMIT (number (word (words text) 1)) (allowed _ _ h.within);
+      partition = a.partition;
       uart = a.uart;
       storage =
           a.storage;
+      faults = a.faults;
+      words = a.words;
+      events = a.events;
+    }
+sound_with Partition text s h d x a =
+    record {
+      ram = a.ram;
+      leds = a.leds;
+      buttons = a.buttons;
+      slice_least = a.slice_least;
+      slice_most = a.slice_most;
+      partition = at_most 1 WINDOW_LIMIT (number (word (words text) 1)) (allowed _ _ h.within);
+      uart = a.uart;
+      storage = a.storage;
       faults = a.faults;
       words = a.words;
       events = a.events;
@@ -282,6 +303,7 @@ sound_with Uart text s h d x a =
       buttons = a.buttons;
       slice_least = a.slice_least;
       slice_most = a.slice_most;
+      partition = a.partition;
       uart =
           at_most 0 BYTE_TICKS_LIMIT (number (word (words text) 1)) (allowed _ _ h.within);
       storage = a.storage;
@@ -297,6 +319,7 @@ sound_with Storage text s h d x a =
       buttons = a.buttons;
       slice_least = a.slice_least;
       slice_most = a.slice_most;
+      partition = a.partition;
       uart =
           a.uart;
       storage = at_most 0 STORAGE_LIMIT (number (word (words text) 1)) (allowed _ _ h.within);
@@ -320,6 +343,7 @@ sound_with StorageFault text s h d x a =
       buttons = a.buttons;
       slice_least = a.slice_least;
       slice_most = a.slice_most;
+      partition = a.partition;
       uart =
           a.uart;
       storage = a.storage;
@@ -343,6 +367,7 @@ sound_with Random text s h d x a =
       buttons = a.buttons;
       slice_least = a.slice_least;
       slice_most = a.slice_most;
+      partition = a.partition;
       uart =
           a.uart;
       storage = a.storage;
@@ -371,14 +396,15 @@ sound_with Act text s h d x a =
     let ws = words text in with_event s (event_by Act ws) (permitted _ (neither _ _ h.within).0) x d a
 
 -- the settings of no lines
-pub said_at_first : (ram leds buttons slice start uart storage : ℕ) (ks ws : List ℕ) (es : List ScriptEvent)
+pub said_at_first : (ram leds buttons slice partition start uart storage : ℕ) (ks ws : List ℕ) (es : List ScriptEvent)
     → ram ≡ 65536 → leds ≡ 4 → buttons ≡ 0
-    → slice ≡ 100 → start ≡ 0 → uart ≡ 1 → storage ≡ 512 → ks ≡ [] → ws ≡ [] → es ≡ []
+    → slice ≡ 100 → partition ≡ 0 → start ≡ 0 → uart ≡ 1 → storage ≡ 512 → ks ≡ [] → ws ≡ [] → es ≡ []
     → ◌≡◌ {A = ScriptSettings} (record {
       ram = ram;
       leds = leds;
       buttons = buttons;
       slice = slice;
+      partition = partition;
       start = start;
       uart = uart;
       storage =
@@ -390,10 +416,11 @@ pub said_at_first : (ram leds buttons slice start uart storage : ℕ) (ks ws : L
       events = es;
     }) (settings [])
 unfolding lines_of
-said_at_first ram leds buttons slice start uart storage ks ws es a b g c d e f k w v =
-    rw (a, b, g, c, d, e, f, k, w, v) refl
+said_at_first ram leds buttons slice partition start uart storage ks ws es a b g c p d e f k w v =
+    rw (a, b, g, c, p, d, e, f, k, w, v) refl
 
-pub none_at_first : stood_in [] ≡ false ∷ false ∷ false ∷ false ∷ false ∷ false ∷ false ∷ false ∷ false ∷ []
+pub none_at_first : stood_in []
+    ≡ false ∷ false ∷ false ∷ false ∷ false ∷ false ∷ false ∷ false ∷ false ∷ false ∷ []
 unfolding lines_of
 none_at_first = refl
 
@@ -405,6 +432,7 @@ sound_at_first = record {
   buttons = omega arith;
   slice_least = omega arith;
   slice_most = omega arith;
+  partition = omega arith;
   uart = omega arith;
   storage = omega arith;
   faults = record { few = omega arith; least = All-nil (λ n. 1 ≤ n); rising = λ i l. absurd (omega arith) };

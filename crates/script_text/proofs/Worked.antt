@@ -22,6 +22,7 @@ nothing = record {
   leds = 4;
   buttons = 0;
   slice = 100;
+  partition = 0;
   start = 0;
   uart = 1;
   storage = 512;
@@ -104,6 +105,21 @@ buttons =
     )
     ∷ []
 
+-- time partitions, and what may stand with them
+partitions : List (List ℕ × ScriptSettings)
+partitions =
+    (codes "partition 4", record nothing { partition = 4 })
+    ∷ (codes "partition 1000000\nslice 2", record nothing { slice = 2; partition = 1000000 })
+    ∷ (
+      codes "buttons 2\npartition 1\nat 5 input 41",
+      record nothing {
+        buttons = 2;
+        partition = 1;
+        events = record { time = 5; kind = Input (0x41 ∷ []) } ∷ [];
+      },
+    )
+    ∷ []
+
 -- an operator's acts
 acts : List (List ℕ × ScriptSettings)
 acts = (
@@ -134,7 +150,8 @@ refused_for UnknownWord =
     ∷ (2, codes "leds 4\nat 5 output 00") ∷ (1, codes "filter closed") ∷ (1, codes "filter Open")
     ∷ (1, codes "filter shut now")
     ∷ (1, codes "at 5 hold 0") ∷ (1, codes "button 1") ∷ (1, codes "at 5 do kill blink")
-    ∷ (1, codes "at 5 do kill") ∷ []
+    ∷ (1, codes "at 5 do kill") ∷ (2, codes "partition 4\nbuttons 2") ∷ (2, codes "partition 4\nat 5 press x")
+    ∷ (3, codes "buttons 1\npartition 4\nat 5 release 0") ∷ (2, codes "partition 4\nat 5 do stop blink") ∷ []
 refused_for Words =
     (1, codes "ram") ∷ (1, codes "ram 4096 # x") ∷ (2, codes "ram 4096\nram\r\n") ∷ (1, codes "policy")
     ∷ (1, codes "policy threshold") ∷ (1, codes "policy stop 1") ∷ (1, codes "storage-fault 1 2")
@@ -155,17 +172,19 @@ refused_for OutOfRange =
     ∷ (1, codes "storage 4097") ∷ (1, codes "storage-fault 0") ∷ (1, codes "at 4294967296 input 41")
     ∷ (1, codes "buttons 17") ∷ (2, codes "buttons 2\nat 5 press 2") ∷ (1, codes "at 5 press 0")
     ∷ (1, codes "at 5 press 0\nbuttons 1") ∷ (2, codes "buttons 1\nat 4294967296 release 0")
+    ∷ (1, codes "partition 0") ∷ (1, codes "partition 1000001")
     ∷ (1, codes "at 5 do stop " ++ replicate 33 97) ∷ (1, codes "at 5 do stop \u{7f}") ∷ []
 refused_for Repeated =
     (2, codes "ram 8192\nram 8192") ∷ (3, codes "ram 65536\r\n#\r\nram 4096\r\nx")
     ∷ (2, codes "policy stop\npolicy restart") ∷ (3, codes "slice 1\nleds 4\nslice 1")
     ∷ (2, codes "filter strict\nfilter strict") ∷ (2, codes "filter open\nfilter strict")
-    ∷ (2, codes "buttons 1\nbuttons 1") ∷ []
+    ∷ (2, codes "buttons 1\nbuttons 1") ∷ (2, codes "partition 4\npartition 4") ∷ []
 refused_for Order =
     (2, codes "storage-fault 2\nstorage-fault 2") ∷ (2, codes "at 5 input 41\nat 4 input 41")
     ∷ (2, codes "at 5 input 41\nrandom 11223344") ∷ (2, codes "at 5 input 41\nfilter strict")
     ∷ (3, codes "buttons 1\nat 5 press 0\nat 4 release 0") ∷ (2, codes "at 5 input 41\nbuttons 1")
-    ∷ (3, codes "buttons 1\nat 5 release 0\nleds 1") ∷ (2, codes "at 5 do stop x\nleds 1") ∷ []
+    ∷ (3, codes "buttons 1\nat 5 release 0\nleds 1") ∷ (2, codes "at 5 do stop x\nleds 1")
+    ∷ (2, codes "at 5 input 41\npartition 4") ∷ []
 refused_for TooMany =
     (1, codes "at 5 input " ++ replicate 130 48) ∷ []
 
@@ -188,6 +207,10 @@ lists_are_read = refl
 buttons_are_read : AreRead buttons
 unfolding AreRead buttons nothing reading faults lines words broken lines_of line_of hex_bytes decode_pairs verb_of
 buttons_are_read = refl
+
+partitions_are_read : AreRead partitions
+unfolding AreRead partitions nothing reading faults lines words broken lines_of line_of hex_bytes decode_pairs verb_of
+partitions_are_read = refl
 
 acts_are_read : AreRead acts
 unfolding AreRead acts nothing reading faults lines words broken lines_of line_of hex_bytes decode_pairs verb_of

@@ -5,7 +5,8 @@ use Rattle.script_text.specs.declared.rule.ScriptRule.{ScriptRule}
 use Rattle.script_text.specs.declared.rule.ScriptRule.TheVariants.{Words, BadNumber, BadHex, OutOfRange}
 use Rattle.script_text.specs.declared.table.Form.{Form}
 use Rattle.script_text.specs.declared.table.Line.{Line}
-use Rattle.script_text.specs.Rules.{skips, miscounts, misspells, has_bad_hex, context_of, is_outside, broken}
+use Rattle.script_text.specs.Rules.{skips, miscounts, misspells, has_bad_hex, context_of, is_outside, is_unknown}
+use Rattle.script_text.specs.Rules.{broken}
 use Rattle.script_text.specs.Said.{settings}
 use Rattle.script_text.specs.Table.{row, line_of}
 use Rattle.script_text.specs.Text.{words}
@@ -23,6 +24,7 @@ broken_alone context form ws =
 pub record IsLine (context : Context) (ws : List (List ℕ)) (line : Line) : Type 0 where
   pub goes_on : skips ws ≡ false
   pub is : line_of ws ≡ Some line
+  pub known : is_unknown context line ≡ false
   pub counted : miscounts (row line).form ws ≡ false
   pub spelled : misspells (row line).form ws ≡ false
   pub hex : has_bad_hex (row line).form ws ≡ false

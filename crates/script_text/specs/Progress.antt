@@ -4,7 +4,8 @@ use Rattle.script_text.specs.declared.draft.Draft.TheInside.{Inside}
 use Rattle.script_text.specs.declared.draft.Trouble.{Trouble}
 use Rattle.script_text.specs.declared.draft.Trouble.TheVariants.{Breaks, Memory}
 use Rattle.script_text.specs.declared.table.Line.{Line}
-use Rattle.script_text.specs.declared.table.Line.TheVariants.{Ram, Leds, Buttons, Slice, Start, Uart, Storage, Stop}
+use Rattle.script_text.specs.declared.table.Line.TheVariants.{Ram, Leds, Buttons, Slice, Partition, Start, Uart}
+use Rattle.script_text.specs.declared.table.Line.TheVariants.{Storage, Stop}
 use Rattle.script_text.specs.declared.table.Line.TheVariants.{FilterOpen, FilterStrict, StorageFault, Random, Input}
 use Rattle.script_text.specs.declared.table.Line.TheVariants.{Press, Release, Act}
 use Rattle.decimal_number.specs.Number.{number}
@@ -25,6 +26,7 @@ drafted_by d = record {
     leds = d.leds;
     buttons = d.buttons;
     slice = d.slice;
+    partition = d.partition;
     start = d.start;
     uart = d.uart;
     storage = d.storage;
@@ -41,7 +43,7 @@ drafted_by d = record {
 abbrev pub stood_in : List (List ℕ) → List Bool
 stood_in all =
     stands Ram all ∷ stands Leds all ∷ stands Buttons all ∷ stands Slice all ∷ stands Start all ∷ stands Uart all
-    ∷ stands Storage all ∷ stands Stop all ∷ stands FilterOpen all ∷ []
+    ∷ stands Storage all ∷ stands Stop all ∷ stands FilterOpen all ∷ stands Partition all ∷ []
 
 -- a draft has what these lines say
 pub record DraftSays (before : List (List ℕ)) (draft : Drafted) : Type 0 where
@@ -55,6 +57,7 @@ with_line Ram ws said = record said { ram = number (word ws 1) }
 with_line Leds ws said = record said { leds = number (word ws 1) }
 with_line Buttons ws said = record said { buttons = number (word ws 1) }
 with_line Slice ws said = record said { slice = number (word ws 1) }
+with_line Partition ws said = record said { partition = number (word ws 1) }
 with_line Start ws said = record said { start = number (word ws 1) }
 with_line Uart ws said = record said { uart = number (word ws 1) }
 with_line Storage ws said = record said { storage = number (word ws 1) }

@@ -11,7 +11,7 @@ use Rattle.script_text.specs.declared.rule.ScriptRule.TheVariants.{UnknownWord, 
 use Rattle.script_text.specs.declared.rule.ScriptRule.TheVariants.{Repeated, Order, TooMany}
 use Rattle.script_text.specs.declared.table.Form.{Form}
 use Rattle.script_text.specs.declared.table.Line.{Line}
-use Rattle.script_text.specs.declared.table.Line.TheVariants.{StorageFault, Random, Input, Press, Release, Act}
+use Rattle.script_text.specs.declared.table.Line.TheVariants.{Buttons, StorageFault, Random, Input, Press, Release, Act}
 use Rattle.decimal_number.specs.Number.{is_number, number}
 use Rattle.script_text.specs.Settings.{ScriptSettings, is_name}
 use Rattle.script_text.specs.Table.{row, in_range, line_of}
@@ -46,9 +46,17 @@ abbrev pub has_bad_hex : Form → List (List ℕ) → Bool
 has_bad_hex form ws =
     option_map_or (λ h. is_some (find (λ w. not (is_hex h.digits w)) (drop h.place ws))) form.hex false
 
--- what a line is looked at by, where lines said this: how many buttons there are
+-- what a line is looked at by, where lines said this: how many buttons there are, and whether there are time partitions
 abbrev pub context_of : ScriptSettings → Context
-context_of said = record { buttons = said.buttons }
+context_of said = record { buttons = said.buttons; is_partitioned = nat_lt 0 said.partition }
+
+-- a line is not known: one of buttons or of an operator, where there are time partitions
+abbrev pub is_unknown : Context → Line → Bool
+is_unknown context Buttons = context.is_partitioned
+is_unknown context Press = context.is_partitioned
+is_unknown context Release = context.is_partitioned
+is_unknown context Act = context.is_partitioned
+is_unknown context line = false
 
 -- a name is none, a number is outside its range, or there is no such button
 abbrev pub is_outside : Context → Form → List (List ℕ) → Bool
@@ -92,7 +100,7 @@ exceeds line said ws = false
 
 -- a line of the table breaks a rule with its words, where these lines stand before it
 abbrev pub breaks_rule : ScriptRule → List (List ℕ) → List (List ℕ) → Line → Bool
-breaks_rule UnknownWord before ws line = false
+breaks_rule UnknownWord before ws line = is_unknown (context_of (settings before)) line
 breaks_rule Words before ws line = miscounts (row line).form ws
 breaks_rule BadNumber before ws line = misspells (row line).form ws
 breaks_rule BadHex before ws line = has_bad_hex (row line).form ws
@@ -103,7 +111,7 @@ breaks_rule TooMany before ws line = exceeds line (settings before) ws
 
 -- a line breaks a rule, where these lines stand before it
 abbrev pub breaks : ScriptRule → List (List ℕ) → List (List ℕ) → Bool
-breaks UnknownWord before ws = is_none (line_of ws)
+breaks UnknownWord before ws = option_map_or (breaks_rule UnknownWord before ws) (line_of ws) true
 breaks rule before ws = option_map_or (breaks_rule rule before ws) (line_of ws) false
 
 -- the rules in the order in which they count

@@ -3,9 +3,10 @@ use Rattle.std.specs.Prelude.{ℕ, true, false, Bool, List, slice_index_or, slic
 use Rattle.std.specs.Option.{option_map_or}
 use Rattle.script_text.specs.declared.table.Form.{Form}
 use Rattle.script_text.specs.declared.table.Line.{Line}
-use Rattle.script_text.specs.declared.table.Line.TheVariants.{Ram, Leds, Buttons, Slice, Start, Uart, Storage}
-use Rattle.script_text.specs.declared.table.Line.TheVariants.{Stop, Restart, Threshold, FilterOpen, FilterStrict}
-use Rattle.script_text.specs.declared.table.Line.TheVariants.{StorageFault, Random, Input, Press, Release, Act}
+use Rattle.script_text.specs.declared.table.Line.TheVariants.{Ram, Leds, Buttons, Slice, Partition, Start, Uart}
+use Rattle.script_text.specs.declared.table.Line.TheVariants.{Storage, Stop, Restart, Threshold, FilterOpen}
+use Rattle.script_text.specs.declared.table.Line.TheVariants.{FilterStrict, StorageFault, Random, Input}
+use Rattle.script_text.specs.declared.table.Line.TheVariants.{Press, Release, Act}
 use Rattle.script_text.specs.Table.{row}
 
 -- the place of a line among those that may not repeat
@@ -22,6 +23,7 @@ seat Restart = Some 7
 seat Threshold = Some 7
 seat FilterOpen = Some 8
 seat FilterStrict = Some 8
+seat Partition = Some 9
 seat StorageFault = None
 seat Random = None
 seat Input = None

@@ -4,7 +4,7 @@ use Rattle.std.specs.Prelude.{slice_index, is_none}
 use Rattle.std.specs.List.{All}
 use Rattle.tk_base.specs.declared.limits.TheConstants.{BUTTON_LIMIT, BYTE_TICKS_LIMIT, EVENT_LIMIT, FAULT_LIMIT}
 use Rattle.tk_base.specs.declared.limits.TheConstants.{INPUT_LIMIT, LED_LIMIT, NAME_LIMIT, SLICE_LIMIT}
-use Rattle.tk_base.specs.declared.limits.TheConstants.{STORAGE_LIMIT, WORD_LIMIT}
+use Rattle.tk_base.specs.declared.limits.TheConstants.{STORAGE_LIMIT, WINDOW_LIMIT, WORD_LIMIT}
 use Rattle.tk_base.specs.declared.process.Verb.{Verb}
 use Rattle.fault_policy.specs.declared.Policy.{Policy}
 use Rattle.tk_base.specs.Limits.{IsRamSize}
@@ -32,6 +32,8 @@ pub record ScriptSettings : Type 0 where
   pub buttons : ℕ
   -- how many turns a process has before the next one
   pub slice : ℕ
+  -- the ticks that the window of each slot has, or 0: there are no time partitions
+  pub partition : ℕ
   -- where the alarm's clock starts
   pub start : ℕ
   -- the ticks that the serial line takes for a byte
@@ -95,6 +97,7 @@ pub record AreSound (s : ScriptSettings) : Type 0 where
   pub buttons : s.buttons ≤ BUTTON_LIMIT
   pub slice_least : 1 ≤ s.slice
   pub slice_most : s.slice ≤ SLICE_LIMIT
+  pub partition : s.partition ≤ WINDOW_LIMIT
   pub uart : s.uart ≤ BYTE_TICKS_LIMIT
   pub storage : s.storage ≤ STORAGE_LIMIT
   pub faults : AreFaults s.faults

@@ -1,4 +1,5 @@
 -- The settings that a script shows. Only proofs use this.
+use Rattle.std.specs.Prelude.{unwrap_or}
 use Rattle.script_text.specs.declared.script.Script.TheInside.{Inside}
 use Rattle.script_text.specs.Settings.{AreSound, ScriptSettings}
 
@@ -8,6 +9,7 @@ settings_of s = record {
   leds = s.leds;
   buttons = s.buttons;
   slice = s.slice;
+  partition = unwrap_or s.partition 0;
   start = s.start;
   uart = s.uart;
   storage = s.storage;

@@ -5,15 +5,16 @@ use Rattle.std.specs.Prelude.{Option, Some, None, is_some}
 use Rattle.std.specs.Option.{option_map_or}
 use Rattle.std.specs.Str.{bytes_eq}
 use Rattle.tk_base.specs.declared.limits.TheConstants.{BUTTON_LIMIT, BYTE_TICKS_LIMIT, LED_LIMIT, RAM_LEAST}
-use Rattle.tk_base.specs.declared.limits.TheConstants.{RAM_LIMIT, RAM_UNIT, SLICE_LIMIT, STORAGE_LIMIT}
+use Rattle.tk_base.specs.declared.limits.TheConstants.{RAM_LIMIT, RAM_UNIT, SLICE_LIMIT, STORAGE_LIMIT, WINDOW_LIMIT}
 use Rattle.tk_base.specs.Verbs.{verb_of}
 use Rattle.script_text.specs.declared.table.Form.{Form}
 use Rattle.script_text.specs.declared.table.HexFrom.{HexFrom}
 use Rattle.script_text.specs.declared.table.Key.{Key as KeyWord}
 use Rattle.script_text.specs.declared.table.Line.{Line}
-use Rattle.script_text.specs.declared.table.Line.TheVariants.{Ram, Leds, Buttons, Slice, Start, Uart, Storage}
-use Rattle.script_text.specs.declared.table.Line.TheVariants.{Stop, Restart, Threshold, FilterOpen, FilterStrict}
-use Rattle.script_text.specs.declared.table.Line.TheVariants.{StorageFault, Random, Input, Press, Release, Act}
+use Rattle.script_text.specs.declared.table.Line.TheVariants.{Ram, Leds, Buttons, Slice, Partition, Start, Uart}
+use Rattle.script_text.specs.declared.table.Line.TheVariants.{Storage, Stop, Restart, Threshold, FilterOpen}
+use Rattle.script_text.specs.declared.table.Line.TheVariants.{FilterStrict, StorageFault, Random, Input}
+use Rattle.script_text.specs.declared.table.Line.TheVariants.{Press, Release, Act}
 use Rattle.script_text.specs.declared.table.NumberAt.{NumberAt}
 use Rattle.script_text.specs.declared.table.Range.{Range}
 use Rattle.script_text.specs.Text.{word}
@@ -21,8 +22,8 @@ use Rattle.script_text.specs.Text.{word}
 -- the lines of the table, in its order
 abbrev pub line_table : List Line
 line_table =
-    Ram ∷ Leds ∷ Buttons ∷ Slice ∷ Start ∷ Uart ∷ Storage ∷ Stop ∷ Restart ∷ Threshold ∷ FilterOpen ∷ FilterStrict
-    ∷ StorageFault ∷ Random ∷ Input ∷ Press ∷ Release ∷ Act ∷ []
+    Ram ∷ Leds ∷ Buttons ∷ Slice ∷ Partition ∷ Start ∷ Uart ∷ Storage ∷ Stop ∷ Restart ∷ Threshold
+    ∷ FilterOpen ∷ FilterStrict ∷ StorageFault ∷ Random ∷ Input ∷ Press ∷ Release ∷ Act ∷ []
 
 -- the word that tells a line from others of its name, and its place
 pub record Key : Type 0 where
@@ -92,6 +93,7 @@ row Ram = numbered (codes "ram") (record { least = RAM_LEAST; most = RAM_LIMIT; 
 row Leds = numbered (codes "leds") (from_to 0 LED_LIMIT) 4
 row Buttons = numbered (codes "buttons") (from_to 0 BUTTON_LIMIT) 0
 row Slice = numbered (codes "slice") (from_to 1 SLICE_LIMIT) 100
+row Partition = numbered (codes "partition") (from_to 1 WINDOW_LIMIT) 0
 row Start = numbered (codes "start") (from_to 0 4294967295) 0
 row Uart = numbered (codes "uart") (from_to 0 BYTE_TICKS_LIMIT) 1
 row Storage = numbered (codes "storage") (from_to 0 STORAGE_LIMIT) 512

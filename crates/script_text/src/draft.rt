@@ -1,5 +1,6 @@
 //! What the lines so far say.
-ghost use Rattle.std.specs.Prelude.{◌≡◌, ◌<◌, ◌≤◌, ◌++◌, ◌∷◌, ◌*◌, ◌/◌, true, false, nat_lt, length, map, drop, [], Some, None, IfOk};
+ghost use Rattle.std.specs.Prelude.{◌≡◌, ◌<◌, ◌≤◌, ◌++◌, ◌∷◌, ◌*◌, ◌/◌, true, false, nat_lt};
+ghost use Rattle.std.specs.Prelude.{length, map, drop, [], Some, None, IfOk, unwrap_or};
 ghost use Rattle.tk_base.specs.declared.limits.TheConstants.{INPUT_LIMIT, NAME_LIMIT};
 ghost use Rattle.decimal_number.specs.Number.{is_number, number};
 ghost use Rattle.script_text.specs.Kinds.{kind_of};
@@ -37,6 +38,7 @@ pub struct Draft {
     leds: u32,
     buttons: u32,
     slice: u32,
+    partition: u32,
     start: u32,
     uart: u32,
     storage: u32,
@@ -45,7 +47,7 @@ pub struct Draft {
     faults: ArrayVec<u32, FAULT_LIMIT>,
     words: Vec<u32>,
     events: Vec<TimedEvent>,
-    stood: [bool; 9],
+    stood: [bool; 10],
 }
 
 impl Model for Draft {
@@ -72,6 +74,7 @@ impl Line {
             Line::Storage => Some(6),
             Line::Stop | Line::Restart | Line::Threshold => Some(7),
             Line::FilterOpen | Line::FilterStrict => Some(8),
+            Line::Partition => Some(9),
             Line::StorageFault
             | Line::Random
             | Line::Input
@@ -197,6 +200,13 @@ fn name_at(text: &[u8]) -> ArrayVec<u8, NAME_LIMIT>
     name
 }
 
+/// The ticks of a window, where there are any.
+fn windows_of(ticks: u32) -> Option<u32>
+    ensures { unwrap_or result 0 ≡ ticks }
+{
+    if ticks == 0 { None } else { Some(ticks) }
+}
+
 impl Draft {
     ghost use Rattle.std.specs.Prelude.{◌≡◌, ◌≤◌, true, false, ℕ, List, [], IfOk};
     ghost use Rattle.script_text.specs.Alone.{IsLine};
@@ -215,6 +225,7 @@ impl Draft {
             leds: Line::Leds.row().default,
             buttons: Line::Buttons.row().default,
             slice: Line::Slice.row().default,
+            partition: Line::Partition.row().default,
             start: Line::Start.row().default,
             uart: Line::Uart.row().default,
             storage: Line::Storage.row().default,
@@ -223,7 +234,7 @@ impl Draft {
             faults: ArrayVec::new(),
             words: Vec::new(alloc),
             events: Vec::new(alloc),
-            stood: [false; 9],
+            stood: [false; 10],
         }
     }
 
@@ -243,6 +254,7 @@ impl Draft {
     {
         Context {
             buttons: self.buttons,
+            is_partitioned: self.partition > 0,
         }
     }
 
@@ -304,6 +316,7 @@ impl Draft {
             Line::Leds => self.leds = small_at(text, 1),
             Line::Buttons => self.buttons = small_at(text, 1),
             Line::Slice => self.slice = small_at(text, 1),
+            Line::Partition => self.partition = small_at(text, 1),
             Line::Start => self.start = small_at(text, 1),
             Line::Uart => self.uart = small_at(text, 1),
             Line::Storage => self.storage = small_at(text, 1),
@@ -371,6 +384,7 @@ impl Draft {
             leds: self.leds,
             buttons: self.buttons,
             slice: self.slice,
+            partition: windows_of(self.partition),
             start: self.start,
             uart: self.uart,
             storage: self.storage,

@@ -4,7 +4,8 @@ ghost use Rattle.std.specs.Prelude.{is_some, slice_index, IfSome};
 ghost use Rattle.hex.specs.Hex.{is_hex_digit};
 ghost use Rattle.decimal_number.specs.Number.{is_number, number};
 ghost use Rattle.script_text.specs.Alone.{Says, broken_alone};
-ghost use Rattle.script_text.specs.Rules.{has_digits, is_hex, miscounts, misspells, has_bad_hex, is_outside};
+ghost use Rattle.script_text.specs.Rules.{has_digits, is_hex, miscounts, misspells, has_bad_hex};
+ghost use Rattle.script_text.specs.Rules.{is_outside, is_unknown};
 ghost use Rattle.script_text.specs.Settings.{is_name, is_visible};
 ghost use Rattle.script_text.specs.Table.{in_range};
 ghost use Rattle.script_text.specs.Text.{words, word};
@@ -20,6 +21,8 @@ use tk_base::NAME_LIMIT;
 pub struct Context {
     /// The number of buttons.
     pub buttons: u32,
+    /// Whether there are time partitions.
+    pub is_partitioned: bool,
 }
 
 /// Whether a word begins a comment.
@@ -94,6 +97,19 @@ fn is_name(word: &[u8]) -> bool
     ensures { result ≡ is_name word.now }
 {
     !word.is_empty() && word.len() <= NAME_LIMIT && other_than_visible_in(word).is_none()
+}
+
+impl Line {
+    /// Whether it is not known: a line of buttons or of an operator, where there are time
+    /// partitions.
+    fn is_unknown(self, context: Context) -> bool
+        ensures { result ≡ is_unknown context self }
+    {
+        match self {
+            Line::Buttons | Line::Press | Line::Release | Line::Act => context.is_partitioned,
+            _ => false,
+        }
+    }
 }
 
 impl Range {
@@ -218,6 +234,9 @@ pub fn read_line(text: &[u8], context: Context) -> Result<Option<Line>, ScriptRu
     let Some(line) = line_in(text) else {
         return Err(ScriptRule::UnknownWord);
     };
+    if line.is_unknown(context) {
+        return Err(ScriptRule::UnknownWord);
+    }
     match line.row().form.broken_alone(context, text) {
         Some(rule) => Err(rule),
         None => Ok(Some(line)),

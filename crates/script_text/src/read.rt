@@ -29,6 +29,7 @@ fn bad(line: u32, rule: ScriptRule) -> ScriptError
 /// | `leds N` | 0 to 16 | 4 |
 /// | `buttons N` | 0 to 16 | 0 |
 /// | `slice N` | 1 to 1000000 | 100 |
+/// | `partition N` | 1 to 1000000 | no partitions |
 /// | `start N` | 0 to 4294967295 | 0 |
 /// | `uart N` | 0 to 1000 | 1 |
 /// | `storage N` | 0 to 4096 | 512 |
@@ -43,6 +44,8 @@ fn bad(line: u32, rule: ScriptRule) -> ScriptError
 /// How many buttons there are, an earlier `buttons` line says. NAME has 1 to 32 bytes, each from
 /// 0x21 to 0x7E. There are at most 4096 `at` lines, and T never falls from one to the next. They
 /// may repeat, and so may `storage-fault` and `random`; nothing but `at` stands after an `at`.
+/// After `partition` the lines of buttons and of an operator are not known: `buttons`, and `at`
+/// with `press`, `release` or `do`.
 ///
 /// [`ScriptError::Bad`] names the first line that breaks a rule, and the first rule that it breaks,
 /// in the order of [`ScriptRule`](crate::ScriptRule)'s variants. [`ScriptError::Memory`] comes only

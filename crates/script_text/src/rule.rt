@@ -8,7 +8,7 @@ use thiserror::Error;
 #[derive(Clone, Copy, Debug, PartialEq, Eq)]
 pub enum ScriptRule {
     /// The first word is not known, or that after `policy` or `filter`, or the third one after
-    /// `at`, or the verb after `do`.
+    /// `at`, or the verb after `do`; or, after `partition`, a line of buttons or of an operator.
     UnknownWord,
     /// The number of words is wrong.
     Words,

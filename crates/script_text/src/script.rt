@@ -96,6 +96,8 @@ pub struct Script {
     pub buttons: u32,
     /// How many turns a process has before the next one.
     pub slice: u32,
+    /// The ticks that the window of each slot has, at least one, where there are time partitions.
+    pub partition: Option<u32>,
     /// Where the alarm's clock starts.
     pub start: u32,
     /// The ticks that the serial line takes for a byte.

@@ -6,7 +6,7 @@ ghost use Rattle.script_text.specs.Text.{words};
 use crate::text::{word_at, word_count};
 use tk_base::{
     BUTTON_LIMIT, BYTE_TICKS_LIMIT, LED_LIMIT, RAM_LEAST, RAM_LIMIT, RAM_UNIT, SLICE_LIMIT,
-    STORAGE_LIMIT, Verb,
+    STORAGE_LIMIT, Verb, WINDOW_LIMIT,
 };
 
 /// A line of the table.
@@ -20,6 +20,8 @@ pub enum Line {
     Buttons,
     /// `slice N`: how many turns a process has before the next one.
     Slice,
+    /// `partition N`: how many ticks the window of each slot has.
+    Partition,
     /// `start N`: where the alarm's clock starts.
     Start,
     /// `uart N`: the ticks that the serial line takes for a byte.
@@ -51,11 +53,12 @@ pub enum Line {
 }
 
 /// The lines of the table, in its order.
-const TABLE: [Line; 18] = [
+const TABLE: [Line; 19] = [
     Line::Ram,
     Line::Leds,
     Line::Buttons,
     Line::Slice,
+    Line::Partition,
     Line::Start,
     Line::Uart,
     Line::Storage,
@@ -282,6 +285,7 @@ impl Line {
             Line::Leds => numbered(b"leds", from_to(0, LED_LIMIT as u64), 4),
             Line::Buttons => numbered(b"buttons", from_to(0, BUTTON_LIMIT as u64), 0),
             Line::Slice => numbered(b"slice", from_to(1, SLICE_LIMIT as u64), 100),
+            Line::Partition => numbered(b"partition", from_to(1, WINDOW_LIMIT as u64), 0),
             Line::Start => numbered(b"start", from_to(0, 4_294_967_295), 0),
             Line::Uart => numbered(b"uart", from_to(0, BYTE_TICKS_LIMIT as u64), 1),
             Line::Storage => numbered(b"storage", from_to(0, STORAGE_LIMIT as u64), 512),

@@ -8,18 +8,18 @@ use Rattle.driver_model.specs.Storage.{answered, unanswered}
 use Rattle.driver_model.specs.Told.{stored_told}
 use Rattle.driver_requests.specs.Answers.{Answered, kinds}
 use Rattle.driver_requests.specs.Asking.{in_life}
-use Rattle.storage_capsule.specs.Serving.{after_count, store_fails_next, storage_after}
+use Rattle.storage_capsule.specs.Serving.{store_fails_next, stored}
 
 -- the answer to the process of an id, none where it is not in that life; where a request completed the storage has
 -- counted it
 abbrev pub answer_to : Bytes → Homes → ProcessId → Answered Bytes
 answer_to s home id =
     let own = own_of home id.slot in
-    let served = answered (store_fails_next s) (flash_byte home.flash) (slot_bytes s id.slot) own in
+    let served = answered (store_fails_next id.slot s) (flash_byte home.flash) (slot_bytes s id.slot) own in
     let a = in_life id.life own served (unanswered own) in
     record {
-      kind = stored_told kinds (store_fails_next s);
+      kind = stored_told kinds (store_fails_next id.slot s);
       step = a.step;
-      device = if a.completed then storage_after id.slot a.written (after_count s) else s;
+      device = if a.completed then stored id.slot a.written s else s;
       completed = a.completed;
     }

@@ -1,11 +1,11 @@
 //! The storage, and who waits for it.
-ghost use Rattle.std.specs.Prelude.{◌≡◌, [], slice_get, IfSome, OnErr};
+ghost use Rattle.std.specs.Prelude.{◌≡◌, None, IfSome, OnErr};
 ghost use Rattle.grant_enter.specs.Homes.{own_of};
 ghost use Rattle.driver_model.specs.Commands.{Stores as InStores};
 ghost use Rattle.driver_model.specs.Lines.{IsWithin};
 ghost use Rattle.driver_model.specs.Storage.{command, storages};
 ghost use Rattle.driver_requests.specs.Answers.{AnswersFirst};
-ghost use Rattle.driver_requests.specs.Waiting.{without};
+ghost use Rattle.driver_requests.specs.Waiting.{first_of, without};
 ghost use Rattle.driver_requests.specs.Asking.{MayAskAt, MayBeTold, Obeys, Replies};
 ghost use Rattle.storage_capsule.specs.Answers.{answer_to};
 
@@ -16,7 +16,7 @@ use driver_requests::RequestQueue;
 use grant_enter::Home;
 use grant_values::{StorageKind, StorageRequest};
 use syscall_abi::Reply;
-use tk_base::{CallRule, NotReady, ProcessId};
+use tk_base::{CallRule, NotReady, ProcessId, Slot};
 
 /// The storage.
 #[derive(Default, Drop)]
@@ -90,7 +90,7 @@ impl StorageCapsule {
         reply_of(self.obey(home, size, id, number, a2, a3))
     }
 
-    /// Answers the process that waits longest: its request is served and completes, and the process
+    /// Answers the process that waits longest, or that of the one slot which is served: its request is served and completes, and the process
     /// waits no more. A read copies bytes of the slot's storage to the start of read-write buffer
     /// 0, and completes by upcall 0; a write copies bytes from the start of read-only buffer 0 over
     /// the slot's storage, and completes by upcall 1. As many are copied as were asked for, and no
@@ -98,21 +98,26 @@ impl StorageCapsule {
     /// storage counts the request among its faults nothing is copied, and the upcall has 0, 1 and
     /// 0. Nothing changes where the process is not there in that life, or has no request; and
     /// nothing of another slot. The answer is whom it served, and what it told it: that the request
-    /// was served, or failed. [`NotReady`] comes exactly where none waits, and then nothing
-    /// changes.
+    /// was served, or failed. [`NotReady`] comes exactly where none waits that is served, and then
+    /// nothing changes.
     ///
-    /// It asks that the slot of the first is one of the home's, that its count of dropped upcalls
+    /// It asks that the slot of whom it serves is one of the home's, that its count of dropped upcalls
     /// has room for one more, and that its request lies in a slot's storage, as
     /// [`StorageCapsule::command`] sees to.
-    pub fn answer(&mut self, home: &mut Home, stores: &mut Stores) -> Result<Answer, NotReady>
-        requires told { IfSome (slice_get self.old.waiting 0) (MayBeTold home.old) }
-        requires within { IfSome (slice_get self.old.waiting 0)
+    pub fn answer(
+        &mut self,
+        home: &mut Home,
+        stores: &mut Stores,
+        only: Option<Slot>,
+    ) -> Result<Answer, NotReady>
+        requires told { IfSome (first_of only self.old.waiting) (MayBeTold home.old) }
+        requires within { IfSome (first_of only self.old.waiting)
             (λ id. IsWithin stores.old.size (own_of home.old id.slot)) }
-        ensures none { OnErr result (self.old.waiting ≡ []) }
-        ensures answers { AnswersFirst (answer_to stores.old home.old) self.old.waiting stores.old
-            home.old result self.new.waiting stores.new home.new }
+        ensures none { OnErr result (first_of only self.old.waiting ≡ None) }
+        ensures answers { AnswersFirst only (answer_to stores.old home.old) self.old.waiting
+            stores.old home.old result self.new.waiting stores.new home.new }
     {
-        self.waiting.answer::<StorageCapsule>(home, stores)
+        self.waiting.answer::<StorageCapsule>(home, stores, only)
     }
 
     /// The process of an id ended, or starts again: no request of it waits any more. The others

@@ -21,7 +21,7 @@ impl Serve<StorageRequest> for StorageCapsule {
     /// whether it has one.
     #[tactic(auto, unfolding(driver_model::specs::Storage::answered))]
     fn serve(home: &mut Home, id: &ProcessId, stores: &mut Stores) -> Service {
-        let kind = Kind::Stored(!stores.fails_next());
+        let kind = Kind::Stored(!stores.fails_next(id.slot));
         let transfer = Transfer {
             stores,
             slot: id.slot,

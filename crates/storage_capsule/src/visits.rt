@@ -69,7 +69,7 @@ impl<'a> VisitRequest<StorageRequest> for Transfer<'a> {
         entered: &mut Entered<'_>,
     ) -> (&'a mut Stores, Option<StorageRequest>) {
         let Transfer { stores, slot } = self;
-        let fault = stores.count();
+        let fault = stores.count(slot);
         serve_request(entered, stores, slot, request, fault);
         (stores, None)
     }

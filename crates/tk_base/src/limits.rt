@@ -51,6 +51,9 @@ pub const STORAGE_LIMIT: u32 = 4_096;
 /// How many turns a process has at most before the next one has its turn.
 pub const SLICE_LIMIT: u32 = 1_000_000;
 
+/// How many ticks a window has at most.
+pub const WINDOW_LIMIT: u32 = 1_000_000;
+
 /// How many storage requests a script has fail at most.
 pub const FAULT_LIMIT: usize = 64;
 

@@ -3,10 +3,7 @@
 //! hands it the system's files and standard output.
 #![tactic(auto)]
 
-mod list;
-mod prepare;
-mod refusal;
 pub mod serve;
-mod words;
 
-pub use board_runs::{Mode, run_out};
+pub use board_runs::run_out;
+pub use run_text::Mode;

@@ -1,105 +1,93 @@
 //! The whole program over a shelf and a sink.
-ghost use Rattle.std.specs.Prelude.{◌≡◌, ◌≤◌, None, Some, OnOk, OnErr};
-ghost use Rattle.tk_outside.specs.Writes.{Writes};
-ghost use Rattle.kernel_model.specs.Run.{round};
-ghost use Rattle.board_runs.specs.RunText.{run_text};
-ghost use Rattle.tock_cli.specs.declared.words.TheConstants.{MOST_TURNS};
-ghost use Rattle.tock_cli.specs.Accounts.{RunIsAccountedFor};
-ghost use Rattle.tock_cli.specs.Words.{command_of};
-ghost use Rattle.tock_cli.specs.Comes.{left_by, task_text};
-ghost use Rattle.tock_cli.specs.Causes.{told_by};
-ghost use Rattle.tock_cli.specs.Ready.{IsFresh, task_of};
-ghost use Rattle.tock_cli.specs.Served.{Happens, RefusalIs, TaskIs, Serves, exit_status_of};
-ghost use Rattle.tock_cli.specs.Served.{sink_account};
+ghost use Rattle.std.specs.Prelude.{◌≡◌, ◌≤◌, length, None};
+ghost use Rattle.tk_base.specs.declared.limits.TheConstants.{FLASH_LIMIT};
+ghost use Rattle.board_opening.specs.Opening.{opening};
+ghost use Rattle.tool_words.specs.declared.words.TheConstants.{MOST_TURNS};
+ghost use Rattle.tool_words.specs.Words.{command_of};
+ghost use Rattle.tool_tasks.specs.Comes.{Running};
+ghost use Rattle.tool_tasks.specs.Causes.{told_by};
+ghost use Rattle.tool_tasks.specs.Ready.{IsWithinLimits, task_of};
+ghost use Rattle.tool_answers.specs.Accounts.{RunIsAccountedFor, RunIsPartitioned};
+ghost use Rattle.tool_answers.specs.Served.{Happens, TaskEnds, TaskIs, Serves, sink_account};
 
-use crate::list::list_out;
-use crate::prepare::{Ready, prepare};
-use crate::refusal::Refusal;
 use board_core::Board;
 use board_opening::runs_from_boot_are_accounted_for;
-use board_runs::{Mode, run_out};
+use board_partitions::partitions_from_boot_see_themselves_alone;
+use board_runs::run_out;
+use run_text::Mode;
+use script_text::Script;
 use std::alloc::Global;
-use tk_outside::{Failed, Shelf, Sink, put_all};
+use tk_outside::{Shelf, Sink};
+use tool_answers::{ServeOutcome, finish_image, finish_list, refuse};
+use tool_tasks::prepare::{Ready, prepare};
+use tool_words::Refusal;
 
-/// How the program ended.
-#[derive(Clone, Copy, Debug, PartialEq, Eq)]
-enum ServeOutcome {
-    /// The command's run was made, or its list or image was, and the whole of it written.
-    Done,
-    /// The command was refused.
-    Refused(Refusal),
-    /// Text could not be written.
-    SinkFailed,
-}
-
-impl ServeOutcome {
-    /// The answer of the program.
-    fn answer(self) -> u8
-        ensures { result ≡ exit_status_of self }
-    {
-        match self {
-            ServeOutcome::Done => 0,
-            ServeOutcome::Refused(refusal) => refusal.status(),
-            ServeOutcome::SinkFailed => 6,
-        }
-    }
-}
-
-/// Writes the line of a refusal.
-fn refuse<K: Sink>(refusal: Refusal, out: &mut K) -> ServeOutcome
-    ensures { RefusalIs (sink_account K.tells out.old out.new) refusal result }
-{
-    match refusal.write_line(out) {
-        Ok(()) => ServeOutcome::Refused(refusal),
-        Err(_) => ServeOutcome::SinkFailed,
-    }
-}
-
-/// Makes a run, and leaves its board where its whole text was written.
-fn write_run<K: Sink>(
+/// Makes a run of a board, and leaves the board where the whole text was written.
+fn finish_run<K: Sink>(
     mut board: Board,
     mode: Mode,
     turns: u32,
     out: &mut K,
     last: &mut Option<Board>,
-) -> Result<(), Failed>
+) -> ServeOutcome
     requires fresh { board.clock.steps ≡ 0 }
     requires within { turns ≤ MOST_TURNS }
-    ensures text { Writes K.tells out.old out.new (run_text mode turns board) result }
-    ensures left { OnOk result (last.new ≡ Some (round turns board).world) }
-    ensures same { OnErr result (last.new ≡ last.old) }
+    requires none { last.old ≡ None }
+    ensures { TaskIs (sink_account K.tells out.old out.new) (Running mode turns board) last.new
+        result }
 {
-    let written = run_out(&mut board, mode, turns, out);
-    if written.is_ok() {
-        *last = Some(board);
+    match run_out(&mut board, mode, turns, out) {
+        Ok(()) => {
+            *last = Some(board);
+            ServeOutcome::Done
+        }
+        Err(_) => ServeOutcome::SinkFailed,
     }
-    written
+}
+
+/// Makes the board of a flash image under a script, and its run.
+#[tactic(auto, unfolding(board_opening::specs::Opening::opening))]
+fn run<K: Sink>(
+    alloc: Global,
+    flash: Vec<u8>,
+    script: Script,
+    mode: Mode,
+    turns: u32,
+    out: &mut K,
+    last: &mut Option<Board>,
+) -> ServeOutcome
+    requires short { length flash.items ≤ FLASH_LIMIT }
+    requires within { turns ≤ MOST_TURNS }
+    requires none { last.old ≡ None }
+    ensures { TaskEnds (sink_account K.tells out.old out.new)
+        (Running mode turns (opening script flash.items)) last.new result }
+{
+    match Board::boot(alloc, flash, script) {
+        Ok(board) => finish_run(board, mode, turns, out, last),
+        Err(_) => refuse(Refusal::Memory, out),
+    }
 }
 
 /// Does what is left to do, and leaves the board of a run.
-fn write_task<K: Sink>(ready: Ready, out: &mut K, last: &mut Option<Board>) -> Result<(), Failed>
-    requires fresh { IsFresh ready }
+fn finish<K: Sink>(
+    alloc: Global,
+    ready: Ready,
+    out: &mut K,
+    last: &mut Option<Board>,
+) -> ServeOutcome
+    requires within { IsWithinLimits ready }
     requires none { last.old ≡ None }
-    ensures text { Writes K.tells out.old out.new (task_text (task_of ready)) result }
-    ensures left { OnOk result (last.new ≡ left_by (task_of ready)) }
-    ensures same { OnErr result (last.new ≡ None) }
+    ensures { TaskEnds (sink_account K.tells out.old out.new) (task_of ready) last.new result }
 {
     match ready {
-        Ready::Run { board, mode, turns } => write_run(board, mode, turns, out, last),
-        Ready::List { flash } => list_out(&flash, out),
-        Ready::Image { flash } => put_all(out, &flash),
-    }
-}
-
-/// The same, and says how it ended.
-fn finish<K: Sink>(ready: Ready, out: &mut K, last: &mut Option<Board>) -> ServeOutcome
-    requires fresh { IsFresh ready }
-    requires none { last.old ≡ None }
-    ensures { TaskIs (sink_account K.tells out.old out.new) (task_of ready) last.new result }
-{
-    match write_task(ready, out, last) {
-        Ok(()) => ServeOutcome::Done,
-        Err(_) => ServeOutcome::SinkFailed,
+        Ready::Run {
+            flash,
+            script,
+            mode,
+            turns,
+        } => run(alloc, flash, script, mode, turns, out, last),
+        Ready::List { flash } => finish_list(&flash, out),
+        Ready::Image { flash } => finish_image(&flash, out),
     }
 }
 
@@ -116,7 +104,7 @@ fn act<H: Shelf, K: Sink>(
 {
     *last = None;
     match prepare(alloc, words, shelf) {
-        Ok(ready) => finish(ready, out, last),
+        Ok(ready) => finish(alloc, ready, out, last),
         Err(refusal) => refuse(refusal, out),
     }
 }
@@ -137,7 +125,9 @@ fn act<H: Shelf, K: Sink>(
 /// the driver which answers it; one of its grants, above, is changed in its own turn or by an
 /// answer to it; one of its storage by a served request of its own. Each access was permitted, and
 /// each denial was due and names its address and rule; and the record of a process is what becomes
-/// of it alone, by its own turns and by what devices answer it, whatever others do.
+/// of it alone, by its own turns and by what devices answer it, whatever others do. Under a script
+/// with time partitions even the times of its turns and answers are: with any other image that has
+/// the same object in the same place of its slot they are the same.
 ///
 /// | Answer | Comes |
 /// |---|---|
@@ -148,7 +138,7 @@ fn act<H: Shelf, K: Sink>(
 /// | 5 | the script has no reading: the line names its first bad line and the first rule that this line breaks |
 /// | 6 | the sink's count of faults rose; a part of the text, image or line was written that lacks at least one byte |
 /// | 7 | there was no memory, before any text |
-/// | 8 | no image is made: the line names the first reason in the order of [`ImageFault`](crate::refusal::ImageFault); the first file that is refused decides |
+/// | 8 | no image is made: the line names the first reason in the order of [`ImageFault`](tool_words::ImageFault); the first file that is refused decides |
 pub fn serve<H: Shelf, K: Sink>(
     alloc: Global,
     words: &[String],
@@ -159,7 +149,10 @@ pub fn serve<H: Shelf, K: Sink>(
     ensures serves { Serves H.tells shelf.old shelf.new K.tells out.old out.new words.now last.new
         result }
     ensures run { RunIsAccountedFor (told_by H.tells shelf.old shelf.new) (command_of words.now) }
+    ensures partitions { RunIsPartitioned (told_by H.tells shelf.old shelf.new)
+        (command_of words.now) }
 {
     runs_from_boot_are_accounted_for();
+    partitions_from_boot_see_themselves_alone();
     act(alloc, words, shelf, out, last).answer()
 }

@@ -1,5 +1,5 @@
 -- What the next choice is in each case.
-use Rattle.std.proofs.Common.{◌≡◌, ℕ, ◌+◌, ◌-◌, ◌<◌, ◌≤◌, Bool, true, false, ◌&&◌, nat_lt, cond, List, [], ◌∷◌, find}
+use Rattle.std.proofs.Common.{◌≡◌, ℕ, ◌+◌, ◌-◌, ◌<◌, ◌≤◌, Bool, true, false, ◌&&◌, nat_lt, cond, List, find}
 use Rattle.std.proofs.Common.{Option, Some, None, refl, sym, ap, subst, ◌∙◌, ◌⊎◌, inl, inr, arith}
 use Rattle.std.specs.List.{range_with_len}
 use Rattle.std.specs.Option.{option_or, option_map}
@@ -10,20 +10,13 @@ use Rattle.tk_base.specs.declared.limits.TheConstants.{SLOT_COUNT}
 use Rattle.tk_base.specs.declared.process.Choice.{Choice}
 use Rattle.tk_base.specs.declared.process.Choice.TheVariants.{Run, Device, Pass}
 use Rattle.tk_base.specs.declared.process.Dev.{Dev}
+use Rattle.partition_turns.proofs.Found.{find-passes}
 use Rattle.turn_scheduler.specs.Situation.{Situation}
 use Rattle.turn_scheduler.specs.RoundRobin.{place_is_ready, device_place, device_order, slots_after, goes_on, next_slot}
 use Rattle.turn_scheduler.specs.RoundRobin.{ready_device, choice, IsNextAhead}
 use Rattle.turn_scheduler.specs.Laws.{CanBeMade, ChoiceIsReady, PresentGoesOn}
 use Rattle.turn_scheduler.proofs.Order.{time_ahead}
 use Rattle.turn_scheduler.proofs.Waiting.{find_range-none}
-
--- what is found passes
-find-passes : {X : Type 0} (p : X → Bool) (xs : List X) (x : X) → find p xs ≡ Some x → p x ≡ true
-find-passes p [] x h = absurd (cc)
-find-passes {X} p (y ∷ ys) x h = by (p y) refl (find-passes p ys x) h where
-  by : (b : Bool) → p y ≡ b → (find p ys ≡ Some x → p x ≡ true) → cond b (Some y) (find p ys) ≡ Some x → p x ≡ true
-  by true e others h = let same : y ≡ x = cc in ap p (sym same) ∙ e
-  by false e others h = others h
 
 device_is_ready : (devices : List Bool) (device : Dev) → ready_device devices ≡ Some device
     → place_is_ready devices (device_place device) ≡ true

@@ -5,17 +5,9 @@ use Rattle.std.specs.List.{range_with_len}
 use Rattle.std.specs.Option.{option_or}
 use Rattle.std.proofs.lemmas.List.Folds.{find-append}
 use Rattle.tk_base.specs.declared.limits.TheConstants.{SLOT_COUNT}
+use Rattle.partition_turns.proofs.Found.{passes_first}
 use Rattle.turn_scheduler.specs.RoundRobin.{slots_after, ready_device, IsNextAhead}
 use Rattle.turn_scheduler.specs.Situation.{Situation}
-
-passes_first : (p : ℕ → Bool) (from n m : ℕ) → n ≡ suc m → p from ≡ false
-    → find p (range_with_len from n) ≡ find p (range_with_len (from + 1) m)
-passes_first p from n m e f = rw (e, f) refl
-
--- a slot that is not ready is passed
-pub find-pass : (p : ℕ → Bool) (slot to : ℕ) → slot < to → p slot ≡ false
-    → find p (range_with_len (slot + 1) (to - (slot + 1))) ≡ find p (range_with_len slot (to - slot))
-find-pass p slot to h f = sym (passes_first p slot (to - slot) (to - (slot + 1)) (omega arith) f)
 
 comes_first : (p : ℕ → Bool) (from n m : ℕ) → n ≡ suc m → p from ≡ true → find p (range_with_len from n) ≡ Some from
 comes_first p from n m e f = rw (e, f) refl

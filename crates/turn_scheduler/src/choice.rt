@@ -1,12 +1,14 @@
 //! The next step of the board.
 ghost use Rattle.std.specs.Prelude.{◌≡◌, ◌-◌, ◌^◌, ◌<◌, ◌≤◌, None};
 ghost use Rattle.tk_base.specs.declared.process.Choice.TheVariants.{Pass};
-ghost use Rattle.turn_scheduler.specs.RoundRobin.{ready_device, choice, IsNextAhead};
+ghost use Rattle.turn_scheduler.specs.RoundRobin.{ready_device, choice};
+ghost use Rattle.turn_scheduler.specs.Status.{IsChoiceAhead, choice_by, lanes_told};
 ghost use Rattle.turn_scheduler.specs.Status.{situation_shown};
 
 use crate::situated::Situated;
 use crate::slots::next_slot;
 use crate::status::Status;
+use partition_turns::next_in_window;
 use tk_base::{Choice, Dev};
 
 /// The device steps in the order in which they are asked.
@@ -69,11 +71,17 @@ pub fn next_choice_in<S: Situated>(situated: &S) -> Option<Choice>
     next_in_calm(situated)
 }
 
-/// The next choice of the board with this status ([`next_choice_in`]). It asks that, where no
-/// device step is ready, the time at which one becomes so lies ahead, by at most `2^32 - 1` ticks.
+/// The next choice of the board with this status: as round robin chooses ([`next_choice_in`]), or,
+/// with time partitions, in the window of the slot whose window it is ([`next_in_window`]). It asks
+/// that, where no device step is ready, the time at which one becomes so lies ahead, by at most
+/// `2^32 - 1` ticks; and with time partitions, that each time at which a device step becomes ready
+/// for that slot lies ahead where it is not ready now.
 pub fn next_choice(status: &Status) -> Option<Choice>
-    requires { IsNextAhead (situation_shown status.now) }
-    ensures { result ≡ choice (situation_shown status.now) }
+    requires { IsChoiceAhead (situation_shown status.now) (lanes_told status.now) }
+    ensures { result ≡ choice_by (situation_shown status.now) (lanes_told status.now) }
 {
-    next_choice_in(status)
+    match &status.lanes {
+        Some(lanes) => next_in_window(lanes),
+        None => next_choice_in(status),
+    }
 }

@@ -4,10 +4,11 @@ ghost use Rattle.turn_scheduler.specs.RoundRobin.{place_is_ready};
 
 use crate::situated::Situated;
 use arrayvec::ArrayVec;
+use partition_turns::Lanes;
 use tk_base::{Dev, SLOT_COUNT, Slot};
 
-/// What the round robin reads of a board. Contracts speak of it as a situation, with lists for the
-/// tables and a number for the slot.
+/// What the next choice reads of a board. Contracts speak of it as a situation, with lists for the
+/// tables and a number for the slot, and of its lanes as a `LanesView`.
 #[derive(Drop)]
 pub struct Status {
     /// Whether the process in each slot can have a turn, slot 0 first. A slot past its end cannot.
@@ -25,6 +26,8 @@ pub struct Status {
     pub used: u32,
     /// How many turns a slot may have in a row while another one is ready.
     pub slice: u32,
+    /// What there is in each slot's window, with time partitions.
+    pub lanes: Option<Lanes>,
 }
 
 /// What a table of flags says of a place; false past its end.

@@ -29,68 +29,74 @@ pub loop-object-preserved : goal.loop-object-preserved
 loop-object-preserved c =
     let found = one_found c.args.flash.now c.args.found.now c.loop-object.object-index _ c.objects_are_found.ensures
     c.requires.flash c.requires.found c.loop-object-test.true in
-    let whole = placements c.args.ram (applications c.args.flash.now) in
+    let whole = placements c.args.partition c.args.ram (applications c.args.flash.now) in
     let ask = application_of c.args.flash.now in
     let next : c.next_filled-filled.result
-    ≡ filled_after c.loop-object.filled (place_of c.args.ram c.loop-object.filled c.in-Some.app) =
+    ≡ filled_after c.loop-object.filled (place_of c.args.partition c.args.ram c.loop-object.filled c.in-Some.app) =
     c.next_filled-filled.ensures ∙ ap (filled_after c.loop-object.filled) c.next_place-place.ensures in
     let items : c.push.new.self.items
     ≡ c.loop-object.placed.items ++ record {
       offset = c.in-Some.app.offset;
       place =
-          place_of c.args.ram c.loop-object.filled c.in-Some.app;
+          place_of c.args.partition c.args.ram c.loop-object.filled c.in-Some.app;
     } ∷ [] =
     c.push.ensures.items
     ∙ ap (λ r. c.loop-object.placed.items ++ record { offset = c.in-Some.app.offset; place = r } ∷ [])
     c.next_place-place.ensures in
     record {
-      filled = subst (IsFilled c.args.ram) (sym next)
-          (filled_after-filled c.args.ram c.loop-object.filled c.in-Some.app c.loop-object.invariant.filled).filled;
+      filled = subst (IsFilled c.args.partition c.args.ram) (sym next)
+          (filled_after-filled c.args.partition c.args.ram c.loop-object.filled c.in-Some.app
+          c.loop-object.invariant.filled).filled;
       few = omega (arith, c.push.ensures.len, c.loop-object.invariant.few);
       each = subst (All (LiesInFlash c.args.flash.now)) (sym items)
           (All-push (LiesInFlash c.args.flash.now) c.loop-object.placed.items _ c.loop-object.invariant.each
-          (place_of-in_flash c.args.flash.now _ c.args.ram c.loop-object.filled c.in-Some.app c.requires.flash found
+          (place_of-in_flash c.args.flash.now _ c.args.partition c.args.ram c.loop-object.filled c.in-Some.app
+          c.requires.flash found
           c.in-Some.ensures.accessible.0 c.in-Some.ensures.accessible.1));
       laid_out = subst (All (IsLaidOut c.args.flash.now)) (sym items)
           (All-push (IsLaidOut c.args.flash.now) c.loop-object.placed.items _ c.loop-object.invariant.laid_out
-          (place_of-laid_out c.args.flash.now _ c.args.ram c.loop-object.filled c.in-Some.app found
+          (place_of-laid_out c.args.flash.now _ c.args.partition c.args.ram c.loop-object.filled c.in-Some.app found
           c.in-Some.ensures.accessible.0 (sym c.in-Some.ensures.application)));
       left = subst (λ (xs : List Placed). xs
-          ++ places_from c.args.ram c.next_filled-filled.result
+          ++ places_from c.args.partition c.args.ram c.next_filled-filled.result
           (filter_map ask (drop (c.loop-object.object-index + 1) c.args.found.now)) ≡ whole) (sym items)
           (subst (λ (filled : Filled). (c.loop-object.placed.items
           ++ record {
             offset = c.in-Some.app.offset;
             place =
-                place_of c.args.ram c.loop-object.filled c.in-Some.app;
+                place_of c.args.partition c.args.ram c.loop-object.filled c.in-Some.app;
           } ∷ [])
-          ++ places_from c.args.ram filled (filter_map ask (drop (c.loop-object.object-index + 1) c.args.found.now))
+          ++ places_from c.args.partition c.args.ram filled
+          (filter_map ask (drop (c.loop-object.object-index + 1) c.args.found.now))
           ≡ whole) (sym next)
-          (left_after_one whole c.loop-object.placed.items c.args.ram c.loop-object.filled ask c.args.found.now
+          (left_after_one whole c.loop-object.placed.items c.args.partition c.args.ram c.loop-object.filled ask
+          c.args.found.now
           c.loop-object.object-index _ c.in-Some.app c.loop-object-test.true (sym c.in-Some.ensures.application)
           c.loop-object.invariant.left));
     }
 
 pub returns-clause-places : goal.returns-clause-places
 returns-clause-places c =
-    whole_at_end _ c.loop-object.placed.items c.args.ram c.loop-object.filled (application_of c.args.flash.now)
+    whole_at_end _ c.loop-object.placed.items c.args.partition c.args.ram c.loop-object.filled
+    (application_of c.args.flash.now)
     c.args.found.now c.loop-object.object-index c.loop-object-test.false c.loop-object.invariant.left
 
 pub returns-clause-ram : goal.returns-clause-ram
 returns-clause-ram c =
     subst (All (LiesInRam c.args.ram)) (sym (returns-clause-places c))
-    (placements-in_ram c.args.ram (applications c.args.flash.now))
+    (placements-in_ram c.args.partition c.args.ram (applications c.args.flash.now))
 
 pub returns-clause-apart : goal.returns-clause-apart
 returns-clause-apart c =
     subst (AllPairs LiesBefore) (sym (returns-clause-places c))
-    (placements-apart c.args.ram (applications c.args.flash.now))
+    (placements-apart c.args.partition c.args.ram (applications c.args.flash.now))
 
 pub returns-clause-slots : goal.returns-clause-slots
 returns-clause-slots c =
-    subst AreNumbered (sym (returns-clause-places c)) (placements-numbered c.args.ram (applications c.args.flash.now))
+    subst AreNumbered (sym (returns-clause-places c))
+    (placements-numbered c.args.partition c.args.ram (applications c.args.flash.now))
 
 pub returns-clause-few : goal.returns-clause-few
 returns-clause-few c =
     subst (λ (xs : List Placed). count_by is_placed xs ≤ SLOT_COUNT) (sym (returns-clause-places c))
-    (placements-few c.args.ram (applications c.args.flash.now))
+    (placements-few c.args.partition c.args.ram (applications c.args.flash.now))

@@ -9,10 +9,11 @@ use Rattle.app_placement.proofs.placing.place.Given as goal
 -- the places so far, and those of the applications that are left, are all
 abbrev pub invariant-loop-object : goal.invariant-loop-object
 invariant-loop-object l = record {
-  filled : IsFilled l.ram l.filled;
+  filled : IsFilled l.partition l.ram l.filled;
   few : array_vec_len l.placed ≤ l.object-index;
   each : All (LiesInFlash l.flash) l.placed.items;
   laid_out : All (IsLaidOut l.flash) l.placed.items;
-  left : l.placed.items ++ places_from l.ram l.filled
-      (filter_map (application_of l.flash) (drop l.object-index l.found)) ≡ placements l.ram (applications l.flash);
+  left : l.placed.items ++ places_from l.partition l.ram l.filled
+      (filter_map (application_of l.flash) (drop l.object-index l.found))
+      ≡ placements l.partition l.ram (applications l.flash);
 }

@@ -1,6 +1,6 @@
 use Rattle.std.proofs.Common.{◌++◌}
 use Rattle.kernel_model.specs.Run.{round, printed}
-use Rattle.board_runs.specs.RunText.{ending_text, run_text}
+use Rattle.run_text.specs.RunText.{ending_text, run_text}
 use Rattle.board_runs.specs.RunWriter.{telling_of, total_text}
 use Rattle.board_runs.proofs.RunWriter.{text_in}
 use Rattle.board_runs.proofs.run.run_out.Goals as goal

@@ -1,6 +1,6 @@
 use Rattle.kernel_model.specs.Shown.{summary_of}
 use Rattle.board_report.specs.Report.{report_text}
-use Rattle.board_runs.specs.RunText.{run_end_of, ending_text}
+use Rattle.run_text.specs.RunText.{run_end_of, ending_text}
 use Rattle.board_runs.proofs.run.write_end_of_run.Goals as goal
 
 pub returns-in_err-put_all : goal.returns-in_err-put_all

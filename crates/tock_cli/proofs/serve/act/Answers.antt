@@ -1,16 +1,16 @@
 use Rattle.std.proofs.Common.{None, refl}
-use Rattle.tock_cli.specs.Words.{command_of}
-use Rattle.tock_cli.specs.Causes.{told_by}
-use Rattle.tock_cli.specs.Ready.{task_of}
-use Rattle.tock_cli.specs.Served.{sink_account}
-use Rattle.tock_cli.proofs.Serving.{refused_happens, task_happens}
+use Rattle.tool_words.specs.Words.{command_of}
+use Rattle.tool_tasks.specs.Causes.{told_by}
+use Rattle.tool_tasks.specs.Ready.{task_of}
+use Rattle.tool_answers.specs.Served.{sink_account}
+use Rattle.tool_answers.proofs.Serving.{ends_happen, refused_happens}
 use Rattle.tock_cli.proofs.serve.act.Goals as goal
 
 pub returns-in-Ok : goal.returns-in-Ok
 returns-in-Ok g c =
     let told = told_by g.H.Shelf.tells c.args.shelf.now c.prepare.new.shelf in
     let sent = sink_account g.K.Sink.tells c.args.out.now c.finish.new.out in
-    task_happens told sent (command_of c.args.words.now) c.finish.new.last (task_of c.in-Ok.ready) c.finish.result
+    ends_happen told sent (command_of c.args.words.now) c.finish.new.last (task_of c.in-Ok.ready) c.finish.result
     c.in-Ok.ensures.task c.finish.ensures
 
 pub returns-in-Err : goal.returns-in-Err

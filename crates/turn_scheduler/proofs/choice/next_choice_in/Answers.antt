@@ -1,5 +1,3 @@
-use Rattle.std.proofs.Common.{◌≡◌, None}
-use Rattle.turn_scheduler.specs.RoundRobin.{ready_device}
 use Rattle.turn_scheduler.proofs.choice.next_choice_in.Goals as goal
 
 pub next_in_calm-requires-clause-none : goal.next_in_calm-requires-clause-none

@@ -1,5 +1,6 @@
 use Rattle.std.proofs.Common.{◌≡◌, ◌≤◌, List, [], ◌∷◌, ℕ, zero, suc, None, Some, All, ap, length, map, sym, subst, ◌∙◌}
-use Rattle.std.proofs.Common.{arith}
+use Rattle.std.proofs.Common.{◌==◌, ap₂, arith, not}
+use Rattle.std.specs.Prelude.{unwrap_or}
 use Rattle.std.specs.List.{AllPairs, filter_map, count_by, zip}
 use Rattle.std.specs.Prelude.{vec_len}
 use Rattle.std.proofs.lemmas.List.{length-map}
@@ -13,16 +14,17 @@ use Rattle.app_placement.specs.Placement.{is_placed, LiesInFlash}
 use Rattle.grant_enter.specs.Homes.{Homes, CanMoveIn, EndsBefore, FitsMemory}
 use Rattle.script_text.specs.Settings.{ScriptSettings as Script}
 use Rattle.kernel_model.specs.declared.settings.Settings.{Settings}
-use Rattle.board_drivers.specs.Driven.{AreDriven, AreFresh}
+use Rattle.board_drivers.specs.Driven.{AreDriven, AreFresh, HasLanes, devices_of}
 use Rattle.board_opening.specs.Settings.{visible_settings}
 use Rattle.board_opening.specs.Boot.{IsFirst, fresh_record, layout_at}
 use Rattle.board_opening.specs.Opening.{opening, placed_applications, record_placed, unplaced_at}
-use Rattle.board_drivers.specs.Residents.{HasLost, IsResident}
+use Rattle.board_drivers.specs.Residents.{HasLost, IsResident, record_of}
 use Rattle.board_opening.specs.Alone.{OpensAlone}
 use Rattle.board_opening.proofs.Alone.{openings_are_alone}
 use Rattle.board_opening.proofs.Crews.{all_apart, all_move_in, all_ordered, all_settled, all_stand_apart, few_processes}
 use Rattle.board_opening.proofs.Crews.{opening_shown}
-use Rattle.board_opening.proofs.Fresh.{driven_first}
+use Rattle.board_opening.proofs.Fresh.{all_same, driven_first, lanes_first}
+use Rattle.kernel_model.specs.World.{World, lane_count}
 use Rattle.board_core.proofs.Boards.{first_tell}
 use Rattle.board_core.proofs.board.Board.boot.Goals as goal
 use Rattle.board_core.proofs.board.Board.boot.Goals.{After-deref-4}
@@ -108,7 +110,11 @@ invariant_of-result c =
       few = no_more_than_slots (goal.at.invariant_of-result c).After-deref-4;
       guard = record { protects = λ slot is. absurd (nobody_set slot (sym c.new-3.ensures ∙ is)) };
       driven = driven;
-      served = omega (arith, ap (λ (s : StoredSlots). s.served) c.in_ok-drivers.ensures.stores);
+      lanes = subst (λ (n : ℕ). HasLanes n drivers) (sym c.unwrap_or-window.ensures)
+          (subst (λ (s : Script). HasLanes s.partition drivers) (sym c.script.view_is)
+          (lanes_first c.args.script drivers c.in_ok-drivers.ensures));
+      served = subst (λ (s : StoredSlots). All (λ count. count ≤ 0) s.served) (sym c.in_ok-drivers.ensures.stores)
+          (all_same (λ count. count ≤ 0) (lane_count c.args.script.partition) 0 (omega arith));
       steps = omega arith;
       time = omega arith;
       calm = c.look_ahead-calm.ensures.calm;
@@ -133,9 +139,24 @@ returns-clause-world c =
     let ram = c.script.inside.ram in
     let processes = c.in_ok-processes.field-0.processes.items in
     let es = c.in_ok-processes.field-0.footprints.items in
-    let placed : c.placed_in-placed.result.items ≡ placed_applications ram flash =
-    c.placed_in-placed.ensures.places ∙ ap (placed_applications ram) c.deref.ensures.value in
     let script = c.script.inside in
+    let drivers = c.in_ok-drivers.drivers in
+    let window = unwrap_or script.partition 0 in
+    let placed : c.placed_in-placed.result.items ≡ placed_applications (not (window == 0)) ram flash =
+    c.placed_in-placed.ensures.places
+    ∙ ap₂ (λ (n : ℕ) (f : List ℕ). placed_applications (not (n == 0)) ram f) c.unwrap_or-window.ensures
+    c.deref.ensures.value in
+    let in_windows : ℕ → World =
+    λ n. record {
+      records = map (record_of c.in-Ok.home.flash drivers.buttons.pressed)
+          (zip (zip processes c.in-Ok.home.owns) drivers.stores.slots);
+      unplaced = c.unplaced.result.items;
+      settings = c.settings_of.result;
+      pace = record { slice = script.slice; window = n };
+      devices = devices_of drivers;
+      clock = record { time = 0; steps = 0 };
+      present = record { slot = None; used = 0 };
+    } in
     let said : Script =
     record {
       ram = script.ram;
@@ -146,6 +167,7 @@ returns-clause-world c =
       uart =
           script.uart;
       storage = script.storage;
+      partition = window;
       policy = script.policy;
       strict = script.strict;
       faults = script.faults.items;
@@ -157,7 +179,8 @@ returns-clause-world c =
     let shown = subst (λ (f : List ℕ). map (fresh_record script.storage f) residents
     ≡ filter_map (record_placed script.storage f) c.deref-3.result.now) c.deref-2.ensures.value
     (crew.shown script.storage) in
-    opening_shown said flash c.in-Ok.home es processes c.unplaced.result c.settings_of.result c.in_ok-drivers.drivers
+    ap in_windows c.unwrap_or-window.ensures
+    ∙ opening_shown said flash c.in-Ok.home es processes c.unplaced.result c.settings_of.result c.in_ok-drivers.drivers
     (c.in-Ok.ensures
     ∙ ap (λ (xs : List Footprint). record { flash = flash; owns = map opened xs }) c.deref-4.ensures.value)
     crew.count

@@ -10,7 +10,7 @@ next_in_calm-requires-clause-none c =
     let b = c.self.inside in
     none_in_calm c.args.self.now (ap ready_devices (sym c.self.view_is)
     ∙ calm_shown b c.self.invariant
-    (c.self.invariant.calm b.machine.moment.time (omega arith) (omega (arith, c.if-self.true))))
+    (c.self.invariant.calm.none b.machine.moment.time (omega arith) (omega (arith, c.if-self.true))))
 
 -- what the scheduler chooses is what the world's round robin chooses
 is_next : (c : After-next_choice_in) → c.next_choice_in.result ≡ next c.args.self.now
@@ -36,3 +36,14 @@ pub returns-clause-ready : goal.returns-clause-ready
 returns-clause-ready c =
     next_may c.args.self.now c.next_choice_in.result c.next_is_ready.ensures.ready
     (is_next (goal.at.returns-clause-ready c).After-next_choice_in)
+
+-- and with time partitions the choice in the window
+pub returns-then-self-clause-window : goal.returns-then-self-clause-window
+returns-then-self-clause-window c some =
+    is_next_in_calm (goal.at.returns-then-self-clause-window c).After-next_in_calm
+    ∙ c.next_is_of_the_window.ensures.next c.args.self.now some
+
+pub returns-clause-window : goal.returns-clause-window
+returns-clause-window c some =
+    is_next (goal.at.returns-clause-window c).After-next_choice_in
+    ∙ c.next_is_of_the_window.ensures.next c.args.self.now some

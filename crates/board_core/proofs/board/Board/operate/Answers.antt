@@ -67,7 +67,7 @@ invariant_of-self c =
     (below_shown b c.args.self.now c.self.view_is c.requires.limit)
     (subst (λ (m : Moment). AlarmsTell m times x.home.owns) t.moment
     (subst (λ (now : ℕ). AllTell now x.moment.time times x.home.owns) c.tick.ensures c.note.ensures.tell))
-    (subst (λ (m : Moment). IsCalm m.settings.start m.time calm x.home.owns x.drivers) t.moment
+    (subst (λ (m : Moment). IsCalm m.settings.start m.window m.time calm x.home.owns x.drivers) t.moment
     c.look_ahead-self-inside.ensures.calm))
 
 pub returns : goal.returns

@@ -6,7 +6,10 @@ use Rattle.board_core.proofs.board.Board.play.Goals as goal
 pub returns-in_default-put_all : goal.returns-in_default-put_all
 returns-in_default-put_all g c =
     failed c.loop-place.invariant c.index-choices-place.result c.loop-place-test.true (sym c.index-choices-place.is)
-    c.writes_compose.ensures c.a_record_is_the_replay_of_its_events.ensures.replay
+    c.writes_compose.ensures (record {
+      replayed = c.a_record_is_the_replay_of_its_events.ensures.replay;
+      partitioned = c.a_partition_sees_itself_alone.ensures.told;
+    })
     c.step.new.self c.put_all.new.out c.step.new.emit (c.in-Ok.ensures.ready.0 refl) c.in-Ok.ensures.ok
     c.in-Ok.ensures.shown c.in-Ok.ensures.accounted
     (subst (λ (bytes : List ℕ). WrotePart g.K.Sink.tells c.loop-place.out c.put_all.new.out bytes) c.deref.ensures.0

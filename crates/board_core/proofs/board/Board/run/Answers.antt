@@ -1,13 +1,14 @@
 use Rattle.std.proofs.Common.{◌≡◌, ◌+◌, ◌<◌, [], true, Some, refl, ap, sym, subst, ◌∙◌, arith, length}
 use Rattle.tk_base.specs.declared.process.Choice.TheVariants.{Run}
 use Rattle.tk_base.specs.declared.limits.TheConstants.{STEP_LIMIT}
-use Rattle.board_devices.specs.SerialLine.{SerialLine}
 use Rattle.grant_enter.specs.Homes.{Homes}
 use Rattle.kernel_model.specs.World.{World, carried_out, is_ready}
 use Rattle.process_record.specs.declared.emit.Emit.{Emit}
 use Rattle.board_devices.specs.Clock.{clock_at}
 use Rattle.alarm_capsule.specs.Times.{OthersTell}
 use Rattle.board_drivers.specs.Calm.{AlarmsTell, IsCalm}
+use Rattle.board_drivers.specs.Driven.{AreFreeSoon}
+use Rattle.board_drivers.proofs.Lanes.{later_free, same_free}
 use Rattle.board_drivers.specs.Residents.{id_of}
 use Rattle.board_turns.specs.Turning.{told_in_emit, with_shown}
 use Rattle.board_drivers.specs.declared.moment.Moment.{Moment}
@@ -18,7 +19,7 @@ use Rattle.board_core.proofs.Changes.{turn_later, turn_shown, world_after}
 use Rattle.board_drivers.proofs.Records.{beside}
 use Rattle.board_core.proofs.Devices.{made_so}
 use Rattle.board_core.proofs.Boards.{may_turn_on}
-use Rattle.board_core.proofs.TurnLines.{alarms_later, line_stays, may_serve, others_later}
+use Rattle.board_core.proofs.TurnLines.{alarms_later, lines_stay, may_serve, others_later}
 use Rattle.board_core.proofs.TurnLines.{turn_is_idle, turned_board}
 use Rattle.board_turns.proofs.Turns.{keeps_quiet}
 use Rattle.board_core.proofs.board.Board.run.Goals as goal
@@ -47,14 +48,12 @@ pub calm_after-self-inside-requires-clause-free : goal.calm_after-self-inside-re
 calm_after-self-inside-requires-clause-free c =
     let b = c.self.inside in
     let t = c.turn_at.ensures.turn in
-    omega (
-      arith,
-      ap (λ (l : SerialLine). l.free)
-          (line_stays b c.args.slot c.turn_at.new.self c.turn_at.new.processes.items (told_in_emit c.turn_at.new.emit)
-          c.self.invariant t),
-      ap (λ (m : Moment). m.time) t.moment,
-      c.self.invariant.driven.free,
-    )
+    let x = c.turn_at.new.self in
+    subst (λ (m : Moment). AreFreeSoon (m.time + 1) x.drivers) (sym t.moment)
+    (same_free (b.machine.moment.time + 1) b.machine.drivers x.drivers
+    (lines_stay b c.args.slot x c.turn_at.new.processes.items (told_in_emit c.turn_at.new.emit) c.self.invariant t)
+    (later_free b.machine.moment.time (b.machine.moment.time + 1) b.machine.drivers (omega arith)
+    c.self.invariant.driven.free))
 
 pub calm_after-self-inside-requires-clause-calm : goal.calm_after-self-inside-requires-clause-calm
 calm_after-self-inside-requires-clause-calm c quiet =
@@ -62,18 +61,19 @@ calm_after-self-inside-requires-clause-calm c quiet =
     let x = c.turn_at.new.self in
     let t = c.turn_at.ensures.turn in
     let start = b.machine.moment.settings.start in
+    let window = b.machine.moment.window in
     let keeps = keeps_quiet b.machine.moment c.args.slot b.machine.home.flash t.at.before t.at.after
     (told_in_emit c.turn_at.new.emit) b.machine.drivers x.drivers c.grants_change_at_calls.ensures.grants quiet
     t.turns in
-    subst (λ (m : Moment). IsCalm m.settings.start (m.time + 1) b.calm x.home.owns x.drivers) (sym t.moment)
-    (subst (λ (h : Homes). IsCalm start (b.machine.moment.time + 1) b.calm h.owns x.drivers) (sym t.at.own_is)
-    (kept_calm start (b.machine.moment.time + 1) b.calm c.args.slot b.machine.home.owns x.drivers t.at.before.1
+    subst (λ (m : Moment). IsCalm m.settings.start m.window (m.time + 1) b.calm x.home.owns x.drivers) (sym t.moment)
+    (subst (λ (h : Homes). IsCalm start window (b.machine.moment.time + 1) b.calm h.owns x.drivers) (sym t.at.own_is)
+    (kept_calm start window (b.machine.moment.time + 1) b.calm c.args.slot b.machine.home.owns x.drivers t.at.before.1
     t.at.after.1 t.at.own_was keeps.0 keeps.1
-    (idle_calm start (b.machine.moment.time + 1) b.calm b.machine.home.owns (id_of c.args.slot t.at.before.1)
+    (idle_calm start window (b.machine.moment.time + 1) b.calm b.machine.home.owns (id_of c.args.slot t.at.before.1)
     b.machine.drivers x.drivers
     (turn_is_idle b c.args.slot x c.turn_at.new.processes.items (told_in_emit c.turn_at.new.emit) c.self.invariant t
     c.turns_keep_lines.ensures.acts quiet)
-    (later_calm start b.machine.moment.time (b.machine.moment.time + 1) b.calm b.machine.home.owns b.machine.drivers
+    (later_calm start window b.machine.moment.time (b.machine.moment.time + 1) b.calm b.machine.home.owns b.machine.drivers
     (omega arith) c.self.invariant.calm))))
 
 pub look_again-requires-clause-others : goal.look_again-requires-clause-others
@@ -116,7 +116,7 @@ invariant_of-self c =
     (turned_board b left c.args.slot (told_in_emit t.new.emit) c.self.invariant t.ensures.turn calm
     c.used_after-self-inside.result times c.grants_change_at_calls.ensures.drops c.turns_keep_lines.ensures.lines
     (can_run_is (goal.at.invariant_of-self c).After-clear)
-    (subst (λ (m : Moment). IsCalm m.settings.start (m.time + 1) calm t.new.self.home.owns t.new.self.drivers)
+    (subst (λ (m : Moment). IsCalm m.settings.start m.window (m.time + 1) calm t.new.self.home.owns t.new.self.drivers)
     t.ensures.turn.moment c.calm_after-self-inside.ensures)
     (subst (λ (m : Moment). AlarmsTell (turn_later m) times t.new.self.home.owns) t.ensures.turn.moment
     c.look_again.ensures)

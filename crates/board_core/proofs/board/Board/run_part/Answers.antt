@@ -1,11 +1,11 @@
-use Rattle.std.specs.Prelude.{IfSome}
-use Rattle.std.proofs.Common.{◌≡◌, ◌+◌, ◌<◌, ℕ, List, [], ◌∷◌, Option, Some, true, false, All, slice_get, sym, ap, ap₂, subst, ◌∙◌, arith}
+use Rattle.std.proofs.Common.{◌≡◌, ◌+◌, ◌<◌, ℕ, List, [], ◌∷◌, Some, true, false, All, slice_get, sym, ap, ap₂, subst, ◌∙◌, arith}
 use Rattle.std.specs.List.{zip}
 use Rattle.tk_base.specs.declared.process.Choice.TheVariants.{Run}
 use Rattle.process_record.specs.declared.process.Process.{Process}
 use Rattle.kernel_model.specs.Run.{next, ready_devices}
 use Rattle.kernel_model.specs.Stretch.{GoesOn, IsStretch}
 use Rattle.board_drivers.specs.Calm.{AlarmsTell, IsCalm}
+use Rattle.board_drivers.proofs.Lanes.{few_still}
 use Rattle.board_drivers.specs.Driven.{AreDriven}
 use Rattle.board_drivers.specs.Residents.{HasLost, IsResident}
 use Rattle.board_drivers.specs.declared.drivers.Drivers.{Drivers}
@@ -15,7 +15,7 @@ use Rattle.board_core.specs.declared.board.Board.TheInside.{Inside}
 use Rattle.board_core.specs.Shows.{IsBoard, world_of}
 use Rattle.board_core.specs.Stretches.{slot_runs}
 use Rattle.board_core.proofs.Ready.{calm_shown}
-use Rattle.board_core.proofs.Stretches.{chosen_in_calm, ends_shown, looked_ahead, next_stays, nothing_comes, rests_there}
+use Rattle.board_core.proofs.Stretches.{ends_shown, looked_ahead, next_stays, nothing_comes, rests_there}
 use Rattle.board_core.proofs.Stretches.{runs_within, still, stretch_shown, turns_later, used_within}
 use Rattle.board_core.proofs.Boards.{may_turn_on}
 use Rattle.board_core.proofs.board.Board.run_part.Goals as goal
@@ -31,7 +31,7 @@ returns-then-not-runs-clause-ends c e h g =
 
 pub returns-then-self-clause-ends : goal.returns-then-self-clause-ends
 returns-then-self-clause-ends c e h g =
-    nothing_comes c.self.inside c.self.invariant (chosen_in_calm (world_of c.self.inside) g.slot g.chosen)
+    nothing_comes c.self.inside c.self.invariant g
     c.next_is_ready.ensures.ahead (c.calm_ahead-self-inside.ensures.come c.if-self.true)
 
 pub turns_at-made-requires : goal.turns_at-made-requires
@@ -100,10 +100,12 @@ board_then c =
       guard = c.turns_at-made.ensures.quiet.guard;
       driven = subst (λ (n : ℕ). AreDriven b.machine.moment.settings (b.machine.moment.time + n) x.home.owns
           b.machine.drivers) (sym ticks) holds.driven;
-      served = omega (arith, board.served);
+      lanes = board.lanes;
+      served = few_still b.machine.moment.steps (b.machine.moment.steps + c.from-ticks.result)
+          b.machine.drivers.stores.served (omega arith) board.served;
       steps = omega (arith, ticks, left.limit, c.turns_at-made.ensures.most);
       time = omega (arith, board.time);
-      calm = subst (λ (n : ℕ). IsCalm b.machine.moment.settings.start (b.machine.moment.time + n) b.calm x.home.owns
+      calm = subst (λ (n : ℕ). IsCalm b.machine.moment.settings.start b.machine.moment.window (b.machine.moment.time + n) b.calm x.home.owns
           b.machine.drivers) (sym ticks) holds.calm;
       alarms = subst (λ (n : ℕ). AlarmsTell (turns_later n b.machine.moment) b.alarms x.home.owns) (sym ticks)
           (holds.alarms c.time_brings_an_alarm_nearer.ensures);
@@ -125,7 +127,7 @@ calm_then c fewer =
     let board = board_then c in
     let until = c.turns_left-left.ensures.until in
     let same = ap (λ (m : Moment). m.time) c.turns_at-made.ensures.quiet.moment in
-    calm_shown b board (board.calm b.machine.moment.time (omega arith)
+    calm_shown b board (board.calm.none b.machine.moment.time (omega arith)
     (omega (arith, until, fewer, same, c.from-ticks.ensures)))
 
 pub returns-clause-stretch : goal.returns-clause-stretch
@@ -165,7 +167,7 @@ returns-clause-ends c e h g =
     c.used_before-before.ensures.value (omega (arith, left.slice, most)) (omega (arith, left.until, most))
     (omega (arith, left.limit, most)) present.ensures.none present.ensures.some
     c.round_is_stretch.ensures.stays c.from-ticks.result c.args.most c.calm_ahead-self-inside.result
-    c.from-ticks.ensures most (c.is_over.ensures.over e) left.slice c.used_before-before.ensures.within
+    c.from-ticks.ensures most (c.is_over.ensures.over e) left.slice left.until c.used_before-before.ensures.within
     (omega (arith, c.if-self.false)) c.requires left.all
     (subst (λ (y : Machine). GoesOn (world_of (turned a y))) (same_machine a) g)
 
@@ -187,7 +189,7 @@ returns-clause-next c e =
     c.used_before-before.ensures.value (omega (arith, left.slice, most)) (omega (arith, left.until, most))
     (omega (arith, left.limit, most)) present.ensures.none present.ensures.some
     c.round_is_stretch.ensures.stays c.from-ticks.result c.turns_left-left.result c.from-ticks.ensures most
-    (c.is_over.ensures.over e) left.slice
+    (c.is_over.ensures.over e) left.slice left.until
     (subst (λ (y : Machine). c.turns_at-made.result < c.turns_left-left.result
     → ready_devices (world_of (turned a y)) ≡ false ∷ false ∷ false ∷ false ∷ false ∷ false ∷ []) (same_machine a)
     (calm_then a)))

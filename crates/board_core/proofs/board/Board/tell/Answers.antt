@@ -60,7 +60,7 @@ note-requires-clause-others c =
 
 pub look_ahead-self-inside-requires-clause-free : goal.look_ahead-self-inside-requires-clause-free
 look_ahead-self-inside-requires-clause-free c =
-    (told (goal.at.look_ahead-self-inside-requires-clause-free c).In-Ok).serves.uart.free
+    (told (goal.at.look_ahead-self-inside-requires-clause-free c).In-Ok).serves.lines_ready.free
 
 pub invariant_of-self-2 : goal.invariant_of-self-2
 invariant_of-self-2 c =

@@ -1,19 +1,34 @@
-use Rattle.std.proofs.Common.{Bool, List, ap, slice_get, sym, ◌∙◌}
+use Rattle.std.proofs.Common.{◌&&◌, Bool, List, Option, ap, slice_get, sym, ◌∙◌, ℕ}
 use Rattle.std.specs.List.{zip}
 use Rattle.process_record.specs.declared.process.Process.{Process}
 use Rattle.turn_scheduler.specs.RoundRobin.{place_is_ready}
 use Rattle.kernel_model.specs.Run.{ready_slots}
-use Rattle.kernel_model.specs.World.{World}
+use Rattle.kernel_model.specs.World.{World, is_let}
 use Rattle.board_drivers.specs.Residents.{can_turn_in}
-use Rattle.board_core.proofs.Boards.{ready_slots_shown, resident_at}
+use Rattle.board_core.specs.Shows.{residents}
+use Rattle.board_core.proofs.Boards.{slot_shown}
 use Rattle.board_core.proofs.board.BoardSituated.slot_is_ready.Goals as goal
 
-pub returns : goal.returns
-returns c =
+pub returns-then-serves : goal.returns-then-serves
+returns-then-serves c =
     let b = c.self.inside in
     let slot = c.args.slot in
+    let can = can_turn_in (slice_get (residents b) slot) in
+    let served = ap (λ (only : Option ℕ). is_let only slot) (sym c.served.ensures.only) ∙ sym c.serves.ensures
+    ∙ c.if-serves.true in
     c.can_run.ensures
     ∙ ap (λ (ps : List Process). can_turn_in (slice_get (zip ps b.machine.home.owns) slot)) c.deref.ensures.value
-    ∙ resident_at (zip b.processes.items b.machine.home.owns) slot
-    ∙ ap (λ (table : List Bool). place_is_ready table slot) (sym (ready_slots_shown b c.self.invariant))
+    ∙ ap (λ (flag : Bool). flag && can) (sym served)
+    ∙ sym (slot_shown b c.self.invariant slot)
+    ∙ ap (λ (w : World). place_is_ready (ready_slots w) slot) c.self.view_is
+
+pub returns-else-serves : goal.returns-else-serves
+returns-else-serves c =
+    let b = c.self.inside in
+    let slot = c.args.slot in
+    let can = can_turn_in (slice_get (residents b) slot) in
+    let served = ap (λ (only : Option ℕ). is_let only slot) (sym c.served.ensures.only) ∙ sym c.serves.ensures
+    ∙ c.if-serves.false in
+    c.if-serves.false ∙ ap (λ (flag : Bool). flag && can) (sym served)
+    ∙ sym (slot_shown b c.self.invariant slot)
     ∙ ap (λ (w : World). place_is_ready (ready_slots w) slot) c.self.view_is

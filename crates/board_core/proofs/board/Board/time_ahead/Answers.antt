@@ -1,0 +1,28 @@
+use Rattle.std.proofs.Common.{◌≡◌, if◌then◌else◌, Bool, true, None, Option, Some, ap, sym, ◌∙◌, ℕ}
+use Rattle.driver_model.specs.Alarm.{nearer}
+use Rattle.kernel_model.specs.Run.{is_left, next_time}
+use Rattle.kernel_model.specs.World.{work_of}
+use Rattle.board_core.proofs.Boards.{in_window, no_window}
+use Rattle.board_core.proofs.Ready.{next_shown}
+use Rattle.board_core.specs.Shows.{world_of}
+use Rattle.board_core.proofs.board.Board.time_ahead.Goals as goal
+
+-- without a window it is the next time at which a device step becomes ready
+pub returns-in_default-clause-at : goal.returns-in_default-clause-at
+returns-in_default-clause-at c =
+    let b = c.self.inside in
+    c.next_time-next.ensures.at ∙ next_shown b c.self.invariant
+    ∙ sym (no_window (world_of b) b.machine.moment.window (sym c.window_end.ensures.at ∙ c.in_default.is))
+    ∙ ap next_time c.self.view_is
+
+-- with one, and where anything is left to do, no further than to its end
+pub returns-clause-at : goal.returns-clause-at
+returns-clause-at c =
+    let b = c.self.inside in
+    let w = world_of b in
+    let left : is_left w ≡ true = ap is_left c.self.view_is ∙ sym c.is_left.ensures ∙ c.if-not-is_left.false in
+    c.nearer_time.ensures
+    ∙ ap (λ (at : Option ℕ). nearer at (Some c.in-Some.end)) (c.next_time-next.ensures.at ∙ next_shown b c.self.invariant)
+    ∙ sym (in_window w b.machine.moment.window c.in-Some.end (sym c.window_end.ensures.at ∙ c.in-Some.is)
+    ∙ ap (λ (x : Bool). if x then nearer (work_of w).next (Some c.in-Some.end) else None) left)
+    ∙ ap next_time c.self.view_is

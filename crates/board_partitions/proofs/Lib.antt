@@ -1,0 +1,3 @@
+mod Starts
+mod Boots
+mod Scripts

@@ -1,0 +1,424 @@
+-- In two worlds that are alike in a slot, its own steps lead to worlds that are alike in it, and tell the same of it:
+-- its turn, a device's step in its window, and what comes in.
+use Rattle.std.proofs.Common.{◌≡◌, ◌≢◌, ℕ, ◌==◌, ◌∷◌, ◌+◌, if◌then◌else◌, Bool, true, false, cond, List, [], filter}
+use Rattle.std.proofs.Common.{length, slice_get, slice_index_or, Option, None, Some, refl, sym, ap, ap₂, ◌∙◌, eqb-true}
+use Rattle.std.proofs.Common.{not, subst}
+use Rattle.std.specs.Prelude.{All, drop}
+use Rattle.std.specs.Option.{option_and_then, option_map}
+use Rattle.std.proofs.lemmas.Option.{slice_get-map}
+use Rattle.std.proofs.lemmas.List.Elements.{All-head}
+use Rattle.tk_base.specs.declared.process.Dev.{Dev}
+use Rattle.tk_base.specs.declared.process.Dev.TheVariants as dev
+use Rattle.script_text.specs.Settings.{ScriptEvent as Arrival, EventKind}
+use Rattle.script_text.specs.Settings as script
+use Rattle.board_devices.specs.Arriving.{act_of}
+use Rattle.board_devices.specs.Clock.{clock_at}
+use Rattle.board_devices.specs.SerialLine.{SerialLine, no_line, with_input}
+use Rattle.board_devices.specs.Storage.{is_fault}
+use Rattle.process_model.specs.Own.{Own}
+use Rattle.driver_model.specs.Alarm as alarm
+use Rattle.driver_model.specs.Console as console
+use Rattle.driver_model.specs.Random as random
+use Rattle.driver_model.specs.Storage as storage
+use Rattle.driver_model.specs.Commands.{QueueName, Writes, Reads, Randoms, Stores}
+use Rattle.kernel_model.specs.Record.{Record}
+use Rattle.kernel_model.specs.declared.settings.Settings.{Settings}
+use Rattle.kernel_model.specs.Turn.{Turned, flash_of, turned}
+use Rattle.kernel_model.specs.Turn as heard
+use Rattle.kernel_model.specs.World.{Answer, DeviceAnswer, DeviceStep, Devices, Label, Stepped, World, after_answer}
+use Rattle.kernel_model.specs.World.{alarmed, answering, arrived, coming_in, device_step_of, done, edge_told, first_in}
+use Rattle.kernel_model.specs.World.{happens, is_waited_for, labels_of, labels_told, line_in, now_in, only_in, owns_in}
+use Rattle.kernel_model.specs.World.{lane_by, ran, random_step, receive_step, routed, serving, slots_in, storing}
+use Rattle.kernel_model.specs.World.{drawn_event, telling_edge, transmitting, turn_label, unmade, waits_in}
+use Rattle.kernel_model.proofs.Places.{set_own}
+use Rattle.kernel_model.proofs.Told.{labels_at, told_at, told_there}
+use Rattle.kernel_partitions.specs.Alike.{AreAlikeIn, IsNoAct, LanesAreAlike}
+use Rattle.kernel_partitions.specs.Moments.{told_of}
+use Rattle.kernel_partitions.proofs.Lanes.{answers_alike, indexes_alike, routes_alike, sets_alike, some_wait}
+
+-- two steps leave worlds that are alike in a slot, and tell the same of it
+pub record StepsAlike (slot : ℕ) (s t : Stepped) : Type 0 where
+  pub worlds : AreAlikeIn slot s.after t.after
+  pub told : told_of slot s.labels ≡ told_of slot t.labels
+
+-- whom devices serve where one slot alone may be served
+abbrev pub served_of : Option ℕ → World → Dev → Option ℕ
+served_of only w dev.Event = None
+served_of only w dev.Alarm = alarm.due_for only (now_in w) (owns_in w)
+served_of only w dev.Uart = first_in only Writes w.devices
+served_of only w dev.Receive = first_in only Reads w.devices
+served_of only w dev.Random = first_in only Randoms w.devices
+served_of only w dev.Store = first_in only Stores w.devices
+
+-- what a device does, by the slot that alone may be served
+abbrev pub deed_by : Option ℕ → World → Dev → Option DeviceStep
+deed_by only w dev.Event = arrived w.records w.devices w.devices.arrivals
+deed_by only w dev.Alarm =
+    serving w (λ slot r. alarmed w.settings w.clock.time w.devices) (served_of only w dev.Alarm)
+deed_by only w dev.Uart = serving w (transmitting (lane_by only) w.clock.time w.devices) (served_of only w dev.Uart)
+deed_by only w dev.Receive = serving w (receive_step (lane_by only) w.devices) (served_of only w dev.Receive)
+deed_by only w dev.Random = serving w (random_step (lane_by only) w.devices) (served_of only w dev.Random)
+deed_by only w dev.Store = serving w (storing (lane_by only) w.devices) (served_of only w dev.Store)
+
+pub deed_is : (w : World) (device : Dev) → device_step_of w device ≡ deed_by (only_in w) w device
+deed_is w dev.Event = refl
+deed_is w dev.Alarm = refl
+deed_is w dev.Uart = refl
+deed_is w dev.Receive = refl
+deed_is w dev.Random = refl
+deed_is w dev.Store = refl
+
+-- labels of other slots count nothing
+others_count : (slot : ℕ) (label : Label) (ls : List Label) → label.slot ≢ slot
+    → cond (label.slot == slot) (label ∷ ls) ls ≡ ls
+others_count slot label ls apart = by_test (label.slot == slot) refl
+  where
+    by_test : (b : Bool) → (label.slot == slot) ≡ b → cond b (label ∷ ls) ls ≡ ls
+    by_test true e = absurd (apart (eqb-true label.slot slot e))
+    by_test false e = refl
+
+-- what a device's step tells of a slot
+pub told_by : (slot : ℕ) (told : ℕ → Option Answer) (rs : List Record)
+    → told_of slot (labels_told told 0 rs) ≡ told_of slot (labels_of slot (told_there told rs slot slot))
+told_by slot told rs =
+    labels_at (told_of slot) (λ label ls. cond (label.slot == slot) (label ∷ ls) ls) (λ label ls. refl) slot
+    (others_count slot) told rs
+
+-- one of some, if a slot stands in a queue, or none
+pub first_is : (slot : ℕ) (queue : QueueName) (d : Devices)
+    → first_in (Some slot) queue d ≡ cond (waits_in (Some slot) queue d) (Some slot) None
+first_is slot queue d = by_list (slots_in queue d.waiting)
+  where
+    by_list : (slots : List ℕ) → slice_get (filter (λ (s : ℕ). s == slot) slots) 0
+        ≡ cond (is_waited_for (filter (λ (s : ℕ). s == slot) slots)) (Some slot) None
+    by_list [] = refl
+    by_list (s ∷ slots) = by_first (s == slot) refl (by_list slots)
+      where
+        by_first : (b : Bool) → (s == slot) ≡ b
+            → slice_get (filter (λ (s : ℕ). s == slot) slots) 0
+            ≡ cond (is_waited_for (filter (λ (s : ℕ). s == slot) slots)) (Some slot) None
+            → slice_get (cond b (s ∷ filter (λ (s : ℕ). s == slot) slots) (filter (λ (s : ℕ). s == slot) slots)) 0
+            ≡ cond (is_waited_for (cond b (s ∷ filter (λ (s : ℕ). s == slot) slots)
+            (filter (λ (s : ℕ). s == slot) slots)))
+            (Some slot) None
+        by_first true e rest =
+            ap Some (eqb-true s slot e)
+            ∙ sym (ap (λ (b : Bool). cond b (Some slot) None) (some_wait s (filter (λ (s : ℕ). s == slot) slots)))
+        by_first false e rest = rest
+
+module _ (slot : ℕ) (v w : World) (alike : AreAlikeIn slot v w) where
+  nothing_made : StepsAlike slot (unmade v) (unmade w)
+  nothing_made = record { worlds = alike; told = refl }
+
+  -- two deeds that tell the slot's process the same, and leave its lanes alike
+  deeds_alike : (a b : DeviceStep) → a.told slot ≡ b.told slot → LanesAreAlike slot a.devices b.devices
+      → StepsAlike slot (done v (Some a)) (done w (Some b))
+  deeds_alike a b told lanes = record {
+    worlds = record {
+      window = alike.window;
+      settings = alike.settings;
+      time = alike.time;
+      record_is = told_at v.settings a.told v.records slot
+          ∙ ap₂ (λ (s : Settings) (o : Option Answer). option_map (happens s o) (slice_get v.records slot))
+          alike.settings told
+          ∙ ap (option_map (happens w.settings (b.told slot))) alike.record_is
+          ∙ sym (told_at w.settings b.told w.records slot);
+      lanes = lanes;
+    };
+    told = told_by slot a.told v.records
+        ∙ ap₂ (λ (o : Option Answer) (r : Option Record).
+        told_of slot (labels_of slot (option_and_then (λ (x : Record). o) r)))
+        told alike.record_is ∙ sym (told_by slot b.told w.records);
+  }
+
+  -- a device that serves the slot, or nobody
+  record ServeAlike (f g : ℕ → Record → DeviceAnswer) : Type 0 where
+    answer : (r : Record) → (f slot r).answer ≡ (g slot r).answer
+    lanes : (r : Record) → LanesAreAlike slot (f slot r).devices (g slot r).devices
+
+  serves_alike : (f g : ℕ → Record → DeviceAnswer) → ServeAlike f g → (b : Bool)
+      → StepsAlike slot (done v (serving v f (cond b (Some slot) None)))
+      (done w (serving w g (cond b (Some slot) None)))
+  serves_alike f g same false = nothing_made
+  serves_alike f g same true = by_records (slice_get v.records slot) (slice_get w.records slot) alike.record_is
+    where
+      by_record : (o : Option Record)
+          → StepsAlike slot (done v (option_map (λ (r : Record). answering slot (f slot r)) o))
+          (done w (option_map (λ (r : Record). answering slot (g slot r)) o))
+      by_record None = nothing_made
+      by_record (Some r) =
+          deeds_alike (answering slot (f slot r)) (answering slot (g slot r))
+          (ap (λ (a : Answer). cond (slot == slot) (Some a) None) (same.answer r)) (same.lanes r)
+
+      by_records : (o q : Option Record) → o ≡ q
+          → StepsAlike slot (done v (option_map (λ (r : Record). answering slot (f slot r)) o))
+          (done w (option_map (λ (r : Record). answering slot (g slot r)) q))
+      by_records o q e =
+          subst (λ (x : Option Record).
+          StepsAlike slot (done v (option_map (λ (r : Record). answering slot (f slot r)) o))
+          (done w (option_map (λ (r : Record). answering slot (g slot r)) x))) e (by_record o)
+
+  of_queue : (queue : QueueName) (f g : ℕ → Record → DeviceAnswer) → ServeAlike f g
+      → StepsAlike slot (done v (serving v f (first_in (Some slot) queue v.devices)))
+      (done w (serving w g (first_in (Some slot) queue w.devices)))
+  of_queue queue f g same =
+      subst (λ (o : Option ℕ). StepsAlike slot (done v (serving v f o))
+      (done w (serving w g (first_in (Some slot) queue w.devices)))) (sym (first_is slot queue v.devices))
+      (subst (λ (o : Option ℕ). StepsAlike slot
+      (done v (serving v f (cond (waits_in (Some slot) queue v.devices) (Some slot) None))) (done w (serving w g o)))
+      (sym (first_is slot queue w.devices)
+      ) (subst (λ (b : Bool). StepsAlike slot
+      (done v (serving v f (cond (waits_in (Some slot) queue v.devices) (Some slot) None)))
+      (done w (serving w g (cond b (Some slot) None)))) (alike.lanes.waits queue)
+      (serves_alike f g same (waits_in (Some slot) queue v.devices))))
+
+  pub same_line : line_in slot v.devices ≡ line_in slot w.devices
+  same_line = indexes_alike v.devices.lines w.devices.lines slot no_line alike.lanes.line
+
+  pub same_own : slice_get (owns_in v) slot ≡ slice_get (owns_in w) slot
+  same_own =
+      slice_get-map (λ (r : Record). r.own) v.records slot ∙ ap (option_map (λ (r : Record). r.own)) alike.record_is
+      ∙ sym (slice_get-map (λ (r : Record). r.own) w.records slot)
+
+  pub same_now : now_in v ≡ now_in w
+  same_now = ap₂ (λ (s : Settings) (time : ℕ). clock_at s.start time) alike.settings alike.time
+
+  alarms_alike : StepsAlike slot (done v (deed_by (Some slot) v dev.Alarm)) (done w (deed_by (Some slot) w dev.Alarm))
+  alarms_alike =
+      subst (λ (b : Bool). StepsAlike slot (done v (deed_by (Some slot) v dev.Alarm))
+      (done w (serving w (λ slot r. alarmed w.settings w.clock.time w.devices) (cond b (Some slot) None))))
+      (ap₂ (λ (now : ℕ) (o : Option Own). alarm.has_due now o) same_now same_own)
+      (serves_alike (λ slot r. alarmed v.settings v.clock.time v.devices)
+      (λ slot r. alarmed w.settings w.clock.time w.devices)
+      (record {
+        answer = λ r. ap₂ (λ (s : Settings) (time : ℕ). (alarmed s time w.devices).answer) alike.settings alike.time;
+        lanes = λ r. alike.lanes;
+      }) (alarm.has_due (now_in v) (slice_get (owns_in v) slot)))
+
+  sends_alike : StepsAlike slot (done v (deed_by (Some slot) v dev.Uart)) (done w (deed_by (Some slot) w dev.Uart))
+  sends_alike =
+      of_queue Writes (transmitting slot v.clock.time v.devices) (transmitting slot w.clock.time w.devices)
+      (record { answer = λ r. refl; lanes = λ r. lanes r })
+    where
+      sent_by : Record → ℕ → SerialLine → SerialLine
+      sent_by r time line =
+          record line { free = console.free_after time line.ticks (console.sent (flash_of r) r.own).printed line.free }
+
+      lanes : (r : Record)
+          → LanesAreAlike slot (transmitting slot v.clock.time v.devices slot r).devices
+          (transmitting slot w.clock.time w.devices slot r).devices
+      lanes r =
+          let served = console.sent (flash_of r) r.own in
+          let left = answers_alike slot slot Writes served.completed v.devices w.devices alike.lanes in
+          record {
+            arrivals = left.arrivals;
+            faults = left.faults;
+            line = sets_alike v.devices.lines w.devices.lines slot (sent_by r v.clock.time (line_in slot v.devices))
+                (sent_by r w.clock.time (line_in slot w.devices)) alike.lanes.line
+                (ap₂ (sent_by r) alike.time same_line);
+            words = left.words;
+            served = left.served;
+            waits = λ queue. left.waits queue;
+          }
+
+  receives_alike : StepsAlike slot (done v (deed_by (Some slot) v dev.Receive))
+      (done w (deed_by (Some slot) w dev.Receive))
+  receives_alike =
+      of_queue Reads (receive_step slot v.devices) (receive_step slot w.devices)
+      (record {
+        answer = λ r. ap (λ (line : SerialLine). record {
+          event = heard.Input (console.received line.ring r.own).moved;
+          printed = [];
+        }) same_line;
+        lanes = λ r. lanes r;
+      })
+    where
+      rest_by : Record → SerialLine → SerialLine
+      rest_by r line = record line { ring = drop (length (console.received line.ring r.own).moved) line.ring }
+
+      lanes : (r : Record)
+          → LanesAreAlike slot (receive_step slot v.devices slot r).devices (receive_step slot w.devices slot r).devices
+      lanes r =
+          let done_by = λ (line : SerialLine). (console.received line.ring r.own).completed in
+          let left = answers_alike slot slot Reads (done_by (line_in slot v.devices)) v.devices w.devices alike.lanes in
+          let same = ap done_by same_line in
+          record {
+            arrivals = left.arrivals;
+            faults = left.faults;
+            line = sets_alike v.devices.lines w.devices.lines slot (rest_by r (line_in slot v.devices))
+                (rest_by r (line_in slot w.devices)) alike.lanes.line (ap (rest_by r) same_line);
+            words = left.words;
+            served = left.served;
+            waits = λ queue. left.waits queue
+                ∙ ap (λ (b : Bool). waits_in (Some slot) queue (after_answer Reads b slot w.devices)) same;
+          }
+
+  draws_alike : StepsAlike slot (done v (deed_by (Some slot) v dev.Random)) (done w (deed_by (Some slot) w dev.Random))
+  draws_alike =
+      of_queue Randoms (random_step slot v.devices) (random_step slot w.devices)
+      (record {
+        answer = λ r. ap (λ (words : List ℕ). record {
+          event = drawn_event (random.answered (slice_get words 0) r.own).drawn;
+          printed = [];
+        }) same_words;
+        lanes = λ r. lanes r;
+      })
+    where
+      same_words : slice_index_or v.devices.words slot [] ≡ slice_index_or w.devices.words slot []
+      same_words = indexes_alike v.devices.words w.devices.words slot [] alike.lanes.words
+
+      rest_by : Record → List ℕ → List ℕ
+      rest_by r words = random.words_after (random.answered (slice_get words 0) r.own).drawn words
+
+      lanes : (r : Record)
+          → LanesAreAlike slot (random_step slot v.devices slot r).devices (random_step slot w.devices slot r).devices
+      lanes r =
+          let done_by = λ (words : List ℕ). (random.answered (slice_get words 0) r.own).completed in
+          let left = answers_alike slot slot Randoms (done_by (slice_index_or v.devices.words slot [])) v.devices
+          w.devices alike.lanes in
+          let same = ap done_by same_words in
+          record {
+            arrivals = left.arrivals;
+            faults = left.faults;
+            line = left.line;
+            words = sets_alike v.devices.words w.devices.words slot (rest_by r (slice_index_or v.devices.words slot []))
+                (rest_by r (slice_index_or w.devices.words slot [])) alike.lanes.words (ap (rest_by r) same_words);
+            served = left.served;
+            waits = λ queue. left.waits queue
+                ∙ ap (λ (b : Bool). waits_in (Some slot) queue (after_answer Randoms b slot w.devices)) same;
+          }
+
+  stores_alike : StepsAlike slot (done v (deed_by (Some slot) v dev.Store)) (done w (deed_by (Some slot) w dev.Store))
+  stores_alike =
+      of_queue Stores (storing slot v.devices) (storing slot w.devices)
+      (record {
+        answer = λ r. ap (λ (fails : Bool). record {
+          event = heard.Stored (not fails);
+          printed = [];
+        }) same_fails;
+        lanes = λ r. lanes r;
+      })
+    where
+      same_served : slice_index_or v.devices.served slot 0 ≡ slice_index_or w.devices.served slot 0
+      same_served = indexes_alike v.devices.served w.devices.served slot 0 alike.lanes.served
+
+      fails_by : List ℕ → ℕ → Bool
+      fails_by faults count = is_fault faults (count + 1)
+
+      same_fails : fails_by v.devices.faults (slice_index_or v.devices.served slot 0)
+          ≡ fails_by w.devices.faults (slice_index_or w.devices.served slot 0)
+      same_fails = ap₂ fails_by alike.lanes.faults same_served
+
+      done_by : Record → Bool → Bool
+      done_by r fails = (storage.answered fails (flash_of r) r.storage r.own).completed
+
+      lanes : (r : Record)
+          → LanesAreAlike slot (storing slot v.devices slot r).devices (storing slot w.devices slot r).devices
+      lanes r =
+          let left = answers_alike slot slot Stores
+          (done_by r (fails_by v.devices.faults (slice_index_or v.devices.served slot 0))) v.devices w.devices
+          alike.lanes in
+          let same = ap (done_by r) same_fails in
+          record {
+            arrivals = left.arrivals;
+            faults = left.faults;
+            line = left.line;
+            words = left.words;
+            served = sets_alike v.devices.served w.devices.served slot _ _ alike.lanes.served
+                (ap₂ (λ (over : Bool) (count : ℕ). if over then count + 1 else count) same same_served);
+            waits = λ queue. left.waits queue
+                ∙ ap (λ (b : Bool). waits_in (Some slot) queue (after_answer Stores b slot w.devices)) same;
+          }
+
+  -- what comes in, where no operator acts
+  comes_alike : (arrivals : List Arrival) → All IsNoAct arrivals
+      → StepsAlike slot (done v (arrived v.records v.devices arrivals)) (done w (arrived w.records w.devices arrivals))
+  comes_alike [] none = nothing_made
+  comes_alike (arrival ∷ rest) none = by_kind arrival.kind (All-head IsNoAct arrival rest none)
+    where
+      with_rest : Devices → Devices
+      with_rest d = record d { arrivals = rest }
+
+      rest_alike : LanesAreAlike slot (with_rest v.devices) (with_rest w.devices)
+      rest_alike = record {
+        arrivals = refl;
+        faults = alike.lanes.faults;
+        line = alike.lanes.line;
+        words = alike.lanes.words;
+        served = alike.lanes.served;
+        waits = λ queue. alike.lanes.waits queue;
+      }
+
+      by_bytes : (bytes : List ℕ)
+          → StepsAlike slot (done v (Some (coming_in (script.Input bytes) v.records (with_rest v.devices))))
+          (done w (Some (coming_in (script.Input bytes) w.records (with_rest w.devices))))
+      by_bytes bytes =
+          deeds_alike (coming_in (script.Input bytes) v.records (with_rest v.devices))
+          (coming_in (script.Input bytes) w.records (with_rest w.devices)) refl (record {
+            arrivals = refl;
+            faults = alike.lanes.faults;
+            line = slice_get-map (with_input bytes) v.devices.lines slot
+                ∙ ap (option_map (with_input bytes)) alike.lanes.line
+                ∙ sym (slice_get-map (with_input bytes) w.devices.lines slot);
+            words = alike.lanes.words;
+            served = alike.lanes.served;
+            waits = λ queue. alike.lanes.waits queue;
+          })
+
+      by_edge : (button : ℕ) (pressed : Bool)
+          → StepsAlike slot (done v (Some (telling_edge button pressed v.records (with_rest v.devices))))
+          (done w (Some (telling_edge button pressed w.records (with_rest w.devices))))
+      by_edge button pressed =
+          deeds_alike (telling_edge button pressed v.records (with_rest v.devices))
+          (telling_edge button pressed w.records (with_rest w.devices))
+          (ap (option_and_then (edge_told button pressed)) alike.record_is) rest_alike
+
+      by_kind : (kind : EventKind) → act_of kind ≡ None
+          → StepsAlike slot (done v (Some (coming_in kind v.records (with_rest v.devices))))
+          (done w (Some (coming_in kind w.records (with_rest w.devices))))
+      by_kind (script.Input bytes) no_act = by_bytes bytes
+      by_kind (script.Press button) no_act = by_edge button true
+      by_kind (script.Release button) no_act = by_edge button false
+      by_kind (script.Act verb name) no_act = absurd (cc)
+
+  -- each device, where the slot alone may be served
+  pub devices_alike : (device : Dev) → All IsNoAct v.devices.arrivals
+      → StepsAlike slot (done v (deed_by (Some slot) v device)) (done w (deed_by (Some slot) w device))
+  devices_alike dev.Event none =
+      subst (λ (arrivals : List Arrival). StepsAlike slot (done v (arrived v.records v.devices v.devices.arrivals))
+      (done w (arrived w.records w.devices arrivals))) alike.lanes.arrivals (comes_alike v.devices.arrivals none)
+  devices_alike dev.Alarm none = alarms_alike
+  devices_alike dev.Uart none = sends_alike
+  devices_alike dev.Receive none = receives_alike
+  devices_alike dev.Random none = draws_alike
+  devices_alike dev.Store none = stores_alike
+
+  -- the slot's turn
+  turns_alike : (o q : Option Record) → slice_get v.records slot ≡ o → slice_get w.records slot ≡ q → o ≡ q
+      → StepsAlike slot (ran v slot o) (ran w slot q)
+  turns_alike None None at there same = nothing_made
+  turns_alike None (Some r) at there same = absurd (cc)
+  turns_alike (Some r) None at there same = absurd (cc)
+  turns_alike (Some r) (Some q) at there same =
+      let turns = λ (s : Settings) (time : ℕ) (x : Record). turned s time x in
+      let the_one : r ≡ q = cc in
+      let t : turned v.settings v.clock.time r ≡ turned w.settings w.clock.time q =
+      ap₂ (λ (s : Settings) (time : ℕ). turned s time r) alike.settings alike.time
+      ∙ ap (turned w.settings w.clock.time) the_one in
+      record {
+        worlds = record {
+          window = alike.window;
+          settings = alike.settings;
+          time = ap (λ (time : ℕ). time + 1) alike.time;
+          record_is = set_own v.records slot (turned v.settings v.clock.time r).after r at
+              ∙ ap (λ (x : Turned). Some x.after) t
+              ∙ sym (set_own w.records slot (turned w.settings w.clock.time q).after q there);
+          lanes = subst (λ (x : Turned). LanesAreAlike slot
+              (routed slot (turned v.settings v.clock.time r).acts v.devices) (routed slot x.acts w.devices)) t
+              (routes_alike slot slot (turned v.settings v.clock.time r).acts v.devices w.devices alike.lanes);
+        };
+        told = ap₂ (λ (time : ℕ) (x : Turned). told_of slot (turn_label slot time x.told ∷ [])) alike.time t;
+      }
+
+  pub turn_alike : StepsAlike slot (ran v slot (slice_get v.records slot)) (ran w slot (slice_get w.records slot))
+  turn_alike = turns_alike (slice_get v.records slot) (slice_get w.records slot) refl refl alike.record_is

@@ -1,0 +1,4 @@
+pub mod Alike
+pub mod Moments
+pub mod Partitions
+pub mod Windows

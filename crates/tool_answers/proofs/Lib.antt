@@ -1,0 +1,4 @@
+pub mod Accounts
+pub mod Decided
+pub mod Serving
+pub mod Tasks

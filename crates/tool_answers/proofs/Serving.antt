@@ -1,0 +1,197 @@
+-- From what happened to what the program's answer says.
+use Rattle.std.specs.Prelude.{⊤}
+use Rattle.std.proofs.Common.{◌≡◌, ℕ, zero, suc, List, [], Option, None, Some, IsSome, Ok, ◌↔◌, inl}
+use Rattle.std.proofs.Common.{inr, refl, sym, subst}
+use Rattle.kernel_model.specs.World.{World}
+use Rattle.tool_words.specs.declared.refusal.File.{File}
+use Rattle.tool_words.specs.declared.refusal.Refusal.{Refusal}
+use Rattle.tool_words.specs.declared.refusal.Refusal.TheVariants.{Usage, Fault, TooLong, Script, Image, Memory}
+use Rattle.tool_answers.specs.declared.outcome.ServeOutcome.{ServeOutcome}
+use Rattle.tool_answers.specs.declared.outcome.ServeOutcome.TheVariants.{Done, Refused, SinkFailed}
+use Rattle.tool_words.specs.Words.{Command}
+use Rattle.tool_words.specs.Refusals.{refusal_line}
+use Rattle.tool_tasks.specs.Comes.{Task, IsTask, comes_to, files_of, left_by}
+use Rattle.tool_tasks.specs.Causes.{ShelfAccount, Cause}
+use Rattle.tool_answers.specs.Served.{SinkAccount, All, Happens, exit_status_of, RefusalIs, TaskIs, TaskEnds}
+use Rattle.tool_answers.specs.Served.{LeavesBoard, Decided}
+use Rattle.tool_answers.specs.Served.{ProgramDoes, TaskIsDone, TaskIsRefused, IsBadScript, SinkFault, IsBadImage}
+use Rattle.tool_answers.proofs.Tasks.{of_command}
+use Rattle.tool_tasks.proofs.Files.{all_texts}
+use Rattle.tool_answers.proofs.Decided.{by_task, by_refusal, by_fault, by_memory}
+
+-- whether a task leaves a board is whether the command does
+abbrev LeavesAlike : Option World → Type 0 → Type 0
+LeavesAlike left Leaves = (Leaves → IsSome left) × (IsSome left → Leaves)
+
+command_leaves : (command : Command) (texts : List (List ℕ)) (task : Task) → comes_to command texts ≡ Some (Ok task)
+    → LeavesAlike (left_by task) (LeavesBoard (Some command))
+command_leaves =
+    of_command (λ command task. LeavesAlike (left_by task) (LeavesBoard (Some command)))
+    (λ words flash settings. (λ u. refl, λ s. tt)) (λ number turns settings. (λ u. refl, λ s. tt)) (λ name flash. none)
+    (λ names flash. none) (λ words flash. none)
+  where
+    none : LeavesAlike None ⊥
+    none = (λ b. absurd b, λ s. cc)
+
+module _ (told : ShelfAccount) (sent : SinkAccount) (last : Option World) where
+  decided : (words : Option Command) (o : ServeOutcome) → Happens told sent words last o
+      → Decided told sent words (exit_status_of o)
+  decided None Done h = absurd h.given
+  decided None (Refused Usage) h = λ w. refl
+  decided None (Refused (Fault file)) h = absurd h.0.cause
+  decided None (Refused (TooLong file)) h = absurd h.0.cause
+  decided None (Refused (Script line rule)) h = absurd h.0.cause
+  decided None (Refused (Image fault)) h = absurd h.0.cause
+  decided None (Refused Memory) h = absurd h.0.cause
+  decided None SinkFailed h = λ w. absurd (w h.0.rose)
+  decided (Some command) Done h = λ w. by_task told command _ (files_of command) [] h.given
+  decided (Some command) (Refused Usage) h = absurd h.0.cause
+  decided (Some command) (Refused (Fault file)) h =
+      λ w. by_fault told command 3 file h.0.cause.0 (files_of command) [] h.0.cause.1
+  decided (Some command) (Refused (TooLong file)) h =
+      λ w. by_refusal told command (TooLong file) (files_of command) [] h.0.cause
+  decided (Some command) (Refused (Script line rule)) h =
+      λ w. by_refusal told command (Script line rule) (files_of command) [] h.0.cause
+  decided (Some command) (Refused (Image fault)) h =
+      λ w. by_refusal told command (Image fault) (files_of command) [] h.0.cause
+  decided (Some command) (Refused Memory) h = λ w. by_memory told command (files_of command) []
+  decided (Some command) SinkFailed h = λ w. absurd (w h.0.rose)
+
+  none_left : last ≡ None → IsSome last → ⊥
+  none_left e s = absurd (no_some last e s)
+    where
+      no_some : (o : Option World) → o ≡ None → IsSome o → ⊥
+      no_some None e s = cc
+      no_some (Some w) e s = cc
+
+  -- a board is left by a run
+  task_leaves : (words : Option Command) (task : Task) → IsTask told.bytes words task
+      → LeavesAlike (left_by task) (LeavesBoard words)
+  task_leaves None task h = absurd h
+  task_leaves (Some command) task h =
+      let all = all_texts told.bytes command _ (files_of command) [] h in
+      command_leaves command all.0 task all.1
+
+  board_left : (words : Option Command) (task : Task) → IsTask told.bytes words task → last ≡ left_by task
+      → LeavesBoard words → IsSome last
+  board_left words task h e b = subst (λ (o : Option World). IsSome o) (sym e) ((task_leaves words task h).0 b)
+
+  run_left : (words : Option Command) (task : Task) → IsTask told.bytes words task → last ≡ left_by task → IsSome last
+      → LeavesBoard words
+  run_left words task h e s = (task_leaves words task h).1 (subst (λ (o : Option World). IsSome o) e s)
+
+  no_board : (n : ℕ) (words : Option Command) → last ≡ None → (n ≡ 0 → ⊥) → IsSome last ↔ ((n ≡ 0) × LeavesBoard words)
+  no_board n words e differs = (λ s. absurd (none_left e s), λ b. absurd (differs b.0))
+
+  -- what an answer says, by its number
+  abbrev Says : Option Command → ℕ → Type 0
+  Says words zero = TaskIsDone told sent words last
+  Says words (suc zero) = ⊤
+  Says words (suc (suc zero)) = TaskIsRefused told sent words Usage
+  Says words (suc (suc (suc zero))) = (file : File) × TaskIsRefused told sent words (Fault file)
+  Says words (suc (suc (suc (suc zero)))) = (file : File) × TaskIsRefused told sent words (TooLong file)
+  Says words (suc (suc (suc (suc (suc zero))))) = IsBadScript told sent words
+  Says words (suc (suc (suc (suc (suc (suc zero)))))) = SinkFault told sent words
+  Says words (suc (suc (suc (suc (suc (suc (suc zero))))))) = TaskIsRefused told sent words Memory
+  Says words (suc (suc (suc (suc (suc (suc (suc (suc zero)))))))) = IsBadImage told sent words
+  Says words (suc (suc (suc (suc (suc (suc (suc (suc (suc n))))))))) = ⊤
+
+  -- an answer says what its number says, and nothing of the other answers
+  by_number : (words : Option Command) (o : ServeOutcome) → Says words (exit_status_of o)
+      → IsSome last ↔ ((exit_status_of o ≡ 0) × LeavesBoard words) → Decided told sent words (exit_status_of o)
+      → ProgramDoes told sent words last (exit_status_of o)
+  by_number words o says left decides = record {
+    done = at 0;
+    usage = at 2;
+    fault = at 3;
+    too_long = at 4;
+    script = at 5;
+    sink = at 6;
+    memory = at 7;
+    image = at 8;
+    answers = (o, refl);
+    left = left;
+    decided = decides;
+  }
+    where
+      at : (n : ℕ) → exit_status_of o ≡ n → Says words n
+      at n e = subst (λ (k : ℕ). Says words k) e says
+
+  -- each answer with its cause
+  pub answers_at : (words : Option Command) (o : ServeOutcome) → Happens told sent words last o
+      → ProgramDoes told sent words last (exit_status_of o)
+  answers_at words Done h =
+      by_number words Done h (
+        λ s. (refl, run_left words h.task h.given h.left s),
+        λ e. board_left words h.task h.given h.left e.1,
+      ) (decided words Done h)
+  answers_at words (Refused Usage) h =
+      by_number words (Refused Usage) h.0 (no_board 2 words h.1 (λ e. cc)) (decided words (Refused Usage) h)
+  answers_at words (Refused (Fault file)) h =
+      by_number words (Refused (Fault file)) (file, h.0) (no_board 3 words h.1 (λ e. cc))
+      (decided words (Refused (Fault file)) h)
+  answers_at words (Refused (TooLong file)) h =
+      by_number words (Refused (TooLong file)) (file, h.0) (no_board 4 words h.1 (λ e. cc))
+      (decided words (Refused (TooLong file)) h)
+  answers_at words (Refused (Script line rule)) h =
+      by_number words (Refused (Script line rule)) (record { line = line; rule = rule; refused = h.0 })
+      (no_board 5 words h.1 (λ e. cc)) (decided words (Refused (Script line rule)) h)
+  answers_at words (Refused (Image fault)) h =
+      by_number words (Refused (Image fault)) (record { fault = fault; refused = h.0 })
+      (no_board 8 words h.1 (λ e. cc)) (decided words (Refused (Image fault)) h)
+  answers_at words (Refused Memory) h =
+      by_number words (Refused Memory) h.0 (no_board 7 words h.1 (λ e. cc)) (decided words (Refused Memory) h)
+  answers_at words SinkFailed h =
+      by_number words SinkFailed h.0 (no_board 6 words h.1 (λ e. cc)) (decided words SinkFailed h)
+
+-- what a refusal leads to
+pub refused_happens : (told : ShelfAccount) (sent : SinkAccount) (words : Option Command) (last : Option World)
+    (refusal : Refusal) (o : ServeOutcome) → Cause told words refusal → last ≡ None → RefusalIs sent refusal o
+    → Happens told sent words last o
+refused_happens told sent words last refusal Done c e r = absurd r
+refused_happens told sent words last refusal (Refused other) c e r = (
+  record {
+    cause = subst (λ (x : Refusal). Cause told words x) (sym r.0) c;
+    line = subst (λ (x : Refusal). All sent (refusal_line x)) (sym r.0) r.1;
+  },
+  e,
+)
+refused_happens told sent words last refusal SinkFailed c e r = (
+  record {
+    rose = r.rose;
+    part = inr (record { refusal = refusal; cause = c; part = r });
+  },
+  e,
+)
+
+-- what doing a task leads to
+pub task_happens : (told : ShelfAccount) (sent : SinkAccount) (words : Option Command) (last : Option World)
+    (task : Task) (o : ServeOutcome) → IsTask told.bytes words task → TaskIs sent task last o
+    → Happens told sent words last o
+task_happens told sent words last task Done h r = record { task = task; given = h; text = r.0; left = r.1 }
+task_happens told sent words last task (Refused refusal) h r = absurd r
+task_happens told sent words last task SinkFailed h r = (
+  record {
+    rose = r.0.rose;
+    part = inl (record { task = task; given = h; part = r.0 });
+  },
+  r.1,
+)
+
+-- and where a board may have to be made first
+pub ends_happen : (told : ShelfAccount) (sent : SinkAccount) (words : Option Command) (last : Option World)
+    (task : Task) (o : ServeOutcome) → IsTask told.bytes words task → TaskEnds sent task last o
+    → Happens told sent words last o
+ends_happen told sent words last task o h (inl r) = task_happens told sent words last task o h r
+ends_happen told sent words last task o h (inr r) =
+    refused_happens told sent words last Memory o (no_memory words h) r.1 r.0
+  where
+    no_memory : (words : Option Command) → IsTask told.bytes words task → Cause told words Memory
+    no_memory None h = absurd h
+    no_memory (Some command) h = tt
+
+pub answers : (told : ShelfAccount) (sent : SinkAccount) (words : Option Command) (last : Option World)
+    (o : ServeOutcome)
+    (answer : ℕ) → answer ≡ exit_status_of o → Happens told sent words last o → ProgramDoes told sent words last answer
+answers told sent words last o answer e h =
+    subst (λ (n : ℕ). ProgramDoes told sent words last n) (sym e) (answers_at told sent last words o h)

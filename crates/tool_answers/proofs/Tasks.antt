@@ -1,0 +1,64 @@
+-- The tasks that commands come to.
+use Rattle.std.proofs.Common.{◌≡◌, ℕ, List, [], ◌∷◌, Option, Some, Result, Ok, Err, subst}
+use Rattle.script_text.specs.Settings.{ScriptSettings}
+use Rattle.script_text.specs.Reading.{Fault as BadLine, reading}
+use Rattle.image_make.specs.declared.edits.EditFault.{EditFault}
+use Rattle.image_make.specs.declared.packs.PackFault.{PackFault}
+use Rattle.image_make.specs.Generator.{soak_flash, soak_script}
+use Rattle.image_make.specs.Packs.{pack}
+use Rattle.board_opening.specs.Opening.{opening}
+use Rattle.tool_words.specs.declared.refusal.Refusal.{Refusal}
+use Rattle.run_text.specs.declared.mode.Mode.{Mode}
+use Rattle.run_text.specs.declared.mode.Mode.TheVariants.{Soak}
+use Rattle.tool_words.specs.Words.{Command, Runs, Lists, Soaks, Packs, Edits, EditWords, RunWords}
+use Rattle.tool_tasks.specs.Comes.{Task, Running, Listing, Making, comes_to, edit_made, edited_by, pack_made, run_under}
+
+-- what holds of the tasks that each command may come to holds of the one that a command comes to
+module _ (P : Command → Task → Type 0)
+    (runs : (words : RunWords) (flash : List ℕ) (settings : ScriptSettings)
+    → P (Runs words) (Running words.mode words.turns (opening settings flash)))
+    (soaks : (number turns : ℕ) (settings : ScriptSettings)
+    → P (Soaks number turns) (Running Soak turns (opening settings (soak_flash number))))
+    (lists : (name flash : List ℕ) → P (Lists name) (Listing flash))
+    (packs : (names : List (List ℕ)) (flash : List ℕ) → P (Packs names) (Making flash))
+    (edits : (words : EditWords) (flash : List ℕ) → P (Edits words) (Making flash)) where
+  at_task : (command : Command) (made task : Task) → P command made
+      → ◌≡◌ {A = Option (Result Task Refusal)} (Some (Ok made)) (Some (Ok task)) → P command task
+  at_task command made task holds e = let same : made ≡ task = cc in subst (P command) same holds
+
+  of_run : (command : Command) (mode : Mode) (turns : ℕ) (flash : List ℕ) (r : Result ScriptSettings BadLine)
+      (task : Task)
+      → ((settings : ScriptSettings) → P command (Running mode turns (opening settings flash)))
+      → Some (run_under mode turns flash r) ≡ Some (Ok task) → P command task
+  of_run command mode turns flash (Ok settings) task holds e = at_task command _ task (holds settings) e
+  of_run command mode turns flash (Err bad) task holds e = absurd (cc)
+
+  of_pack : (names : List (List ℕ)) (r : Result (List ℕ) PackFault) (task : Task) → Some (pack_made r) ≡ Some (Ok task)
+      → P (Packs names) task
+  of_pack names (Ok flash) task e = at_task (Packs names) (Making flash) task (packs names flash) e
+  of_pack names (Err fault) task e = absurd (cc)
+
+  of_edit : (words : EditWords) (r : Result (List ℕ) EditFault) (task : Task) → Some (edit_made r) ≡ Some (Ok task)
+      → P (Edits words) task
+  of_edit words (Ok flash) task e = at_task (Edits words) (Making flash) task (edits words flash) e
+  of_edit words (Err fault) task e = absurd (cc)
+
+  pub of_command : (command : Command) (texts : List (List ℕ)) (task : Task) → comes_to command texts ≡ Some (Ok task)
+      → P command task
+  unfolding comes_to
+  of_command (Runs words) [] task e = absurd (cc)
+  of_command (Runs words) (flash ∷ []) task e = absurd (cc)
+  of_command (Runs words) (flash ∷ script ∷ []) task e =
+      of_run (Runs words) words.mode words.turns flash (reading script) task (runs words flash) e
+  of_command (Runs words) (flash ∷ script ∷ more ∷ texts) task e = absurd (cc)
+  of_command (Lists name) [] task e = absurd (cc)
+  of_command (Lists name) (flash ∷ []) task e = at_task (Lists name) (Listing flash) task (lists name flash) e
+  of_command (Lists name) (flash ∷ more ∷ texts) task e = absurd (cc)
+  of_command (Soaks number turns) [] task e =
+      of_run (Soaks number turns) Soak turns (soak_flash number) (reading (soak_script number)) task
+      (soaks number turns) e
+  of_command (Soaks number turns) (flash ∷ texts) task e = absurd (cc)
+  of_command (Packs names) texts task e = of_pack names (pack texts) task e
+  of_command (Edits words) [] task e = absurd (cc)
+  of_command (Edits words) (flash ∷ []) task e = of_edit words (edited_by words.edit words.offset flash) task e
+  of_command (Edits words) (flash ∷ more ∷ texts) task e = absurd (cc)

@@ -1,0 +1,4 @@
+pub mod Files
+pub mod Loading
+pub mod Packing
+pub mod Soak

@@ -1,0 +1,6 @@
+// Does nothing, and ends.
+
+int main(void)
+{
+    return 0;
+}
