@@ -4,6 +4,7 @@ pub mod Changes
 pub mod Devices
 pub mod Ready
 pub mod Stretches
+mod SameAlarms
 pub mod TurnLines
 pub mod Plays
 pub mod Looks

@@ -1,12 +1,15 @@
 -- Who waits, once a process had its turn.
 use Rattle.board_devices.specs.Buttons.{ButtonsView}
 use Rattle.board_devices.specs.Clock.{clock_at}
-use Rattle.alarm_capsule.proofs.KeptTimes.{all_later, kept_tell, others_tell}
+use Rattle.alarm_capsule.proofs.KeptTimes.{all_later, others_tell}
 use Rattle.alarm_capsule.specs.Times.{OthersTell}
 use Rattle.driver_model.specs.Laws.{TimeBringsNearer}
+use Rattle.kernel_alarms.specs.Acting.{AlarmsChangeAtTheirCommands, HasSameAlarm, QuietTurnsLeaveAlarms}
+use Rattle.kernel_alarms.specs.Acting.{may_have_acted, may_have_armed}
+use Rattle.board_core.proofs.SameAlarms.{same_alarms_tell}
 use Rattle.std.proofs.Common.{◌≡◌, ℕ, ◌+◌, ◌<◌, ◌≤◌, ◌&&◌, not, Bool, true, false, if◌then◌else◌, List, [], length}
 use Rattle.std.proofs.Common.{All, slice_get}
-use Rattle.std.proofs.Common.{slice_set, is_some, Option, None, Some, Result, Ok, Err, refl, sym, ap, subst, ◌∙◌, arith}
+use Rattle.std.proofs.Common.{slice_set, is_some, Option, None, Some, Result, Ok, Err, refl, sym, ap, ap₂, subst, ◌∙◌, arith}
 use Rattle.std.proofs.lemmas.List.Elements.{All-set}
 use Rattle.std.proofs.lemmas.Option.{slice_get_within, get_or_from_slice_get}
 use Rattle.tbf_headers.specs.declared.fault.HeaderFault.{HeaderFault}
@@ -22,7 +25,7 @@ use Rattle.driver_model.specs.Requests.{request_in}
 use Rattle.grant_enter.specs.Homes.{Homes, nobody, own_of}
 use Rattle.process_restart.specs.Own.{HasStart, IsApplication}
 use Rattle.process_record.specs.Process.{is_alive}
-use Rattle.kernel_model.specs.Laws.{DropsAtMostOne, KeepsLines, TurnsActAtCalls, TurnsKeepLines}
+use Rattle.kernel_model.specs.Laws.{DropsAtMostOne, KeepsLines, TurnsKeepLines}
 use Rattle.tbf_headers.specs.Meaning.{main_by}
 use Rattle.kernel_model.specs.Record.{Record}
 use Rattle.tk_base.specs.declared.process.Choice.TheVariants.{Run}
@@ -36,7 +39,7 @@ use Rattle.board_core.specs.declared.board.Board.TheInside.{Inside}
 use Rattle.board_turns.specs.declared.turn.Shown.{Shown}
 use Rattle.board_drivers.specs.Driven.{AreDriven, Drives, HasLanes, IsQueueOf, MayServe, ids_waiting_in}
 use Rattle.board_drivers.specs.Residents.{IsResident, id_of, record_of, resident_turns}
-use Rattle.board_turns.specs.Turning.{TurnsAt, nothing_shown}
+use Rattle.board_turns.specs.Turning.{TurnsAt}
 use Rattle.board_drivers.specs.Residents.{can_turn_in}
 use Rattle.board_drivers.specs.Calm.{AlarmsTell, IsCalm}
 use Rattle.board_drivers.proofs.Lanes.{few_still, later_free, same_free, same_lanes, same_ticks}
@@ -100,15 +103,25 @@ module _ (b : Inside) (slot : ℕ) (x : Machine) (processes : List Process) (sho
       t.at.was t.at.own_was
       h.seated
 
-  -- where nothing was shown, nothing was asked of the drivers
-  pub turn_is_idle : TurnsActAtCalls → shown ≡ nothing_shown → Drives (id_of slot t.at.before.1) [] b.machine.drivers
-      x.drivers
+  -- a turn that armed no alarm leaves that of its process
+  pub turn_leaves_alarm : AlarmsChangeAtTheirCommands → may_have_armed shown.call shown.denial ≡ false
+      → HasSameAlarm t.at.before.1 t.at.after.1
+  turn_leaves_alarm law unarmed =
+      let says = (t.turns []).1 in
+      subst (HasSameAlarm t.at.before.1) own_is
+      (law b.machine.moment.settings b.machine.moment.time seen (ap₂ may_have_armed says.call says.denial ∙ unarmed))
+
+  -- and one that did not act asks nothing of the drivers either
+  pub turn_is_idle : QuietTurnsLeaveAlarms → may_have_acted shown.call shown.denial ≡ false
+      → HasSameAlarm t.at.before.1 t.at.after.1 × Drives (id_of slot t.at.before.1) [] b.machine.drivers x.drivers
   turn_is_idle law quiet =
       let says = (t.turns []).1 in
-      subst (λ (acts : List BoardRequest). Drives (id_of slot t.at.before.1) acts b.machine.drivers x.drivers)
-      (law b.machine.moment.settings b.machine.moment.time seen
-      (says.call ∙ ap (λ (s : Shown). s.call) quiet) (says.denial ∙ ap (λ (s : Shown). s.denial) quiet))
-      drives
+      let leaves = law b.machine.moment.settings b.machine.moment.time seen
+      (ap₂ may_have_acted says.call says.denial ∙ quiet) in (
+        subst (HasSameAlarm t.at.before.1) own_is leaves.0,
+        subst (λ (acts : List BoardRequest). Drives (id_of slot t.at.before.1) acts b.machine.drivers x.drivers)
+            leaves.1 drives,
+      )
 
   -- the serial lines go on
   pub lines_stay : x.drivers.uarts ≡ b.machine.drivers.uarts
@@ -175,15 +188,15 @@ module _ (b : Inside) (slot : ℕ) (x : Machine) (processes : List Process) (sho
       (others_tell (clock_at start (time + 1)) (time + 1) slot b.alarms b.machine.home.owns t.at.after.1
       (all_later law start time 1 b.alarms b.machine.home.owns h.alarms))
 
-  -- and of all, where its process keeps the same for the alarm
-  pub alarms_later : TimeBringsNearer → t.at.after.1.grants ≡ t.at.before.1.grants
-      → t.at.after.1.lives ≡ t.at.before.1.lives → AlarmsTell (turn_later b.machine.moment) b.alarms x.home.owns
-  alarms_later law grants lives =
+  -- and of all, where its process has the same alarm
+  pub alarms_later : TimeBringsNearer → HasSameAlarm t.at.before.1 t.at.after.1
+      → AlarmsTell (turn_later b.machine.moment) b.alarms x.home.owns
+  alarms_later law same =
       let start = b.machine.moment.settings.start in
       let time = b.machine.moment.time in
       subst (λ (y : Homes). AlarmsTell (turn_later b.machine.moment) b.alarms y.owns) (sym t.at.own_is)
-      (kept_tell (clock_at start (time + 1)) (time + 1) slot b.alarms b.machine.home.owns t.at.before.1 t.at.after.1
-      t.at.own_was grants lives (all_later law start time 1 b.alarms b.machine.home.owns h.alarms))
+      (same_alarms_tell slot b.machine.home.owns t.at.before.1 t.at.after.1 t.at.own_was same
+      (clock_at start (time + 1)) (time + 1) b.alarms (all_later law start time 1 b.alarms b.machine.home.owns h.alarms))
 
   -- a process that can have a turn lives
   turn_lives : can_turn_in (slice_get (residents b) slot) ≡ true → t.at.before.1.lives ≡ true

@@ -33,7 +33,7 @@ ghost use Rattle.board_core.specs.LanesOf.{lanes_of};
 ghost use Rattle.board_core.specs.Makes.{MakesStep, act_meant, ready_in, shown_act, shown_printed};
 ghost use Rattle.board_drivers.specs.Tells.{tells_one};
 ghost use Rattle.board_drivers.specs.Residents.{InFlash, line_in, resident_turns, can_turn_in};
-ghost use Rattle.board_turns.specs.Turning.{nothing_shown, told_in_emit};
+ghost use Rattle.kernel_alarms.specs.Acting.{may_have_acted, may_have_armed};
 
 use alarm_capsule::{AlarmTimes, nearer_time};
 use arrayvec::ArrayVec;
@@ -42,6 +42,7 @@ use board_opening::{LoadedProcesses, first_crew, placed_in, unplaced};
 use board_turns::{ActivePmp, Machine, can_turn};
 use driver_model::{lines_follow_answers, time_brings_an_alarm_nearer};
 use grant_enter::Home;
+use kernel_alarms::{alarms_change_at_their_commands, may_act, may_arm};
 use kernel_laws::{grants_change_at_calls, next_is_of_the_window, turns_keep_lines};
 use kernel_lives::steps_are_accounted_for;
 use kernel_model::{
@@ -186,31 +187,54 @@ fn settings_of(script: &Script) -> Settings
     }
 }
 
-/// Whether a turn showed a call or a denial.
-fn has_shown(emit: &Emit) -> bool
-    ensures { (result ≡ false) ↔ (told_in_emit emit.now ≡ nothing_shown) }
+/// Whether a turn may have asked anything of the devices, changed what its process keeps for the
+/// alarm, or ended a life of it, by what it showed.
+#[inline(always)]
+fn may_have_acted(emit: &Emit) -> bool
+    ensures { result ≡ may_have_acted emit.now.made emit.now.denial }
 {
-    emit.made.is_some() || emit.denial.is_some()
+    if emit.denial.is_some() {
+        return true;
+    }
+    match &emit.made {
+        Some(made) => may_act(made),
+        None => false,
+    }
 }
 
-/// Looks again when the alarm of a process becomes due, where its turn showed something: what it
-/// keeps for the alarm, and that it lives, changes at calls and denials alone.
+/// Whether a turn may have changed what its process keeps for the alarm, or ended a life of it, by
+/// what it showed.
+#[inline(always)]
+fn may_have_armed(emit: &Emit) -> bool
+    ensures { result ≡ may_have_armed emit.now.made emit.now.denial }
+{
+    if emit.denial.is_some() {
+        return true;
+    }
+    match &emit.made {
+        Some(made) => may_arm(made),
+        None => false,
+    }
+}
+
+/// Looks again when the alarm of a process becomes due, where its turn may have armed one: what it
+/// keeps for the alarm, and that it lives, changes in no other turn.
 #[inline(always)]
 fn look_again(alarms: &mut AlarmTimes, moment: &Moment, home: &Home, slot: Slot, emit: &Emit)
     requires time { moment.now.time + 2 ^ 32 ≤ 2 ^ 64 }
     requires others { OthersTell slot (clock_at moment.now.settings.start moment.now.time)
         moment.now.time alarms.old home.now.owns }
-    requires quiet { told_in_emit emit.now ≡ nothing_shown
+    requires unarmed { may_have_armed emit.now.made emit.now.denial ≡ false
         → AlarmsTell moment.now alarms.old home.now.owns }
     ensures { AlarmsTell moment.now alarms.new home.now.owns }
 {
-    if has_shown(emit) {
+    if may_have_armed(emit) {
         alarms.note(home, slot, moment.tick(), moment.time);
     }
 }
 
 /// A time up to which no device step is ready after a turn, by what it showed. It asks that the one
-/// so far holds on where it showed nothing.
+/// so far holds on where the turn did not act.
 #[inline(always)]
 fn calm_after(
     calm: u64,
@@ -223,13 +247,13 @@ fn calm_after(
     requires alarms { AlarmsTell moment.now alarms.now home.now.owns }
     requires time { moment.now.time ≤ STEP_LIMIT * 2 ^ 32 }
     requires free { AreFreeSoon moment.now.time drivers.now }
-    requires calm { told_in_emit emit.now ≡ nothing_shown
+    requires calm { may_have_acted emit.now.made emit.now.denial ≡ false
         → IsCalm moment.now.settings.start moment.now.window moment.now.time calm home.now.owns
         drivers.now }
     ensures { IsCalm moment.now.settings.start moment.now.window moment.now.time result
         home.now.owns drivers.now }
 {
-    if has_shown(emit) {
+    if may_have_acted(emit) {
         return moment.look_ahead(home, alarms, drivers);
     }
     calm
@@ -402,9 +426,8 @@ impl Board {
         can_run(&self.machine.home, &self.processes, slot)
     }
 
-    /// A turn of the process in a slot. Whether an alarm is due is looked at again where it showed
-    /// something: what processes keep for the alarm, and that they live, changes at calls and
-    /// denials alone.
+    /// A turn of the process in a slot. When its alarm becomes due is looked at again where the turn
+    /// may have armed one, and when a device step is ready where it may have acted.
     #[inline(always)]
     fn run(&mut self, slot: Slot, emit: &mut Emit) -> Result<(), NotReady>
         requires { self.old.clock.steps < STEP_LIMIT }
@@ -412,6 +435,7 @@ impl Board {
     {
         grants_change_at_calls();
         turns_keep_lines();
+        alarms_change_at_their_commands();
         time_brings_an_alarm_nearer();
         if !self.may_run(slot) {
             return Err(NotReady);

@@ -14,14 +14,14 @@ use Rattle.board_turns.specs.Turning.{told_in_emit, with_shown}
 use Rattle.board_drivers.specs.declared.moment.Moment.{Moment}
 use Rattle.board_core.specs.Shows.{IsBoard, world_of}
 use Rattle.board_core.proofs.Boards.{ready_within}
-use Rattle.board_drivers.proofs.Calm.{idle_calm, kept_calm, later_calm}
+use Rattle.board_drivers.proofs.Calm.{idle_calm, later_calm}
+use Rattle.board_core.proofs.SameAlarms.{same_alarms_calm}
 use Rattle.board_core.proofs.Changes.{turn_later, turn_shown, world_after}
 use Rattle.board_drivers.proofs.Records.{beside}
 use Rattle.board_core.proofs.Devices.{made_so}
 use Rattle.board_core.proofs.Boards.{may_turn_on}
 use Rattle.board_core.proofs.TurnLines.{alarms_later, lines_stay, may_serve, others_later}
-use Rattle.board_core.proofs.TurnLines.{turn_is_idle, turned_board}
-use Rattle.board_turns.proofs.Turns.{keeps_quiet}
+use Rattle.board_core.proofs.TurnLines.{turn_is_idle, turn_leaves_alarm, turned_board}
 use Rattle.board_core.proofs.board.Board.run.Goals as goal
 use Rattle.board_core.proofs.board.Board.run.Goals.{After-clear}
 
@@ -62,17 +62,14 @@ calm_after-self-inside-requires-clause-calm c quiet =
     let t = c.turn_at.ensures.turn in
     let start = b.machine.moment.settings.start in
     let window = b.machine.moment.window in
-    let keeps = keeps_quiet b.machine.moment c.args.slot b.machine.home.flash t.at.before t.at.after
-    (told_in_emit c.turn_at.new.emit) b.machine.drivers x.drivers c.grants_change_at_calls.ensures.grants quiet
-    t.turns in
+    let leaves = turn_is_idle b c.args.slot x c.turn_at.new.processes.items (told_in_emit c.turn_at.new.emit)
+    c.self.invariant t c.alarms_change_at_their_commands.ensures.quiet quiet in
     subst (λ (m : Moment). IsCalm m.settings.start m.window (m.time + 1) b.calm x.home.owns x.drivers) (sym t.moment)
     (subst (λ (h : Homes). IsCalm start window (b.machine.moment.time + 1) b.calm h.owns x.drivers) (sym t.at.own_is)
-    (kept_calm start window (b.machine.moment.time + 1) b.calm c.args.slot b.machine.home.owns x.drivers t.at.before.1
-    t.at.after.1 t.at.own_was keeps.0 keeps.1
+    (same_alarms_calm c.args.slot b.machine.home.owns t.at.before.1 t.at.after.1 t.at.own_was leaves.0
+    start window (b.machine.moment.time + 1) b.calm x.drivers
     (idle_calm start window (b.machine.moment.time + 1) b.calm b.machine.home.owns (id_of c.args.slot t.at.before.1)
-    b.machine.drivers x.drivers
-    (turn_is_idle b c.args.slot x c.turn_at.new.processes.items (told_in_emit c.turn_at.new.emit) c.self.invariant t
-    c.turns_keep_lines.ensures.acts quiet)
+    b.machine.drivers x.drivers leaves.1
     (later_calm start window b.machine.moment.time (b.machine.moment.time + 1) b.calm b.machine.home.owns b.machine.drivers
     (omega arith) c.self.invariant.calm))))
 
@@ -86,17 +83,17 @@ look_again-requires-clause-others c =
     (others_later b c.args.slot x c.turn_at.new.processes.items (told_in_emit c.turn_at.new.emit) c.self.invariant t
     c.time_brings_an_alarm_nearer.ensures)
 
-pub look_again-requires-clause-quiet : goal.look_again-requires-clause-quiet
-look_again-requires-clause-quiet c quiet =
+pub look_again-requires-clause-unarmed : goal.look_again-requires-clause-unarmed
+look_again-requires-clause-unarmed c unarmed =
     let b = c.self.inside in
     let x = c.turn_at.new.self in
     let t = c.turn_at.ensures.turn in
-    let keeps = keeps_quiet b.machine.moment c.args.slot b.machine.home.flash t.at.before t.at.after
-    (told_in_emit c.turn_at.new.emit) b.machine.drivers x.drivers c.grants_change_at_calls.ensures.grants quiet
-    t.turns in
+    let shown = told_in_emit c.turn_at.new.emit in
+    let processes = c.turn_at.new.processes.items in
     subst (λ (m : Moment). AlarmsTell (turn_later m) b.alarms x.home.owns) (sym t.moment)
-    (alarms_later b c.args.slot x c.turn_at.new.processes.items (told_in_emit c.turn_at.new.emit) c.self.invariant t
-    c.time_brings_an_alarm_nearer.ensures keeps.0 keeps.1)
+    (alarms_later b c.args.slot x processes shown c.self.invariant t c.time_brings_an_alarm_nearer.ensures
+    (turn_leaves_alarm b c.args.slot x processes shown c.self.invariant t
+    c.alarms_change_at_their_commands.ensures.alarms unarmed))
 
 pub invariant_of-self : goal.invariant_of-self
 invariant_of-self c =

@@ -1,0 +1,3 @@
+mod Kept
+mod Commands
+mod QuietTurns
